@@ -1,5 +1,5 @@
 -- The roots of a state are the objects made at load and what its threads refer to.
-use Rattle.std.proofs.Common.{◌≡◌, ℕ, List, [], ◌∷◌, ◌++◌, map, Option, Some, None, refl, sym, ap, ◌∙◌, append-nil}
+use Rattle.std.proofs.Common.{◌≡◌, ℕ, List, [], ◌∷◌, ◌++◌, map, Option, Some, None, refl, sym, ap, ◌∙◌, append_assoc, append-nil}
 use Rattle.std.specs.List.{flat_map}
 use Rattle.std.specs.Option.{option_to_list}
 use Rattle.std.proofs.lemmas.List.Concat.{flat_map-cons}
@@ -78,12 +78,14 @@ module _ (unit : SourceUnit) (classes : Classes) where
       ∙ sym (flat_map-cons thread_names t ts)
 
 -- the roots of a state that one in memory stands for
-pub roots_are : (unit : SourceUnit) (w : World) (m : StateInMemory) (s : State) → Stands unit w m s → roots w s ≡ from_one (loaded_count w) ++ m.shared.globals ++ flat_map thread_names m.threads.items
+pub roots_are : (unit : SourceUnit) (w : World) (m : StateInMemory) (s : State) → Stands unit w m s → roots w s ≡ from_one (loaded_count w) ++ (m.shared.globals ++ flat_map thread_names m.threads.items)
 roots_are unit w m s h =
     let loaded = from_one (loaded_count w) in
     let names = flat_map thread_roots s.threads in
     let globals = m.shared.globals in
     ap (λ (x : Shared). loaded ++ x.globals ++ names ++ map (λ (o : Monitor). o.object) x.monitors ++ views s) h.shared
+    ∙ ap (λ (l : List ℕ). l ++ views s) (append-nil (loaded ++ globals ++ names))
     ∙ ap (λ (l : List ℕ). loaded ++ globals ++ names ++ l) (views_none unit w.classes m.threads.items s.threads h.threads)
-    ∙ ap (λ (l : List ℕ). loaded ++ globals ++ l) (append-nil names)
+    ∙ append-nil (loaded ++ globals ++ names)
     ∙ ap (λ (l : List ℕ). loaded ++ globals ++ l) (all_names unit w.classes m.threads.items s.threads h.threads)
+    ∙ append_assoc loaded globals (flat_map thread_names m.threads.items)

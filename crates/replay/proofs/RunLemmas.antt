@@ -128,7 +128,7 @@ rows_are unit w m s classes objects loaded names rows h k o l n told =
       heap = ap (λ (x : Shared). x.heap) h.shared ∙ sym o;
       roots =
           roots_are unit w m s h
-          ∙ ap (λ c. from_one c ++ m.shared.globals ++ flat_map thread_names m.threads.items) (sym l)
+          ∙ ap (λ c. from_one c ++ (m.shared.globals ++ flat_map thread_names m.threads.items)) (sym l)
           ∙ ap (λ (ns : List ℕ). from_one loaded ++ ns) (sym n);
     })
 

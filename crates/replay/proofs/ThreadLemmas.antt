@@ -10,7 +10,7 @@ use Rattle.std.specs.Borrow.{Bor}
 use Rattle.syntax.specs.Tree.{Function, SourceUnit}
 use Rattle.source.specs.Task.{tasks_of}
 use Rattle.classes.specs.Class.{Classes}
-use Rattle.source.specs.Thread.{Frame, Monitor, Thread, Shared, BuffersInUse, Event, Quiet, PrintedNumber, Trapped, Advances as AdvancesTo, NoAdvance, Ending, Unfinished, Ended, Uncaught}
+use Rattle.source.specs.Thread.{Monitor, Thread, Shared, BuffersInUse, Event, Quiet, PrintedNumber, Trapped, Advances as AdvancesTo, NoAdvance, Ending, Unfinished, Ended, Uncaught}
 use Rattle.source.specs.Object.{Reference}
 use Rattle.source.specs.Activation.{named_object, entry_frame, ending_after, monitors_after, calls_after, return_step, enter, entered, entry_advance, entered_function, class_of_function, function_at}
 use Rattle.source.specs.ThreadStep.{thread_step, step_within}
