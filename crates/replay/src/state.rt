@@ -108,7 +108,14 @@ fn take_turn<'a>(
     if !is_unfinished(thread.ending) {
         return Ok(false);
     }
-    let step = take_step(alloc, items, state.world, &mut state.shared, refused, thread)?;
+    let step = take_step(
+        alloc,
+        items,
+        state.world,
+        &mut state.shared,
+        refused,
+        thread,
+    )?;
     let possible = note(state, k, step)?;
     Ok(possible)
 }

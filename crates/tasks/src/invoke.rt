@@ -58,7 +58,8 @@ pub(crate) fn invoke<'a>(
     }
     let actuals = actuals(alloc, shared, variables, function, &i.operands)?;
     call(
-        alloc, classes, shared, variables, frames, pending, refused, line, purpose, function, &actuals,
+        alloc, classes, shared, variables, frames, pending, refused, line, purpose, function,
+        &actuals,
     )
 }
 
@@ -151,7 +152,14 @@ fn call<'a>(
     ensures range { IfOk result OutcomeInRange }
 {
     let is_pending = pending.is_some();
-    if let Some(trap) = check(classes, &shared.store, frames, is_pending, function, actuals) {
+    if let Some(trap) = check(
+        classes,
+        &shared.store,
+        frames,
+        is_pending,
+        function,
+        actuals,
+    ) {
         if refused {
             return Ok(Outcome::Impossible);
         }

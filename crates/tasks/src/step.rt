@@ -21,8 +21,8 @@ use class_table::table::ClassTable;
 use std::alloc::{AllocError, Global};
 use syntax::{Block, Expr, Name, Stmt};
 use terms::{
-    Evaluated, Indexed, Reduction, Statics, Term, Value, Variable, constant, number_in, place_in, put_term,
-    reduce,
+    Evaluated, Indexed, Reduction, Statics, Term, Value, Variable, constant, number_in, place_in,
+    put_term, reduce,
 };
 
 /// What a step does that reduces a term, which has no value yet.
@@ -38,7 +38,12 @@ pub(crate) fn reduced<'a>(line: usize, reduction: Reduction) -> Outcome<'a>
 }
 
 /// Evaluates a number by one step, or prints it.
-fn print<'a>(statics: &Statics<'_>, variables: &[Variable<'_>], line: usize, t: &mut Term) -> Outcome<'a>
+fn print<'a>(
+    statics: &Statics<'_>,
+    variables: &[Variable<'_>],
+    line: usize,
+    t: &mut Term,
+) -> Outcome<'a>
     requires { NumbersInRange t.old }
     ensures step { HasEffect (variables_view variables.now) statics.now (task.Print line t.old) result (task.Print line t.new) }
     ensures numbers { NumbersInRange t.new }
@@ -235,7 +240,11 @@ fn return_value<'a>(
 }
 
 /// Lets a task that is no call take its next step.
-fn plain_step<'a>(statics: &Statics<'_>, variables: &[Variable<'a>], task: &mut Task<'a>) -> Outcome<'a>
+fn plain_step<'a>(
+    statics: &Statics<'_>,
+    variables: &[Variable<'a>],
+    task: &mut Task<'a>,
+) -> Outcome<'a>
     requires range { TaskInRange task.old }
     requires plain { IsPlain task.old }
     ensures step { HasEffect (variables_view variables.now) statics.now task.old result task.new }
