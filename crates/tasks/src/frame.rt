@@ -1,6 +1,6 @@
 //! Frames of local references.
 
-ghost use Rattle.std.specs.Prelude.{◌≡◌, ◌++◌, ◌∷◌, [], IfOk, drop, length, map, nat_le, reverse, slice_get};
+ghost use Rattle.std.specs.Prelude.{◌≡◌, ◌++◌, ◌∷◌, [], IfOk, OnErr, drop, length, map, nat_le, reverse, slice_get};
 ghost use Rattle.source.specs.CallEffects.{with_capacity, with_local, without_local};
 ghost use Rattle.source.specs.Checks.{is_full};
 ghost use Rattle.source.specs.Thread.{capacities};
@@ -119,7 +119,8 @@ impl Frames {
 
     /// Makes a frame, which is then the current one. A capacity past the limit is refused, as memory is.
     pub(crate) fn push(&mut self, alloc: Global, capacity: usize) -> Result<(), AllocError>
-        ensures { IfOk result (λ _. self.new ≡ new_frame capacity ∷ self.old) }
+        ensures ok { IfOk result (λ _. self.new ≡ new_frame capacity ∷ self.old) }
+        ensures err { OnErr result (self.new ≡ self.old) }
     {
         if !self.has_room_for(capacity) {
             return Err(AllocError);

@@ -1,6 +1,6 @@
 //! Names of objects, each as often as it was put.
 
-ghost use Rattle.std.specs.Prelude.{◌≡◌, ◌++◌, ◌∷◌, [], IfOk, length, reverse};
+ghost use Rattle.std.specs.Prelude.{◌≡◌, ◌++◌, ◌∷◌, [], IfOk, OnErr, length, reverse};
 ghost use Rattle.source.specs.CallEffects.{without_one};
 ghost use Rattle.tasks.specs.Names.{Leaves};
 
@@ -64,7 +64,8 @@ impl Names {
 
     /// Puts a name.
     pub fn push(&mut self, name: usize) -> Result<(), AllocError>
-        ensures { IfOk result (λ _. self.new ≡ name ∷ self.old) }
+        ensures ok { IfOk result (λ _. self.new ≡ name ∷ self.old) }
+        ensures err { OnErr result (self.new ≡ self.old) }
     {
         self.names.push(name)?;
         Ok(())
