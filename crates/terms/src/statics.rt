@@ -1,6 +1,6 @@
 //! The statics of a unit: references that outlive calls.
 
-ghost use Rattle.std.specs.Prelude.{◌≡◌, IfOk, map, position};
+ghost use Rattle.std.specs.Prelude.{◌≡◌, IfOk, Some, map, position};
 ghost use Rattle.std.specs.Option.{option_map};
 ghost use Rattle.std.specs.Str.{bytes_eq};
 ghost use Rattle.base.specs.Bytes.{lookup};
@@ -9,7 +9,6 @@ ghost use Rattle.source.specs.Sight.{static_is_null};
 ghost use Rattle.source.specs.Start.{null_statics};
 ghost use Rattle.source.specs.Value.{Gives};
 ghost use Rattle.source.specs.Variable.{assign};
-ghost use Rattle.std.specs.Prelude.{Some};
 ghost use Rattle.terms.specs.Views.{held_view, static_view};
 
 use std::alloc::{AllocError, Global};
