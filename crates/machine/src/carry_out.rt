@@ -50,25 +50,40 @@ pub fn carry_out(
     // Here the proof takes up what is known of a world.
     let _ = world.threads();
     match answer {
-        Answer::Gives(given) => Ok(Carried { given, refused: false }),
+        Answer::Gives(given) => Ok(Carried {
+            given,
+            refused: false,
+        }),
         Answer::Writes(addr, place, value) => {
             store.heap.set(addr, place, value);
-            Ok(Carried { given: Given::Nothing, refused: false })
+            Ok(Carried {
+                given: Given::Nothing,
+                refused: false,
+            })
         }
         Answer::Makes(class) => match make(world.classes(), store, class) {
-            Some(addr) => Ok(Carried { given: Given::Reference(Some(addr)), refused: false }),
+            Some(addr) => Ok(Carried {
+                given: Given::Reference(Some(addr)),
+                refused: false,
+            }),
             None => Ok(refuse(world, store, pending, kind)),
         },
         Answer::Throws(class) => match make(world.classes(), store, class) {
             Some(addr) => {
                 *pending = Some(addr);
-                Ok(Carried { given: failed(kind), refused: false })
+                Ok(Carried {
+                    given: failed(kind),
+                    refused: false,
+                })
             }
             None => Ok(refuse(world, store, pending, kind)),
         },
         Answer::Ensures(more) => {
             if frames.ensure(more) {
-                Ok(Carried { given: Given::Number(0), refused: false })
+                Ok(Carried {
+                    given: Given::Number(0),
+                    refused: false,
+                })
             } else {
                 Ok(refuse_frames(world, store, pending))
             }
@@ -76,7 +91,10 @@ pub fn carry_out(
         Answer::Pushes(capacity) => {
             let made = frames.push(capacity)?;
             if made {
-                Ok(Carried { given: Given::Number(0), refused: false })
+                Ok(Carried {
+                    given: Given::Number(0),
+                    refused: false,
+                })
             } else {
                 Ok(refuse_frames(world, store, pending))
             }
@@ -84,11 +102,17 @@ pub fn carry_out(
         Answer::RefusesFrames => Ok(refuse_frames(world, store, pending)),
         Answer::Pops(reference) => {
             frames.pop();
-            Ok(Carried { given: Given::Reference(reference), refused: false })
+            Ok(Carried {
+                given: Given::Reference(reference),
+                refused: false,
+            })
         }
         Answer::Deletes(level, addr) => {
             frames.delete(level, addr);
-            Ok(Carried { given: Given::Nothing, refused: false })
+            Ok(Carried {
+                given: Given::Nothing,
+                refused: false,
+            })
         }
     }
 }
