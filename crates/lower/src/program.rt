@@ -29,6 +29,9 @@ impl<'a> Model for Program<'a> {
 impl<'a> Program<'a> {
     ghost use Rattle.std.specs.Prelude.{◌≡◌, slice_get, length};
     ghost use Rattle.std.specs.Option.{option_copied};
+    ghost use Rattle.syntax.specs.Views.{unit_tree};
+    ghost use Rattle.types.specs.SortRules.{IsSorted};
+    ghost use Rattle.regions.specs.Regions.{HasRegions};
     ghost use Rattle.lower.specs.Lowered.{IsLowered};
 
     pub(crate) fn of(checked: &'a Checked, codes: Vec<Code>) -> Self
@@ -43,6 +46,8 @@ impl<'a> Program<'a> {
     pub fn items(&self) -> &[Item]
         ensures items { result.now ≡ self.now.unit }
         ensures lowered { IsLowered self.now }
+        ensures sorted { IsSorted (unit_tree result.now) }
+        ensures regions { HasRegions (unit_tree result.now) }
     {
         self.checked.items()
     }

@@ -416,7 +416,6 @@ module _ (classes : Classes) (space : Space) (references : References) (fields :
     room_is NewLocal has_room frame h = sym h
     room_is kind has_room frame h = refl
 
-
     -- the trap that is found is the source's
     pub found_is : (is_pending has_room : Bool) (f : JniFunction) (operands : List Operand) (args : List Actual) (s : Shared) (t : Thread) (target : Target) → is_answered f ≡ true → s.heap ≡ heap → is_pending ≡ is_some t.pending
         → is_full (slice_get (frames_after f t.frames) 0) ≡ not has_room → AllZip ActualFits (prototype f).parameters args → AllZip (IsGiven classes space references fields) operands args

@@ -371,8 +371,8 @@ module _ (p : Lowered) (w : World) (store : Store) (pending : Option ℕ) (call 
         let left_frames : (prototype called.f).result ≡ NewLocal → left ≡ source_frames_after called.f s.frames = λ local. left_is w.classes lent k shared s called.args called.f called.asked.answered local refused carried.could_refuse in
         let ends = finishes p w store.heap store' shared next carried.store_agrees carried.keeps s h.viewless call h.code task rest r called.line called.f called.args frames left carried.frames_agree q g c carried.given_agrees carried.still function h.at called.left after statics function.target called.target
         (λ local x level old is at.
-          h.steady.declared called.line x called.f called.args level old (next_is ∙ ap (λ (t : Target). Calls called.line t called.f called.args) is) local at
-          ∙ ap (λ (fs : List source.Frame). length fs) (sym (left_frames local))) refl called.goes received put in
+        h.steady.declared called.line x called.f called.args level old (next_is ∙ ap (λ (t : Target). Calls called.line t called.f called.args) is) local at
+        ∙ ap (λ (fs : List source.Frame). length fs) (sym (left_frames local))) refl called.goes received put in
         let steps = step_leaves w.classes lent k shared s called.line called.target called.f called.args rest refused effect (effect_is free lent k) (stays_with w.classes store.heap (prototype called.f).result shared s answer effect does) carried.could_refuse in
         subst (λ (e : Effect). GoesOn p w store.heap (record store' { statics = statics }) lent k shared s rest after pending' e refused event.Quiet) (sym called.is) (record {
           next_shared = ends.now;

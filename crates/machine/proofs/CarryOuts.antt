@@ -1,5 +1,5 @@
 -- What is carried out is what the source's call leaves.
-use Rattle.std.proofs.Common.{◌≡◌, ℕ, pos, negsuc, zero, suc, ◌-◌, ◌<◌, ◌^◌, Bool, true, false, List, [], ◌∷◌, ◌++◌, length, inl, inr, Option, Some, None, refl, sym, ap, ◌∙◌, subst, arith, append-nil}
+use Rattle.std.proofs.Common.{drop, ◌≡◌, ℕ, pos, negsuc, zero, suc, ◌-◌, ◌<◌, ◌^◌, Bool, true, false, List, [], ◌∷◌, ◌++◌, length, inl, inr, Option, Some, None, refl, sym, ap, ◌∙◌, subst, arith, append-nil}
 use Rattle.std.specs.Global.{Vec}
 use Rattle.std.specs.Option.{option_to_list}
 use Rattle.base.specs.Bytes.{Identifier}
@@ -19,9 +19,10 @@ use Rattle.std.specs.Prelude.{slice_get, slice_set, nat_le, if◌then◌else◌}
 use Rattle.std.proofs.lemmas.Option.{slice_get_within}
 use Rattle.classes.specs.Class.{Classes}
 use Rattle.heap.specs.Heap.{Space, with_value}
+use Rattle.heap.proofs.Names.{one_address}
 use Rattle.heap.specs.declared.value.Value.{Value}
 use Rattle.jni.specs.Prototype.{ResultKind, NewLocal, NewGlobal, GivesFlag, GivesInt, GivesField, GivesNothing, GivesBuffer}
-use Rattle.source.specs.CallEffects.{CallResult, Leaves, NoResult, ReferenceResult, ScalarResult, CallEffect, out_of_memory, refuses_frames, with_capacity}
+use Rattle.source.specs.CallEffects.{frames_effect, without_local, CallResult, Leaves, NoResult, ReferenceResult, ScalarResult, CallEffect, out_of_memory, refuses_frames, with_capacity}
 use Rattle.source.specs.CallStep.{failure, makes_objects}
 use Rattle.source.specs.Heap.{Heap, next_name}
 use Rattle.source.specs.Thread as source
@@ -35,16 +36,17 @@ use Rattle.machine.specs.declared.answer.Answer.TheVariants as answer
 use Rattle.machine.specs.declared.answer.Given.{Given}
 use Rattle.machine.specs.declared.answer.Given.TheVariants as given
 use Rattle.machine.specs.declared.store.Store.{Store}
-use Rattle.machine.specs.Agrees.{HeldAgrees, StoreAgrees, Keeps}
+use Rattle.machine.specs.Agrees.{FramesAgree, HeldAgrees, StoreAgrees, Keeps}
 use Rattle.machine.specs.Answers.{GivenAgrees, IsAnswer}
 use Rattle.machine.specs.CarriedOut.{CarriesOut, IsFresh, IsPossible, ResultAgrees, can_fail, failed}
 use Rattle.machine.specs.Frames as memory
-use Rattle.machine.specs.Frames.{Frame, can_ensure}
+use Rattle.machine.specs.Frames.{Frame, can_ensure, can_push}
 use Rattle.machine.specs.HeapAgrees.{ReferenceAgrees}
 use Rattle.machine.specs.Made.{HasMade, MakesGlobal}
 use Rattle.machine.proofs.AnswerCases.{gives_it, makes_it, throws_it, writes_it}
 use Rattle.machine.proofs.Keeping.{frames_stay, keeps_same, reference_stays}
 use Rattle.machine.proofs.Makes as making
+use Rattle.machine.proofs.FrameChanges.{frame_ended, frame_made, reference_deleted}
 use Rattle.machine.proofs.Receives.{room_ensured, same_capacities}
 use Rattle.machine.proofs.Writes as writing
 
@@ -160,29 +162,67 @@ module _ (p : Lowered) (w : World) (store : Store) (pending : Option ℕ) (frame
   pub refuses_room : (effect : CallEffect) → Does answer.RefusesFrames effect → Carries effect false store (slice_get store.loaded.items (length w.classes)) (given.Number (2 ^ 32 - 4))
   refuses_room effect does = no_room does.0 effect does.1
 
-  module _ (more : ℕ) (effect : CallEffect) (does : Does (answer.Ensures more) effect) where
-    -- the frames with more room have as many references at most in the source
-    can_is : can_ensure frames more ≡ nat_le (source.capacities (with_capacity more s.frames)) 1024
-    can_is = ap (λ (n : ℕ). nat_le n 1024) (same_capacities store.heap (memory.with_capacity frames more) (with_capacity more s.frames) (room_ensured store.heap frames s.frames more h.frames_agree))
+  -- the frames become these, and nothing else changes
+  framed : (after : List Frame) (gs : List source.Frame) (g : Given) (c : CallResult) (effect : CallEffect) → effect ≡ Leaves [] shared (record s { frames = gs }) c → FramesAgree store.heap after gs → GivenAgrees w.classes store.heap kind g c
+      → CarriesOut p w store.heap kind shared s effect false store pending after g
+  framed after gs g c effect is agree given_agrees =
+      subst (λ (e : CallEffect). CarriesOut p w store.heap kind shared s e false store pending after g) (sym is) (record {
+        store_agrees = subst (StoreAgrees p w store) (sym (same_heap shared)) h.store_agrees;
+        keeps = subst (Keeps store.heap shared store.heap) (sym (same_heap shared)) (keeps_same store.heap shared);
+        pending_agrees = h.pending_agrees;
+        frames_agree = agree;
+        given_agrees = result_agrees w.classes store kind g c given_agrees;
+        still = λ same. refl;
+        could_refuse = λ e. absurd (cc);
+      })
 
-    decided : (b : Bool) → can_ensure frames more ≡ b
-        → effect ≡ (if b then Leaves [] shared (record s { frames = with_capacity more s.frames }) (ScalarResult (Int (pos 0))) else refuses_frames w.classes shared s)
-    decided b is = does.1 ∙ ap (λ (b : Bool). if b then Leaves [] shared (record s { frames = with_capacity more s.frames }) (ScalarResult (Int (pos 0))) else refuses_frames w.classes shared s) (sym can_is ∙ is)
+  -- these frames are wanted, of which there can be so much room at most
+  module _ (after : List Frame) (gs : List source.Frame) (agree : FramesAgree store.heap after gs) (int : kind ≡ GivesInt) (effect : CallEffect) (is : effect ≡ frames_effect w.classes shared s gs) where
+    decided : (b : Bool) → nat_le (memory.capacities after) 1024 ≡ b → effect ≡ (if b then Leaves [] shared (record s { frames = gs }) (ScalarResult (Int (pos 0))) else refuses_frames w.classes shared s)
+    decided b fits =
+        is ∙ ap (λ (b : Bool). if b then Leaves [] shared (record s { frames = gs }) (ScalarResult (Int (pos 0))) else refuses_frames w.classes shared s) (sym (ap (λ (n : ℕ). nat_le n 1024) (same_capacities store.heap after gs agree)) ∙ fits)
+
+    had : nat_le (memory.capacities after) 1024 ≡ true → CarriesOut p w store.heap kind shared s effect false store pending after (given.Number 0)
+    had fits =
+        framed after gs (given.Number 0) (ScalarResult (Int (pos 0))) effect (decided true fits) agree
+        (subst (λ (k : ResultKind). GivenAgrees w.classes store.heap k (given.Number 0) (ScalarResult (Int (pos 0)))) (sym int) (refl, record { sfits = omega arith }))
+
+    not_had : nat_le (memory.capacities after) 1024 ≡ false → Carries effect false store (slice_get store.loaded.items (length w.classes)) (given.Number (2 ^ 32 - 4))
+    not_had fits = no_room int effect (decided false fits)
+
+  module _ (more : ℕ) (effect : CallEffect) (does : Does (answer.Ensures more) effect) where
+    ensured : FramesAgree store.heap (memory.with_capacity frames more) (with_capacity more s.frames)
+    ensured = room_ensured store.heap frames s.frames more h.frames_agree
 
     pub ensures : can_ensure frames more ≡ true → CarriesOut p w store.heap kind shared s effect false store pending (memory.with_capacity frames more) (given.Number 0)
-    ensures can =
-        subst (λ (e : CallEffect). CarriesOut p w store.heap kind shared s e false store pending (memory.with_capacity frames more) (given.Number 0)) (sym (decided true can)) (record {
-          store_agrees = subst (StoreAgrees p w store) (sym (same_heap shared)) h.store_agrees;
-          keeps = subst (Keeps store.heap shared store.heap) (sym (same_heap shared)) (keeps_same store.heap shared);
-          pending_agrees = h.pending_agrees;
-          frames_agree = room_ensured store.heap frames s.frames more h.frames_agree;
-          given_agrees = result_agrees w.classes store kind _ _ (subst (λ (k : ResultKind). GivenAgrees w.classes store.heap k (given.Number 0) (ScalarResult (Int (pos 0)))) (sym does.0) (refl, record { sfits = omega arith }));
-          still = λ same. refl;
-          could_refuse = λ e. absurd (cc);
-        })
+    ensures can = had (memory.with_capacity frames more) (with_capacity more s.frames) ensured does.0 effect does.1 can
 
     pub ensures_not : can_ensure frames more ≡ false → Carries effect false store (slice_get store.loaded.items (length w.classes)) (given.Number (2 ^ 32 - 4))
-    ensures_not can = no_room does.0 effect (decided false can)
+    ensures_not can = not_had (memory.with_capacity frames more) (with_capacity more s.frames) ensured does.0 effect does.1 can
+
+  module _ (capacity : ℕ) (effect : CallEffect) (does : Does (answer.Pushes capacity) effect) where
+    abbrev new : List source.Frame
+    new = record { capacity = capacity; references = [] } ∷ s.frames
+
+    pushed : FramesAgree store.heap (memory.with_frame frames capacity) new
+    pushed = frame_made store.heap frames s.frames capacity h.frames_agree
+
+    pub pushes : can_push frames capacity ≡ true → CarriesOut p w store.heap kind shared s effect false store pending (memory.with_frame frames capacity) (given.Number 0)
+    pushes can = had (memory.with_frame frames capacity) new pushed does.0 effect does.1 can
+
+    pub pushes_not : can_push frames capacity ≡ false → Carries effect false store (slice_get store.loaded.items (length w.classes)) (given.Number (2 ^ 32 - 4))
+    pushes_not can = not_had (memory.with_frame frames capacity) new pushed does.0 effect does.1 can
+
+  pub pops : (a : Option ℕ) (effect : CallEffect) → Does (answer.Pops a) effect → CarriesOut p w store.heap kind shared s effect false store pending (memory.without_last frames) (given.Reference a)
+  pops a effect (local, (r, agrees, is)) =
+      framed (memory.without_last frames) (drop 1 s.frames) (given.Reference a) (ReferenceResult r) effect is (frame_ended store.heap frames s.frames h.frames_agree)
+      (subst (λ (k : ResultKind). GivenAgrees w.classes store.heap k (given.Reference a) (ReferenceResult r)) (sym local) agrees)
+
+  pub deletes : (level a : ℕ) (effect : CallEffect) → Does (answer.Deletes level a) effect → CarriesOut p w store.heap kind shared s effect false store pending (memory.without_local level a frames) given.Nothing
+  deletes level a effect (nothing, low, high, (n, named, is)) =
+      framed (memory.without_local level a frames) (without_local level n s.frames) given.Nothing NoResult effect is
+      (reference_deleted store.heap (λ b c m e f. one_address store.heap b c m h.store_agrees.heap.unique e f) a n named frames s.frames level low high h.frames_agree)
+      (subst (λ (k : ResultKind). GivenAgrees w.classes store.heap k given.Nothing NoResult) (sym nothing) tt)
 
   -- a global reference was made, or none for NULL
   pub makes_global : (globals : List (Option ℕ)) (held : StaticReference) (effect : CallEffect) (a : Option ℕ) (r : Reference) → kind ≡ NewGlobal → ReferenceAgrees store.heap a r → effect ≡ Leaves [] (record shared { globals = option_to_list r ++ shared.globals }) s (ReferenceResult r)

@@ -63,20 +63,20 @@ module _ (p : Lowered) (classes : Classes) (space : Space) (call : Activation) (
   level_of_one (operand.Local i) a n (x, is, at) e alive =
       subst (λ (b : Actual). HasLevel call.levels.items (operand.Local i) (lookup (variable_given (b ∷ []) 0) s.variables) s.frames) (sym is)
       (let shown = r.shows.each x (record { sort = Ref; index = i }) at in
-       let local = local_by_kind (lookup x s.variables) shown.kind in
-       let held : held_reference (lookup x s.variables) (lookup x shared.statics) ≡ as_static local.1 = ap (λ (o : Option Variable). held_reference o (lookup x shared.statics)) local.2 in
-       let given : reference_in_actual (Some (ReferenceActual x (as_static local.1))) ≡ Some n = sym (ap (λ (h : StaticReference). reference_in_actual (Some (ReferenceActual x h))) held) ∙ subst (λ (b : Actual). reference_in_actual (Some b) ≡ Some n) is e in
-       let object : local.1 ≡ Some n = some_object local.1 n x given in
-       let same : shown.reference ≡ Some n = some_object shown.reference n x (sym (ap (λ (h : StaticReference). reference_in_actual (Some (ReferenceActual x h))) shown.is) ∙ subst (λ (b : Actual). reference_in_actual (Some b) ≡ Some n) is e) in
-       let beside : level_at call.levels.items (operand.Local i) ≡ level_of (lookup x s.variables) = ap (λ (o : Option ℕ). unwrap_or o 0) (shown.level n same) in
-       let variable : lookup x s.variables ≡ Some (LocalRef local.0 (Some n)) = local.2 ∙ ap (λ (q : Reference). Some (LocalRef local.0 q)) object in
-       let lives : IsAlive s.frames (Some (LocalRef local.0 (Some n))) = subst (IsAlive s.frames) variable (subst (λ (b : Actual). IsAlive s.frames (lookup (variable_given (b ∷ []) 0) s.variables)) is alive) in
-       let high : local.0 ≤ length s.frames = there local.0 s.frames n lives in
-       record { same = beside; high = omega (arith, beside, ap level_of variable, high) })
+      let local = local_by_kind (lookup x s.variables) shown.kind in
+      let held : held_reference (lookup x s.variables) (lookup x shared.statics) ≡ as_static local.1 = ap (λ (o : Option Variable). held_reference o (lookup x shared.statics)) local.2 in
+      let given : reference_in_actual (Some (ReferenceActual x (as_static local.1))) ≡ Some n = sym (ap (λ (h : StaticReference). reference_in_actual (Some (ReferenceActual x h))) held) ∙ subst (λ (b : Actual). reference_in_actual (Some b) ≡ Some n) is e in
+      let object : local.1 ≡ Some n = some_object local.1 n x given in
+      let same : shown.reference ≡ Some n = some_object shown.reference n x (sym (ap (λ (h : StaticReference). reference_in_actual (Some (ReferenceActual x h))) shown.is) ∙ subst (λ (b : Actual). reference_in_actual (Some b) ≡ Some n) is e) in
+      let beside : level_at call.levels.items (operand.Local i) ≡ level_of (lookup x s.variables) = ap (λ (o : Option ℕ). unwrap_or o 0) (shown.level n same) in
+      let variable : lookup x s.variables ≡ Some (LocalRef local.0 (Some n)) = local.2 ∙ ap (λ (q : Reference). Some (LocalRef local.0 q)) object in
+      let lives : IsAlive s.frames (Some (LocalRef local.0 (Some n))) = subst (IsAlive s.frames) variable (subst (λ (b : Actual). IsAlive s.frames (lookup (variable_given (b ∷ []) 0) s.variables)) is alive) in
+      let high : local.0 ≤ length s.frames = there local.0 s.frames n lives in
+      record { same = beside; high = omega (arith, beside, ap level_of variable, high) })
   level_of_one (operand.Static i) a n (x, is, at) e alive =
       subst (λ (b : Actual). HasLevel call.levels.items (operand.Static i) (lookup (variable_given (b ∷ []) 0) s.variables) s.frames) (sym is)
       (let shown = r.shows.each x (record { sort = Global; index = i }) at in
-       record { same = sym (no_level (lookup x s.variables) shown.no_variable.kind shown.no_variable.array_type); high = omega arith })
+      record { same = sym (no_level (lookup x s.variables) shown.no_variable.kind shown.no_variable.array_type); high = omega arith })
   level_of_one operand.Number a n (z, is, fits) e alive = absurd (let none : reference_in_actual (Some (NumberActual z)) ≡ Some n = subst (λ (b : Actual). reference_in_actual (Some b) ≡ Some n) is e in cc)
   level_of_one (operand.FieldId i) a n (x, is, at) e alive = absurd (let none : reference_in_actual (Some (FieldActual ((visible_to shared s).sight.field x))) ≡ Some n = subst (λ (b : Actual). reference_in_actual (Some b) ≡ Some n) is e in cc)
   level_of_one operand.Text a n (bytes, is) e alive = absurd (let none : reference_in_actual (Some (TextActual bytes)) ≡ Some n = subst (λ (b : Actual). reference_in_actual (Some b) ≡ Some n) is e in cc)

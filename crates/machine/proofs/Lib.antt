@@ -20,6 +20,7 @@ pub mod Steps
 pub mod Names
 pub mod LoadLemmas
 pub mod ThreadLoads
+pub mod SafeLoads
 pub mod Runs
 pub mod Standings
 pub mod Reports

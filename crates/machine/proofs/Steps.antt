@@ -31,7 +31,7 @@ use Rattle.machine.specs.declared.thread.Thread.{Thread}
 use Rattle.machine.specs.declared.stop.Stop.{Stop}
 use Rattle.machine.specs.Stops.{stop_view, stop_after}
 use Rattle.machine.specs.declared.store.Store.{Store}
-use Rattle.machine.specs.Agrees.{StoreAgrees, ThreadAgrees, ThreadsAgree, Advances, ending_view, event_view}
+use Rattle.machine.specs.Agrees.{IsSteady, StoreAgrees, ThreadAgrees, ThreadsAgree, Advances, ending_view, event_view}
 use Rattle.machine.specs.Run.{Corresponds, printed_after, entry_of, HasEnded}
 use Rattle.machine.proofs.Keeping.{threads_stay}
 use Rattle.machine.proofs.Threads.{unblocked}
@@ -86,7 +86,7 @@ threads_next s k shared t (event.Trapped trap line) = refl
 -- the thread took the step that the source's thread takes, whatever state it stands for
 abbrev pub AdvancesAlways : Lowered → World → (store store' : Store) → Thread → Thread → (refused : Bool) → Event → Type 0
 AdvancesAlways p w store store' t after refused e =
-    (lent : BuffersInUse) (k : ℕ) (shared : Shared) (s : source.Thread) → StoreAgrees p w store shared → ThreadAgrees p w.classes store.heap (length (loaded_objects w)) shared t s
+    (lent : BuffersInUse) (k : ℕ) (shared : Shared) (s : source.Thread) → StoreAgrees p w store shared → ThreadAgrees p w.classes store.heap (length (loaded_objects w)) shared t s → IsSteady shared s
     → Advances p w store.heap store' lent k shared s after refused e
 
 -- ---- room
@@ -125,6 +125,12 @@ module _ (p : Lowered) (world : World) (store : Store) (ts : List Thread) (print
   there : thread_at c.state k ≡ Some the_thread.source
   there = ap (thread_at c.state) counted ∙ the_thread.is
 
+  -- no step of it breaks what no accepted unit does
+  pub steady : IsSteady c.state.shared the_thread.source
+  steady =
+      let safe = c.safe journal c.state k the_thread.source c.replays there in
+      record { declared = safe.declared; deleted = safe.deleted }
+
   -- the machine hasn't stopped
   running : stop ≡ None → c.state.stop ≡ None
   running goes = c.same_stop ∙ ap (option_map stop_view) goes
@@ -155,7 +161,7 @@ module _ (p : Lowered) (world : World) (store : Store) (ts : List Thread) (print
   steps_on store' after refused e goes live advances =
       let f = the_thread in
       let entry : Entry = Step k refused in
-      let a = advances (lent c.state) k c.state.shared f.source c.store_agrees f.agrees in
+      let a = advances (lent c.state) k c.state.shared f.source c.store_agrees f.agrees steady in
       let next = next_state c.state k a.next_shared a.next e in
       let step : world_step (unit_tree p.unit) classes c.state entry ≡ Some next =
       step-thread (unit_tree p.unit) classes c.state k f.source refused (steps_here goes live) ∙ ap (advanced c.state k) a.steps in
@@ -165,6 +171,7 @@ module _ (p : Lowered) (world : World) (store : Store) (ts : List Thread) (print
       let kept : sizes (take (length c.state.shared.heap) next.shared.heap) ≡ sizes c.state.shared.heap = ap (λ (x : Shared). sizes (take (length c.state.shared.heap) x.heap)) shared_is ∙ a.keeps.sizes in
       record {
         lowered = c.lowered;
+        safe = c.safe;
         state = next;
         replays = replay_more (unit_tree p.unit) world journal entry c.state next c.replays step;
         store_agrees = shares;

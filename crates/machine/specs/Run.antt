@@ -21,6 +21,7 @@ use Rattle.source.specs.Run.{replay, Follows, UnmarkedFit}
 use Rattle.source.specs.State.{State, thread_at}
 use Rattle.source.specs.Step.{can_step, is_blocked, is_unfinished}
 use Rattle.source.specs.Thread.{Thread as SourceThread}
+use Rattle.safety.specs.StepSafe.{IsSafe}
 use Rattle.lower.specs.Lowered.{Lowered, IsLowered}
 use Rattle.machine.specs.declared.thread.Thread.{Thread}
 use Rattle.machine.specs.declared.thread.Ending.{Ending}
@@ -56,6 +57,8 @@ pub record IsUnstarted (unit : List Item) (world : World) (r : Run) : Type 0 whe
 -- The machine stands for the state that its journal leads to.
 pub record Corresponds (p : Lowered) (world : World) (store : Store) (threads : List Thread) (printed : List Printed) (stop : Option Stop) (journal : List Entry) : Type 0 where
   pub lowered : IsLowered p
+  -- no step of an accepted unit does what JNI leaves undefined
+  pub safe : IsSafe (unit_tree p.unit) world
   pub state : State
   pub replays : replay (unit_tree p.unit) world journal ≡ Some state
   pub store_agrees : StoreAgrees p world store state.shared

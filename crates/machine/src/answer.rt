@@ -15,7 +15,10 @@ ghost use Rattle.machine.specs.Given.{class_of_given, field_at, field_there, ope
 ghost use Rattle.machine.specs.WorkedOut.{address_in, class_object, count_there, deletes, deletes_global, found_class, frame_for, held_reference, place_there, room_for, top_word, value_there, word_in, writes_there, IsFoundField, IsWorkedOut};
 ghost use Rattle.syntax.specs.Views.{element_tree};
 
-use crate::operands::{class_of_given, declaring, fits_there, handle_at, level_in, name_there, operand_of, reference_at};
+use crate::operands::{
+    class_of_given, declaring, fits_there, handle_at, level_in, name_there, operand_of,
+    reference_at,
+};
 use crate::statics::{References, StaticReference};
 use class_table::built_ins::{NO_CLASS_DEF_FOUND_ERROR, NO_SUCH_FIELD_ERROR};
 use class_table::class::FieldHandle;

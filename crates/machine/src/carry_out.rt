@@ -49,64 +49,85 @@ pub fn carry_out(
 {
     // Here the proof takes up what is known of a world.
     let _ = world.threads();
-    Ok(match answer {
-        Answer::Gives(given) => gives(given),
+    match answer {
+        Answer::Gives(given) => Ok(Carried {
+            given,
+            refused: false,
+        }),
         Answer::Writes(addr, place, value) => {
             store.heap.set(addr, place, value);
-            gives(Given::Nothing)
+            Ok(Carried {
+                given: Given::Nothing,
+                refused: false,
+            })
         }
         Answer::Makes(class) => match make(world.classes(), store, class) {
-            Some(addr) => gives(Given::Reference(Some(addr))),
-            None => refuse(world, store, pending, kind),
+            Some(addr) => Ok(Carried {
+                given: Given::Reference(Some(addr)),
+                refused: false,
+            }),
+            None => Ok(refuse(world, store, pending, kind)),
         },
         Answer::Throws(class) => match make(world.classes(), store, class) {
             Some(addr) => {
                 *pending = Some(addr);
-                gives(failed(kind))
+                Ok(Carried {
+                    given: failed(kind),
+                    refused: false,
+                })
             }
-            None => refuse(world, store, pending, kind),
+            None => Ok(refuse(world, store, pending, kind)),
         },
         Answer::Ensures(more) => {
             if frames.ensure(more) {
-                gives(Given::Number(0))
+                Ok(Carried {
+                    given: Given::Number(0),
+                    refused: false,
+                })
             } else {
-                refuse_frames(world, store, pending)
+                Ok(refuse_frames(world, store, pending))
             }
         }
         Answer::Pushes(capacity) => {
-            if frames.push(capacity)? {
-                gives(Given::Number(0))
+            let made = frames.push(capacity)?;
+            if made {
+                Ok(Carried {
+                    given: Given::Number(0),
+                    refused: false,
+                })
             } else {
-                refuse_frames(world, store, pending)
+                Ok(refuse_frames(world, store, pending))
             }
         }
-        Answer::RefusesFrames => refuse_frames(world, store, pending),
+        Answer::RefusesFrames => Ok(refuse_frames(world, store, pending)),
         Answer::Pops(reference) => {
             frames.pop();
-            gives(Given::Reference(reference))
+            Ok(Carried {
+                given: Given::Reference(reference),
+                refused: false,
+            })
         }
         Answer::Deletes(level, addr) => {
             frames.delete(level, addr);
-            gives(Given::Nothing)
+            Ok(Carried {
+                given: Given::Nothing,
+                refused: false,
+            })
         }
         Answer::MakesGlobal(reference) => {
             let held = make_global(&mut store.globals, reference)?;
-            gives(Given::Global(held))
+            Ok(Carried {
+                given: Given::Global(held),
+                refused: false,
+            })
         }
         Answer::DeletesGlobal(slot) => {
             delete_global(&mut store.statics, &mut store.globals, slot);
-            gives(Given::Nothing)
+            Ok(Carried {
+                given: Given::Nothing,
+                refused: false,
+            })
         }
-    })
-}
-
-/// This is given, and no allocation was refused.
-fn gives(given: Given) -> Carried
-    ensures { result ≡ record { given = given; refused = false } }
-{
-    Carried {
-        given,
-        refused: false,
     }
 }
 

@@ -1,6 +1,6 @@
 //! Frames of local references.
 
-ghost use Rattle.std.specs.Prelude.{◌≡◌, ◌+◌, ◌-◌, ◌<◌, ◌≤◌, ◌^◌, [], ◌∷◌, min, length, nat_lt, reverse, true, vec_capacity, IfOk, OnErr, OnOk, if◌then◌else◌};
+ghost use Rattle.std.specs.Prelude.{◌≡◌, ◌+◌, ◌-◌, ◌<◌, ◌≤◌, ◌^◌, [], ◌∷◌, min, length, nat_lt, reverse, true, vec_capacity, vec_len, IfOk, OnErr, OnOk, if◌then◌else◌};
 ghost use Rattle.source.specs.CallEffects.{without_one};
 ghost use Rattle.machine.specs.Frames.{can_ensure, can_push, capacities, deleted, frames_after, has_room, most_locals, wanted, with_capacity, with_frame, with_local, with_reference, with_room, without_last, without_local};
 ghost use Rattle.jni.specs.Table.{function_value};
@@ -192,7 +192,8 @@ impl Frame {
 /// Takes out the last place of an address, if there is one.
 fn delete_last(references: &mut Vec<Addr>, addr: Addr)
     ensures items { references.new.items ≡ reverse (without_one addr (reverse references.old.items)) }
-    ensures capacity { vec_capacity references.new ≡ vec_capacity references.old }
+    ensures capacity { vec_capacity references.old ≤ vec_capacity references.new }
+    ensures shorter { vec_len references.new ≤ vec_len references.old }
 {
     if let Some(last) = references.pop() {
         if last != addr {

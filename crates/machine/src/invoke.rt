@@ -68,9 +68,9 @@ pub fn invoke(
         kind,
         &carried.given,
     );
-    Ok(if carried.refused {
-        Executed::Refused
+    if carried.refused {
+        Ok(Executed::Refused)
     } else {
-        Executed::Did(Event::Quiet)
-    })
+        Ok(Executed::Did(Event::Quiet))
+    }
 }

@@ -26,6 +26,7 @@ use arrayvec::ArrayVec;
 use class_table::table::ClassTable;
 use lower::Program;
 use reached::reached_rows;
+use safety::accepted_is_safe;
 use std::alloc::{AllocError, Global};
 use std::marker::Model;
 use world::{Entry, Printed, Schedule, ScheduleWord, Sink, ThreadStatus, World, write_run};
@@ -73,6 +74,7 @@ impl<'a> Machine<'a> {
     {
         // The proof reads off this call what is known of a world.
         let _ = world.threads();
+        accepted_is_safe();
         let store = load_store(alloc, program.items(), &world)?;
         match load_threads(alloc, &program, &world) {
             Ok(threads) => Ok(Machine {

@@ -9,7 +9,7 @@ ghost use Rattle.source.specs.Task.{Task};
 ghost use Rattle.source.specs.Thread.{BuffersInUse, Shared, Thread as SourceThread, sight_of};
 ghost use Rattle.source.specs.World.{loaded_objects};
 ghost use Rattle.lower.specs.Lowered.{IsLowered};
-ghost use Rattle.machine.specs.Agrees.{StoreAgrees, ThreadAgrees, IsExecuting, Executes, AdvancesBy, ending_after, calls_after};
+ghost use Rattle.machine.specs.Agrees.{StoreAgrees, ThreadAgrees, IsSteady, IsExecuting, Executes, AdvancesBy, ending_after, calls_after};
 ghost use Rattle.machine.specs.Entry.{IsReady, Begins};
 
 use crate::entry::begin;
@@ -98,7 +98,8 @@ pub enum Advanced {
     Refused,
 }
 
-/// Takes one step of a thread that has not ended. Only the entry into a call and a new frame take host memory.
+/// Takes one step of a thread that has not ended. Only the entry into a call, a new frame and a new global reference
+/// take host memory.
 pub fn advance(
     program: &Program<'_>,
     world: &World,
@@ -107,9 +108,10 @@ pub fn advance(
 ) -> Result<Advanced, AllocError>
     requires lowered { IsLowered program.now }
     requires agrees { (shared : Shared) × (s : SourceThread) × StoreAgrees program.now world.now store.old shared
-        × ThreadAgrees program.now world.now.classes store.old.heap (length (loaded_objects world.now)) shared thread.old s × (thread.old.ending ≡ Ending.Unfinished) }
+        × ThreadAgrees program.now world.now.classes store.old.heap (length (loaded_objects world.now)) shared thread.old s × (thread.old.ending ≡ Ending.Unfinished) × IsSteady shared s }
     ensures advances { IfOk result (λ advanced. (lent : BuffersInUse) (k : ℕ) (shared : Shared) (s : SourceThread) → StoreAgrees program.now world.now store.old shared
         → ThreadAgrees program.now world.now.classes store.old.heap (length (loaded_objects world.now)) shared thread.old s
+        → IsSteady shared s
         → AdvancesBy program.now world.now store.old.heap store.new lent k shared s thread.new advanced) }
     ensures store { OnErr result (store.new ≡ store.old) }
     ensures thread { OnErr result (thread.new ≡ thread.old) }
@@ -190,16 +192,13 @@ fn execute(
 {
     let code = program.code(call.function).unwrap();
     let instr = code.get(call.place).unwrap();
-    if let Instr::Call(boxed) = instr {
-        return invoke(world, store, pending, call, boxed.call());
-    }
-    Ok(match instr {
+    match instr {
         Instr::TestNull { variable, equal } => {
             let references = References::new(&call.references, &store.statics, &store.globals);
             let null = is_null(&references, &call.fields, *variable);
             call.stack.push(u32::from(null == *equal));
             call.place += 1;
-            Executed::Did(Event::Quiet)
+            Ok(Executed::Did(Event::Quiet))
         }
         Instr::StoreNull(variable) => {
             set_null(
@@ -209,28 +208,35 @@ fn execute(
                 *variable,
             );
             call.place += 1;
-            Executed::Did(Event::Quiet)
+            Ok(Executed::Did(Event::Quiet))
         }
         Instr::PutJint => {
             let word = call.stack.pop();
             call.place += 1;
-            Executed::Did(Event::Printed(word.cast_signed()))
+            Ok(Executed::Did(Event::Printed(word.cast_signed())))
         }
-        Instr::Return | Instr::ReturnJint | Instr::ReturnReference(_) => Executed::Returned,
+        Instr::Call(boxed) => {
+            let done = invoke(world, store, pending, call, boxed.call())?;
+            Ok(done)
+        }
+        Instr::Return | Instr::ReturnJint | Instr::ReturnReference(_) => Ok(Executed::Returned),
         _ => match plain(instr, &mut call.stack, &mut call.numbers) {
             Plain::Next => {
                 call.place += 1;
-                Executed::Did(Event::Quiet)
+                Ok(Executed::Did(Event::Quiet))
             }
             Plain::Skip(skipped) => {
                 call.place += 1 + skipped as usize;
-                Executed::Did(Event::Quiet)
+                Ok(Executed::Did(Event::Quiet))
             }
             Plain::Back(back) => {
                 call.place -= back as usize;
-                Executed::Did(Event::Quiet)
+                Ok(Executed::Did(Event::Quiet))
             }
-            Plain::Trap(trap, line) => Executed::Did(Event::Trapped(trap_of(trap), line as usize)),
+            Plain::Trap(trap, line) => Ok(Executed::Did(Event::Trapped(
+                trap_of(trap),
+                line as usize,
+            ))),
         },
-    })
+    }
 }

@@ -1,5 +1,5 @@
 -- The roots of a state are the objects made at load and what its threads refer to.
-use Rattle.std.proofs.Common.{◌≡◌, ℕ, List, [], ◌∷◌, ◌++◌, map, Option, Some, None, refl, sym, ap, ◌∙◌, append-nil}
+use Rattle.std.proofs.Common.{◌≡◌, ℕ, List, [], ◌∷◌, ◌++◌, map, Option, Some, None, refl, sym, ap, ◌∙◌, append_assoc, append-nil}
 use Rattle.std.specs.List.{flat_map}
 use Rattle.std.specs.Option.{option_to_list}
 use Rattle.std.proofs.lemmas.List.Concat.{flat_map-cons}
@@ -13,7 +13,7 @@ use Rattle.source.specs.Thread.{Frame, Monitor, Shared, Thread, viewed_by}
 use Rattle.source.specs.Variable.{Variable, Variables, viewed}
 use Rattle.source.specs.World.{World}
 use Rattle.tasks.specs.declared.activation.Activation.{Activation}
-use Rattle.tasks.specs.Stores.{frame_view}
+use Rattle.tasks.specs.Frames.{references_in}
 use Rattle.terms.specs.declared.variable.Content.{Content}
 use Rattle.terms.specs.declared.variable.Content.TheVariants as content
 use Rattle.terms.specs.declared.variable.Variable.{Variable as VariableInMemory}
@@ -28,7 +28,7 @@ use Rattle.replay.specs.Threads.{WorkStands}
 
 content_viewless : (c : Content) → viewed (content_view c) ≡ []
 content_viewless (content.Number v) = refl
-content_viewless (content.Reference r) = refl
+content_viewless (content.Reference level r) = refl
 content_viewless (content.Field f) = refl
 content_viewless (content.Buffer T) = refl
 content_viewless (content.Array T numbers) = refl
@@ -55,8 +55,7 @@ names_are None s h =
     ∙ ap (λ (r : Reference). option_to_list r) h.2
 names_are (Some a) s h =
     ap (λ (fs : List Frame). flat_map (λ (f : Frame). f.references) fs ++ option_to_list s.pending) h.1
-    ∙ ap (λ (r : Reference). flat_map (λ (f : Frame). f.references) (frame_view a.frame ∷ []) ++ option_to_list r) h.2
-    ∙ ap (λ (l : List ℕ). l ++ option_to_list a.pending) (append-nil (frame_view a.frame).references)
+    ∙ ap (λ (r : Reference). references_in a.frames ++ option_to_list r) h.2
 
 module _ (unit : SourceUnit) (classes : Classes) where
   views_none : (ts : List ThreadInMemory) (ss : List Thread) → ThreadsStand unit classes ts ss → flat_map viewed_by ss ≡ []
@@ -79,12 +78,14 @@ module _ (unit : SourceUnit) (classes : Classes) where
       ∙ sym (flat_map-cons thread_names t ts)
 
 -- the roots of a state that one in memory stands for
-pub roots_are : (unit : SourceUnit) (w : World) (m : StateInMemory) (s : State) → Stands unit w m s → roots w s ≡ from_one (loaded_count w) ++ flat_map thread_names m.threads.items
+pub roots_are : (unit : SourceUnit) (w : World) (m : StateInMemory) (s : State) → Stands unit w m s → roots w s ≡ from_one (loaded_count w) ++ (m.shared.globals ++ flat_map thread_names m.threads.items)
 roots_are unit w m s h =
+    let loaded = from_one (loaded_count w) in
     let names = flat_map thread_roots s.threads in
-    ap (λ (x : Shared). from_one (loaded_count w) ++ x.globals ++ names ++ map (λ (o : Monitor). o.object) x.monitors ++ views s) h.shared
-    ∙ ap (λ (l : List ℕ). l ++ names ++ [] ++ views s) (append-nil (from_one (loaded_count w)))
-    ∙ ap (λ (l : List ℕ). l ++ views s) (append-nil (from_one (loaded_count w) ++ names))
-    ∙ ap (λ (l : List ℕ). from_one (loaded_count w) ++ names ++ l) (views_none unit w.classes m.threads.items s.threads h.threads)
-    ∙ append-nil (from_one (loaded_count w) ++ names)
-    ∙ ap (λ (l : List ℕ). from_one (loaded_count w) ++ l) (all_names unit w.classes m.threads.items s.threads h.threads)
+    let globals = m.shared.globals in
+    ap (λ (x : Shared). loaded ++ x.globals ++ names ++ map (λ (o : Monitor). o.object) x.monitors ++ views s) h.shared
+    ∙ ap (λ (l : List ℕ). l ++ views s) (append-nil (loaded ++ globals ++ names))
+    ∙ ap (λ (l : List ℕ). loaded ++ globals ++ names ++ l) (views_none unit w.classes m.threads.items s.threads h.threads)
+    ∙ append-nil (loaded ++ globals ++ names)
+    ∙ ap (λ (l : List ℕ). loaded ++ globals ++ l) (all_names unit w.classes m.threads.items s.threads h.threads)
+    ∙ append_assoc loaded globals (flat_map thread_names m.threads.items)

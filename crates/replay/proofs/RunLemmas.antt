@@ -121,20 +121,20 @@ ends unit w journal m h = record {
 
 -- the rows of what the threads in memory refer to are those of the report
 rows_are : (unit : SourceUnit) (w : World) (m : StateInMemory) (s : State) (classes : Classes) (objects : Heap) (loaded : ℕ) (names : List ℕ) (rows : List ShownRow) → Stands unit w m s
-    → classes ≡ m.world.now.classes → objects ≡ m.store → loaded ≡ loaded_count w → names ≡ flat_map thread_names m.threads.items → AreReported classes objects loaded names rows → rows ≡ (report w s).objects
+    → classes ≡ m.world.now.classes → objects ≡ m.shared.store → loaded ≡ loaded_count w → names ≡ m.shared.globals ++ flat_map thread_names m.threads.items → AreReported classes objects loaded names rows → rows ≡ (report w s).objects
 rows_are unit w m s classes objects loaded names rows h k o l n told =
     told w s (record {
       classes = ap (λ (v : World). v.classes) h.world ∙ sym k;
       heap = ap (λ (x : Shared). x.heap) h.shared ∙ sym o;
       roots =
           roots_are unit w m s h
-          ∙ ap (λ c. from_one c ++ flat_map thread_names m.threads.items) (sym l)
+          ∙ ap (λ c. from_one c ++ (m.shared.globals ++ flat_map thread_names m.threads.items)) (sym l)
           ∙ ap (λ (ns : List ℕ). from_one loaded ++ ns) (sym n);
     })
 
 -- what is written from the state in memory is what the run writes
 pub writes : (unit : SourceUnit) (w : World) (journal : Journal) (m : StateInMemory) (standings : List ThreadStatus) (classes : Classes) (objects : Heap) (loaded : ℕ) (names : List ℕ) (rows : List ShownRow) → Replayed unit w journal m
-    → map standing_view standings ≡ standings_in m → classes ≡ m.world.now.classes → objects ≡ m.store → loaded ≡ loaded_count w → names ≡ flat_map thread_names m.threads.items → AreReported classes objects loaded names rows
+    → map standing_view standings ≡ standings_in m → classes ≡ m.world.now.classes → objects ≡ m.shared.store → loaded ≡ loaded_count w → names ≡ m.shared.globals ++ flat_map thread_names m.threads.items → AreReported classes objects loaded names rows
     → Writes unit w journal (report_text (report_with m.printed.items standings rows) ++ journal_line journal)
 writes unit w journal m standings classes objects loaded names rows h is k o l n told = record {
   end = h.end;

@@ -6,7 +6,6 @@ use Rattle.std.specs.Borrow.{Bor}
 use Rattle.std.specs.Option.{option_map, is_some}
 use Rattle.syntax.specs.Tree.{SourceUnit}
 use Rattle.classes.specs.Class.{Classes}
-use Rattle.source.specs.declared.journal.Entry.{Entry}
 use Rattle.source.specs.declared.journal.Entry.TheVariants as entry
 use Rattle.source.specs.declared.printed.Printed.{Printed}
 use Rattle.source.specs.Report.{ShownRow, ThreadStanding, HasTrapped}
@@ -16,8 +15,7 @@ use Rattle.source.specs.World.{World}
 use Rattle.source.specs.Value.{trap_number}
 use Rattle.report.specs.declared.thread_status.ThreadStatus.{ThreadStatus}
 use Rattle.source.specs.ReportOf.{report, standing_by_ending, standing_of}
-use Rattle.source.specs.Start.{null_statics}
-use Rattle.tasks.specs.Stores.{shared_with}
+use Rattle.tasks.specs.Shares.{shared_view}
 use Rattle.source.specs.State.{State, thread_at, set_thread, lent, with_event, advanced}
 use Rattle.source.specs.Step.{world_step, can_step, step_of, is_blocked, is_live, is_unfinished, is_waiting}
 use Rattle.source.specs.Thread.{Ending, Thread, Shared, Unfinished, Ended, Uncaught, Quiet, PrintedNumber, Trapped, Advance}
@@ -163,12 +161,12 @@ module _ (unit : SourceUnit) (w : World) (m : StateInMemory) (s : State) (h : St
     steps_here = steps w.classes s (suc i) the_thread.source (h.stop ∙ not_stopped m.stop runs) the_thread.is unended (waits_none unit w.classes s.shared (suc i) t the_thread.source the_thread.stands (range_at m.threads.items i t range at))
 
     abbrev after_it : Shared
-    after_it = shared_with (null_statics unit) new.store
+    after_it = shared_view new.shared
 
     the_step : Advance
-    the_step = thread_step unit w.classes (lent s) (suc i) (shared_with (null_statics unit) m.store) the_thread.source refused
+    the_step = thread_step unit w.classes (lent s) (suc i) (shared_view m.shared) the_thread.source refused
 
-    step_is : world_step unit w.classes s (entry.Step (suc i) refused) ≡ advanced s (suc i) (thread_step unit w.classes (lent s) (suc i) (shared_with (null_statics unit) m.store) the_thread.source refused)
+    step_is : world_step unit w.classes s (entry.Step (suc i) refused) ≡ advanced s (suc i) (thread_step unit w.classes (lent s) (suc i) (shared_view m.shared) the_thread.source refused)
     step_is =
         step-thread unit w.classes s (suc i) the_thread.source refused steps_here
         ∙ ap (λ (x : Shared). advanced s (suc i) (thread_step unit w.classes (lent s) (suc i) x the_thread.source refused)) h.shared
@@ -182,7 +180,7 @@ module _ (unit : SourceUnit) (w : World) (m : StateInMemory) (s : State) (h : St
     same_stop : (o : Option StopInMemory) → new.stop ≡ o → o ≡ m.stop → s.stop ≡ option_map stop_view new.stop
     same_stop o is same = h.stop ∙ ap (option_map stop_view) (sym (is ∙ same))
 
-    by_step : (took : Step) → StepIs unit w.classes after_it after took (thread_step unit w.classes (lent s) (suc i) (shared_with (null_statics unit) m.store) the_thread.source refused) → new.printed.items ≡ printed_after m.printed.items (suc i) took
+    by_step : (took : Step) → StepIs unit w.classes after_it after took (thread_step unit w.classes (lent s) (suc i) (shared_view m.shared) the_thread.source refused) → new.printed.items ≡ printed_after m.printed.items (suc i) took
         → new.stop ≡ stop_after m.stop (suc i) took → Leads unit w s (entry.Step (suc i) refused) new (is_possible took)
     by_step step.Quiet l printed stop = (
       with_event (record s { shared = after_it; threads = set_thread s.threads (suc i) l.next }) (suc i) Quiet,
@@ -207,13 +205,13 @@ module _ (unit : SourceUnit) (w : World) (m : StateInMemory) (s : State) (h : St
     )
     by_step step.Impossible l printed stop = step_is ∙ ap (advanced s (suc i)) l
 
-    takes_at : (took : Step) → TakesStep unit w.classes refused m.store t took new.store after → new.printed.items ≡ printed_after m.printed.items (suc i) took → new.stop ≡ stop_after m.stop (suc i) took
+    takes_at : (took : Step) → TakesStep unit w.classes refused (shared_view m.shared) t took (shared_view new.shared) after → new.printed.items ≡ printed_after m.printed.items (suc i) took → new.stop ≡ stop_after m.stop (suc i) took
         → Leads unit w s (entry.Step (suc i) refused) new (is_possible took)
     takes_at took step printed stop = by_step took (step the_thread.source (lent s) (suc i) the_thread.stands unended) printed stop
 
   -- an entry is possible as far as its thread's step is
   pub takes : (k : ℕ) (refused : Bool) (i : ℕ) (t after : ThreadInMemory) (took : Step) (new : StateInMemory) → k ≡ suc i → slice_get m.threads.items i ≡ Some t → is_unfinished (ending_view t.ending) ≡ true
-      → is_some m.stop ≡ false → TakesStep unit w.classes refused m.store t took new.store after → new.world ≡ m.world → new.threads.items ≡ slice_set m.threads.items i after
+      → is_some m.stop ≡ false → TakesStep unit w.classes refused (shared_view m.shared) t took (shared_view new.shared) after → new.world ≡ m.world → new.threads.items ≡ slice_set m.threads.items i after
       → new.printed.items ≡ printed_after m.printed.items k took → new.stop ≡ stop_after m.stop k took
       → Leads unit w s (entry.Step k refused) new (is_possible took)
   takes k refused i t after took new counted at live runs step world threads printed stop =

@@ -1,15 +1,16 @@
 -- What the threads of a replay refer to.
-use Rattle.std.specs.Prelude.{ℕ, List, [], ◌++◌, reverse, Option, None, Some}
+use Rattle.std.specs.Prelude.{ℕ, List, [], ◌++◌, Option, None, Some}
 use Rattle.std.specs.Option.{option_to_list}
 use Rattle.tasks.specs.declared.activation.Activation.{Activation}
+use Rattle.tasks.specs.Frames.{references_in}
 use Rattle.replay.specs.declared.thread.Thread.{Thread}
 
 abbrev pub pending_names : Option ℕ → List ℕ
 pending_names pending = option_to_list pending
 
--- the names in the frame of a call in progress, that of the last one put first, and of its pending exception
+-- the names in the frames of a call in progress, and of its pending exception
 abbrev pub call_names : Activation → List ℕ
-call_names a = reverse a.frame.references.items ++ pending_names a.pending
+call_names a = references_in a.frames ++ pending_names a.pending
 
 abbrev pub activation_names : Option Activation → List ℕ
 activation_names None = []

@@ -10,7 +10,6 @@ use Rattle.source.specs.Report.{ThreadStanding, HasTrapped}
 use Rattle.source.specs.ReportOf.{standing_by_ending}
 use Rattle.source.specs.World.{World}
 use Rattle.source.specs.Thread.{Thread}
-use Rattle.source.specs.Start.{null_statics}
 use Rattle.source.specs.State.{State, Stop}
 use Rattle.source.specs.Step.{world_step}
 use Rattle.source.specs.Value.{trap_number}
@@ -23,7 +22,7 @@ use Rattle.replay.specs.declared.trap_at.TrapAt.{TrapAt}
 use Rattle.replay.specs.TrapAt.{trap_at}
 use Rattle.terms.specs.Views.{trap_view}
 use Rattle.replay.specs.Threads.{ThreadStands, WorkInRange, ending_view}
-use Rattle.tasks.specs.Stores.{shared_with}
+use Rattle.tasks.specs.Shares.{shared_view}
 
 -- each thread in memory stands for the one of the same number
 abbrev pub ThreadsStand : SourceUnit → Classes → List ThreadInMemory → List Thread → Type 0
@@ -46,7 +45,7 @@ shown_stop stop = option_map (λ s. trap_at (stop_view s)) stop
 -- a state in memory stands for one of the language, in the world that it began in
 pub record Stands (unit : SourceUnit) (w : World) (m : StateInMemory) (s : State) : Type 0 where
   pub world : w ≡ m.world.now
-  pub shared : s.shared ≡ shared_with (null_statics unit) m.store
+  pub shared : s.shared ≡ shared_view m.shared
   pub threads : ThreadsStand unit w.classes m.threads.items s.threads
   pub printed : s.printed ≡ m.printed.items
   pub stop : s.stop ≡ option_map stop_view m.stop
@@ -66,7 +65,7 @@ stop_after stop k took = stop
 -- what a step of thread k did is written down, and nothing else
 pub record IsNoted (old : StateInMemory) (k : ℕ) (took : Step) (new : StateInMemory) : Type 0 where
   pub world : new.world ≡ old.world
-  pub store : new.store ≡ old.store
+  pub shared : new.shared ≡ old.shared
   pub threads : new.threads ≡ old.threads
   pub printed : new.printed.items ≡ printed_after old.printed.items k took
   pub stop : new.stop ≡ stop_after old.stop k took

@@ -1,12 +1,10 @@
 -- Threads that lie in memory, as those of the language, and what a step of one does.
-use Rattle.std.specs.Prelude.{◌≡◌, ℕ, Bool, List, [], ◌∷◌, Option, Some, None, IsTrue}
+use Rattle.std.specs.Prelude.{◌≡◌, ℕ, Bool, List, [], Option, Some, None, IsTrue}
 use Rattle.std.specs.List.{list_all}
 use Rattle.syntax.specs.Tree.{SourceUnit}
 use Rattle.classes.specs.Class.{Classes}
 use Rattle.source.specs.Object.{ObjectValue, Number, Refers}
-use Rattle.source.specs.Heap.{Heap}
 use Rattle.source.specs.Load.{call_loads}
-use Rattle.source.specs.Start.{null_statics}
 use Rattle.source.specs.Task.{Task}
 use Rattle.source.specs.Thread.{Ending, Unfinished, Ended, Uncaught, Thread, Shared, BuffersInUse, Event, Quiet, PrintedNumber, Trapped, Advance, Advances, NoAdvance}
 use Rattle.source.specs.ThreadStep.{thread_step}
@@ -21,7 +19,6 @@ use Rattle.replay.specs.declared.thread.Ending.TheVariants as ending
 use Rattle.replay.specs.declared.thread.Step.{Step}
 use Rattle.replay.specs.declared.thread.Step.TheVariants as step
 use Rattle.tasks.specs.Activations.{tasks_left, IsInRange}
-use Rattle.tasks.specs.Stores.{frame_view, shared_with}
 use Rattle.terms.specs.Views.{variables_view, trap_view}
 
 -- the tasks of the call in progress, if there is one
@@ -32,7 +29,7 @@ tasks_in (Some a) = Some (tasks_left a)
 -- what the call in progress has beside its tasks; where there is none, there is nothing
 abbrev pub WorkStands : Option Activation → Thread → Type 0
 WorkStands None s = (s.variables ≡ []) × (s.frames ≡ []) × (s.pending ≡ None)
-WorkStands (Some a) s = (s.variables ≡ variables_view a.variables.items) × (s.frames ≡ frame_view a.frame ∷ []) × (s.pending ≡ a.pending)
+WorkStands (Some a) s = (s.variables ≡ variables_view a.variables.items) × (s.frames ≡ a.frames) × (s.pending ≡ a.pending)
 
 abbrev pub WorkInRange : Option Activation → Type 0
 WorkInRange None = Unit {0}
@@ -76,8 +73,8 @@ StepIs unit classes shared t (step.Printed z) advance = Leaves unit classes shar
 StepIs unit classes shared t (step.Trapped trap line) advance = Leaves unit classes shared t (Trapped (trap_view trap) line) advance
 StepIs unit classes shared t step.Impossible advance = advance ≡ NoAdvance
 
--- the same for each thread that it stands for, with these objects before and after it, or what the step does with its object refused
-abbrev pub TakesStep : SourceUnit → Classes → (refused : Bool) → Heap → ThreadInMemory → Step → Heap → ThreadInMemory → Type 0
-TakesStep unit classes refused heap old took after new =
+-- the same for each thread that it stands for, with this to share before and after it, or what the step does with its object refused
+abbrev pub TakesStep : SourceUnit → Classes → (refused : Bool) → Shared → ThreadInMemory → Step → Shared → ThreadInMemory → Type 0
+TakesStep unit classes refused shared old took after new =
     (s : Thread) (lent : BuffersInUse) (k : ℕ) → ThreadStands unit classes old s → s.ending ≡ Unfinished
-    → StepIs unit classes (shared_with (null_statics unit) after) new took (thread_step unit classes lent k (shared_with (null_statics unit) heap) s refused)
+    → StepIs unit classes after new took (thread_step unit classes lent k shared s refused)

@@ -71,9 +71,9 @@ pub fn replay<W: Sink>(
     };
     let standings = standings_of(alloc, &state)?;
     let objects = NamedObjects {
-        store: &state.store,
+        store: &state.shared.store,
     };
-    let names = root_names(alloc, &state.threads)?;
+    let names = root_names(alloc, &state.shared.globals, &state.threads)?;
     let loaded = made_before(state.world) + state.world.objects().len();
     let rows = reached_rows(alloc, state.world.classes(), &objects, loaded, &names)?;
     match write_run(out, &state.printed, &standings, &rows, journal) {

@@ -5,6 +5,7 @@ ghost use Rattle.syntax.specs.Views.{unit_tree, function_tree, parameter_tree};
 ghost use Rattle.world.specs.Views.{object_value_view};
 ghost use Rattle.source.specs.Load.{call_loads, fits_parameter, fit_parameters, is_callable, first_load_fault};
 ghost use Rattle.source.specs.Start.{start};
+ghost use Rattle.tasks.specs.Shares.{shared_view};
 ghost use Rattle.replay.specs.States.{AreInRange, Stands};
 ghost use Rattle.replay.specs.Loading.{refused_calls, first_line, AreWaiting};
 ghost use Rattle.replay.specs.Replays.{IsLoadFault};
@@ -14,7 +15,8 @@ use crate::state::State;
 use crate::thread::{Ending, Thread, class_of, function_at};
 use std::alloc::{AllocError, Global};
 use syntax::{Function, Item, Parameter, ParameterType};
-use tasks::loaded_store;
+use tasks::{Names, Shared, loaded_store};
+use terms::null_statics;
 use world::{Call, ObjectValue, World};
 
 /// Whether a parameter can have this argument.
@@ -112,10 +114,22 @@ fn waiting_threads<'a>(alloc: Global, world: &'a World) -> Result<Vec<Thread<'a>
     Ok(threads)
 }
 
+/// What all threads share before the first entry: the objects that are made at load, statics that are all NULL, and no global
+/// reference.
+fn loaded<'a>(alloc: Global, items: &'a [Item], world: &World) -> Result<Shared<'a>, AllocError>
+    ensures { IfOk result (λ shared. shared_view shared ≡ (start (unit_tree items.entry.now) world.now).shared) }
+{
+    Ok(Shared {
+        store: loaded_store(alloc, world)?,
+        statics: null_statics(alloc, items)?,
+        globals: Names::new(alloc),
+    })
+}
+
 /// The state before the first entry.
 pub(crate) fn start<'a>(
     alloc: Global,
-    items: &[Item],
+    items: &'a [Item],
     world: &'a World,
 ) -> Result<State<'a>, ReplayFault>
     ensures stands { IfOk result (λ m. Stands (unit_tree items.now) world.now m (start (unit_tree items.now) world.now)) }
@@ -129,7 +143,7 @@ pub(crate) fn start<'a>(
     Ok(State {
         threads: waiting_threads(alloc, world)?,
         world,
-        store: loaded_store(alloc, world)?,
+        shared: loaded(alloc, items, world)?,
         printed: Vec::new(alloc),
         stop: None,
     })

@@ -1,12 +1,12 @@
 //! The objects of a replay by their names, and what threads refer to, for a report.
 
-ghost use Rattle.std.specs.Prelude.{◌≡◌, ◌++◌, IfOk, flat_map, reverse};
+ghost use Rattle.std.specs.Prelude.{◌≡◌, ◌++◌, IfOk, flat_map};
 ghost use Rattle.replay.specs.Rows.{call_names, pending_names, thread_names};
 
 use crate::thread::Thread;
 use reached::Objects;
 use std::alloc::{AllocError, Global};
-use tasks::{Activation, Store};
+use tasks::{Activation, Names, Store};
 use world::ObjectValue;
 
 /// The objects of a store.
@@ -35,15 +35,28 @@ impl Objects for NamedObjects<'_> {
     }
 }
 
-/// The names of the objects in the frames of threads, and of their pending exceptions, in the order of the definitions.
-pub(crate) fn root_names(alloc: Global, threads: &[Thread<'_>]) -> Result<Vec<usize>, AllocError>
-    ensures { IfOk result (λ names. names.items ≡ flat_map thread_names threads.now) }
+/// The names of the objects that global references and threads refer to, in the order of the definitions.
+pub(crate) fn root_names(
+    alloc: Global,
+    globals: &Names,
+    threads: &[Thread<'_>],
+) -> Result<Vec<usize>, AllocError>
+    ensures { IfOk result (λ names. names.items ≡ globals.now ++ flat_map thread_names threads.now) }
 {
     let mut names = Vec::new(alloc);
-    for thread in threads {
-        push_thread(&mut names, thread)?;
-    }
+    globals.add_to(&mut names)?;
+    add_threads(&mut names, threads)?;
     Ok(names)
+}
+
+/// Adds the names of the objects in the frames of threads, and of their pending exceptions.
+fn add_threads(names: &mut Vec<usize>, threads: &[Thread<'_>]) -> Result<(), AllocError>
+    ensures { IfOk result (λ _. names.new.items ≡ names.old.items ++ flat_map thread_names threads.now) }
+{
+    for thread in threads {
+        push_thread(names, thread)?;
+    }
+    Ok(())
 }
 
 /// Adds the names of a thread.
@@ -60,7 +73,7 @@ fn push_thread(names: &mut Vec<usize>, thread: &Thread<'_>) -> Result<(), AllocE
 fn push_call(names: &mut Vec<usize>, activation: &Activation<'_>) -> Result<(), AllocError>
     ensures { IfOk result (λ _. names.new.items ≡ names.old.items ++ call_names activation.now) }
 {
-    push_references(names, &activation.frame.references)?;
+    activation.frames.add_to(names)?;
     push_pending(names, activation.pending)
 }
 
@@ -75,14 +88,4 @@ fn push_pending(names: &mut Vec<usize>, pending: Option<usize>) -> Result<(), Al
             Ok(())
         }
     }
-}
-
-/// Adds the names in a frame, the last one put first.
-fn push_references(names: &mut Vec<usize>, references: &[usize]) -> Result<(), AllocError>
-    ensures { IfOk result (λ _. names.new.items ≡ names.old.items ++ reverse references.now) }
-{
-    for done in 0..references.len() {
-        names.push(references[references.len() - 1 - done])?;
-    }
-    Ok(())
 }

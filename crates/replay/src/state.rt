@@ -15,7 +15,7 @@ use crate::trap_at::TrapAt;
 use class_table::table::ClassTable;
 use std::alloc::{AllocError, Global};
 use syntax::Item;
-use tasks::Store;
+use tasks::Shared;
 use terms::{Trap, trap_number};
 use world::{Entry, Printed, ThreadStatus, World};
 
@@ -33,7 +33,7 @@ pub(crate) struct Stop {
 #[derive(Drop)]
 pub(crate) struct State<'a> {
     pub world: &'a World,
-    pub store: Store,
+    pub shared: Shared<'a>,
     pub threads: Vec<Thread<'a>>,
     pub printed: Vec<Printed>,
     pub stop: Option<Stop>,
@@ -108,7 +108,14 @@ fn take_turn<'a>(
     if !is_unfinished(thread.ending) {
         return Ok(false);
     }
-    let step = take_step(alloc, items, state.world, &mut state.store, refused, thread)?;
+    let step = take_step(
+        alloc,
+        items,
+        state.world,
+        &mut state.shared,
+        refused,
+        thread,
+    )?;
     let possible = note(state, k, step)?;
     Ok(possible)
 }

@@ -1,23 +1,23 @@
 //! Threads: calls in progress and to come.
 
-ghost use Rattle.std.specs.Prelude.{◌≡◌, ◌++◌, ◌∷◌, IfOk, IsTrue, Some, None, filter_map, map, reverse, zip};
+ghost use Rattle.std.specs.Prelude.{◌≡◌, ◌++◌, ◌∷◌, [], IfOk, IsTrue, Some, None, filter_map, map, zip};
 ghost use Rattle.std.specs.Option.{option_map};
 ghost use Rattle.syntax.specs.Limits.{IsTree};
 ghost use Rattle.syntax.specs.Views.{function_tree, parameter_tree, unit_tree};
 ghost use Rattle.types.specs.BuiltCalls.{calls_are_built};
 ghost use Rattle.world.specs.Views.{object_value_view};
 ghost use Rattle.source.specs.Activation.{function_at, parameter_variables, class_of_function, named_object, entry_frame, ending_after, calls_after};
-ghost use Rattle.source.specs.Heap.{Heap};
 ghost use Rattle.source.specs.Step.{is_unfinished};
+ghost use Rattle.source.specs.Thread.{Shared as SharedOfThreads};
 ghost use Rattle.source.specs.Variable.{LocalRef};
 ghost use Rattle.replay.specs.Threads.{argument_content, ending_view, TakesStep, WorkInRange, step_of};
-ghost use Rattle.tasks.specs.Stores.{frame_view};
+ghost use Rattle.tasks.specs.Shares.{shared_view};
 ghost use Rattle.terms.specs.Views.{content_view, variables_view};
 
 use classes::mangling::unmangle;
 use std::alloc::{AllocError, Global};
 use syntax::{Function, Item, Parameter};
-use tasks::{Activation, Frame, Outcome, Store, advance};
+use tasks::{Activation, Frames, Names, Outcome, Shared, Store, advance};
 use terms::{Content, Trap, Value, Variable};
 use world::{Call, ObjectValue, World};
 
@@ -82,8 +82,8 @@ fn content_of<'a>(argument: ObjectValue) -> Content<'a>
 {
     match argument {
         ObjectValue::Number(z) => Content::Number(Value::Int(z)),
-        ObjectValue::Reference(None) => Content::Reference(None),
-        ObjectValue::Reference(Some(object)) => Content::Reference(Some(object as usize)),
+        ObjectValue::Reference(None) => Content::Reference(1, None),
+        ObjectValue::Reference(Some(object)) => Content::Reference(1, Some(object as usize)),
     }
 }
 
@@ -139,15 +139,15 @@ fn entry_variables<'a>(
     let mut variables = Vec::new(alloc);
     variables.push(Variable {
         name: &function.class_name,
-        content: Content::Reference(Some(class)),
+        content: Content::Reference(1, Some(class)),
     })?;
     add_parameters(&mut variables, &function.parameters, arguments)?;
     Ok(variables)
 }
 
-/// Puts those of the arguments that are objects into a list of local references, the first argument last.
-fn add_references(references: &mut Vec<usize>, arguments: &[ObjectValue]) -> Result<(), AllocError>
-    ensures { IfOk result (λ _. reverse references.new.items ≡ filter_map named_object (map object_value_view arguments.entry.now) ++ reverse references.old.items) }
+/// Puts those of the arguments that are objects among local references, the first argument last.
+fn add_references(references: &mut Names, arguments: &[ObjectValue]) -> Result<(), AllocError>
+    ensures { IfOk result (λ _. references.new ≡ filter_map named_object (map object_value_view arguments.entry.now) ++ references.old) }
 {
     match arguments {
         [] => Ok(()),
@@ -163,16 +163,18 @@ fn add_references(references: &mut Vec<usize>, arguments: &[ObjectValue]) -> Res
 
 /// The frame with which a call begins: the class and the arguments that are objects, and room for 16 more (JNI Specification,
 /// chapter 4, "EnsureLocalCapacity").
-fn entry_frame(alloc: Global, class: usize, arguments: &[ObjectValue]) -> Result<Frame, AllocError>
-    ensures { IfOk result (λ frame. frame_view frame ≡ entry_frame (class ∷ filter_map named_object (map object_value_view arguments.now))) }
+fn entry_frames(
+    alloc: Global,
+    class: usize,
+    arguments: &[ObjectValue],
+) -> Result<Frames, AllocError>
+    ensures { IfOk result (λ frames. frames ≡ entry_frame (class ∷ filter_map named_object (map object_value_view arguments.now)) ∷ []) }
 {
-    let mut references = Vec::new(alloc);
+    let mut references = Names::new(alloc);
     add_references(&mut references, arguments)?;
     references.push(class)?;
-    Ok(Frame {
-        capacity: references.len() + 16,
-        references,
-    })
+    let capacity = references.len() + 16;
+    Ok(Frames::new(alloc, capacity, references))
 }
 
 /// Puts a call, or none, in the place of the one in progress.
@@ -193,7 +195,7 @@ fn enter<'a>(
     requires tree { IsTree (unit_tree items.now) }
     requires calls { IsTrue (calls_are_built (unit_tree items.now)) }
     requires idle { thread.old.activation ≡ None }
-    ensures step { IfOk result (λ took. (heap : Heap) → TakesStep (unit_tree items.now) world.now.classes refused heap thread.old took heap thread.new) }
+    ensures step { IfOk result (λ took. (shared : SharedOfThreads) → TakesStep (unit_tree items.now) world.now.classes refused shared thread.old took shared thread.new) }
     ensures range { IfOk result (λ _. WorkInRange thread.new.activation) }
 {
     // An entry makes no object that could be refused.
@@ -210,14 +212,14 @@ fn enter<'a>(
         return Ok(Step::Impossible);
     };
     let variables = entry_variables(alloc, function, class, call.arguments())?;
-    let frame = entry_frame(alloc, class, call.arguments())?;
+    let frames = entry_frames(alloc, class, call.arguments())?;
     thread.calls = rest;
     let activation = Activation {
         task: None,
         rest: &function.body.statements,
         outer: Vec::new(alloc),
         variables,
-        frame,
+        frames,
         pending: None,
     };
     put_activation(&mut thread.activation, Some(activation));
@@ -231,7 +233,8 @@ fn step_of(outcome: Outcome<'_>) -> Step
     match outcome {
         Outcome::Stays | Outcome::Sets(_, _) | Outcome::SetsNull(_) => Step::Quiet,
         Outcome::Gives(_, _) | Outcome::SetsElement(_, _, _) => Step::Quiet,
-        Outcome::Makes(_, _, _) | Outcome::Enters(_, _) => Step::Quiet,
+        Outcome::Tests(_, _, _, _) | Outcome::Makes(_, _, _) => Step::Quiet,
+        Outcome::Enters(_, _) => Step::Quiet,
         Outcome::Ends | Outcome::Returned => Step::Quiet,
         Outcome::Printed(z) => Step::Printed(z),
         Outcome::Trapped(trap, line) => Step::Trapped(trap, line),
@@ -272,23 +275,23 @@ pub(crate) fn take_step<'a>(
     alloc: Global,
     items: &'a [Item],
     world: &'a World,
-    store: &mut Store,
+    shared: &mut Shared<'a>,
     refused: bool,
     thread: &mut Thread<'a>,
 ) -> Result<Step, AllocError>
     requires tree { IsTree (unit_tree items.now) }
     requires calls { IsTrue (calls_are_built (unit_tree items.now)) }
     requires range { WorkInRange thread.old.activation }
-    ensures step { IfOk result (λ took. TakesStep (unit_tree items.now) world.now.classes refused store.old thread.old took store.new thread.new) }
+    ensures step { IfOk result (λ took. TakesStep (unit_tree items.now) world.now.classes refused (shared_view shared.old) thread.old took (shared_view shared.new) thread.new) }
     ensures range { IfOk result (λ _. WorkInRange thread.new.activation) }
 {
     let Some(activation) = &mut thread.activation else {
         return enter(alloc, items, world, refused, thread);
     };
-    match advance(alloc, items, world.classes(), store, refused, activation)? {
+    match advance(alloc, world.classes(), shared, refused, activation)? {
         Outcome::Returned => {
             let pending = activation.pending;
-            leave(store, thread, pending);
+            leave(&shared.store, thread, pending);
             Ok(Step::Quiet)
         }
         outcome => Ok(step_of(outcome)),

@@ -1,76 +1,55 @@
 -- What a call in memory does is the call's step.
-use Rattle.std.proofs.Common.{◌≡◌, ℕ, Bool, true, false, List, [], ◌∷◌, ◌++◌, map, Option, Some, None, refl, sym, ap, ◌∙◌, subst, append-nil, arith, IfOk, Result, Ok, Err}
-use Rattle.std.specs.Prelude.{ℤ, pos, negsuc, ◌+◌, max, nat_le, if◌then◌else◌, length, is_some, not, zip, ◌&&◌, ◌||◌}
-use Rattle.std.specs.List.{list_any}
-use Rattle.base.specs.Bytes.{Identifier}
+use Rattle.std.proofs.Common.{◌≡◌, ℕ, Bool, true, false, List, [], ◌∷◌, ◌++◌, Option, Some, None, refl, sym, ap, ◌∙◌, append-nil, IfOk, Result, Ok, Err}
+use Rattle.std.specs.Prelude.{ℤ, pos, negsuc, drop, nat_le, if◌then◌else◌, is_some}
+use Rattle.std.specs.Option.{option_to_list}
+use Rattle.base.specs.Bytes.{Identifier, lookup}
 use Rattle.base.specs.Element.{ElementType}
 use Rattle.classes.specs.BuiltIns.{no_class_def_found_error, no_such_field_error}
 use Rattle.classes.specs.Class.{Classes}
 use Rattle.classes.specs.Fields.{FieldId}
 use Rattle.jni.specs.BuiltFunctions.{is_built_function}
-use Rattle.jni.specs.JniFunction.{JniFunction, FindClass, GetSuperclass, GetObjectClass, IsInstanceOf, IsAssignableFrom, AllocObject, NewLocalRef, IsSameObject, EnsureLocalCapacity, GetFieldID, GetStaticFieldID, GetField, SetField, GetStaticField, SetStaticField, GetObjectField, SetObjectField, GetStaticObjectField, SetStaticObjectField, GetArrayLength, PopLocalFrame, is_allowed_pending}
+use Rattle.jni.specs.JniFunction.{JniFunction, FindClass, GetSuperclass, GetObjectClass, IsInstanceOf, IsAssignableFrom, AllocObject, NewLocalRef, NewGlobalRef, DeleteLocalRef, DeleteGlobalRef, IsSameObject, EnsureLocalCapacity, PushLocalFrame, PopLocalFrame, GetFieldID, GetStaticFieldID, GetField, SetField, GetStaticField, SetStaticField, GetObjectField, SetObjectField, GetStaticObjectField, SetStaticObjectField, GetArrayLength}
 use Rattle.jni.specs.Prototype.{ResultKind, NewLocal, prototype}
-use Rattle.source.specs.Arguments.{Actual, variable_given}
-use Rattle.source.specs.CallEffects.{CallResult, CallEffect, found_class_effect, ensure_effect, found_field_effect, frames_effect, out_of_memory, refuses_frames, with_capacity}
-use Rattle.source.specs.CallStep.{after_call, after_refusal, call_step, checked, completed, failure, makes_objects, put, received, target_element, tell_copy, is_zero}
+use Rattle.source.specs.Arguments.{Actual, reference_given, variable_given}
+use Rattle.source.specs.CallEffects.{CallResult, NoResult, ReferenceResult, CallEffect, Leaves, delete_global_effect, delete_local_effect, ensure_effect, found_class_effect, found_field_effect, level_of, out_of_memory, push_effect, refuses_frames, with_capacity, without_local}
+use Rattle.source.specs.CallStep.{after_call, after_refusal, call_step, checked, completed, failure, is_zero, makes_objects, put, received, target_element, tell_copy}
 use Rattle.source.specs.CallTable.{call_effect}
-use Rattle.source.specs.Checks.{call_trap, first_trap, frames_after, go_together, is_deleted, is_misfit, is_missing}
+use Rattle.source.specs.Checks.{call_trap, go_together}
 use Rattle.source.specs.Effect.{tasks_after}
 use Rattle.source.specs.Heap.{Heap, next_name}
 use Rattle.source.specs.Object.{Object, Reference}
 use Rattle.source.specs.World.{fresh_object}
 use Rattle.source.specs.Task.{Task}
-use Rattle.source.specs.Thread.{Frame, Thread, Shared, BuffersInUse, Trapped, Advance, Advances}
+use Rattle.source.specs.Thread.{Frame, Thread, Shared, BuffersInUse, Trapped, Advance, Advances, capacities}
 use Rattle.source.specs.ThreadStep.{with_tasks}
-use Rattle.source.specs.Value.{Trap, DeletedReference, ExceptionPending, NullReference, WrongObject, NoCapacity}
-use Rattle.source.specs.Variable.{Statics, Variables}
-use Rattle.tasks.specs.declared.actual.Actual.{Actual as InMemory}
-use Rattle.tasks.specs.declared.actual.Actual.TheVariants as actual
+use Rattle.source.specs.Value.{Trap}
+use Rattle.source.specs.Variable.{Variable, Variables}
 use Rattle.tasks.specs.declared.given.Given.{Given}
 use Rattle.tasks.specs.declared.given.Given.TheVariants as given
+use Rattle.tasks.specs.declared.outcome.Outcome.{Outcome}
 use Rattle.tasks.specs.declared.outcome.Outcome.TheVariants as outcome
-use Rattle.tasks.specs.declared.outcome.Target.{Target as TargetInMemory}
+use Rattle.tasks.specs.declared.outcome.Purpose.{Purpose as PurposeInMemory}
+use Rattle.tasks.specs.declared.outcome.Purpose.TheVariants as purposes
 use Rattle.tasks.specs.declared.outcome.Target.TheVariants as target
+use Rattle.tasks.specs.declared.task.Task.{Task as TaskInMemory}
 use Rattle.terms.specs.declared.trap.Trap.{Trap as TrapInMemory}
-use Rattle.tasks.specs.Actuals.{actual_view}
-use Rattle.tasks.specs.Answers.{Answer, Gives, Writes, Makes, Raises, Ensures, RefusesFrames, effect_as, frame_after, frame_with, given_after, given_view, heap_after, makes_object, pending_after}
+use Rattle.terms.specs.declared.variable.Variable.{Variable as VariableInMemory}
+use Rattle.tasks.specs.Answers.{Answer, Gives, Writes, Makes, Raises, Ensures, Pushes, RefusesFrames, Pops, DeletesLocal, MakesGlobal, DeletesGlobal, effect_as, frames_after, frames_with, given_after, given_view, makes_object, pending_after, shared_after, without_global, zero_result}
 use Rattle.tasks.specs.Calls.{MakesCall}
-use Rattle.tasks.specs.Checked.{fit_together, lacks_room, trap_found}
-use Rattle.tasks.specs.Outcomes.{target_view}
-use Rattle.tasks.specs.Steps.{in_frame}
-use Rattle.tasks.specs.Stores.{shared_with}
+use Rattle.tasks.specs.Checked.{fit_together, trap_found}
+use Rattle.tasks.specs.Frames.{new_frame}
+use Rattle.tasks.specs.Outcomes.{outcome_for, purpose_view}
+use Rattle.tasks.specs.Steps.{Scene, Sees, in_frames, left_by, scene_with}
 use Rattle.tasks.specs.Tasks.{task_view}
-use Rattle.tasks.specs.WorkedOut.{ensured, found_class, found_field, given_room, worked_out}
-use Rattle.terms.specs.Views.{trap_view}
-use Rattle.tasks.proofs.TaskLemmas.{same_frame, same_thread}
+use Rattle.tasks.specs.WorkedOut.{ensured, found_class, found_field, global_deleted, local_deleted, made_global, pushed, worked_out}
+use Rattle.terms.specs.Views.{trap_view, variables_view}
+use Rattle.tasks.proofs.TaskLemmas.{same_frames, same_thread}
 
 pub if_ok : {A E : Type 0} {P Q : A → Type 0} → (r : Result A E) → ((a : A) → P a → Q a) → IfOk r P → IfOk r Q
 if_ok (Ok a) f h = f a h
 if_ok (Err e) f h = tt
 
 -- ---- checks
-
--- no static is deleted
-none_deleted : (args : List InMemory) → list_any is_deleted (map actual_view args) ≡ false
-none_deleted [] = refl
-none_deleted (actual.Reference x None ∷ args) = none_deleted args
-none_deleted (actual.Reference x (Some n) ∷ args) = none_deleted args
-none_deleted (actual.Field f ∷ args) = none_deleted args
-none_deleted (actual.Number z ∷ args) = none_deleted args
-none_deleted (actual.Text bytes ∷ args) = none_deleted args
-none_deleted (actual.Variable x ∷ args) = none_deleted args
-none_deleted (actual.Mode m ∷ args) = none_deleted args
-none_deleted (actual.Nothing ∷ args) = none_deleted args
-
--- no frame is popped
-frames_stay : (f : JniFunction) (frames : List Frame) → is_built_function f ≡ true → frames_after f frames ≡ frames
-frames_stay PopLocalFrame frames built = absurd (cc)
-frames_stay f frames built = refl
-
--- a test that doesn't hold
-passed_over : (b : Bool) (t u : Trap) (rest : List (Bool × Trap)) → first_trap ((b, t) ∷ (false, u) ∷ rest) ≡ first_trap ((b, t) ∷ rest)
-passed_over true t u rest = refl
-passed_over false t u rest = refl
 
 module _ (classes : Classes) (heap : Heap) (buffer : ElementType) (args : List Actual) where
   -- the arguments go together
@@ -82,9 +61,14 @@ module _ (classes : Classes) (heap : Heap) (buffer : ElementType) (args : List A
   together IsInstanceOf built = refl
   together IsAssignableFrom built = refl
   together NewLocalRef built = refl
+  together NewGlobalRef built = refl
+  together DeleteLocalRef built = refl
+  together DeleteGlobalRef built = refl
   together IsSameObject built = refl
   together AllocObject built = refl
   together EnsureLocalCapacity built = refl
+  together PushLocalFrame built = refl
+  together PopLocalFrame built = refl
   together GetFieldID built = refl
   together GetStaticFieldID built = refl
   together (GetField T) built = refl
@@ -99,68 +83,75 @@ module _ (classes : Classes) (heap : Heap) (buffer : ElementType) (args : List A
   together f built = absurd (cc)
 
 -- the trap of a call is the one that was found
-trap_is : (classes : Classes) (heap : Heap) (buffer : ElementType) (args : List InMemory) (f : JniFunction) (t : Thread) (frame : Frame) (pending : Reference) → is_built_function f ≡ true → t.frames ≡ frame ∷ [] → t.pending ≡ pending
-    → call_trap classes heap t buffer f (map actual_view args) ≡ trap_found classes heap frame (is_some pending) f (map actual_view args)
+trap_is : (classes : Classes) (heap : Heap) (buffer : ElementType) (args : List Actual) (f : JniFunction) (t : Thread) → is_built_function f ≡ true
+    → call_trap classes heap t buffer f args ≡ trap_found classes heap t.frames (is_some t.pending) f args
 unfolding call_trap
-trap_is classes heap buffer args f t frame pending built frames is =
-    rw (frames_stay f t.frames built, frames, is, none_deleted args, together classes heap buffer (map actual_view args) f built) (passed_over (is_some pending && not (is_allowed_pending f)) ExceptionPending DeletedReference (
-    (list_any is_missing (zip (prototype f).parameters (map actual_view args)), NullReference)
-    ∷ (list_any (is_misfit classes heap) (zip (prototype f).parameters (map actual_view args)) || not (fit_together classes heap (map actual_view args) f), WrongObject)
-    ∷ (lacks_room (prototype f).result frame, NoCapacity)
-    ∷ []))
+trap_is classes heap buffer args f t built = rw (together classes heap buffer args f built) refl
 
 -- ---- effects
 
-module _ (classes : Classes) (lent : BuffersInUse) (k : ℕ) (s : Shared) (t : Thread) (frame : Frame) (args : List Actual) where
-  class_found : (o : Option ℕ) → found_class_effect s t no_class_def_found_error o ≡ effect_as classes s t frame (found_class o)
+module _ (classes : Classes) (lent : BuffersInUse) (k : ℕ) (s : Shared) (t : Thread) (args : List Actual) where
+  class_found : (o : Option ℕ) → found_class_effect s t no_class_def_found_error o ≡ effect_as classes s t (found_class o)
   class_found None = refl
   class_found (Some c) = refl
 
-  field_found : (o : Option FieldId) → found_field_effect s t no_such_field_error o ≡ effect_as classes s t frame (found_field o)
+  field_found : (o : Option FieldId) → found_field_effect s t no_such_field_error o ≡ effect_as classes s t (found_field o)
   field_found None = refl
   field_found (Some f) = refl
 
-  -- a capacity of the one frame, if it may have it
-  abbrev by_test : ℕ → Bool → CallEffect
-  by_test capacity b = if b then effect_as classes s t frame (Ensures capacity) else refuses_frames classes s t
+  fitting : (b : Bool) (a : Answer) → (if b then effect_as classes s t a else refuses_frames classes s t) ≡ effect_as classes s t (if b then a else RefusesFrames)
+  fitting true a = refl
+  fitting false a = refl
 
-  tested : (capacity : ℕ) (b : Bool) → by_test capacity b ≡ effect_as classes s t frame (given_room (if b then Some capacity else None))
-  tested capacity true = refl
-  tested capacity false = refl
+  ensures : (n : ℤ) → ensure_effect classes s t n ≡ effect_as classes s t (ensured t.frames n)
+  ensures (pos n) = fitting (nat_le (capacities (with_capacity n t.frames)) 1024) (Ensures n)
+  ensures (negsuc n) = refl
 
-  with_frames : (capacity : ℕ) → frames_effect classes s t (record frame { capacity = capacity } ∷ []) ≡ effect_as classes s t frame (given_room (if nat_le capacity 1024 then Some capacity else None))
-  with_frames capacity =
-      let alone : 0 + capacity ≡ capacity = omega arith in
-      ap (λ (total : ℕ). by_test capacity (nat_le total 1024)) alone ∙ tested capacity (nat_le capacity 1024)
+  pushes : (n : ℤ) → push_effect classes s t n ≡ effect_as classes s t (pushed t.frames n)
+  pushes (pos n) = fitting (nat_le (capacities (new_frame n ∷ t.frames)) 1024) (Pushes n)
+  pushes (negsuc n) = refl
 
-  ensures : (n : ℤ) → t.frames ≡ frame ∷ [] → ensure_effect classes s t n ≡ effect_as classes s t frame (ensured frame n)
-  ensures (pos n) frames = ap (λ (fs : List Frame). frames_effect classes s t (with_capacity n fs)) frames ∙ with_frames (max frame.capacity (length frame.references + n))
-  ensures (negsuc n) frames = refl
+  deletes_local : (v : Option Variable) (r : Reference) → delete_local_effect s t v r ≡ effect_as classes s t (local_deleted (level_of v) r)
+  deletes_local v None = refl
+  deletes_local v (Some n) = refl
+
+  makes_global : (r : Reference) → Leaves [] (record s { globals = option_to_list r ++ s.globals }) t (ReferenceResult r) ≡ effect_as classes s t (made_global r)
+  makes_global None = refl
+  makes_global (Some n) = refl
+
+  deletes_global : (x : Identifier) (r : Reference) → delete_global_effect s t x r ≡ effect_as classes s t (global_deleted x r)
+  deletes_global x None = refl
+  deletes_global x (Some n) = refl
 
   -- what is worked out is the effect
-  effects : (f : JniFunction) → is_built_function f ≡ true → t.frames ≡ frame ∷ [] → call_effect classes lent k s t args f ≡ effect_as classes s t frame (worked_out classes s.heap frame args f)
+  effects : (f : JniFunction) → is_built_function f ≡ true → call_effect classes lent k s t args f ≡ effect_as classes s t (worked_out classes s.heap t.variables t.frames args f)
   unfolding call_effect
-  effects FindClass built frames = class_found _
-  effects GetSuperclass built frames = refl
-  effects GetObjectClass built frames = refl
-  effects IsInstanceOf built frames = refl
-  effects IsAssignableFrom built frames = refl
-  effects NewLocalRef built frames = refl
-  effects IsSameObject built frames = refl
-  effects AllocObject built frames = refl
-  effects EnsureLocalCapacity built frames = ensures _ frames
-  effects GetFieldID built frames = field_found _
-  effects GetStaticFieldID built frames = field_found _
-  effects (GetField T) built frames = refl
-  effects (SetField T) built frames = refl
-  effects (GetStaticField T) built frames = refl
-  effects (SetStaticField T) built frames = refl
-  effects GetObjectField built frames = refl
-  effects SetObjectField built frames = refl
-  effects GetStaticObjectField built frames = refl
-  effects SetStaticObjectField built frames = refl
-  effects GetArrayLength built frames = refl
-  effects f built frames = absurd (cc)
+  effects FindClass built = class_found _
+  effects GetSuperclass built = refl
+  effects GetObjectClass built = refl
+  effects IsInstanceOf built = refl
+  effects IsAssignableFrom built = refl
+  effects NewLocalRef built = refl
+  effects NewGlobalRef built = makes_global _
+  effects DeleteLocalRef built = deletes_local (lookup (variable_given args 0) t.variables) (reference_given args 0)
+  effects DeleteGlobalRef built = deletes_global _ _
+  effects IsSameObject built = refl
+  effects AllocObject built = refl
+  effects EnsureLocalCapacity built = ensures _
+  effects PushLocalFrame built = pushes _
+  effects PopLocalFrame built = refl
+  effects GetFieldID built = field_found _
+  effects GetStaticFieldID built = field_found _
+  effects (GetField T) built = refl
+  effects (SetField T) built = refl
+  effects (GetStaticField T) built = refl
+  effects (SetStaticField T) built = refl
+  effects GetObjectField built = refl
+  effects SetObjectField built = refl
+  effects GetStaticObjectField built = refl
+  effects SetStaticObjectField built = refl
+  effects GetArrayLength built = refl
+  effects f built = absurd (cc)
 
 -- ---- what a call leaves
 
@@ -174,181 +165,183 @@ not_told (b ∷ x) (given.Flag c) vs = refl
 not_told (b ∷ x) (given.Reference r) vs = refl
 not_told (b ∷ x) (given.Field f) vs = refl
 
--- none is called in a test
-none_tested : (line : ℕ) (to : TargetInMemory) (zero : Bool) → tasks_after line (target_view to) zero ≡ []
-none_tested line (target.Declared kind x) zero = refl
-none_tested line (target.Assigned x) zero = refl
-none_tested line target.Dropped zero = refl
+-- the result goes into the current frame
+in_received : (kind : ResultKind) (g : Given) (t : Thread) (frames : List Frame) (pending : Reference) → received kind (given_view g) (in_frames t frames pending) ≡ in_frames t (frames_with kind (given_view g) frames) pending
+in_received NewLocal given.Nothing t frames pending = refl
+in_received NewLocal given.Null t frames pending = refl
+in_received NewLocal (given.Number z) t frames pending = refl
+in_received NewLocal (given.Flag b) t frames pending = refl
+in_received NewLocal (given.Reference None) t frames pending = refl
+in_received NewLocal (given.Reference (Some n)) t frames pending = refl
+in_received NewLocal (given.Field f) t frames pending = refl
+in_received kind g t frames pending = refl
 
--- the result goes into the frame
-in_received : (kind : ResultKind) (g : Given) (t : Thread) (frame : Frame) → t.frames ≡ frame ∷ [] → ◌≡◌ {A = Thread} (received kind (given_view g) t) (record t { frames = frame_with kind (given_view g) frame ∷ [] })
-in_received NewLocal given.Nothing t frame frames = ap (λ (fs : List Frame). let u : Thread = record t { frames = fs } in u) frames
-in_received NewLocal given.Null t frame frames = ap (λ (fs : List Frame). let u : Thread = record t { frames = fs } in u) frames
-in_received NewLocal (given.Number z) t frame frames = ap (λ (fs : List Frame). let u : Thread = record t { frames = fs } in u) frames
-in_received NewLocal (given.Flag b) t frame frames = ap (λ (fs : List Frame). let u : Thread = record t { frames = fs } in u) frames
-in_received NewLocal (given.Reference None) t frame frames = ap (λ (fs : List Frame). let u : Thread = record t { frames = fs } in u) frames
-in_received NewLocal (given.Reference (Some n)) t frame frames = rw frames refl
-in_received NewLocal (given.Field f) t frame frames = ap (λ (fs : List Frame). let u : Thread = record t { frames = fs } in u) frames
-in_received kind g t frame frames = ap (λ (fs : List Frame). let u : Thread = record t { frames = fs } in u) frames
-
--- a failure leaves the frame alone
-failed_frame : (kind : ResultKind) (frame : Frame) → frame_with kind (failure kind) frame ≡ frame
-failed_frame NewLocal frame = refl
-failed_frame kind frame = refl
+-- a failure leaves the frames alone
+failed_frames : (kind : ResultKind) (frames : List Frame) → frames_with kind (failure kind) frames ≡ frames
+failed_frames NewLocal frames = refl
+failed_frames kind frames = refl
 
 -- whether an effect makes objects
-makes_alike : (classes : Classes) (s : Shared) (t : Thread) (frame : Frame) (a : Answer) → makes_objects (effect_as classes s t frame a) ≡ makes_object a
-makes_alike classes s t frame (Gives g) = refl
-makes_alike classes s t frame (Writes n i v) = refl
-makes_alike classes s t frame (Makes c) = refl
-makes_alike classes s t frame (Raises c) = refl
-makes_alike classes s t frame (Ensures n) = refl
-makes_alike classes s t frame RefusesFrames = refl
+makes_alike : (classes : Classes) (s : Shared) (t : Thread) (a : Answer) → makes_objects (effect_as classes s t a) ≡ makes_object a
+makes_alike classes s t (Gives g) = refl
+makes_alike classes s t (Writes n i v) = refl
+makes_alike classes s t (Makes c) = refl
+makes_alike classes s t (Raises c) = refl
+makes_alike classes s t (Ensures n) = refl
+makes_alike classes s t (Pushes n) = refl
+makes_alike classes s t RefusesFrames = refl
+makes_alike classes s t (Pops r) = refl
+makes_alike classes s t (DeletesLocal l n) = refl
+makes_alike classes s t (MakesGlobal n) = refl
+makes_alike classes s t (DeletesGlobal x n) = refl
 
-module _ (classes : Classes) (lent : BuffersInUse) (k : ℕ) (statics : Statics) (heap : Heap) (line : ℕ) (to : TargetInMemory) (f : JniFunction) (args : List Actual) (rest : List Task) where
+module _ (classes : Classes) (lent : BuffersInUse) (k : ℕ) (s : Shared) (t : Thread) (line : ℕ) (purpose : PurposeInMemory) (f : JniFunction) (args : List Actual) (rest : List Task) (frames : List Frame) (pending : Reference) where
   abbrev kind : ResultKind
   kind = (prototype f).result
 
-  abbrev shared : Heap → Shared
-  shared now = shared_with statics now
+  -- the thread before the call
+  abbrev caller : Thread
+  caller = in_frames t frames pending
 
-  -- what goes into a variable and a frame
-  abbrev completes : Thread → List Object → Heap → Thread → CallResult → Advance
-  completes t made now u g = completed classes lent k (shared heap) t line (target_view to) f args rest made (shared now) u g
+  -- what goes where it belongs
+  abbrev completes : List Object → Shared → Thread → CallResult → Advance
+  completes made s' u c = completed classes lent k s caller line (purpose_view line purpose) f args rest made s' u c
 
-  completed_is : (t : Thread) (made : List Object) (now : Heap) (u : Thread) (g : Given) (frame : Frame) (pending : Reference) → u.frames ≡ frame ∷ [] → u.pending ≡ pending
-      → completes t made now u (given_view g) ≡ put (target_view to) (given_view g) (shared (now ++ made)) (with_tasks (in_frame u (frame_with kind (given_view g) frame) pending) rest)
-  completed_is t made now u g frame pending frames is =
-      ap (λ (w : Thread). let after : Thread = record w { tasks = Some (tasks_after line (target_view to) (is_zero (given_view g)) ++ rest); variables = tell_copy (variable_given args 1) (given_view g) u.variables } in put (target_view to) (given_view g) (shared (now ++ made)) after)
-      (in_received kind g u frame frames)
-      ∙ ap (λ (vs : Variables). let after : Thread = record u { tasks = Some (tasks_after line (target_view to) (is_zero (given_view g)) ++ rest); variables = vs; frames = frame_with kind (given_view g) frame ∷ [] } in put (target_view to) (given_view g) (shared (now ++ made)) after)
-      (not_told (variable_given args 1) g u.variables)
-      ∙ ap (λ (ts : List Task). let after : Thread = record u { tasks = Some (ts ++ rest); frames = frame_with kind (given_view g) frame ∷ [] } in put (target_view to) (given_view g) (shared (now ++ made)) after)
-      (none_tested line to (is_zero (given_view g)))
-      ∙ ap (λ (r : Reference). let after : Thread = record u { tasks = Some rest; frames = frame_with kind (given_view g) frame ∷ []; pending = r } in put (target_view to) (given_view g) (shared (now ++ made)) after) is
+  by_purpose : (p : PurposeInMemory) (s' : Shared) (fs : List Frame) (r : Reference) (g : Given) (new : TaskInMemory)
+      → put (purpose_view line p) (given_view g) s' (with_tasks (in_frames t fs r) (tasks_after line (purpose_view line p) (is_zero (given_view g)) ++ rest)) ≡ left_by k s' (in_frames t fs r) rest (outcome_for line p g) new
+  by_purpose (purposes.Put (target.Declared t x)) s' fs r g new = refl
+  by_purpose (purposes.Put (target.Assigned x)) s' fs r g new = refl
+  by_purpose (purposes.Put target.Dropped) s' fs r g new = refl
+  by_purpose (purposes.Test b other) s' fs r g new = refl
+
+  finished : (made : List Object) (s' : Shared) (fs : List Frame) (r : Reference) (c : CallResult) (g : Given) (new : TaskInMemory) → given_view g ≡ c
+      → completes made s' (in_frames t fs r) c ≡ left_by k (record s' { heap = s'.heap ++ made }) (in_frames t (frames_with kind (given_view g) fs) r) rest (outcome_for line purpose g) new
+  finished made s' fs r c g new same =
+      let after : Shared = record s' { heap = s'.heap ++ made } in
+      let todo : List Task = tasks_after line (purpose_view line purpose) (is_zero (given_view g)) ++ rest in
+      ap (completes made s' (in_frames t fs r)) (sym same)
+      ∙ ap (λ (w : Thread). let u : Thread = record w { tasks = Some todo; variables = tell_copy (variable_given args 1) (given_view g) t.variables } in put (purpose_view line purpose) (given_view g) after u) (in_received kind g t fs r)
+      ∙ ap (λ (vs : Variables). let u : Thread = record (in_frames t (frames_with kind (given_view g) fs) r) { tasks = Some todo; variables = vs } in put (purpose_view line purpose) (given_view g) after u) (not_told (variable_given args 1) g t.variables)
+      ∙ by_purpose purpose after (frames_with kind (given_view g) fs) r g new
+
+  -- the same where no object is made
+  plain : (s' : Shared) (fs : List Frame) (r : Reference) (c : CallResult) (g : Given) (new : TaskInMemory) → given_view g ≡ c
+      → completes [] s' (in_frames t fs r) c ≡ left_by k s' (in_frames t (frames_with kind (given_view g) fs) r) rest (outcome_for line purpose g) new
+  plain s' fs r c g new same =
+      finished [] s' fs r c g new same
+      ∙ ap (λ (heap : Heap). let after : Shared = record s' { heap = heap } in left_by k after (in_frames t (frames_with kind (given_view g) fs) r) rest (outcome_for line purpose g) new) (append-nil s'.heap)
 
   -- so it is after each answer
-  answered : (t : Thread) (a : Answer) (g : Given) (frame : Frame) (pending : Reference) → t.frames ≡ frame ∷ [] → t.pending ≡ pending → given_view g ≡ given_after heap kind a
-      → after_call classes lent k (shared heap) t line (target_view to) f args rest (effect_as classes (shared heap) t frame a)
-      ≡ put (target_view to) (given_view g) (shared (heap_after classes heap a)) (with_tasks (in_frame t (frame_with kind (given_view g) (frame_after frame a)) (pending_after classes heap pending a)) rest)
-  answered t (Gives c) g frame pending frames is same =
-      ap (completes t [] heap t) (sym same) ∙ completed_is t [] heap t g frame pending frames is
-      ∙ ap (λ (now : Heap). put (target_view to) (given_view g) (shared now) (with_tasks (in_frame t (frame_with kind (given_view g) frame) pending) rest)) (append-nil heap)
-  answered t (Writes n i v) g frame pending frames is same =
-      ap (completes t [] (heap_after classes heap (Writes n i v)) t) (sym same) ∙ completed_is t [] (heap_after classes heap (Writes n i v)) t g frame pending frames is
-      ∙ ap (λ (now : Heap). put (target_view to) (given_view g) (shared now) (with_tasks (in_frame t (frame_with kind (given_view g) frame) pending) rest)) (append-nil (heap_after classes heap (Writes n i v)))
-  answered t (Makes c) g frame pending frames is same =
-      ap (completes t (fresh_object classes c ∷ []) heap t) (sym same) ∙ completed_is t (fresh_object classes c ∷ []) heap t g frame pending frames is
-  answered t (Raises c) g frame pending frames is same =
-      let u : Thread = record t { pending = Some (next_name heap) } in
-      ap (completes t (fresh_object classes c ∷ []) heap u) (sym same) ∙ completed_is t (fresh_object classes c ∷ []) heap u g frame (Some (next_name heap)) frames refl
-  answered t (Ensures n) g frame pending frames is same =
-      let after : Frame = frame_after frame (Ensures n) in
-      let u : Thread = record t { frames = after ∷ [] } in
-      ap (completes t [] heap u) (sym same) ∙ completed_is t [] heap u g after pending refl is
-      ∙ ap (λ (now : Heap). put (target_view to) (given_view g) (shared now) (with_tasks (in_frame t (frame_with kind (given_view g) after) pending) rest)) (append-nil heap)
-  answered t RefusesFrames g frame pending frames is same =
-      let u : Thread = record t { pending = Some (out_of_memory classes) } in
-      ap (completes t [] heap u) (sym same) ∙ completed_is t [] heap u g frame (Some (out_of_memory classes)) frames refl
-      ∙ ap (λ (now : Heap). put (target_view to) (given_view g) (shared now) (with_tasks (in_frame t (frame_with kind (given_view g) frame) (Some (out_of_memory classes))) rest)) (append-nil heap)
+  answered : (a : Answer) (g : Given) (new : TaskInMemory) → given_view g ≡ given_after s.heap kind a
+      → after_call classes lent k s caller line (purpose_view line purpose) f args rest (effect_as classes s caller a)
+      ≡ left_by k (shared_after classes s a) (in_frames t (frames_with kind (given_view g) (frames_after frames a)) (pending_after classes s.heap pending a)) rest (outcome_for line purpose g) new
+  answered (Gives c) g new same = plain s frames pending c g new same
+  answered (Writes n i v) g new same = plain (shared_after classes s (Writes n i v)) frames pending NoResult g new same
+  answered (Makes c) g new same = finished (fresh_object classes c ∷ []) s frames pending (ReferenceResult (Some (next_name s.heap))) g new same
+  answered (Raises c) g new same = finished (fresh_object classes c ∷ []) s frames (Some (next_name s.heap)) (failure kind) g new same
+  answered (Ensures n) g new same = plain s (with_capacity n frames) pending zero_result g new same
+  answered (Pushes n) g new same = plain s (new_frame n ∷ frames) pending zero_result g new same
+  answered RefusesFrames g new same = plain s frames (Some (out_of_memory classes)) (given_after s.heap kind RefusesFrames) g new same
+  answered (Pops r) g new same = plain s (drop 1 frames) pending (ReferenceResult r) g new same
+  answered (DeletesLocal l n) g new same = plain s (without_local l n frames) pending NoResult g new same
+  answered (MakesGlobal n) g new same = plain (shared_after classes s (MakesGlobal n)) frames pending (ReferenceResult (Some n)) g new same
+  answered (DeletesGlobal x n) g new same = plain (without_global x n s) frames pending NoResult g new same
 
   -- and where its object is refused
-  refused_is : (t : Thread) (g : Given) (frame : Frame) → t.frames ≡ frame ∷ [] → given_view g ≡ failure kind
-      → after_refusal classes lent k (shared heap) t line (target_view to) f args rest true ≡ put (target_view to) (given_view g) (shared heap) (with_tasks (in_frame t frame (Some (out_of_memory classes))) rest)
-  refused_is t g frame frames same =
-      let u : Thread = record t { pending = Some (out_of_memory classes) } in
-      ap (completes t [] heap u) (sym same) ∙ completed_is t [] heap u g frame (Some (out_of_memory classes)) frames refl
-      ∙ ap (λ (now : Heap). put (target_view to) (given_view g) (shared now) (with_tasks (in_frame u (frame_with kind (given_view g) frame) (Some (out_of_memory classes))) rest)) (append-nil heap)
-      ∙ ap (λ (h : Frame). put (target_view to) (given_view g) (shared heap) (with_tasks (in_frame t h (Some (out_of_memory classes))) rest)) (ap (λ (c : CallResult). frame_with kind c frame) same ∙ failed_frame kind frame)
+  refused_is : (g : Given) (new : TaskInMemory) → given_view g ≡ failure kind
+      → after_refusal classes lent k s caller line (purpose_view line purpose) f args rest true ≡ left_by k s (in_frames t frames (Some (out_of_memory classes))) rest (outcome_for line purpose g) new
+  refused_is g new same =
+      plain s frames (Some (out_of_memory classes)) (failure kind) g new same
+      ∙ ap (λ (fs : List Frame). left_by k s (in_frames t fs (Some (out_of_memory classes))) rest (outcome_for line purpose g) new) (ap (λ (c : CallResult). frames_with kind c frames) same ∙ failed_frames kind frames)
 
 -- ---- the call of a function that is built
 
-module _ (classes : Classes) (heap : Heap) (frame : Frame) (pending : Reference) (line : ℕ) (to : TargetInMemory) (f : JniFunction) (args : List InMemory) (built : is_built_function f ≡ true) where
-  abbrev actuals : List Actual
-  actuals = map actual_view args
+module _ (classes : Classes) (s : Shared) (vs : List VariableInMemory) (frames : List Frame) (pending : Reference) (line : ℕ) (purpose : PurposeInMemory) (f : JniFunction) (args : List Actual) (built : is_built_function f ≡ true) where
+  abbrev scene : Scene
+  scene = scene_with classes s vs frames pending
 
   abbrev trap : Option Trap
-  trap = trap_found classes heap frame (is_some pending) f actuals
+  trap = trap_found classes s.heap frames (is_some pending) f args
 
-  module _ (statics : Statics) (lent : BuffersInUse) (k : ℕ) (t : Thread) (rest : List Task) (frames : t.frames ≡ frame ∷ []) (is : t.pending ≡ pending) where
-    abbrev stepped : Bool → Advance
-    stepped refused = call_step classes lent k (shared_with statics heap) t line (target_view to) f actuals rest refused
+  abbrev told : Answer
+  told = worked_out classes s.heap (variables_view vs) frames args f
 
-    same_trap : call_trap classes heap t (target_element t.variables (target_view to)) f actuals ≡ trap
-    same_trap = trap_is classes heap (target_element t.variables (target_view to)) args f t frame pending built frames is
+  module _ (lent : BuffersInUse) (k : ℕ) (t : Thread) (rest : List Task) (sees : Sees scene t) where
+    abbrev calls : Thread
+    calls = in_frames t frames pending
 
     abbrev by_effect : Bool → CallEffect → Advance
-    by_effect false effect = after_call classes lent k (shared_with statics heap) t line (target_view to) f actuals rest effect
-    by_effect true effect = after_refusal classes lent k (shared_with statics heap) t line (target_view to) f actuals rest (makes_objects effect)
+    by_effect false effect = after_call classes lent k s calls line (purpose_view line purpose) f args rest effect
+    by_effect true effect = after_refusal classes lent k s calls line (purpose_view line purpose) f args rest (makes_objects effect)
 
-    by_trap : (refused : Bool) → stepped refused ≡ by_effect refused (checked trap (call_effect classes lent k (shared_with statics heap) t actuals f))
-    by_trap false = ap (λ (o : Option Trap). by_effect false (checked o (call_effect classes lent k (shared_with statics heap) t actuals f))) same_trap
-    by_trap true = ap (λ (o : Option Trap). by_effect true (checked o (call_effect classes lent k (shared_with statics heap) t actuals f))) same_trap
+    abbrev checks : Option Trap → CallEffect
+    checks o = checked o (call_effect classes lent k s calls args f)
 
-    abbrev told : Answer
-    told = worked_out classes heap frame actuals f
+    steps : (refused : Bool) → call_step classes lent k s calls line (purpose_view line purpose) f args rest refused ≡ by_effect refused (checks (call_trap classes s.heap calls (target_element t.variables (purpose_view line purpose)) f args))
+    steps false = refl
+    steps true = refl
 
-    passed : (refused : Bool) → trap ≡ None → stepped refused ≡ by_effect refused (effect_as classes (shared_with statics heap) t frame told)
+    by_trap : (refused : Bool) → call_step classes lent k s t line (purpose_view line purpose) f args rest refused ≡ by_effect refused (checks trap)
+    by_trap refused =
+        ap (λ (u : Thread). call_step classes lent k s u line (purpose_view line purpose) f args rest refused) (same_frames t frames pending sees.frames sees.pending)
+        ∙ steps refused
+        ∙ ap (λ (o : Option Trap). by_effect refused (checks o)) (trap_is classes s.heap (target_element t.variables (purpose_view line purpose)) args f calls built)
+
+    passed : (refused : Bool) → trap ≡ None → call_step classes lent k s t line (purpose_view line purpose) f args rest refused ≡ by_effect refused (effect_as classes s calls told)
     passed refused none =
         by_trap refused
-        ∙ ap (λ (o : Option Trap). by_effect refused (checked o (call_effect classes lent k (shared_with statics heap) t actuals f))) none
-        ∙ ap (by_effect refused) (effects classes lent k (shared_with statics heap) t frame actuals f built frames)
+        ∙ ap (λ (o : Option Trap). by_effect refused (checks o)) none
+        ∙ ap (by_effect refused) (effects classes lent k s calls args f built ∙ ap (λ (us : Variables). effect_as classes s calls (worked_out classes s.heap us frames args f)) sees.variables)
 
   -- a trap
-  pub call_traps : (found : TrapInMemory) → trap ≡ Some (trap_view found) → MakesCall false classes heap frame pending line to f actuals (outcome.Trapped found line) heap frame pending
-  call_traps found some = λ statics lent k t rest new frames is has.
-      by_trap statics lent k t rest frames is false
-      ∙ ap (λ (o : Option Trap). by_effect statics lent k t rest frames is false (checked o (call_effect classes lent k (shared_with statics heap) t actuals f))) some
-      ∙ ap (λ (u : Thread). Advances (shared_with statics heap) u (Trapped (trap_view found) line)) (same_thread t (task_view new ∷ rest) has)
-      ∙ ap (λ (u : Thread). Advances (shared_with statics heap) (with_tasks u (task_view new ∷ rest)) (Trapped (trap_view found) line)) (same_frame t frame pending frames is)
+  pub call_traps : (found : TrapInMemory) → trap ≡ Some (trap_view found) → MakesCall false scene line purpose f args (outcome.Trapped found line) scene
+  call_traps found some = λ lent k t rest new sees has.
+      by_trap lent k t rest sees false
+      ∙ ap (λ (o : Option Trap). by_effect lent k t rest sees false (checks lent k t rest sees o)) some
+      ∙ ap (λ (u : Thread). Advances s u (Trapped (trap_view found) line)) (same_thread (in_frames t frames pending) (task_view new ∷ rest) has)
 
   -- a call that traps has no object that can be refused
-  pub trap_refuses : (found : Trap) → trap ≡ Some found → MakesCall true classes heap frame pending line to f actuals outcome.Impossible heap frame pending
-  trap_refuses found some = λ statics lent k t rest new frames is has.
-      by_trap statics lent k t rest frames is true
-      ∙ ap (λ (o : Option Trap). by_effect statics lent k t rest frames is true (checked o (call_effect classes lent k (shared_with statics heap) t actuals f))) some
+  pub trap_refuses : (found : Trap) → trap ≡ Some found → MakesCall true scene line purpose f args outcome.Impossible scene
+  trap_refuses found some = λ lent k t rest new sees has.
+      by_trap lent k t rest sees true
+      ∙ ap (λ (o : Option Trap). by_effect lent k t rest sees true (checks lent k t rest sees o)) some
 
   module _ (none : trap ≡ None) where
     -- the call is made
-    pub call_made : (a : Answer) (g : Given) → a ≡ worked_out classes heap frame actuals f → given_view g ≡ given_after heap (prototype f).result a
-        → MakesCall false classes heap frame pending line to f actuals (outcome.Gives to g) (heap_after classes heap a) (frame_with (prototype f).result (given_view g) (frame_after frame a)) (pending_after classes heap pending a)
-    call_made a g same given = λ statics lent k t rest new frames is has.
-        passed statics lent k t rest frames is false none
-        ∙ ap (λ (b : Answer). by_effect statics lent k t rest frames is false (effect_as classes (shared_with statics heap) t frame b)) (sym same)
-        ∙ answered classes lent k statics heap line to f actuals rest t a g frame pending frames is given
+    pub call_made : (a : Answer) (g : Given) → a ≡ told → given_view g ≡ given_after s.heap (prototype f).result a
+        → MakesCall false scene line purpose f args (outcome_for line purpose g)
+        (scene_with classes (shared_after classes s a) vs (frames_with (prototype f).result (given_view g) (frames_after frames a)) (pending_after classes s.heap pending a))
+    call_made a g same given = λ lent k t rest new sees has.
+        passed lent k t rest sees false none
+        ∙ ap (λ (b : Answer). by_effect lent k t rest sees false (effect_as classes s (in_frames t frames pending) b)) (sym same)
+        ∙ answered classes lent k s t line purpose f args rest frames pending a g new given
 
-    by_makes : (refused : Bool) (a : Answer) (b : Bool) → makes_object a ≡ b → a ≡ worked_out classes heap frame actuals f → (statics : Statics) (lent : BuffersInUse) (k : ℕ) (t : Thread) (rest : List Task) (frames : t.frames ≡ frame ∷ []) (is : t.pending ≡ pending)
-        → stepped statics lent k t rest frames is true ≡ after_refusal classes lent k (shared_with statics heap) t line (target_view to) f actuals rest b
-    by_makes refused a b makes same = λ statics lent k t rest frames is.
-        passed statics lent k t rest frames is true none
-        ∙ ap (λ (c : Answer). by_effect statics lent k t rest frames is true (effect_as classes (shared_with statics heap) t frame c)) (sym same)
-        ∙ ap (after_refusal classes lent k (shared_with statics heap) t line (target_view to) f actuals rest) (makes_alike classes (shared_with statics heap) t frame a ∙ makes)
+    by_makes : (a : Answer) (b : Bool) → makes_object a ≡ b → a ≡ told → (lent : BuffersInUse) (k : ℕ) (t : Thread) (rest : List Task) → Sees scene t
+        → call_step classes lent k s t line (purpose_view line purpose) f args rest true ≡ after_refusal classes lent k s (in_frames t frames pending) line (purpose_view line purpose) f args rest b
+    by_makes a b makes same = λ lent k t rest sees.
+        passed lent k t rest sees true none
+        ∙ ap (λ (c : Answer). by_effect lent k t rest sees true (effect_as classes s (in_frames t frames pending) c)) (sym same)
+        ∙ ap (after_refusal classes lent k s (in_frames t frames pending) line (purpose_view line purpose) f args rest) (makes_alike classes s (in_frames t frames pending) a ∙ makes)
 
     -- it makes no object that can be refused
-    pub none_refused : (a : Answer) → a ≡ worked_out classes heap frame actuals f → makes_object a ≡ false → MakesCall true classes heap frame pending line to f actuals outcome.Impossible heap frame pending
-    none_refused a same makes = λ statics lent k t rest new frames is has. by_makes true a false makes same statics lent k t rest frames is
+    pub none_refused : (a : Answer) → a ≡ told → makes_object a ≡ false → MakesCall true scene line purpose f args outcome.Impossible scene
+    none_refused a same makes = λ lent k t rest new sees has. by_makes a false makes same lent k t rest sees
 
     -- its object is refused
-    pub object_refused : (a : Answer) (g : Given) → a ≡ worked_out classes heap frame actuals f → makes_object a ≡ true → given_view g ≡ failure (prototype f).result
-        → MakesCall true classes heap frame pending line to f actuals (outcome.Gives to g) heap frame (Some (out_of_memory classes))
-    object_refused a g same makes failed = λ statics lent k t rest new frames is has.
-        by_makes true a true makes same statics lent k t rest frames is
-        ∙ refused_is classes lent k statics heap line to f actuals rest t g frame frames failed
+    pub object_refused : (a : Answer) (g : Given) → a ≡ told → makes_object a ≡ true → given_view g ≡ failure (prototype f).result
+        → MakesCall true scene line purpose f args (outcome_for line purpose g) (scene_with classes s vs frames (Some (out_of_memory classes)))
+    object_refused a g same makes failed = λ lent k t rest new sees has.
+        by_makes a true makes same lent k t rest sees
+        ∙ refused_is classes lent k s t line purpose f args rest frames pending g new failed
 
     -- the same, by what it leaves
-    pub call_made_so : (refused : Bool) (a : Answer) (g : Given) (kind : ResultKind) (heap' : Heap) (between frame' : Frame) (pending' : Reference) → refused ≡ false → a ≡ worked_out classes heap frame actuals f → kind ≡ (prototype f).result
-        → given_view g ≡ given_after heap kind a → heap' ≡ heap_after classes heap a → between ≡ frame_after frame a → frame' ≡ frame_with kind (given_view g) between → pending' ≡ pending_after classes heap pending a
-        → MakesCall refused classes heap frame pending line to f actuals (outcome.Gives to g) heap' frame' pending'
-    call_made_so refused a g kind heap' between frame' pending' possible same is given left changed framed pended =
-        subst (λ b. MakesCall b classes heap frame pending line to f actuals (outcome.Gives to g) heap' frame' pending') (sym possible)
-        (subst (λ (h : Heap). MakesCall false classes heap frame pending line to f actuals (outcome.Gives to g) h frame' pending') (sym left)
-        (subst (λ (x : Frame). MakesCall false classes heap frame pending line to f actuals (outcome.Gives to g) (heap_after classes heap a) x pending') (sym (framed ∙ ap (frame_with kind (given_view g)) changed ∙ ap (λ (k : ResultKind). frame_with k (given_view g) (frame_after frame a)) is))
-        (subst (λ (r : Reference). MakesCall false classes heap frame pending line to f actuals (outcome.Gives to g) (heap_after classes heap a) (frame_with (prototype f).result (given_view g) (frame_after frame a)) r) (sym pended)
-        (call_made a g same (given ∙ ap (λ (k : ResultKind). given_after heap k a) is)))))
+    pub call_made_so : (refused : Bool) (a : Answer) (g : Given) (kind : ResultKind) (s' : Shared) (between frames' : List Frame) (pending' : Reference) (took : Outcome) → refused ≡ false → a ≡ told → kind ≡ (prototype f).result
+        → given_view g ≡ given_after s.heap kind a → s' ≡ shared_after classes s a → between ≡ frames_after frames a → frames' ≡ frames_with kind (given_view g) between → pending' ≡ pending_after classes s.heap pending a → took ≡ outcome_for line purpose g
+        → MakesCall refused scene line purpose f args took (scene_with classes s' vs frames' pending')
+    call_made_so refused a g kind s' between frames' pending' took possible same is given left changed framed pended is_for =
+        rw (possible, left, framed, changed, pended, is, is_for) (call_made a g same (given ∙ ap (λ (k : ResultKind). given_after s.heap k a) is))
 
-    pub object_refused_so : (refused : Bool) (a : Answer) (g : Given) (kind : ResultKind) (pending' : Reference) → refused ≡ true → a ≡ worked_out classes heap frame actuals f → makes_object a ≡ true → kind ≡ (prototype f).result
-        → given_view g ≡ failure kind → pending' ≡ Some (out_of_memory classes) → MakesCall refused classes heap frame pending line to f actuals (outcome.Gives to g) heap frame pending'
-    object_refused_so refused a g kind pending' marked same makes is failed pended =
-        subst (λ b. MakesCall b classes heap frame pending line to f actuals (outcome.Gives to g) heap frame pending') (sym marked)
-        (subst (λ (r : Reference). MakesCall true classes heap frame pending line to f actuals (outcome.Gives to g) heap frame r) (sym pended)
-        (object_refused a g same makes (failed ∙ ap failure is)))
+    pub object_refused_so : (refused : Bool) (a : Answer) (g : Given) (kind : ResultKind) (pending' : Reference) (took : Outcome) → refused ≡ true → a ≡ told → makes_object a ≡ true → kind ≡ (prototype f).result
+        → given_view g ≡ failure kind → pending' ≡ Some (out_of_memory classes) → took ≡ outcome_for line purpose g → MakesCall refused scene line purpose f args took (scene_with classes s vs frames pending')
+    object_refused_so refused a g kind pending' took marked same makes is failed pended is_for =
+        rw (marked, pended, is_for) (object_refused a g same makes (failed ∙ ap failure is))

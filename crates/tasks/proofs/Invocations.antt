@@ -2,7 +2,6 @@
 use Rattle.std.proofs.Common.{◌≡◌, ℕ, zero, suc, ◌+◌, ◌<◌, Bool, true, false, List, [], ◌∷◌, length, map, Option, Some, None, nat_lt, slice_get, refl, sym, ap, ◌∙◌, subst, arith}
 use Rattle.std.specs.Prelude.{is_some, slice_set}
 use Rattle.std.proofs.lemmas.Bool.Decides.{nat_tests}
-use Rattle.syntax.specs.Tree.{SourceUnit}
 use Rattle.classes.specs.Class.{Classes}
 use Rattle.jni.specs.Table.{function_value}
 use Rattle.source.specs.Arguments.{Actual, actuals}
@@ -10,11 +9,10 @@ use Rattle.source.specs.Effect.{Becomes, Calls, effect_of, goes_on, is_ready, re
 use Rattle.source.specs.Heap.{Heap}
 use Rattle.source.specs.Object.{Reference}
 use Rattle.source.specs.Sight.{Sight, seen}
-use Rattle.source.specs.Start.{null_statics}
 use Rattle.source.specs.Task as source
 use Rattle.source.specs.Term as terms
 use Rattle.source.specs.Term.{reduce}
-use Rattle.source.specs.Thread.{Frame, Thread, sight_of}
+use Rattle.source.specs.Thread.{Frame, Thread, Shared, sight_of}
 use Rattle.source.specs.ThreadStep.{after_effect, after_refused_effect}
 use Rattle.source.specs.Value.{Outcome as Outcomes, outcome_map}
 use Rattle.source.specs.Variable.{Statics, Variables}
@@ -30,11 +28,11 @@ use Rattle.terms.specs.declared.term.Term.TheVariants as term
 use Rattle.terms.specs.declared.value.Value.{Value}
 use Rattle.terms.specs.declared.variable.Variable.{Variable as VariableInMemory}
 use Rattle.tasks.specs.Calls.{MakesCall, ReducesFirst, ReducesOne}
-use Rattle.tasks.specs.Outcomes.{target_view}
-use Rattle.tasks.specs.Steps.{Scene, Sees, Does, HasEffect, reduced, scene_with, shared_in}
+use Rattle.tasks.specs.Outcomes.{purpose_view}
+use Rattle.tasks.specs.Shares.{sight_in}
+use Rattle.tasks.specs.Steps.{Scene, Sees, Does, HasEffect, reduced, scene_with}
 use Rattle.tasks.specs.Tasks.{operand_view, task_view}
-use Rattle.terms.specs.Views.{term_view, variables_view, Reduces}
-use Rattle.tasks.proofs.ActualLemmas.{same_actuals}
+use Rattle.terms.specs.Views.{term_view, Reduces}
 use Rattle.tasks.proofs.TaskLemmas.{sees_so}
 
 -- ---- the first number that isn't worked out
@@ -138,15 +136,15 @@ module _ (vs : Variables) (ss : Statics) where
 
   -- ---- the step of a call
 
-  module _ (i i' : Invocation) (line : i'.line ≡ i.line) (target : i'.target ≡ i.target) (function : i'.function ≡ i.function) where
+  module _ (i i' : Invocation) (line : i'.line ≡ i.line) (purpose : i'.purpose ≡ i.purpose) (function : i'.function ≡ i.function) where
     abbrev whole : List source.Operand → source.Task
-    whole os = source.Invoke i.line (target_view i.target) (function_value i.function) os
+    whole os = source.Invoke i.line (purpose_view i.line i.purpose) (function_value i.function) os
 
     abbrev before : List source.Operand
     before = map operand_view i.operands.items
 
     pub same_call : (os : List source.Operand) → map operand_view i'.operands.items ≡ os → task_view (task.Invoke i') ≡ whole os
-    same_call os same = rw (line, target, function, same) refl
+    same_call os same = rw (line, purpose, function, same) refl
 
     goes : (heap : Heap) → is_ready before ≡ false → effect_of (seen vs ss heap) (task_view (task.Invoke i)) ≡ goes_on i.line whole (reduce_first (seen vs ss heap) before)
     goes heap unready = rw unready refl
@@ -159,25 +157,22 @@ module _ (vs : Variables) (ss : Statics) where
 
 -- ---- with its object refused, or not
 
-module _ (unit : SourceUnit) (classes : Classes) (heap : Heap) (variables : List VariableInMemory) (frame : Frame) (pending : Reference) where
+module _ (classes : Classes) (s : Shared) (variables : List VariableInMemory) (frames : List Frame) (pending : Reference) where
   abbrev scene : Scene
-  scene = scene_with unit classes heap variables frame pending
+  scene = scene_with classes s variables frames pending
 
-  module _ (i i' : Invocation) (heap' : Heap) (frame' : Frame) (pending' : Reference) (same : task_view (task.Invoke i') ≡ task_view (task.Invoke i)) (ready : is_ready (map operand_view i.operands.items) ≡ true)
-      (args : List Actual) (looked_up : args ≡ actuals (seen (variables_view variables) [] []) (function_value i.function) (map operand_view i.operands.items)) where
-    abbrev scene' : Scene
-    scene' = scene_with unit classes heap' variables frame' pending'
-
-    calls : (t : Thread) → Sees scene t → effect_of (sight_of (shared_in scene) t) (task_view (task.Invoke i)) ≡ Calls i.line (target_view i.target) (function_value i.function) args
+  module _ (i i' : Invocation) (scene' : Scene) (same : task_view (task.Invoke i') ≡ task_view (task.Invoke i)) (ready : is_ready (map operand_view i.operands.items) ≡ true)
+      (args : List Actual) (looked_up : args ≡ actuals (sight_in s variables) (function_value i.function) (map operand_view i.operands.items)) where
+    calls : (t : Thread) → Sees scene t → effect_of (sight_of s t) (task_view (task.Invoke i)) ≡ Calls i.line (purpose_view i.line i.purpose) (function_value i.function) args
     calls t sees =
         ap (λ (sight : Sight). effect_of sight (task_view (task.Invoke i))) (sees_so scene t sees)
-        ∙ rw (ready, looked_up ∙ sym (same_actuals (variables_view variables) unit heap (function_value i.function) (map operand_view i.operands.items))) refl
+        ∙ rw (ready, looked_up) refl
 
     -- the call's own step is the step of the task
-    pub call_does : (refused : Bool) (took : Outcome) → MakesCall refused classes heap frame pending i.line i.target (function_value i.function) args took heap' frame' pending' → Does refused scene (task.Invoke i) took scene' (task.Invoke i')
+    pub call_does : (refused : Bool) (took : Outcome) → MakesCall refused scene i.line i.purpose (function_value i.function) args took scene' → Does refused scene (task.Invoke i) took scene' (task.Invoke i')
     call_does false took makes = λ other lent k t rest sees has.
-        ap (after_effect classes lent k (shared_in scene) t rest) (calls t sees)
-        ∙ makes (null_statics unit) lent k t rest (task.Invoke i') sees.frames sees.pending (has ∙ ap (λ (u : source.Task). let o : Option (List source.Task) = Some (u ∷ rest) in o) (sym same))
+        ap (after_effect classes lent k s t rest) (calls t sees)
+        ∙ makes lent k t rest (task.Invoke i') sees (has ∙ ap (λ (u : source.Task). let o : Option (List source.Task) = Some (u ∷ rest) in o) (sym same))
     call_does true took makes = λ other lent k t rest sees has.
-        ap (after_refused_effect classes lent k (shared_in scene) t rest) (calls t sees)
-        ∙ makes (null_statics unit) lent k t rest (task.Invoke i') sees.frames sees.pending (has ∙ ap (λ (u : source.Task). let o : Option (List source.Task) = Some (u ∷ rest) in o) (sym same))
+        ap (after_refused_effect classes lent k s t rest) (calls t sees)
+        ∙ makes lent k t rest (task.Invoke i') sees (has ∙ ap (λ (u : source.Task). let o : Option (List source.Task) = Some (u ∷ rest) in o) (sym same))

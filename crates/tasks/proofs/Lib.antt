@@ -1,7 +1,7 @@
 mod PutLemmas
 mod Lists
 mod FieldLemmas
-mod ActualLemmas
+mod FrameLemmas
 pub mod TaskLemmas
 pub mod CallLemmas
 mod Invocations

@@ -1,82 +1,54 @@
 -- What tasks do to variables is what they do to those of a thread.
-use Rattle.std.proofs.Common.{◌≡◌, ℕ, ℤ, Bool, true, false, cond, List, [], ◌∷◌, length, map, Option, Some, None, refl, sym, ap, ◌∙◌}
-use Rattle.std.specs.Prelude.{is_some, position, slice_get, slice_set}
+use Rattle.std.proofs.Common.{◌≡◌, ℕ, ℤ, Bool, true, false, cond, List, length, Option, Some, None, refl, sym, ap, ◌∙◌}
+use Rattle.std.specs.Prelude.{position, slice_get, slice_set}
 use Rattle.std.specs.Borrow.{Bor}
 use Rattle.std.specs.Str.{bytes_eq}
-use Rattle.std.proofs.lemmas.Slice.Eq.{bytes_eq-Decides}
 use Rattle.base.specs.Bytes.{Identifier, lookup}
 use Rattle.syntax.specs.Views.{element_tree}
-use Rattle.syntax.specs.Parts.{statics_of}
-use Rattle.syntax.specs.Tree.{Static, SourceUnit}
 use Rattle.source.specs.CallEffects.{CallResult}
 use Rattle.source.specs.CallStep.{blank, filled, static_result, put_assigned, put}
-use Rattle.source.specs.Start.{null_static, null_statics}
 use Rattle.source.specs.Task.{VariableKind, Declared, Assigned}
 use Rattle.source.specs.Thread.{Thread, Shared, Quiet, Advances, NoAdvance}
 use Rattle.source.specs.ThreadStep.{set_variable, set_element}
 use Rattle.source.specs.Value.{convert}
-use Rattle.source.specs.Variable.{Variable, LocalArray, Variables, StaticReference, Empty, Statics, assign}
+use Rattle.source.specs.Variable.{Variable, LocalArray, Variables, Statics, assign}
 use Rattle.tasks.specs.declared.outcome.Outcome.TheVariants as outcome
-use Rattle.tasks.specs.declared.given.Given.{Given}
-use Rattle.tasks.specs.declared.given.Given.TheVariants as given
 use Rattle.terms.specs.declared.variable.Content.{Content}
 use Rattle.terms.specs.declared.variable.Content.TheVariants as content
 use Rattle.terms.specs.declared.variable.Variable.{Variable as VariableInMemory}
-use Rattle.tasks.specs.Answers.{given_view, gives_object}
 use Rattle.tasks.specs.Outcomes.{variable_step, Holds, LeavesVariables, LeavesIf}
 use Rattle.terms.specs.Views.{content_view, variables_view, written}
 use Rattle.terms.proofs.VariableLemmas.{assigned_there, variable_found}
 
--- ---- statics
-
-assigned_first : (x : Identifier) (g : Static) (gs : List Static) (b : Bool) → bytes_eq x g.name ≡ b → is_some (cond b (Some Empty) (lookup x (map null_static gs))) ≡ true
-    → (is_some (lookup x (map null_static gs)) ≡ true → assign x Empty (map null_static gs) ≡ map null_static gs)
-    → cond b ((x, Empty) ∷ map null_static gs) (null_static g ∷ assign x Empty (map null_static gs)) ≡ null_static g ∷ map null_static gs
-assigned_first x g gs true is there further = ap (λ (y : Identifier). (y, Empty) ∷ map null_static gs) ((bytes_eq-Decides x g.name).0 is)
-assigned_first x g gs false is there further = ap (λ (ss : Statics). null_static g ∷ ss) (further there)
-
--- a static that is NULL stays NULL
-assigned_empty : (x : Identifier) (gs : List Static) → is_some (lookup x (map null_static gs)) ≡ true → assign x Empty (map null_static gs) ≡ map null_static gs
-assigned_empty x [] there = absurd (cc)
-assigned_empty x (g ∷ gs) there = assigned_first x g gs (bytes_eq x g.name) refl there (assigned_empty x gs)
-
--- what is no object leaves a static NULL
-no_object : (given : Given) → gives_object given ≡ false → static_result (given_view given) ≡ Empty
-no_object given.Nothing none = refl
-no_object given.Null none = refl
-no_object (given.Number z) none = refl
-no_object (given.Flag b) none = refl
-no_object (given.Reference None) none = refl
-no_object (given.Reference (Some n)) none = absurd (cc)
-no_object (given.Field f) none = refl
-
 -- ---- steps
 
-module _ (ss : Statics) (old new : List VariableInMemory) where
-  with_variables : (s : Shared) (t : Thread) (vs us : Variables) → vs ≡ us → Advances s (record t { variables = vs }) Quiet ≡ Advances s (record t { variables = us }) Quiet
-  with_variables s t vs us same = ap (λ (ws : Variables). let u : Thread = record t { variables = ws } in Advances s u Quiet) same
+module _ (count : ℕ) (ss : Statics) (old new : List VariableInMemory) where
+  with_variables : (s : Shared) (t : Thread) (vs us : Variables) → Holds count ss old s t → vs ≡ us → Advances s (record t { variables = vs }) Quiet ≡ Advances (record s { statics = ss }) (record t { variables = us }) Quiet
+  with_variables s t vs us h same =
+      ap (λ (ws : Variables). let u : Thread = record t { variables = ws } in Advances s u Quiet) same
+      ∙ ap (λ (q : Statics). let r : Shared = record s { statics = q } in let u : Thread = record t { variables = us } in Advances r u Quiet) h.statics
 
   -- a variable is set
-  pub set_leaves : (x : Identifier) (v : Variable) → variables_view new ≡ assign x v (variables_view old) → LeavesVariables ss old (λ s t. set_variable s t x v) new
-  set_leaves x v is = λ s t h. with_variables s t (assign x v t.variables) (variables_view new) (ap (assign x v) h.variables ∙ sym is)
+  pub set_leaves : (x : Identifier) (v : Variable) → variables_view new ≡ assign x v (variables_view old) → LeavesVariables count ss old (λ s t. set_variable s t x v) ss new
+  set_leaves x v is = λ s t h. with_variables s t (assign x v t.variables) (variables_view new) h (ap (assign x v) h.variables ∙ sym is)
 
   -- a variable is declared
-  pub declared_leaves : (kind : VariableKind) (x : Identifier) (given : CallResult) → variables_view new ≡ assign x (filled (blank kind 1) given) (variables_view old) → LeavesVariables ss old (put (Declared kind x) given) new
+  pub declared_leaves : (kind : VariableKind) (x : Identifier) (given : CallResult) → variables_view new ≡ assign x (filled (blank kind count) given) (variables_view old) → LeavesVariables count ss old (put (Declared kind x) given) ss new
   declared_leaves kind x given is = λ s t h.
-      with_variables s t (assign x (filled (blank kind (length t.frames)) given) t.variables) (variables_view new)
-      (ap (λ (n : ℕ). assign x (filled (blank kind n) given) t.variables) h.frames ∙ ap (assign x (filled (blank kind 1) given)) h.variables ∙ sym is)
+      with_variables s t (assign x (filled (blank kind (length t.frames)) given) t.variables) (variables_view new) h
+      (ap (λ (n : ℕ). assign x (filled (blank kind n) given) t.variables) h.frames ∙ ap (assign x (filled (blank kind count) given)) h.variables ∙ sym is)
 
   -- a variable that is there is filled
-  pub assigned_leaves : (x : Identifier) (v : Variable) (given : CallResult) → lookup x (variables_view old) ≡ Some v → variables_view new ≡ assign x (filled v given) (variables_view old) → LeavesVariables ss old (put (Assigned x) given) new
+  pub assigned_leaves : (x : Identifier) (v : Variable) (given : CallResult) → lookup x (variables_view old) ≡ Some v → variables_view new ≡ assign x (filled v given) (variables_view old) → LeavesVariables count ss old (put (Assigned x) given) ss new
   assigned_leaves x v given there is = λ s t h.
       ap (λ (vs : Variables). put_assigned x given s t (lookup x vs)) h.variables
       ∙ ap (put_assigned x given s t) there
-      ∙ with_variables s t (assign x (filled v given) t.variables) (variables_view new) (ap (assign x (filled v given)) h.variables ∙ sym is)
+      ∙ with_variables s t (assign x (filled v given) t.variables) (variables_view new) h (ap (assign x (filled v given)) h.variables ∙ sym is)
 
   -- an element is set, where the variable is an array
   array_set : (x : Identifier) (i : ℕ) (z : ℤ) (c : Content) (v : Variable) → written i z (content_view c) ≡ Some v → (s : Shared) (t : Thread) → set_element s t x i z (Some (content_view c)) ≡ set_variable s t x v
   array_set x i z (content.Number n) v is s t = absurd (cc)
-  array_set x i z (content.Reference r) v is s t = absurd (cc)
+  array_set x i z (content.Reference level r) v is s t = absurd (cc)
   array_set x i z (content.Field f) v is s t = absurd (cc)
   array_set x i z (content.Buffer T) v is s t = absurd (cc)
   array_set x i z (content.Array T numbers) v is s t =
@@ -84,37 +56,38 @@ module _ (ss : Statics) (old new : List VariableInMemory) where
 
   no_array : (x : Identifier) (i : ℕ) (z : ℤ) (c : Content) → written i z (content_view c) ≡ None → (s : Shared) (t : Thread) → set_element s t x i z (Some (content_view c)) ≡ NoAdvance
   no_array x i z (content.Number n) is s t = refl
-  no_array x i z (content.Reference r) is s t = refl
+  no_array x i z (content.Reference level r) is s t = refl
   no_array x i z (content.Field f) is s t = refl
   no_array x i z (content.Buffer T) is s t = refl
   no_array x i z (content.Array T numbers) is s t = absurd (cc)
 
   module _ (x : Bor Identifier) (i : ℕ) (z : ℤ) where
-    looked_up : (o : Option Variable) → lookup x.now (variables_view old) ≡ o → (s : Shared) (t : Thread) → Holds ss old s t → variable_step (outcome.SetsElement x i z) s t ≡ set_element s t x.now i z o
+    looked_up : (o : Option Variable) → lookup x.now (variables_view old) ≡ o → (s : Shared) (t : Thread) → Holds count ss old s t → variable_step (outcome.SetsElement x i z) s t ≡ set_element s t x.now i z o
     looked_up o there s t h = ap (λ (vs : Variables). set_element s t x.now i z (lookup x.now vs)) h.variables ∙ ap (set_element s t x.now i z) there
 
     pub element_leaves : (c after : Content) (b : Bool) → lookup x.now (variables_view old) ≡ Some (content_view c) → written i z (content_view c) ≡ cond b (Some (content_view after)) None
-        → variables_view new ≡ assign x.now (content_view after) (variables_view old) → LeavesIf ss old (variable_step (outcome.SetsElement x i z)) b new
+        → variables_view new ≡ assign x.now (content_view after) (variables_view old) → LeavesIf count ss old (variable_step (outcome.SetsElement x i z)) b ss new
     element_leaves c after true there is set = λ s t h.
         looked_up (Some (content_view c)) there s t h ∙ array_set x.now i z c (content_view after) is s t ∙ set_leaves x.now (content_view after) set s t h
     element_leaves c after false there is set = λ s t h. looked_up (Some (content_view c)) there s t h ∙ no_array x.now i z c is s t
 
-    pub element_missing : lookup x.now (variables_view old) ≡ None → LeavesIf ss old (variable_step (outcome.SetsElement x i z)) false new
+    pub element_missing : lookup x.now (variables_view old) ≡ None → LeavesIf count ss old (variable_step (outcome.SetsElement x i z)) false ss new
     element_missing none = λ s t h. looked_up None none s t h
 
--- a static is NULL before and after
-pub static_leaves : (unit : SourceUnit) (old : List VariableInMemory) (x : Identifier) (given : Given) → gives_object given ≡ false → lookup x (variables_view old) ≡ None → is_some (lookup x (null_statics unit)) ≡ true
-    → LeavesVariables (null_statics unit) old (put (Assigned x) (given_view given)) old
-static_leaves unit old x given empty none there = λ s t h.
-    ap (λ (vs : Variables). put_assigned x (given_view given) s t (lookup x vs)) h.variables
-    ∙ ap (put_assigned x (given_view given) s t) none
-    ∙ ap (λ (ss : Statics). let r : Shared = record s { statics = ss } in Advances r t Quiet)
-    (ap (λ (r : StaticReference). assign x r s.statics) (no_object given empty) ∙ ap (assign x Empty) h.statics ∙ assigned_empty x (statics_of unit) there ∙ sym h.statics)
-    ∙ ap (λ (vs : Variables). let u : Thread = record t { variables = vs } in Advances s u Quiet) h.variables
+-- a static is set
+pub static_leaves : (count : ℕ) (ss ss' : Statics) (old : List VariableInMemory) (x : Identifier) (given : CallResult) → lookup x (variables_view old) ≡ None → ss' ≡ assign x (static_result given) ss
+    → LeavesVariables count ss old (put (Assigned x) given) ss' old
+static_leaves count ss ss' old x given none is = λ s t h.
+    ap (λ (vs : Variables). put_assigned x given s t (lookup x vs)) h.variables
+    ∙ ap (put_assigned x given s t) none
+    ∙ ap (λ (q : Statics). let r : Shared = record s { statics = q } in Advances r t Quiet) (ap (assign x (static_result given)) h.statics ∙ sym is)
+    ∙ ap (λ (vs : Variables). let r : Shared = record s { statics = ss' } in let u : Thread = record t { variables = vs } in Advances r u Quiet) h.variables
 
 -- nothing is done
-pub none_leaves : (ss : Statics) (old : List VariableInMemory) → LeavesVariables ss old (λ s t. Advances s t Quiet) old
-none_leaves ss old = λ s t h. ap (λ (vs : Variables). let u : Thread = record t { variables = vs } in Advances s u Quiet) h.variables
+pub none_leaves : (count : ℕ) (ss : Statics) (old : List VariableInMemory) → LeavesVariables count ss old (λ s t. Advances s t Quiet) ss old
+none_leaves count ss old = λ s t h.
+    ap (λ (vs : Variables). let u : Thread = record t { variables = vs } in Advances s u Quiet) h.variables
+    ∙ ap (λ (q : Statics). let r : Shared = record s { statics = q } in let u : Thread = record t { variables = variables_view old } in Advances r u Quiet) h.statics
 
 -- the first variable of a name has another content
 pub content_set : (x : Identifier) (vs : List VariableInMemory) (i : ℕ) (v : VariableInMemory) (c : Content) → position (λ (u : VariableInMemory). bytes_eq x u.name.now) vs ≡ Some i → slice_get vs i ≡ Some v

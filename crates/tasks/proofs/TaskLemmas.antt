@@ -31,49 +31,55 @@ use Rattle.terms.specs.declared.sight.Indexed.{Indexed}
 use Rattle.terms.specs.declared.value.Value.{Value as ValueInMemory}
 use Rattle.terms.specs.declared.value.Value.TheVariants as value
 use Rattle.tasks.specs.declared.task.Task.{Task as TaskInMemory}
-use Rattle.tasks.specs.Steps.{effect_by, HasEffect, Scene, shared_in, Sees, in_frame, left_by, Does, reduced}
+use Rattle.tasks.specs.Steps.{effect_by, HasEffect, Scene, Sees, in_frames, left_by, Does, reduced}
 use Rattle.tasks.specs.declared.task.Task.TheVariants as task
-use Rattle.tasks.specs.Tasks.{task_view, branch_task, else_tree, tasks_of_statements}
-use Rattle.terms.specs.Views.{value_view, indexed_view, term_view, trap_view, place_in, Reduces}
+use Rattle.tasks.specs.Tasks.{task_view, branch_task, tasks_of_statements}
+use Rattle.tasks.specs.Outcomes.{else_tree}
+use Rattle.tasks.specs.Shares.{sight_in}
+use Rattle.terms.specs.Views.{value_view, indexed_view, term_view, trap_view, place_in, variables_view, Reduces}
 use Rattle.tasks.proofs.RangeLemmas.{tasks_of-statements}
 
 -- what a thread can see, where it is so
-pub sees_so : (scene : Scene) (t : Thread) → Sees scene t → sight_of (shared_in scene) t ≡ seen scene.variables scene.statics scene.heap
+pub sees_so : (scene : Scene) (t : Thread) → Sees scene t → sight_of scene.shared t ≡ sight_in scene.shared scene.variables
 sees_so scene t sees = rw sees.variables refl
 
 -- a thread that has these tasks
 pub same_thread : (t : Thread) (tasks : List Task) → t.tasks ≡ Some tasks → t ≡ with_tasks t tasks
 same_thread t tasks has = ap (λ (o : Option (List Task)). let u : Thread = record t { tasks = o } in u) has
 
--- a thread with this frame and this pending exception
-pub same_frame : (t : Thread) (frame : Frame) (pending : Reference) → t.frames ≡ frame ∷ [] → t.pending ≡ pending → t ≡ in_frame t frame pending
-same_frame t frame pending frames is =
-    ap (λ (fs : List Frame). let u : Thread = record t { frames = fs } in u) frames
-    ∙ ap (λ (r : Reference). let u : Thread = record t { frames = frame ∷ []; pending = r } in u) is
+-- a thread with these frames and this pending exception
+pub same_frames : (t : Thread) (frames : List Frame) (pending : Reference) → t.frames ≡ frames → t.pending ≡ pending → t ≡ in_frames t frames pending
+same_frames t frames pending framed is =
+    ap (λ (fs : List Frame). let u : Thread = record t { frames = fs } in u) framed
+    ∙ ap (λ (r : Reference). let u : Thread = record t { frames = frames; pending = r } in u) is
 
 module _ (scene : Scene) (old new : TaskInMemory) where
   abbrev shared : Shared
-  shared = shared_in scene
+  shared = scene.shared
+
+  abbrev variables : Variables
+  variables = variables_view scene.variables
 
   -- where nothing of the thread changes but its tasks
-  pub unframed : (k : ℕ) (t : Thread) (rest : List Task) (took : Outcome) → Sees scene t → left_by k shared t rest took new ≡ left_by k shared (in_frame t scene.frame scene.pending) rest took new
-  unframed k t rest took sees = ap (λ (u : Thread). left_by k shared u rest took new) (same_frame t scene.frame scene.pending sees.frames sees.pending)
+  pub unframed : (k : ℕ) (t : Thread) (rest : List Task) (took : Outcome) → Sees scene t → left_by k shared t rest took new ≡ left_by k shared (in_frames t scene.frames scene.pending) rest took new
+  unframed k t rest took sees = ap (λ (u : Thread). left_by k shared u rest took new) (same_frames t scene.frames scene.pending sees.frames sees.pending)
 
-  by_effect : (took : Outcome) → ((heap : Heap) → effect_of (seen scene.variables scene.statics heap) (task_view old) ≡ effect_by took new)
+  by_effect : (took : Outcome) → ((heap : Heap) → effect_of (seen variables shared.statics heap) (task_view old) ≡ effect_by took new)
       → ((lent : BuffersInUse) (k : ℕ) (t : Thread) (rest : List Task) → t.tasks ≡ Some (task_view old ∷ rest) → after_effect scene.classes lent k shared t rest (effect_by took new) ≡ left_by k shared t rest took new) → Does false scene old took scene new
   by_effect took h left = λ unit lent k t rest sees has.
       ap (λ (sight : Sight). after_effect scene.classes lent k shared t rest (effect_of sight (task_view old))) (sees_so scene t sees)
-      ∙ ap (after_effect scene.classes lent k shared t rest) (h scene.heap)
+      ∙ ap (after_effect scene.classes lent k shared t rest) (h shared.heap)
       ∙ left lent k t rest has
       ∙ unframed k t rest took sees
 
   -- a task does what its effect does
-  pub does : (took : Outcome) → HasEffect scene.variables scene.statics old took new → Does false scene old took scene new
+  pub does : (took : Outcome) → HasEffect variables shared.statics old took new → Does false scene old took scene new
   does outcome.Stays h = by_effect outcome.Stays h (λ lent k t rest has. refl)
   does (outcome.Printed z) h = by_effect (outcome.Printed z) h (λ lent k t rest has. refl)
   does (outcome.Sets x v) h = by_effect (outcome.Sets x v) h (λ lent k t rest has. refl)
   does (outcome.SetsNull to) h = by_effect (outcome.SetsNull to) h (λ lent k t rest has. refl)
   does (outcome.Gives to g) h = absurd h
+  does (outcome.Tests line zero b other) h = absurd h
   does (outcome.SetsElement x i z) h = by_effect (outcome.SetsElement x i z) h (λ lent k t rest has. refl)
   does (outcome.Makes T x n) h = by_effect (outcome.Makes T x n) h (λ lent k t rest has. refl)
   does (outcome.Enters statements e) h = by_effect (outcome.Enters statements e) h (λ lent k t rest has. refl)
@@ -84,20 +90,21 @@ module _ (scene : Scene) (old new : TaskInMemory) where
       ∙ ap (λ (u : Task). Advances shared (with_tasks t (u ∷ rest)) (Trapped (trap_view trap) line)) (sym h.1))
   does outcome.Impossible h = by_effect outcome.Impossible h (λ lent k t rest has. refl)
 
-  by_refusal : (took : Outcome) → ((heap : Heap) → effect_of (seen scene.variables scene.statics heap) (task_view old) ≡ effect_by took new)
+  by_refusal : (took : Outcome) → ((heap : Heap) → effect_of (seen variables shared.statics heap) (task_view old) ≡ effect_by took new)
       → ((lent : BuffersInUse) (k : ℕ) (t : Thread) (rest : List Task) → after_refused_effect scene.classes lent k shared t rest (effect_by took new) ≡ NoAdvance) → Does true scene old outcome.Impossible scene new
   by_refusal took h none = λ unit lent k t rest sees has.
       ap (λ (sight : Sight). after_refused_effect scene.classes lent k shared t rest (effect_of sight (task_view old))) (sees_so scene t sees)
-      ∙ ap (after_refused_effect scene.classes lent k shared t rest) (h scene.heap)
+      ∙ ap (after_refused_effect scene.classes lent k shared t rest) (h shared.heap)
       ∙ none lent k t rest
 
   -- a task that is no call has no object that can be refused
-  pub does_without : (took : Outcome) → HasEffect scene.variables scene.statics old took new → Does true scene old outcome.Impossible scene new
+  pub does_without : (took : Outcome) → HasEffect variables shared.statics old took new → Does true scene old outcome.Impossible scene new
   does_without outcome.Stays h = by_refusal outcome.Stays h (λ lent k t rest. refl)
   does_without (outcome.Printed z) h = by_refusal (outcome.Printed z) h (λ lent k t rest. refl)
   does_without (outcome.Sets x v) h = by_refusal (outcome.Sets x v) h (λ lent k t rest. refl)
   does_without (outcome.SetsNull to) h = by_refusal (outcome.SetsNull to) h (λ lent k t rest. refl)
   does_without (outcome.Gives to g) h = absurd h
+  does_without (outcome.Tests line zero b other) h = absurd h
   does_without (outcome.SetsElement x i z) h = by_refusal (outcome.SetsElement x i z) h (λ lent k t rest. refl)
   does_without (outcome.Makes T x n) h = by_refusal (outcome.Makes T x n) h (λ lent k t rest. refl)
   does_without (outcome.Enters statements e) h = by_refusal (outcome.Enters statements e) h (λ lent k t rest. refl)

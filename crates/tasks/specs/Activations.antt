@@ -5,8 +5,6 @@ use Rattle.syntax.specs.declared.stmt.Stmt.{Stmt as StmtInMemory}
 use Rattle.syntax.specs.Tree.{SourceUnit}
 use Rattle.classes.specs.Class.{Classes}
 use Rattle.source.specs.Activation.{return_step}
-use Rattle.source.specs.Heap.{Heap}
-use Rattle.source.specs.Start.{null_statics}
 use Rattle.source.specs.Task.{Task}
 use Rattle.source.specs.Thread.{Thread, Shared, BuffersInUse, Quiet, PrintedNumber, Trapped, Advance, NoAdvance}
 use Rattle.source.specs.Thread as thread
@@ -17,8 +15,9 @@ use Rattle.tasks.specs.declared.outcome.Outcome.{Outcome}
 use Rattle.tasks.specs.declared.outcome.Outcome.TheVariants as outcome
 use Rattle.tasks.specs.declared.task.Task.{Task as TaskInMemory}
 use Rattle.tasks.specs.Steps.{Scene, scene_with, Sees}
-use Rattle.tasks.specs.Stores.{frame_view, shared_with}
-use Rattle.tasks.specs.Tasks.{task_view, end_view, tasks_of_statements, StatementsInRange, TaskInRange, EndInRange}
+use Rattle.tasks.specs.Tasks.{branch_task, task_view, end_view, tasks_of_statements, StatementsInRange, TaskInRange, EndInRange}
+use Rattle.terms.specs.declared.term.Term.TheVariants as term
+use Rattle.terms.specs.declared.value.Value.TheVariants as value
 use Rattle.terms.specs.Views.{variables_view, trap_view}
 
 -- the task that is begun, if there is one, and those after it
@@ -57,11 +56,11 @@ pub record IsInRange (a : Activation) : Type 0 where
 
 -- the thread with a call in progress
 abbrev pub thread_in : Thread → Activation → Thread
-thread_in t a = record t { tasks = Some (tasks_left a); variables = variables_view a.variables.items; frames = frame_view a.frame ∷ []; pending = a.pending }
+thread_in t a = record t { tasks = Some (tasks_left a); variables = variables_view a.variables.items; frames = a.frames; pending = a.pending }
 
 -- what its step depends on, but its tasks
-abbrev pub scene_of : SourceUnit → Classes → Heap → Activation → Scene
-scene_of unit classes heap a = scene_with unit classes heap a.variables.items (frame_view a.frame) a.pending
+abbrev pub scene_of : Classes → Shared → Activation → Scene
+scene_of classes s a = scene_with classes s a.variables.items a.frames a.pending
 
 -- what a step leaves of thread k, whose call is then as it is in memory
 abbrev pub advance_by : (k : ℕ) → Shared → Thread → Activation → Outcome → Advance
@@ -72,16 +71,16 @@ advance_by k s t a outcome.Impossible = NoAdvance
 advance_by k s t a took = thread.Advances s (thread_in t a) Quiet
 
 -- What a step in memory did is the step of each thread that has these tasks and is so, or the same with its object refused. It
--- leaves these objects.
-abbrev pub Advances : SourceUnit → Classes → (refused : Bool) → Heap → Activation → Outcome → Heap → Activation → Type 0
-Advances unit classes refused heap old took after new =
-    (lent : BuffersInUse) (k : ℕ) (t : Thread) → Sees (scene_of unit classes heap old) t → t.tasks ≡ Some (tasks_left old)
-    → step_within unit classes lent k (shared_with (null_statics unit) heap) t refused (Some (tasks_left old)) ≡ advance_by k (shared_with (null_statics unit) after) t new took
+-- leaves this to share.
+abbrev pub Advances : Classes → (refused : Bool) → Shared → Activation → Outcome → Shared → Activation → Type 0
+Advances classes refused s old took s' new =
+    (unit : SourceUnit) (lent : BuffersInUse) (k : ℕ) (t : Thread) → Sees (scene_of classes s old) t → t.tasks ≡ Some (tasks_left old)
+    → step_within unit classes lent k s t refused (Some (tasks_left old)) ≡ advance_by k s' t new took
 
 -- all but the tasks is as it was
 pub record KeepsScene (old new : Activation) : Type 0 where
   pub variables : new.variables ≡ old.variables
-  pub frame : new.frame ≡ old.frame
+  pub frames : new.frames ≡ old.frames
   pub pending : new.pending ≡ old.pending
 
 -- the task that is begun, after a step
@@ -90,6 +89,7 @@ task_after task outcome.Stays = task
 task_after task outcome.Returned = task
 task_after task (outcome.Trapped trap line) = task
 task_after task outcome.Impossible = task
+task_after task (outcome.Tests line zero b other) = Some (branch_task line (term.Done (value.Truth zero)) b other)
 task_after task took = None
 
 -- the statements after it

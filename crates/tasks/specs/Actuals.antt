@@ -9,11 +9,11 @@ use Rattle.class_table.specs.declared.fields.FieldId.{FieldId as IdInMemory}
 use Rattle.classes.specs.Class.{NumberField}
 use Rattle.classes.specs.Fields.{FieldId}
 use Rattle.source.specs.Arguments.{Actual, ReferenceActual, FieldActual, NumberActual, TextActual, VariableActual, ModeActual, NothingActual, ReleaseMode, CopyBackAndFree, CopyBack, FreeUncopied}
-use Rattle.source.specs.Variable.{as_static}
 use Rattle.tasks.specs.declared.actual.Actual.{Actual as InMemory}
 use Rattle.tasks.specs.declared.actual.Actual.TheVariants as actual
 use Rattle.tasks.specs.declared.actual.ReleaseMode.{ReleaseMode as ModeInMemory}
 use Rattle.tasks.specs.declared.actual.ReleaseMode.TheVariants as mode
+use Rattle.terms.specs.Views.{held_view}
 
 -- a name, which is empty where there is none
 abbrev pub name_view : Option (Bor Identifier) → Identifier
@@ -26,7 +26,7 @@ mode_view mode.CopyBack = CopyBack
 mode_view mode.FreeUncopied = FreeUncopied
 
 abbrev pub actual_view : InMemory → Actual
-actual_view (actual.Reference x r) = ReferenceActual (name_view x) (as_static r)
+actual_view (actual.Reference x r) = ReferenceActual (name_view x) (held_view r)
 actual_view (actual.Field f) = FieldActual (option_map field_id_view f)
 actual_view (actual.Number z) = NumberActual z
 actual_view (actual.Text bytes) = TextActual bytes.now

@@ -1,26 +1,23 @@
 -- What a call in memory does.
-use Rattle.std.specs.Prelude.{◌≡◌, ℕ, Bool, true, false, List, [], ◌∷◌, map, Option, Some, None}
-use Rattle.classes.specs.Class.{Classes}
+use Rattle.std.specs.Prelude.{◌≡◌, ℕ, Bool, true, false, List, ◌∷◌, map, Option, Some, None}
 use Rattle.jni.specs.JniFunction.{JniFunction}
 use Rattle.source.specs.Arguments.{Actual}
 use Rattle.source.specs.CallStep.{call_step}
 use Rattle.source.specs.Effect.{is_given, is_ready, reduce_first}
 use Rattle.source.specs.Heap.{Heap}
-use Rattle.source.specs.Object.{Reference}
 use Rattle.source.specs.Sight.{seen}
 use Rattle.source.specs.Task.{Task}
-use Rattle.source.specs.Thread.{Frame, Thread, BuffersInUse}
+use Rattle.source.specs.Thread.{Thread, BuffersInUse}
 use Rattle.source.specs.Value.{Gives, Traps, Stuck}
 use Rattle.source.specs.Variable.{Statics, Variables}
 use Rattle.tasks.specs.declared.outcome.Outcome.{Outcome}
-use Rattle.tasks.specs.declared.outcome.Target.{Target as TargetInMemory}
+use Rattle.tasks.specs.declared.outcome.Purpose.{Purpose as PurposeInMemory}
 use Rattle.tasks.specs.declared.task.Operand.{Operand}
 use Rattle.tasks.specs.declared.task.Task.{Task as TaskInMemory}
 use Rattle.terms.specs.declared.reduction.Reduction.{Reduction as ReductionInMemory}
 use Rattle.terms.specs.declared.reduction.Reduction.TheVariants as reduction
-use Rattle.tasks.specs.Outcomes.{target_view}
-use Rattle.tasks.specs.Steps.{in_frame, left_by}
-use Rattle.tasks.specs.Stores.{shared_with}
+use Rattle.tasks.specs.Outcomes.{purpose_view}
+use Rattle.tasks.specs.Steps.{Scene, Sees, in_frames, left_by}
 use Rattle.tasks.specs.Tasks.{operand_view, task_view}
 use Rattle.terms.specs.Views.{trap_view}
 
@@ -39,9 +36,9 @@ abbrev pub ReducesOne : Variables → Statics → Operand → Option ReductionIn
 ReducesOne vs ss old None new = (is_given (operand_view old) ≡ true) × (new ≡ old)
 ReducesOne vs ss old (Some took) new = (rest : List Operand) → ReducesFirst vs ss (old ∷ rest) (Some took) (new ∷ rest)
 
--- What was done is the call's own step, for each thread with this frame and this pending exception, or what it does with its object
--- refused. It leaves these objects, this frame and this pending exception.
-abbrev pub MakesCall : (refused : Bool) → Classes → Heap → Frame → Reference → (line : ℕ) → TargetInMemory → JniFunction → List Actual → Outcome → Heap → Frame → Reference → Type 0
-MakesCall refused classes heap frame pending line to f args took heap' frame' pending' =
-    (statics : Statics) (lent : BuffersInUse) (k : ℕ) (t : Thread) (rest : List Task) (new : TaskInMemory) → t.frames ≡ frame ∷ [] → t.pending ≡ pending → t.tasks ≡ Some (task_view new ∷ rest)
-    → call_step classes lent k (shared_with statics heap) t line (target_view to) f args rest refused ≡ left_by k (shared_with statics heap') (in_frame t frame' pending') rest took new
+-- What was done is the call's own step, for each thread of the scene before it, or what it does with its object refused. It leaves
+-- the scene after it.
+abbrev pub MakesCall : (refused : Bool) → Scene → (line : ℕ) → PurposeInMemory → JniFunction → List Actual → Outcome → Scene → Type 0
+MakesCall refused before line purpose f args took after =
+    (lent : BuffersInUse) (k : ℕ) (t : Thread) (rest : List Task) (new : TaskInMemory) → Sees before t → t.tasks ≡ Some (task_view new ∷ rest)
+    → call_step before.classes lent k before.shared t line (purpose_view line purpose) f args rest refused ≡ left_by k after.shared (in_frames t after.frames after.pending) rest took new

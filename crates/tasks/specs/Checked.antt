@@ -1,17 +1,16 @@
 -- What is checked of a call before it does anything.
-use Rattle.std.specs.Prelude.{ℕ, Bool, true, false, not, ◌&&◌, ◌||◌, ◌==◌, List, [], ◌∷◌, zip, Option, Some}
+use Rattle.std.specs.Prelude.{ℕ, Bool, true, false, not, ◌&&◌, ◌||◌, ◌==◌, List, [], ◌∷◌, zip, slice_get, Option}
 use Rattle.std.specs.List.{list_any}
 use Rattle.classes.specs.BuiltIns.{class_class, has_own_making, string_class, number_array}
 use Rattle.classes.specs.Class.{Classes, class_kind, is_plain, is_object_array, assignable}
 use Rattle.classes.specs.Fields.{FieldId}
 use Rattle.jni.specs.JniFunction.{is_allowed_pending, JniFunction, AllocObject, GetField, SetField, GetStaticField, SetStaticField, GetObjectField, SetObjectField, GetStaticObjectField, SetStaticObjectField, GetArrayLength}
-use Rattle.jni.specs.Prototype.{ParameterKind, ClassObject, ObjectArray, StringObject, NumberArray, ResultKind, prototype}
+use Rattle.jni.specs.Prototype.{ParameterKind, ClassObject, ObjectArray, StringObject, NumberArray, prototype}
 use Rattle.source.specs.Arguments.{Actual, reference_given, object_given, field_given}
-use Rattle.source.specs.Checks.{first_trap, fits_type, holds_number, holds_reference, is_misfit, is_missing}
+use Rattle.source.specs.Checks.{first_trap, fits_type, frames_after, holds_number, holds_reference, is_deleted, is_misfit, is_missing, lacks_room}
 use Rattle.source.specs.Heap.{Heap, class_of, is_instance}
 use Rattle.source.specs.Thread.{Frame}
-use Rattle.source.specs.Value.{Trap, NullReference, ExceptionPending, WrongObject, NoCapacity}
-use Rattle.source.specs.Checks as checks
+use Rattle.source.specs.Value.{Trap, NullReference, ExceptionPending, WrongObject, DeletedReference, NoCapacity}
 
 -- an object of this class is of another kind than the parameter
 abbrev pub misfits : Classes → ParameterKind → (class : ℕ) → Bool
@@ -20,10 +19,6 @@ misfits classes (NumberArray T) class = not (class == number_array T)
 misfits classes ObjectArray class = not (is_object_array (class_kind classes class))
 misfits classes StringObject class = not (class == string_class)
 misfits classes p class = false
-
--- a call of this kind of result puts a local reference into a frame that can hold no more
-abbrev pub lacks_room : ResultKind → Frame → Bool
-lacks_room kind frame = checks.lacks_room kind (Some frame)
 
 -- argument 0 is a class that has the static of argument 1
 abbrev pub has_static : Classes → List Actual → Bool
@@ -52,12 +47,13 @@ module _ (classes : Classes) (heap : Heap) (args : List Actual) where
   fit_together GetArrayLength = not (is_plain (class_kind classes (class_of heap (object_given args 0))))
   fit_together f = true
 
--- The trap of a call before it does anything; none of the statics is deleted yet.
-abbrev pub trap_found : Classes → Heap → Frame → (is_pending : Bool) → JniFunction → List Actual → Option Trap
-trap_found classes heap frame is_pending f args =
+-- The trap of a call before it does anything.
+abbrev pub trap_found : Classes → Heap → List Frame → (is_pending : Bool) → JniFunction → List Actual → Option Trap
+trap_found classes heap frames is_pending f args =
     first_trap (
     (is_pending && not (is_allowed_pending f), ExceptionPending)
+    ∷ (list_any is_deleted args, DeletedReference)
     ∷ (list_any is_missing (zip (prototype f).parameters args), NullReference)
     ∷ (list_any (is_misfit classes heap) (zip (prototype f).parameters args) || not (fit_together classes heap args f), WrongObject)
-    ∷ (lacks_room (prototype f).result frame, NoCapacity)
+    ∷ (lacks_room (prototype f).result (slice_get (frames_after f frames) 0), NoCapacity)
     ∷ [])

@@ -1,4 +1,7 @@
+pub mod Names
+pub mod Frames
 pub mod Stores
+pub mod Shares
 pub mod Actuals
 pub mod Answers
 pub mod WorkedOut

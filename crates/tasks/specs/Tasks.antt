@@ -7,7 +7,7 @@ use Rattle.syntax.specs.declared.stmt.Block.{Block as BlockInMemory}
 use Rattle.syntax.specs.declared.stmt.Stmt.{Stmt as StmtInMemory}
 use Rattle.syntax.specs.Limits.{numbers_in_range}
 use Rattle.syntax.specs.Parts.{argument_expressions, statements_of, own_expressions, right_side_expressions, test_expressions, call_of_right_side}
-use Rattle.syntax.specs.Tree.{Argument, Expr, RightSide, Test, Stmt, If, IfElse, While, Block, End}
+use Rattle.syntax.specs.Tree.{Argument, Call, Expr, RightSide, Test, TestExpr, TestCall, Stmt, If, IfElse, While, Block}
 use Rattle.syntax.specs.Views.{argument_tree, expr_tree, element_tree, stmt_tree, block_tree}
 use Rattle.jni.specs.BuiltFunctions.{is_built_function}
 use Rattle.jni.specs.Table.{function_value}
@@ -17,18 +17,15 @@ use Rattle.tasks.specs.declared.outcome.End.{End as EndInMemory}
 use Rattle.tasks.specs.declared.outcome.End.TheVariants as end
 use Rattle.tasks.specs.declared.outcome.Outcome.{Outcome}
 use Rattle.tasks.specs.declared.outcome.Outcome.TheVariants as outcome
+use Rattle.tasks.specs.declared.outcome.Purpose.{Purpose}
+use Rattle.tasks.specs.declared.outcome.Purpose.TheVariants as purpose
 use Rattle.tasks.specs.declared.task.Operand.{Operand as OperandInMemory}
 use Rattle.tasks.specs.declared.task.Operand.TheVariants as operands
 use Rattle.tasks.specs.declared.task.Task.{Task as TaskInMemory}
 use Rattle.tasks.specs.declared.task.Task.TheVariants as task
 use Rattle.terms.specs.declared.term.Term.{Term as TermInMemory}
-use Rattle.tasks.specs.Outcomes.{target_view}
+use Rattle.tasks.specs.Outcomes.{else_tree, purpose_view, target_view}
 use Rattle.terms.specs.Views.{term_view, NumbersInRange}
-
--- the block of an `else`, which may be missing in an `if` of this line
-abbrev pub else_tree : ℕ → Option (Bor BlockInMemory) → Block
-else_tree line None = End line
-else_tree line (Some b) = block_tree b.now
 
 abbrev pub operand_view : OperandInMemory → Operand
 operand_view (operands.Number t) = NumberOperand (term_view t)
@@ -40,7 +37,7 @@ task_view (task.Set line x t) = SetScalar line x.now (term_view t)
 task_view (task.SetElement line x i t) = SetElement line x.now (term_view i) (term_view t)
 task_view (task.SetNull to) = SetNull (target_view to)
 task_view (task.MakeArray T x n) = MakeArray (element_tree T) x.now n
-task_view (task.Invoke i) = Invoke i.line (target_view i.target) (function_value i.function) (map operand_view i.operands.items)
+task_view (task.Invoke i) = Invoke i.line (purpose_view i.line i.purpose) (function_value i.function) (map operand_view i.operands.items)
 task_view (task.Branch c) = Branch c.line (term_view c.test) (block_tree c.block.now) (else_tree c.line c.otherwise)
 task_view (task.Loop line test t body) = Loop line (expr_tree test.now) (term_view t) (block_tree body.now)
 task_view task.Return = Return
@@ -108,8 +105,14 @@ pub record RightSideInRange (right : RightSide) : Type 0 where
   pub numbers : IsTrue (list_all numbers_in_range (right_side_expressions right))
   pub built : IsTrue (not (some_passes (λ c. not (is_built_call c)) (call_of_right_side (Some right))))
 
-abbrev pub TestInRange : Test → Type 0
-TestInRange test = IsTrue (list_all numbers_in_range (test_expressions test))
+-- the call that a test is
+abbrev pub call_of_test : Test → Option Call
+call_of_test (TestExpr e) = None
+call_of_test (TestCall c) = Some c
+
+pub record TestInRange (test : Test) : Type 0 where
+  pub numbers : IsTrue (list_all numbers_in_range (test_expressions test))
+  pub built : IsTrue (not (some_passes (λ c. not (is_built_call c)) (call_of_test test)))
 
 abbrev pub ElseInRange : Option (Bor BlockInMemory) → Type 0
 ElseInRange None = Unit {0}
@@ -124,6 +127,11 @@ abbrev pub OperandsInRange : List OperandInMemory → Type 0
 OperandsInRange [] = Unit {0}
 OperandsInRange (o ∷ rest) = OperandInRange o × OperandsInRange rest
 
+-- the same of the two ways of an `if` whose test is a call
+abbrev pub PurposeInRange : Purpose → Type 0
+PurposeInRange (purpose.Put to) = Unit {0}
+PurposeInRange (purpose.Test b other) = BlockInRange (block_tree b.now) × ElseInRange other
+
 -- the same of tasks, of what comes at the end of a block, and of what a step leads into
 abbrev pub TaskInRange : TaskInMemory → Type 0
 TaskInRange (task.Print line t) = NumbersInRange t
@@ -131,7 +139,7 @@ TaskInRange (task.Set line x t) = NumbersInRange t
 TaskInRange (task.SetElement line x i t) = NumbersInRange i × NumbersInRange t
 TaskInRange (task.SetNull to) = Unit {0}
 TaskInRange (task.MakeArray T x n) = Unit {0}
-TaskInRange (task.Invoke i) = OperandsInRange i.operands.items × IsTrue (is_built_function (function_value i.function))
+TaskInRange (task.Invoke i) = OperandsInRange i.operands.items × IsTrue (is_built_function (function_value i.function)) × PurposeInRange i.purpose
 TaskInRange (task.Branch c) = NumbersInRange c.test × BlockInRange (block_tree c.block.now) × ElseInRange c.otherwise
 TaskInRange (task.Loop line test t body) = ExprInRange (expr_tree test.now) × NumbersInRange t × BlockInRange (block_tree body.now)
 TaskInRange task.Return = Unit {0}
@@ -143,4 +151,5 @@ EndInRange (end.Turn line test body) = ExprInRange (expr_tree test.now) × Block
 
 abbrev pub OutcomeInRange : Outcome → Type 0
 OutcomeInRange (outcome.Enters statements e) = StatementsInRange statements.now × EndInRange e
+OutcomeInRange (outcome.Tests line zero b other) = BlockInRange (block_tree b.now) × ElseInRange other
 OutcomeInRange took = Unit {0}

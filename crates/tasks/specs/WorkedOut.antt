@@ -1,16 +1,19 @@
 -- What is worked out of a call, its arguments being looked up and its checks passed.
-use Rattle.std.specs.Prelude.{ℕ, ◌+◌, max, nat_le, if◌then◌else◌, ℤ, pos, negsuc, List, length, Option, Some, None}
+use Rattle.std.specs.Prelude.{ℕ, nat_le, if◌then◌else◌, ℤ, pos, negsuc, List, ◌∷◌, length, Option, Some, None}
+use Rattle.base.specs.Bytes.{Identifier, lookup}
 use Rattle.classes.specs.BuiltIns.{no_class_def_found_error, no_such_field_error}
 use Rattle.classes.specs.Class.{Classes, class_named, superclass, assignable}
 use Rattle.classes.specs.Fields.{FieldId, find_field, find_static}
-use Rattle.jni.specs.JniFunction.{JniFunction, FindClass, GetSuperclass, GetObjectClass, IsInstanceOf, IsAssignableFrom, AllocObject, NewLocalRef, IsSameObject, EnsureLocalCapacity, GetFieldID, GetStaticFieldID, GetField, SetField, GetStaticField, SetStaticField, GetObjectField, SetObjectField, GetStaticObjectField, SetStaticObjectField, GetArrayLength}
-use Rattle.source.specs.Arguments.{Actual, reference_given, object_given, number_given, text_given, field_given}
-use Rattle.source.specs.CallEffects.{NoResult, ScalarResult, ReferenceResult, FieldResult, same_reference}
+use Rattle.jni.specs.JniFunction.{JniFunction, FindClass, GetSuperclass, GetObjectClass, IsInstanceOf, IsAssignableFrom, AllocObject, NewLocalRef, NewGlobalRef, DeleteLocalRef, DeleteGlobalRef, IsSameObject, EnsureLocalCapacity, PushLocalFrame, PopLocalFrame, GetFieldID, GetStaticFieldID, GetField, SetField, GetStaticField, SetStaticField, GetObjectField, SetObjectField, GetStaticObjectField, SetStaticObjectField, GetArrayLength}
+use Rattle.source.specs.Arguments.{Actual, reference_given, object_given, number_given, text_given, field_given, variable_given}
+use Rattle.source.specs.CallEffects.{NoResult, ScalarResult, ReferenceResult, FieldResult, level_of, same_reference, with_capacity}
 use Rattle.source.specs.Heap.{Heap, class_of, values_of, value_at, number_in, reference_in, field_place, static_place, fits_class}
-use Rattle.source.specs.Object.{Number, Refers}
-use Rattle.source.specs.Thread.{Frame}
+use Rattle.source.specs.Object.{Number, Refers, Reference}
+use Rattle.source.specs.Thread.{Frame, capacities}
 use Rattle.source.specs.Value.{Int, Flag, convert}
-use Rattle.tasks.specs.Answers.{Answer, Gives, Writes, Makes, Raises, Ensures, RefusesFrames}
+use Rattle.source.specs.Variable.{Variables}
+use Rattle.tasks.specs.Answers.{Answer, Gives, Writes, Makes, Raises, Ensures, Pushes, RefusesFrames, Pops, DeletesLocal, MakesGlobal, DeletesGlobal}
+use Rattle.tasks.specs.Frames.{new_frame}
 
 -- a class that was found, or else an exception
 abbrev pub found_class : Option ℕ → Answer
@@ -22,23 +25,36 @@ abbrev pub found_field : Option FieldId → Answer
 found_field None = Raises no_such_field_error
 found_field (Some f) = Gives (FieldResult (Some f))
 
--- the capacity of a frame with room for n more, unless it would be too large
-abbrev pub with_room : Frame → ℕ → Option ℕ
-with_room frame n =
-    let capacity : ℕ = max frame.capacity (length frame.references + n) in
-    if nat_le capacity 1024 then Some capacity else None
-
--- such a capacity, or else no frames are to be had
-abbrev pub given_room : Option ℕ → Answer
-given_room (Some capacity) = Ensures capacity
-given_room None = RefusesFrames
+-- these capacities may be had, or else no frames are
+abbrev pub if_they_fit : List Frame → Answer → Answer
+if_they_fit frames a = if nat_le (capacities frames) 1024 then a else RefusesFrames
 
 -- room for this number of references more in the current frame
-abbrev pub ensured : Frame → ℤ → Answer
-ensured frame (pos n) = given_room (with_room frame n)
-ensured frame (negsuc n) = RefusesFrames
+abbrev pub ensured : List Frame → ℤ → Answer
+ensured frames (pos n) = if_they_fit (with_capacity n frames) (Ensures n)
+ensured frames (negsuc n) = RefusesFrames
 
-module _ (classes : Classes) (heap : Heap) (frame : Frame) (args : List Actual) where
+-- a frame of this capacity
+abbrev pub pushed : List Frame → ℤ → Answer
+pushed frames (pos n) = if_they_fit (new_frame n ∷ frames) (Pushes n)
+pushed frames (negsuc n) = RefusesFrames
+
+-- one local reference less in the frame of this level; NULL: nothing
+abbrev pub local_deleted : (level : ℕ) → Reference → Answer
+local_deleted level None = Gives NoResult
+local_deleted level (Some n) = DeletesLocal level n
+
+-- one global reference more; NULL: nothing
+abbrev pub made_global : Reference → Answer
+made_global None = Gives (ReferenceResult None)
+made_global (Some n) = MakesGlobal n
+
+-- one global reference less, that of this static; NULL: nothing
+abbrev pub global_deleted : Identifier → Reference → Answer
+global_deleted x None = Gives NoResult
+global_deleted x (Some n) = DeletesGlobal x n
+
+module _ (classes : Classes) (heap : Heap) (variables : Variables) (frames : List Frame) (args : List Actual) where
   abbrev pub reference : ℕ → Option ℕ
   reference i = reference_given args i
 
@@ -71,8 +87,13 @@ module _ (classes : Classes) (heap : Heap) (frame : Frame) (args : List Actual) 
   worked_out IsAssignableFrom = Gives (ScalarResult (Flag (assignable classes (object 0) (object 1))))
   worked_out AllocObject = Makes (object 0)
   worked_out NewLocalRef = Gives (ReferenceResult (reference 0))
+  worked_out NewGlobalRef = made_global (reference 0)
+  worked_out DeleteLocalRef = local_deleted (level_of (lookup (variable_given args 0) variables)) (reference 0)
+  worked_out DeleteGlobalRef = global_deleted (variable_given args 0) (reference 0)
   worked_out IsSameObject = Gives (ScalarResult (Flag (same_reference (reference 0) (reference 1))))
-  worked_out EnsureLocalCapacity = ensured frame (number 0)
+  worked_out EnsureLocalCapacity = ensured frames (number 0)
+  worked_out PushLocalFrame = pushed frames (number 0)
+  worked_out PopLocalFrame = Pops (reference 0)
   worked_out GetFieldID = found_field (find_field classes (object 0) (text 1) (text 2))
   worked_out GetStaticFieldID = found_field (find_static classes (object 0) (text 1) (text 2))
   worked_out (GetField T) = Gives (ScalarResult (Int (number_in (value_at heap (object 0) place))))

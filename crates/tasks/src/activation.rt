@@ -1,22 +1,21 @@
 //! Activations: calls in progress.
 
 ghost use Rattle.std.specs.Prelude.{◌≡◌, IfOk, None, []};
-ghost use Rattle.syntax.specs.Tree.{SourceUnit};
-ghost use Rattle.syntax.specs.Views.{unit_tree};
 ghost use Rattle.classes.specs.Class.{Classes};
-ghost use Rattle.source.specs.Heap.{Heap};
+ghost use Rattle.source.specs.Thread.{Shared as SharedOfThreads};
 ghost use Rattle.tasks.specs.Activations.{tasks_left, IsInRange, AreSet, Advances, KeepsScene};
+ghost use Rattle.tasks.specs.Shares.{shared_view};
 
-use crate::frame::Frame;
+use crate::frame::Frames;
 use crate::outcome::{End, Outcome};
 use crate::put::set_variables;
+use crate::shared::Shared;
 use crate::step::step;
-use crate::store::Store;
-use crate::task::{Task, task_of};
+use crate::task::{Choice, Task, task_of};
 use class_table::table::ClassTable;
 use std::alloc::{AllocError, Global};
-use syntax::{Item, Stmt};
-use terms::{Variable, term_of};
+use syntax::Stmt;
+use terms::{Term, Value, Variable, term_of};
 
 /// What is still to do around a block: what comes at the block's end, and the statements after it.
 #[derive(Clone, Copy)]
@@ -26,15 +25,15 @@ pub struct Outer<'a> {
 }
 
 /// A call in progress: the task that is begun, the statements after it in its block, what is to do around the block,
-/// the outermost first, the variables, in the order in which they came to be, the frame of local references, and the pending
-/// exception. No function that can be called pushes another frame.
+/// the outermost first, the variables, in the order in which they came to be, the frames of local references, and the pending
+/// exception.
 #[derive(Drop)]
 pub struct Activation<'a> {
     pub task: Option<Task<'a>>,
     pub rest: &'a [Stmt],
     pub outer: Vec<Outer<'a>>,
     pub variables: Vec<Variable<'a>>,
-    pub frame: Frame,
+    pub frames: Frames,
     pub pending: Option<usize>,
 }
 
@@ -74,7 +73,7 @@ fn leave_block<'a>(
     requires range { IsInRange activation.old }
     requires task { activation.old.task ≡ None }
     requires rest { activation.old.rest.now ≡ [] }
-    ensures step { IfOk result (λ o. (unit : SourceUnit) (classes : Classes) (heap : Heap) → Advances unit classes refused heap activation.old o heap activation.new) }
+    ensures step { IfOk result (λ o. (classes : Classes) (shared : SharedOfThreads) → Advances classes refused shared activation.old o shared activation.new) }
     ensures range { IfOk result (λ _. IsInRange activation.new) }
 {
     if refused {
@@ -115,6 +114,16 @@ fn set_tasks<'a>(activation: &mut Activation<'a>, outcome: Outcome<'a>) -> Resul
         Outcome::Gives(_, _) | Outcome::SetsElement(_, _, _) => {
             put_task(&mut activation.task, None);
         }
+        Outcome::Tests(line, zero, block, otherwise) => {
+            let test = Term::Done(Value::Truth(zero));
+            let choice = Choice {
+                line,
+                test,
+                block,
+                otherwise,
+            };
+            put_task(&mut activation.task, Some(Task::Branch(choice)));
+        }
         Outcome::Makes(_, _, _) | Outcome::Ends => put_task(&mut activation.task, None),
     }
     Ok(())
@@ -123,14 +132,13 @@ fn set_tasks<'a>(activation: &mut Activation<'a>, outcome: Outcome<'a>) -> Resul
 /// Lets an activation take its next step, or the same with its object refused.
 pub fn advance<'a>(
     alloc: Global,
-    items: &'a [Item],
     classes: &'a ClassTable,
-    store: &mut Store,
+    shared: &mut Shared<'_>,
     refused: bool,
     activation: &mut Activation<'a>,
 ) -> Result<Outcome<'a>, AllocError>
     requires { IsInRange activation.old }
-    ensures step { IfOk result (λ o. Advances (unit_tree items.now) classes.now refused store.old activation.old o store.new activation.new) }
+    ensures step { IfOk result (λ o. Advances classes.now refused (shared_view shared.old) activation.old o (shared_view shared.new) activation.new) }
     ensures range { IfOk result (λ _. IsInRange activation.new) }
 {
     begin(alloc, activation)?;
@@ -139,16 +147,22 @@ pub fn advance<'a>(
     };
     let outcome = step(
         alloc,
-        items,
         classes,
-        store,
+        shared,
         &activation.variables,
-        &mut activation.frame,
+        &mut activation.frames,
         &mut activation.pending,
         refused,
         task,
     )?;
-    let done = set_variables(alloc, items, &mut activation.variables, outcome)?;
+    let frames = activation.frames.len();
+    let done = set_variables(
+        alloc,
+        &mut shared.statics,
+        frames,
+        &mut activation.variables,
+        outcome,
+    )?;
     if !done {
         return Ok(Outcome::Impossible);
     }

@@ -1,26 +1,29 @@
 //! The arguments of a call, looked up in its own step.
 
-ghost use Rattle.std.specs.Prelude.{◌≡◌, ◌++◌, IfOk, map, slice_get, zip, None, []};
+ghost use Rattle.std.specs.Prelude.{◌≡◌, ◌++◌, IfOk, IfSome, map, slice_get, zip};
 ghost use Rattle.std.specs.Option.{option_map};
 ghost use Rattle.base.specs.Bytes.{lookup};
 ghost use Rattle.syntax.specs.Views.{argument_tree, expr_tree};
 ghost use Rattle.class_table.specs.FieldViews.{field_id_view};
 ghost use Rattle.jni.specs.Prototype.{ParameterKind as Kind};
 ghost use Rattle.jni.specs.Table.{function_value, parameter_value};
-ghost use Rattle.source.specs.Arguments.{actuals, field_argument, field_given, look_up, look_up_expression, mode_of, named_variable, number_given, number_in_actual, object_given, name_or_zero, reference_argument, reference_given, reference_in_actual, text_given, text_in_actual, field_in_actual};
-ghost use Rattle.source.specs.Sight.{Sight, held_field, held_reference, seen};
+ghost use Rattle.source.specs.Arguments.{actuals, field_argument, field_given, look_up, look_up_expression, mode_of, named_variable, number_given, number_in_actual, object_given, name_or_zero, reference_argument, reference_given, reference_in_actual, text_given, text_in_actual, field_in_actual, variable_given, variable_in_actual};
+ghost use Rattle.source.specs.CallEffects.{level_of};
+ghost use Rattle.source.specs.Sight.{Sight, held_field, held_reference};
 ghost use Rattle.source.specs.Task.{Given, NumberOperand};
-ghost use Rattle.source.specs.Variable.{as_static};
+ghost use Rattle.source.specs.Thread.{Shared as SharedOfThreads};
 ghost use Rattle.tasks.specs.Actuals.{actual_view, mode_view, name_view, given_field};
+ghost use Rattle.tasks.specs.Shares.{shared_view, sight_in};
 ghost use Rattle.tasks.specs.Tasks.{operand_view};
-ghost use Rattle.terms.specs.Views.{term_view, variables_view};
+ghost use Rattle.terms.specs.Views.{held_view, term_view, variables_view};
 
+use crate::shared::Shared;
 use crate::task::Operand;
 use class_table::fields::FieldId;
 use jni::{JniFunction, ParameterKind};
 use std::alloc::{AllocError, Global};
 use syntax::{Argument, Constant, Expr, Name};
-use terms::{Content, Term, Value, Variable, content_of};
+use terms::{Content, StaticReference, Term, Value, Variable, content_of};
 
 /// How a buffer of copied elements is released (JNI Specification, chapter 4, "Release<PrimitiveType>ArrayElements
 /// Routines").
@@ -34,8 +37,8 @@ pub enum ReleaseMode {
 /// An argument of a call, looked up.
 #[derive(Clone, Copy)]
 pub enum Actual<'a> {
-    /// NULL or an object, by its name, and the variable that holds it.
-    Reference(Option<&'a Name>, Option<usize>),
+    /// What a variable or a static holds, and its name.
+    Reference(Option<&'a Name>, StaticReference),
     Field(Option<FieldId<'a>>),
     Number(i32),
     Text(&'a [u8]),
@@ -47,18 +50,20 @@ pub enum Actual<'a> {
 
 // ---- looking up
 
-/// The arguments of a call, its numbers being worked out. No static holds an object yet, and none of them depends on the heap.
+/// The arguments of a call, its numbers being worked out.
 pub(crate) fn actuals<'a>(
     alloc: Global,
+    shared: &Shared<'_>,
     variables: &[Variable<'a>],
     function: JniFunction,
     operands: &[Operand<'a>],
 ) -> Result<Vec<Actual<'a>>, AllocError>
-    ensures { IfOk result (λ args. map actual_view args.items ≡ actuals (seen (variables_view variables.now) [] []) (function_value function) (map operand_view operands.now)) }
+    ensures { IfOk result (λ args. map actual_view args.items ≡ actuals (sight_in (shared_view shared.now) variables.now) (function_value function) (map operand_view operands.now)) }
 {
     let mut actuals = Vec::new(alloc);
     push_actuals(
         &mut actuals,
+        shared,
         variables,
         function.prototype().parameters,
         operands,
@@ -69,20 +74,21 @@ pub(crate) fn actuals<'a>(
 /// Looks up the arguments for these parameters.
 fn push_actuals<'a>(
     actuals: &mut Vec<Actual<'a>>,
+    shared: &Shared<'_>,
     variables: &[Variable<'a>],
     parameters: &[ParameterKind],
     operands: &[Operand<'a>],
 ) -> Result<(), AllocError>
     ensures { IfOk result (λ _. map actual_view actuals.new.items
-        ≡ map actual_view actuals.old.items ++ map (look_up (seen (variables_view variables.now) [] [])) (zip (map parameter_value parameters.entry.now) (map operand_view operands.entry.now))) }
+        ≡ map actual_view actuals.old.items ++ map (look_up (sight_in (shared_view shared.now) variables.now)) (zip (map parameter_value parameters.entry.now) (map operand_view operands.entry.now))) }
 {
     match parameters {
         [] => Ok(()),
         [parameter, parameters @ ..] => match operands {
             [] => Ok(()),
             [operand, operands @ ..] => {
-                actuals.push(look_up(variables, *parameter, operand))?;
-                push_actuals(actuals, variables, parameters, operands)
+                actuals.push(look_up(shared, variables, *parameter, operand))?;
+                push_actuals(actuals, shared, variables, parameters, operands)
             }
         },
     }
@@ -90,15 +96,16 @@ fn push_actuals<'a>(
 
 /// What an argument for this parameter is.
 fn look_up<'a>(
+    shared: &Shared<'_>,
     variables: &[Variable<'a>],
     parameter: ParameterKind,
     operand: &Operand<'a>,
 ) -> Actual<'a>
-    ensures { actual_view result ≡ look_up (seen (variables_view variables.now) [] []) (parameter_value parameter, operand_view operand.now) }
+    ensures { actual_view result ≡ look_up (sight_in (shared_view shared.now) variables.now) (parameter_value parameter, operand_view operand.now) }
 {
     match operand {
         Operand::Number(t) => number_argument(t),
-        Operand::Given(argument) => given_argument(variables, parameter, argument),
+        Operand::Given(argument) => given_argument(shared, variables, parameter, argument),
     }
 }
 
@@ -114,26 +121,28 @@ fn number_argument<'a>(t: &Term) -> Actual<'a>
 
 /// An argument that is given as it is written.
 fn given_argument<'a>(
+    shared: &Shared<'_>,
     variables: &[Variable<'a>],
     parameter: ParameterKind,
     argument: &'a Argument,
 ) -> Actual<'a>
-    ensures { actual_view result ≡ look_up (seen (variables_view variables.now) [] []) (parameter_value parameter, Given (argument_tree argument.now)) }
+    ensures { actual_view result ≡ look_up (sight_in (shared_view shared.now) variables.now) (parameter_value parameter, Given (argument_tree argument.now)) }
 {
     match argument {
         Argument::Text(bytes) => Actual::Text(bytes),
         Argument::AddressOf(name) => Actual::Variable(Some(name)),
-        Argument::Value(e) => look_up_expression(variables, parameter, e),
+        Argument::Value(e) => look_up_expression(shared, variables, parameter, e),
     }
 }
 
 /// An argument that is neither number nor text.
 fn look_up_expression<'a>(
+    shared: &Shared<'_>,
     variables: &[Variable<'a>],
     parameter: ParameterKind,
     e: &'a Expr,
 ) -> Actual<'a>
-    ensures { actual_view result ≡ look_up_expression (seen (variables_view variables.now) [] []) (parameter_value parameter) (expr_tree e.now) }
+    ensures { actual_view result ≡ look_up_expression (sight_in (shared_view shared.now) variables.now) (parameter_value parameter) (expr_tree e.now) }
 {
     match parameter {
         ParameterKind::FieldID => field_argument(variables, e),
@@ -141,7 +150,7 @@ fn look_up_expression<'a>(
         ParameterKind::BufferVariable(_) => Actual::Variable(named_variable(e)),
         ParameterKind::Mode => Actual::Mode(mode_of(e)),
         ParameterKind::IsCopy => Actual::Nothing,
-        _ => reference_argument(variables, e),
+        _ => reference_argument(shared, variables, e),
     }
 }
 
@@ -168,7 +177,7 @@ fn mode_of(e: &Expr) -> ReleaseMode
 
 /// A name or NULL where a field ID is asked for.
 fn field_argument<'a>(variables: &[Variable<'a>], e: &'a Expr) -> Actual<'a>
-    ensures { actual_view result ≡ field_argument (seen (variables_view variables.now) [] []) (expr_tree e.now) }
+    ensures { (shared : SharedOfThreads) → actual_view result ≡ field_argument (sight_in shared variables.now) (expr_tree e.now) }
 {
     match e {
         Expr::Variable(name) => Actual::Field(field_of(variables, name)),
@@ -184,32 +193,54 @@ fn field_of<'a>(variables: &[Variable<'a>], name: &Name) -> Option<FieldId<'a>>
         None => None,
         Some(content) => match content {
             Content::Field(field) => *field,
-            Content::Number(_) | Content::Reference(_) => None,
+            Content::Number(_) | Content::Reference(_, _) => None,
             Content::Buffer(_) | Content::Array(_, _) => None,
         },
     }
 }
 
 /// A name or NULL where a reference is asked for.
-fn reference_argument<'a>(variables: &[Variable<'a>], e: &'a Expr) -> Actual<'a>
-    ensures { actual_view result ≡ reference_argument (seen (variables_view variables.now) [] []) (expr_tree e.now) }
+fn reference_argument<'a>(
+    shared: &Shared<'_>,
+    variables: &[Variable<'a>],
+    e: &'a Expr,
+) -> Actual<'a>
+    ensures { actual_view result ≡ reference_argument (sight_in (shared_view shared.now) variables.now) (expr_tree e.now) }
 {
     match e {
-        Expr::Variable(name) => Actual::Reference(Some(name), object_of(variables, name)),
-        _ => Actual::Reference(None, None),
+        Expr::Variable(name) => Actual::Reference(Some(name), held_by(shared, variables, name)),
+        _ => Actual::Reference(None, StaticReference::Empty),
     }
 }
 
-/// What a local reference holds; a static holds NULL, as nothing makes global references yet.
-fn object_of(variables: &[Variable<'_>], name: &Name) -> Option<usize>
-    ensures { as_static result ≡ held_reference (lookup name.now (variables_view variables.now)) None }
+/// What a local reference or a static holds.
+fn held_by(shared: &Shared<'_>, variables: &[Variable<'_>], name: &Name) -> StaticReference
+    ensures { held_view result ≡ held_reference (lookup name.now (variables_view variables.now)) (lookup name.now shared.now.statics) }
 {
     match content_of(variables, name) {
-        None => None,
+        None => match shared.statics.held(name) {
+            Some(held) => held,
+            None => StaticReference::Empty,
+        },
         Some(content) => match content {
-            Content::Reference(object) => *object,
-            Content::Number(_) | Content::Field(_) => None,
-            Content::Buffer(_) | Content::Array(_, _) => None,
+            Content::Reference(_, Some(object)) => StaticReference::Live(*object),
+            Content::Reference(_, None) | Content::Number(_) => StaticReference::Empty,
+            Content::Field(_) | Content::Buffer(_) => StaticReference::Empty,
+            Content::Array(_, _) => StaticReference::Empty,
+        },
+    }
+}
+
+/// The level of the local reference of this name; 0 where there is none.
+pub(crate) fn level_of(variables: &[Variable<'_>], name: &Name) -> usize
+    ensures { result ≡ level_of (lookup name.now (variables_view variables.now)) }
+{
+    match content_of(variables, name) {
+        None => 0,
+        Some(content) => match content {
+            Content::Reference(level, _) => *level,
+            Content::Number(_) | Content::Field(_) => 0,
+            Content::Buffer(_) | Content::Array(_, _) => 0,
         },
     }
 }
@@ -228,7 +259,17 @@ pub(crate) fn reference_given(actuals: &[Actual<'_>], place: usize) -> Option<us
     ensures { result ≡ reference_given (map actual_view actuals.now) place }
 {
     match actual_at(actuals, place) {
-        Some(Actual::Reference(_, reference)) => reference,
+        Some(Actual::Reference(_, StaticReference::Live(name))) => Some(name),
+        _ => None,
+    }
+}
+
+/// The variable or static whose reference stands at a place, if it has a name.
+pub(crate) fn variable_given<'a>(actuals: &[Actual<'a>], place: usize) -> Option<&'a Name>
+    ensures { IfSome result (λ x. x.now ≡ variable_given (map actual_view actuals.now) place) }
+{
+    match actual_at(actuals, place) {
+        Some(Actual::Reference(name, _)) => name,
         _ => None,
     }
 }

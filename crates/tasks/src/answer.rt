@@ -2,22 +2,26 @@
 
 ghost use Rattle.std.specs.Prelude.{◌≡◌, IfOk, IsTrue, map};
 ghost use Rattle.std.specs.Option.{option_map};
+ghost use Rattle.base.specs.Bytes.{lookup};
 ghost use Rattle.class_table.specs.FieldViews.{field_id_view};
 ghost use Rattle.jni.specs.BuiltFunctions.{is_built_function};
 ghost use Rattle.jni.specs.Table.{function_value};
-ghost use Rattle.source.specs.CallEffects.{same_reference};
+ghost use Rattle.source.specs.CallEffects.{level_of, same_reference};
 ghost use Rattle.source.specs.Heap.{field_place, fits_class, number_in, reference_in, static_place};
 ghost use Rattle.source.specs.Object.{Refers};
-ghost use Rattle.source.specs.Arguments.{field_given, object_given};
+ghost use Rattle.source.specs.Arguments.{field_given, object_given, reference_given, variable_given};
 ghost use Rattle.tasks.specs.Actuals.{actual_view};
 ghost use Rattle.tasks.specs.Answers.{answer_view};
-ghost use Rattle.tasks.specs.Stores.{frame_view};
-ghost use Rattle.tasks.specs.WorkedOut.{ensured, found_class, found_field, worked_out};
+ghost use Rattle.tasks.specs.WorkedOut.{ensured, found_class, found_field, global_deleted, local_deleted, made_global, pushed, worked_out};
+ghost use Rattle.terms.specs.Views.{variables_view};
 ghost use Rattle.world.specs.Views.{object_value_view};
 
-use crate::actual::{Actual, field_given, number_given, object_given, reference_given, text_given};
+use crate::actual::{
+    Actual, field_given, level_of, number_given, object_given, reference_given, text_given,
+    variable_given,
+};
 use crate::field;
-use crate::frame::{Frame, with_room};
+use crate::frame::Frames;
 use crate::given::Given;
 use crate::store::Store;
 use class_table::built_ins::{NO_CLASS_DEF_FOUND_ERROR, NO_SUCH_FIELD_ERROR};
@@ -25,7 +29,8 @@ use class_table::fields::FieldId;
 use class_table::table::ClassTable;
 use jni::JniFunction;
 use std::alloc::AllocError;
-use terms::convert;
+use syntax::Name;
+use terms::{Variable, convert};
 use world::ObjectValue;
 
 /// What a call does.
@@ -39,22 +44,33 @@ pub(crate) enum Answer<'a> {
     Makes(usize),
     /// An exception of the class of this number is made and is pending.
     Raises(usize),
-    /// The current frame's capacity becomes this, and 0 is given.
+    /// The current frame gets room for this number of references more, and 0 is given.
     Ensures(usize),
-    /// -4 is given, and the OutOfMemoryError object is pending: the current frame can't have so large a capacity.
+    /// A frame of this capacity is made, and 0 is given.
+    Pushes(usize),
+    /// -4 is given, and the OutOfMemoryError object is pending: the frames can't have so large capacities.
     RefusesFrames,
+    /// The current frame is dropped, and this is given.
+    Pops(Option<usize>),
+    /// A local reference to the object of this name is deleted, in the frame of a level.
+    DeletesLocal(usize, usize),
+    /// A global reference to the object of this name is made, and given.
+    MakesGlobal(usize),
+    /// A global reference to the object of this name is deleted, and the static is marked.
+    DeletesGlobal(&'a Name, usize),
 }
 
 /// What a function does, all checks being passed. A reference whose name is no `u32` is refused, as memory is.
 pub(crate) fn work_out<'a>(
     classes: &'a ClassTable,
     store: &Store,
-    frame: &Frame,
+    variables: &[Variable<'_>],
+    frames: &Frames,
     function: JniFunction,
     actuals: &[Actual<'a>],
 ) -> Result<Answer<'a>, AllocError>
     requires { IsTrue (is_built_function (function_value function)) }
-    ensures { IfOk result (λ a. answer_view a ≡ worked_out classes.now store.now (frame_view frame.now) (map actual_view actuals.now) (function_value function)) }
+    ensures { IfOk result (λ a. answer_view a ≡ worked_out classes.now store.now (variables_view variables.now) frames.now (map actual_view actuals.now) (function_value function)) }
 {
     let first = object_given(actuals, 0);
     let second = object_given(actuals, 1);
@@ -78,11 +94,16 @@ pub(crate) fn work_out<'a>(
         JniFunction::NewLocalRef => {
             Ok(Answer::Gives(Given::Reference(reference_given(actuals, 0))))
         }
+        JniFunction::NewGlobalRef => Ok(made_global(reference_given(actuals, 0))),
+        JniFunction::DeleteLocalRef => local_deleted(variables, actuals),
+        JniFunction::DeleteGlobalRef => global_deleted(actuals),
         JniFunction::IsSameObject => {
             let same = same_reference(reference_given(actuals, 0), reference_given(actuals, 1));
             Ok(Answer::Gives(Given::Flag(same)))
         }
-        JniFunction::EnsureLocalCapacity => Ok(ensured(frame, number_given(actuals, 0))),
+        JniFunction::EnsureLocalCapacity => Ok(ensured(frames, number_given(actuals, 0))),
+        JniFunction::PushLocalFrame => Ok(pushed(frames, number_given(actuals, 0))),
+        JniFunction::PopLocalFrame => Ok(Answer::Pops(reference_given(actuals, 0))),
         JniFunction::GetFieldID => {
             let (name, text) = (text_given(actuals, 1), text_given(actuals, 2));
             Ok(found_field(classes.field(first, name, text, false)))
@@ -153,16 +174,72 @@ fn found_field(field: Option<FieldId<'_>>) -> Answer<'_>
 }
 
 /// Room for this number of references more in the current frame, if it may have it.
-fn ensured<'a>(frame: &Frame, more: i32) -> Answer<'a>
-    ensures { answer_view result ≡ ensured (frame_view frame.now) more }
+fn ensured<'a>(frames: &Frames, more: i32) -> Answer<'a>
+    ensures { answer_view result ≡ ensured frames.now more }
 {
     if more < 0 {
         return Answer::RefusesFrames;
     }
-    match with_room(frame, more as usize) {
-        Some(capacity) => Answer::Ensures(capacity),
-        None => Answer::RefusesFrames,
+    let more = more as usize;
+    if frames.has_room(more) {
+        Answer::Ensures(more)
+    } else {
+        Answer::RefusesFrames
     }
+}
+
+/// A frame of this capacity, if it may be had.
+fn pushed<'a>(frames: &Frames, capacity: i32) -> Answer<'a>
+    ensures { answer_view result ≡ pushed frames.now capacity }
+{
+    if capacity < 0 {
+        return Answer::RefusesFrames;
+    }
+    let capacity = capacity as usize;
+    if frames.has_room_for(capacity) {
+        Answer::Pushes(capacity)
+    } else {
+        Answer::RefusesFrames
+    }
+}
+
+/// A global reference to the same object; NULL for NULL.
+fn made_global<'a>(reference: Option<usize>) -> Answer<'a>
+    ensures { answer_view result ≡ made_global reference }
+{
+    match reference {
+        Some(name) => Answer::MakesGlobal(name),
+        None => Answer::Gives(Given::Reference(None)),
+    }
+}
+
+/// The reference of argument 0 is deleted, unless it is NULL. One that no variable holds is refused, as memory is.
+fn local_deleted<'a>(
+    variables: &[Variable<'_>],
+    actuals: &[Actual<'_>],
+) -> Result<Answer<'a>, AllocError>
+    ensures { IfOk result (λ a. answer_view a ≡ local_deleted (level_of (lookup (variable_given (map actual_view actuals.now) 0) (variables_view variables.now))) (reference_given (map actual_view actuals.now) 0)) }
+{
+    let Some(name) = reference_given(actuals, 0) else {
+        return Ok(Answer::Gives(Given::Nothing));
+    };
+    let Some(variable) = variable_given(actuals, 0) else {
+        return Err(AllocError);
+    };
+    Ok(Answer::DeletesLocal(level_of(variables, variable), name))
+}
+
+/// The reference of argument 0, a static, is deleted, unless it is NULL. One that no static holds is refused, as memory is.
+fn global_deleted<'a>(actuals: &[Actual<'a>]) -> Result<Answer<'a>, AllocError>
+    ensures { IfOk result (λ a. answer_view a ≡ global_deleted (variable_given (map actual_view actuals.now) 0) (reference_given (map actual_view actuals.now) 0)) }
+{
+    let Some(name) = reference_given(actuals, 0) else {
+        return Ok(Answer::Gives(Given::Nothing));
+    };
+    let Some(variable) = variable_given(actuals, 0) else {
+        return Err(AllocError);
+    };
+    Ok(Answer::DeletesGlobal(variable, name))
 }
 
 /// Whether both are NULL, or one object.

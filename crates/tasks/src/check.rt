@@ -1,42 +1,44 @@
 //! What is checked of a call before it does anything, in one order for all functions.
 
-ghost use Rattle.std.specs.Prelude.{◌≡◌, ◌||◌, IsTrue, map, zip};
+ghost use Rattle.std.specs.Prelude.{◌≡◌, ◌||◌, IsTrue, map, slice_get, zip};
 ghost use Rattle.std.specs.List.{list_any};
 ghost use Rattle.std.specs.Option.{option_map};
 ghost use Rattle.class_table.specs.Views.{element_view, field_type_view};
 ghost use Rattle.jni.specs.Table.{function_value, parameter_value, result_value};
-ghost use Rattle.source.specs.Checks.{fits_type, holds_number, holds_reference, is_full, is_misfit, is_missing};
+ghost use Rattle.source.specs.Checks.{fits_type, frames_after, holds_number, holds_reference, is_deleted, is_full, is_misfit, is_missing, lacks_room};
 ghost use Rattle.syntax.specs.Views.{element_tree};
 ghost use Rattle.tasks.specs.Actuals.{actual_view};
-ghost use Rattle.tasks.specs.Checked.{fit_together, has_field, has_static, lacks_room, misfits, trap_found};
-ghost use Rattle.tasks.specs.Stores.{frame_view};
+ghost use Rattle.tasks.specs.Checked.{fit_together, has_field, has_static, misfits, trap_found};
 ghost use Rattle.terms.specs.Views.{trap_view};
 
 use crate::actual::{Actual, field_given, object_given, reference_given};
 use crate::answer::fits_class;
 use crate::field::{declaring, is_static, type_of};
-use crate::frame::Frame;
+use crate::frame::Frames;
 use crate::store::Store;
 use class_table::built_ins::{CLASS, STRING, number_array};
 use class_table::class::{ClassKind, ElementType, FieldType};
 use class_table::table::ClassTable;
 use jni::{JniFunction, ParameterKind, ResultKind};
-use terms::Trap;
+use terms::{StaticReference, Trap};
 
 /// The trap of a call before it does anything.
 pub(crate) fn check(
     classes: &ClassTable,
     store: &Store,
-    frame: &Frame,
+    frames: &Frames,
     is_pending: bool,
     function: JniFunction,
     actuals: &[Actual<'_>],
 ) -> Option<Trap>
-    ensures { option_map trap_view result ≡ trap_found classes.now store.now (frame_view frame.now) is_pending (function_value function) (map actual_view actuals.now) }
+    ensures { option_map trap_view result ≡ trap_found classes.now store.now frames.now is_pending (function_value function) (map actual_view actuals.now) }
 {
     let asked = function.prototype();
     if is_pending && !asked.pending {
         return Some(Trap::ExceptionPending);
+    }
+    if some_deleted(actuals) {
+        return Some(Trap::DeletedReference);
     }
     if some_missing(asked.parameters, actuals) {
         return Some(Trap::NullReference);
@@ -46,10 +48,27 @@ pub(crate) fn check(
     {
         return Some(Trap::WrongObject);
     }
-    if lacks_room(asked.result, frame) {
+    if lacks_room(function, asked.result, frames) {
         return Some(Trap::NoCapacity);
     }
     None
+}
+
+/// Whether some argument is a static that is marked as deleted.
+fn some_deleted(actuals: &[Actual<'_>]) -> bool
+    ensures { result ≡ list_any is_deleted (map actual_view actuals.now) }
+{
+    match actuals {
+        [] => false,
+        [actual, actuals @ ..] => is_deleted(*actual) || some_deleted(actuals),
+    }
+}
+
+/// Whether an argument is a static that is marked as deleted.
+fn is_deleted(actual: Actual<'_>) -> bool
+    ensures { result ≡ is_deleted (actual_view actual.entry) }
+{
+    matches!(actual, Actual::Reference(_, StaticReference::Deleted))
 }
 
 /// Whether some argument is NULL where that isn't allowed.
@@ -76,7 +95,7 @@ fn is_missing(parameter: ParameterKind, actual: Actual<'_>) -> bool
         ParameterKind::LocalVariable => false,
         ParameterKind::StaticVariable => false,
         _ => match actual {
-            Actual::Reference(_, reference) => reference.is_none(),
+            Actual::Reference(_, held) => matches!(held, StaticReference::Empty),
             Actual::Field(field) => field.is_none(),
             _ => false,
         },
@@ -114,9 +133,9 @@ fn is_misfit(
     ensures { result ≡ is_misfit classes.now store.now (parameter_value parameter, actual_view actual.entry) }
 {
     match actual {
-        Actual::Reference(_, reference) => match reference {
-            Some(name) => misfits(classes, parameter, store.class_of(name)),
-            None => false,
+        Actual::Reference(_, held) => match held {
+            StaticReference::Live(name) => misfits(classes, parameter, store.class_of(name)),
+            StaticReference::Empty | StaticReference::Deleted => false,
         },
         _ => false,
     }
@@ -244,12 +263,15 @@ fn fits_type(
     }
 }
 
-/// Whether a call of this kind of result puts a local reference into a frame that can hold no more.
-fn lacks_room(kind: ResultKind, frame: &Frame) -> bool
-    ensures { result ≡ lacks_room (result_value kind) (frame_view frame.now) }
+/// Whether a call puts a local reference into a frame that can hold no more.
+fn lacks_room(function: JniFunction, kind: ResultKind, frames: &Frames) -> bool
+    ensures { result ≡ lacks_room (result_value kind) (slice_get (frames_after (function_value function) frames.now) 0) }
 {
     match kind {
-        ResultKind::NewLocal => frame.capacity <= frame.references.len(),
+        ResultKind::NewLocal => match function {
+            JniFunction::PopLocalFrame => frames.is_full_below(),
+            _ => frames.is_full(),
+        },
         _ => false,
     }
 }

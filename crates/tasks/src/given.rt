@@ -2,11 +2,13 @@
 
 ghost use Rattle.std.specs.Prelude.{◌≡◌};
 ghost use Rattle.jni.specs.Table.{result_value};
-ghost use Rattle.source.specs.CallStep.{failure};
-ghost use Rattle.tasks.specs.Answers.{given_view, gives_object};
+ghost use Rattle.source.specs.CallStep.{failure, is_zero, static_result};
+ghost use Rattle.tasks.specs.Answers.{given_view};
+ghost use Rattle.terms.specs.Views.{held_view};
 
 use class_table::fields::FieldId;
 use jni::ResultKind;
+use terms::StaticReference;
 
 /// What a call gives.
 #[derive(Clone, Copy)]
@@ -20,11 +22,21 @@ pub enum Given<'a> {
     Field(Option<FieldId<'a>>),
 }
 
-/// Whether it is an object.
-pub(crate) fn gives_object(given: Given<'_>) -> bool
-    ensures { result ≡ gives_object given.entry }
+/// Whether it is 0.
+pub(crate) fn is_zero(given: Given<'_>) -> bool
+    ensures { result ≡ is_zero (given_view given.entry) }
 {
-    matches!(given, Given::Reference(Some(_)))
+    matches!(given, Given::Number(0))
+}
+
+/// What a static holds of it.
+pub(crate) fn static_result(given: Given<'_>) -> StaticReference
+    ensures { held_view result ≡ static_result (given_view given.entry) }
+{
+    match given {
+        Given::Reference(Some(name)) => StaticReference::Live(name),
+        _ => StaticReference::Empty,
+    }
 }
 
 /// What a call of this kind of result gives where it fails: NULL, -1 or nothing (JNI Specification, chapter 2, "Exceptions and

@@ -28,6 +28,15 @@ pub enum Target<'a> {
     Dropped,
 }
 
+/// What the result of a call is for.
+#[derive(Clone, Copy)]
+pub enum Purpose<'a> {
+    /// It goes there.
+    Put(Target<'a>),
+    /// It is the test of an `if`, with its two ways.
+    Test(&'a Block, Option<&'a Block>),
+}
+
 /// What comes at the end of a block, after its statements.
 #[derive(Clone, Copy)]
 pub enum End<'a> {
@@ -50,6 +59,8 @@ pub enum Outcome<'a> {
     SetsNull(Target<'a>),
     /// It is over, and what a call gave goes there.
     Gives(Target<'a>, Given<'a>),
+    /// It is over, and the `if` of this line has its test, whether a call gave 0, and its two ways.
+    Tests(usize, bool, &'a Block, Option<&'a Block>),
     /// It is over, and the element has this number, converted to its type.
     SetsElement(&'a Name, usize, i32),
     /// It is over, and there is an array of this many zeros.

@@ -1,28 +1,26 @@
-//! What tasks do to variables.
+//! What tasks do to variables and statics.
 
-ghost use Rattle.std.specs.Prelude.{◌≡◌, IfOk};
-ghost use Rattle.syntax.specs.Views.{unit_tree};
+ghost use Rattle.std.specs.Prelude.{◌≡◌, ℕ, IfOk};
 ghost use Rattle.source.specs.CallStep.{blank, filled, put};
-ghost use Rattle.source.specs.Start.{null_statics};
-ghost use Rattle.source.specs.Variable.{Statics, assign};
+ghost use Rattle.source.specs.Variable.{Statics as StaticsOfUnit, assign};
 ghost use Rattle.tasks.specs.declared.outcome.Outcome.TheVariants as outcome;
 ghost use Rattle.tasks.specs.Answers.{given_view};
 ghost use Rattle.tasks.specs.Outcomes.{kind_view, target_view, variable_step, LeavesVariables, LeavesIf};
 ghost use Rattle.terms.specs.Views.{content_view, variables_view};
 
-use crate::given::{Given, gives_object};
+use crate::given::{Given, static_result};
 use crate::outcome::{Outcome, Target, VariableKind};
 use std::alloc::{AllocError, Global};
-use syntax::{Item, Name};
-use terms::{Content, Value, Variable, assign, is_static, place_of, write_content, zeros};
+use syntax::Name;
+use terms::{Content, Statics, Value, Variable, assign, place_of, write_content, zeros};
 
-/// A variable as its declaration makes it.
-fn blank<'a>(kind: VariableKind) -> Content<'a>
-    ensures { content_view result ≡ blank (kind_view kind) 1 }
+/// A variable as its declaration makes it, where there are this many frames.
+fn blank<'a>(kind: VariableKind, frames: usize) -> Content<'a>
+    ensures { content_view result ≡ blank (kind_view kind) frames }
 {
     match kind {
         VariableKind::Number => Content::Number(Value::Int(0)),
-        VariableKind::Reference => Content::Reference(None),
+        VariableKind::Reference => Content::Reference(frames, None),
         VariableKind::Field => Content::Field(None),
         VariableKind::Buffer(kind) => Content::Buffer(kind),
     }
@@ -38,7 +36,7 @@ fn fill<'a>(content: &mut Content<'a>, given: Given<'a>)
             Given::Flag(b) => *value = Value::Flag(b),
             _ => {}
         },
-        Content::Reference(object) => match given {
+        Content::Reference(_, object) => match given {
             Given::Null => *object = None,
             Given::Reference(reference) => *object = reference,
             _ => {}
@@ -54,46 +52,39 @@ fn fill<'a>(content: &mut Content<'a>, given: Given<'a>)
 
 /// Declares a variable with what is given.
 fn declare<'a>(
+    frames: usize,
     variables: &mut Vec<Variable<'a>>,
     kind: VariableKind,
     name: &'a Name,
     given: Given<'a>,
 ) -> Result<(), AllocError>
-    ensures { IfOk result (λ _. variables_view variables.new.items ≡ assign name.entry.now (filled (blank (kind_view kind) 1) (given_view given.entry)) (variables_view variables.old.items)) }
+    ensures { IfOk result (λ _. variables_view variables.new.items ≡ assign name.entry.now (filled (blank (kind_view kind) frames) (given_view given.entry)) (variables_view variables.old.items)) }
 {
-    let mut content = blank(kind);
+    let mut content = blank(kind, frames);
     fill(&mut content, given);
     assign(variables, name, content)
 }
 
-/// Puts what a call gave, or NULL, where it belongs. A static is NULL already: nothing makes global references yet.
+/// Puts what a call gave, or NULL, where it belongs.
 #[tactic(auto, using(crate::proofs::PutLemmas::put_rules))]
 fn put<'a>(
-    items: &[Item],
+    statics: &mut Statics<'_>,
+    frames: usize,
     variables: &mut Vec<Variable<'a>>,
     target: Target<'a>,
     given: Given<'a>,
 ) -> Result<(), AllocError>
-    ensures { IfOk result (λ _. LeavesVariables (null_statics (unit_tree items.now)) variables.old.items (put (target_view target.entry) (given_view given.entry)) variables.new.items) }
+    ensures { IfOk result (λ _. LeavesVariables frames statics.old variables.old.items (put (target_view target.entry) (given_view given.entry)) statics.new variables.new.items) }
 {
     match target {
-        Target::Declared(kind, name) => declare(variables, kind, name, given),
+        Target::Declared(kind, name) => declare(frames, variables, kind, name, given),
         Target::Assigned(name) => match place_of(variables, name) {
             Some(place) => {
                 let variable = &mut variables[place];
                 fill(&mut variable.content, given);
                 Ok(())
             }
-            None => {
-                // No accepted program sets an unknown name, or a static to a local reference.
-                if !is_static(items, name) {
-                    return Err(AllocError);
-                }
-                if gives_object(given) {
-                    return Err(AllocError);
-                }
-                Ok(())
-            }
+            None => statics.set(name, static_result(given)),
         },
         Target::Dropped => Ok(()),
     }
@@ -107,7 +98,7 @@ fn set_element<'a>(
     index: usize,
     number: i32,
 ) -> bool
-    ensures { (statics : Statics) → LeavesIf statics variables.old.items (variable_step (outcome.SetsElement name.entry index number)) result variables.new.items }
+    ensures { (frames : ℕ) (statics : StaticsOfUnit) → LeavesIf frames statics variables.old.items (variable_step (outcome.SetsElement name.entry index number)) result statics variables.new.items }
 {
     match place_of(variables, name) {
         Some(place) => {
@@ -118,20 +109,22 @@ fn set_element<'a>(
     }
 }
 
-/// Does what an outcome does to the variables; false where it is not possible.
+/// Does what an outcome does to the variables and the statics, where there are this many frames; false where it is not
+/// possible.
 #[tactic(auto, using(crate::proofs::PutLemmas::variable_rules))]
 pub(crate) fn set_variables<'a>(
     alloc: Global,
-    items: &[Item],
+    statics: &mut Statics<'_>,
+    frames: usize,
     variables: &mut Vec<Variable<'a>>,
     outcome: Outcome<'a>,
 ) -> Result<bool, AllocError>
-    ensures { IfOk result (λ done. LeavesIf (null_statics (unit_tree items.now)) variables.old.items (variable_step outcome.entry) done variables.new.items) }
+    ensures { IfOk result (λ done. LeavesIf frames statics.old variables.old.items (variable_step outcome.entry) done statics.new variables.new.items) }
 {
     match outcome {
         Outcome::Sets(name, value) => assign(variables, name, Content::Number(value))?,
-        Outcome::SetsNull(target) => put(items, variables, target, Given::Null)?,
-        Outcome::Gives(target, given) => put(items, variables, target, given)?,
+        Outcome::SetsNull(target) => put(statics, frames, variables, target, Given::Null)?,
+        Outcome::Gives(target, given) => put(statics, frames, variables, target, given)?,
         Outcome::Makes(kind, name, size) => {
             assign(variables, name, Content::Array(kind, zeros(alloc, size)?))?;
         }
@@ -139,6 +132,7 @@ pub(crate) fn set_variables<'a>(
             return Ok(set_element(variables, name, index, number));
         }
         Outcome::Stays | Outcome::Printed(_) | Outcome::Enters(_, _) | Outcome::Ends => {}
+        Outcome::Tests(_, _, _, _) => {}
         Outcome::Returned | Outcome::Trapped(_, _) | Outcome::Impossible => {}
     }
     Ok(true)

@@ -1,28 +1,28 @@
 //! Steps of tasks.
 
 ghost use Rattle.std.specs.Prelude.{◌≡◌, IfOk, ℕ};
-ghost use Rattle.syntax.specs.Views.{expr_tree, block_tree, unit_tree};
-ghost use Rattle.source.specs.Start.{null_statics};
+ghost use Rattle.syntax.specs.Views.{expr_tree, block_tree};
 ghost use Rattle.source.specs.Task.{tasks_of};
-ghost use Rattle.source.specs.Variable.{Statics};
+ghost use Rattle.source.specs.Variable.{Statics as StaticsOfUnit};
 ghost use Rattle.tasks.specs.declared.task.Task.TheVariants as task;
 ghost use Rattle.terms.specs.declared.term.Term.TheVariants as term;
+ghost use Rattle.tasks.specs.Outcomes.{else_tree};
 ghost use Rattle.tasks.specs.Steps.{HasEffect, Does, reduced, scene_with};
-ghost use Rattle.tasks.specs.Stores.{frame_view};
-ghost use Rattle.tasks.specs.Tasks.{branch_task, else_tree, tasks_of_statements, ExprInRange, BlockInRange, ElseInRange, StatementsInRange, TaskInRange, OutcomeInRange, IsPlain};
+ghost use Rattle.tasks.specs.Shares.{shared_view};
+ghost use Rattle.tasks.specs.Tasks.{branch_task, tasks_of_statements, ExprInRange, BlockInRange, ElseInRange, StatementsInRange, TaskInRange, OutcomeInRange, IsPlain};
 ghost use Rattle.terms.specs.Views.{NumbersInRange, variables_view};
 
-use crate::frame::Frame;
+use crate::frame::Frames;
 use crate::invoke::invoke;
 use crate::outcome::{End, Outcome};
-use crate::store::Store;
+use crate::shared::Shared;
 use crate::task::Task;
 use class_table::table::ClassTable;
 use std::alloc::{AllocError, Global};
-use syntax::{Block, Expr, Item, Name, Stmt};
+use syntax::{Block, Expr, Name, Stmt};
 use terms::{
-    Evaluated, Indexed, Reduction, Term, Value, Variable, constant, number_in, place_in, put_term,
-    reduce,
+    Evaluated, Indexed, Reduction, Statics, Term, Value, Variable, constant, number_in, place_in,
+    put_term, reduce,
 };
 
 /// What a step does that reduces a term, which has no value yet.
@@ -38,9 +38,14 @@ pub(crate) fn reduced<'a>(line: usize, reduction: Reduction) -> Outcome<'a>
 }
 
 /// Evaluates a number by one step, or prints it.
-fn print<'a>(items: &[Item], variables: &[Variable<'_>], line: usize, t: &mut Term) -> Outcome<'a>
+fn print<'a>(
+    statics: &Statics<'_>,
+    variables: &[Variable<'_>],
+    line: usize,
+    t: &mut Term,
+) -> Outcome<'a>
     requires { NumbersInRange t.old }
-    ensures step { HasEffect (variables_view variables.now) (null_statics (unit_tree items.now)) (task.Print line t.old) result (task.Print line t.new) }
+    ensures step { HasEffect (variables_view variables.now) statics.now (task.Print line t.old) result (task.Print line t.new) }
     ensures numbers { NumbersInRange t.new }
     ensures range { OutcomeInRange result }
 {
@@ -49,26 +54,26 @@ fn print<'a>(items: &[Item], variables: &[Variable<'_>], line: usize, t: &mut Te
             Value::Int(z) => Outcome::Printed(*z),
             Value::Word(_) | Value::Flag(_) | Value::Truth(_) => Outcome::Impossible,
         },
-        t => reduced(line, reduce(items, variables, t)),
+        t => reduced(line, reduce(statics, variables, t)),
     }
 }
 
 /// Evaluates an expression by one step, or sets a variable to its value.
 fn set<'a>(
-    items: &[Item],
+    statics: &Statics<'_>,
     variables: &[Variable<'_>],
     line: usize,
     name: &'a Name,
     t: &mut Term,
 ) -> Outcome<'a>
     requires { NumbersInRange t.old }
-    ensures step { HasEffect (variables_view variables.now) (null_statics (unit_tree items.now)) (task.Set line name.entry t.old) result (task.Set line name.entry t.new) }
+    ensures step { HasEffect (variables_view variables.now) statics.now (task.Set line name.entry t.old) result (task.Set line name.entry t.new) }
     ensures numbers { NumbersInRange t.new }
     ensures range { OutcomeInRange result }
 {
     match t {
         Term::Done(v) => Outcome::Sets(name, *v),
-        t => reduced(line, reduce(items, variables, t)),
+        t => reduced(line, reduce(statics, variables, t)),
     }
 }
 
@@ -80,7 +85,7 @@ fn write<'a>(
     index: Value,
     number: Value,
 ) -> Outcome<'a>
-    ensures step { (statics : Statics) → HasEffect (variables_view variables.now) statics (task.SetElement line name.entry (term.Done index) (term.Done number)) result (task.SetElement line name.entry (term.Done index) (term.Done number)) }
+    ensures step { (statics : StaticsOfUnit) → HasEffect (variables_view variables.now) statics (task.SetElement line name.entry (term.Done index) (term.Done number)) result (task.SetElement line name.entry (term.Done index) (term.Done number)) }
     ensures range { OutcomeInRange result }
 {
     match number {
@@ -95,7 +100,7 @@ fn write<'a>(
 
 /// Evaluates the number of an element by one step, or sets the element at this index.
 fn set_at<'a>(
-    items: &[Item],
+    statics: &Statics<'_>,
     variables: &[Variable<'_>],
     line: usize,
     name: &'a Name,
@@ -103,19 +108,19 @@ fn set_at<'a>(
     t: &mut Term,
 ) -> Outcome<'a>
     requires { NumbersInRange t.old }
-    ensures step { HasEffect (variables_view variables.now) (null_statics (unit_tree items.now)) (task.SetElement line name.entry (term.Done index) t.old) result (task.SetElement line name.entry (term.Done index) t.new) }
+    ensures step { HasEffect (variables_view variables.now) statics.now (task.SetElement line name.entry (term.Done index) t.old) result (task.SetElement line name.entry (term.Done index) t.new) }
     ensures number { NumbersInRange t.new }
     ensures range { OutcomeInRange result }
 {
     match t {
         Term::Done(number) => write(variables, line, name, index, *number),
-        t => reduced(line, reduce(items, variables, t)),
+        t => reduced(line, reduce(statics, variables, t)),
     }
 }
 
 /// Evaluates the index or the number of an element by one step, or sets it.
 fn set_element<'a>(
-    items: &[Item],
+    statics: &Statics<'_>,
     variables: &[Variable<'_>],
     line: usize,
     name: &'a Name,
@@ -124,14 +129,14 @@ fn set_element<'a>(
 ) -> Outcome<'a>
     requires index { NumbersInRange i.old }
     requires number { NumbersInRange t.old }
-    ensures step { HasEffect (variables_view variables.now) (null_statics (unit_tree items.now)) (task.SetElement line name.entry i.old t.old) result (task.SetElement line name.entry i.new t.new) }
+    ensures step { HasEffect (variables_view variables.now) statics.now (task.SetElement line name.entry i.old t.old) result (task.SetElement line name.entry i.new t.new) }
     ensures index { NumbersInRange i.new }
     ensures number { NumbersInRange t.new }
     ensures range { OutcomeInRange result }
 {
     match i {
-        Term::Done(index) => set_at(items, variables, line, name, *index, t),
-        i => reduced(line, reduce(items, variables, i)),
+        Term::Done(index) => set_at(statics, variables, line, name, *index, t),
+        i => reduced(line, reduce(statics, variables, i)),
     }
 }
 
@@ -149,7 +154,7 @@ fn statements_of<'a>(block: Option<&'a Block>) -> &'a [Stmt]
 
 /// Evaluates the test of an `if` by one step, or takes a way.
 fn branch<'a>(
-    items: &[Item],
+    statics: &Statics<'_>,
     variables: &[Variable<'_>],
     line: usize,
     t: &mut Term,
@@ -159,7 +164,7 @@ fn branch<'a>(
     requires numbers { NumbersInRange t.old }
     requires block { BlockInRange (block_tree block.now) }
     requires otherwise { ElseInRange otherwise }
-    ensures step { HasEffect (variables_view variables.now) (null_statics (unit_tree items.now)) (branch_task line t.old block.entry otherwise.entry) result (branch_task line t.new block.entry otherwise.entry) }
+    ensures step { HasEffect (variables_view variables.now) statics.now (branch_task line t.old block.entry otherwise.entry) result (branch_task line t.new block.entry otherwise.entry) }
     ensures numbers { NumbersInRange t.new }
     ensures range { OutcomeInRange result }
 {
@@ -169,13 +174,13 @@ fn branch<'a>(
             Value::Truth(false) => Outcome::Enters(statements_of(otherwise), End::If),
             Value::Word(_) | Value::Int(_) | Value::Flag(_) => Outcome::Impossible,
         },
-        t => reduced(line, reduce(items, variables, t)),
+        t => reduced(line, reduce(statics, variables, t)),
     }
 }
 
 /// Evaluates the test of a loop by one step, or takes a turn, or goes on after it.
 fn turn<'a>(
-    items: &[Item],
+    statics: &Statics<'_>,
     variables: &[Variable<'_>],
     line: usize,
     test: &'a Expr,
@@ -185,7 +190,7 @@ fn turn<'a>(
     requires test { ExprInRange (expr_tree test.now) }
     requires numbers { NumbersInRange t.old }
     requires body { BlockInRange (block_tree body.now) }
-    ensures step { HasEffect (variables_view variables.now) (null_statics (unit_tree items.now)) (task.Loop line test.entry t.old body.entry) result (task.Loop line test.entry t.new body.entry) }
+    ensures step { HasEffect (variables_view variables.now) statics.now (task.Loop line test.entry t.old body.entry) result (task.Loop line test.entry t.new body.entry) }
     ensures numbers { NumbersInRange t.new }
     ensures range { OutcomeInRange result }
 {
@@ -197,20 +202,20 @@ fn turn<'a>(
             Value::Truth(false) => Outcome::Ends,
             Value::Word(_) | Value::Int(_) | Value::Flag(_) => Outcome::Impossible,
         },
-        t => reduced(line, reduce(items, variables, t)),
+        t => reduced(line, reduce(statics, variables, t)),
     }
 }
 
 /// Evaluates a result by one step, or returns it. A name of a number is evaluated; NULL or a reference is returned as it is.
 #[tactic(auto, using(crate::proofs::TaskLemmas::return_rules))]
 fn return_value<'a>(
-    items: &[Item],
+    statics: &Statics<'_>,
     variables: &[Variable<'_>],
     line: usize,
     t: &mut Term,
 ) -> Outcome<'a>
     requires { NumbersInRange t.old }
-    ensures step { HasEffect (variables_view variables.now) (null_statics (unit_tree items.now)) (task.ReturnValue line t.old) result (task.ReturnValue line t.new) }
+    ensures step { HasEffect (variables_view variables.now) statics.now (task.ReturnValue line t.old) result (task.ReturnValue line t.new) }
     ensures numbers { NumbersInRange t.new }
     ensures range { OutcomeInRange result }
 {
@@ -230,31 +235,35 @@ fn return_value<'a>(
             }
             Evaluated::Traps(_) | Evaluated::Stuck => Outcome::Returned,
         },
-        t => reduced(line, reduce(items, variables, t)),
+        t => reduced(line, reduce(statics, variables, t)),
     }
 }
 
 /// Lets a task that is no call take its next step.
-fn plain_step<'a>(items: &[Item], variables: &[Variable<'a>], task: &mut Task<'a>) -> Outcome<'a>
+fn plain_step<'a>(
+    statics: &Statics<'_>,
+    variables: &[Variable<'a>],
+    task: &mut Task<'a>,
+) -> Outcome<'a>
     requires range { TaskInRange task.old }
     requires plain { IsPlain task.old }
-    ensures step { HasEffect (variables_view variables.now) (null_statics (unit_tree items.now)) task.old result task.new }
+    ensures step { HasEffect (variables_view variables.now) statics.now task.old result task.new }
     ensures task { TaskInRange task.new }
     ensures range { OutcomeInRange result }
 {
     match task {
-        Task::Print(line, t) => print(items, variables, *line, t),
-        Task::Set(line, name, t) => set(items, variables, *line, name, t),
-        Task::SetElement(line, name, i, t) => set_element(items, variables, *line, name, i, t),
+        Task::Print(line, t) => print(statics, variables, *line, t),
+        Task::Set(line, name, t) => set(statics, variables, *line, name, t),
+        Task::SetElement(line, name, i, t) => set_element(statics, variables, *line, name, i, t),
         Task::SetNull(target) => Outcome::SetsNull(*target),
         Task::MakeArray(kind, name, size) => Outcome::Makes(*kind, name, *size),
         Task::Branch(c) => {
             let (line, block, otherwise) = (c.line, c.block, c.otherwise);
-            branch(items, variables, line, &mut c.test, block, otherwise)
+            branch(statics, variables, line, &mut c.test, block, otherwise)
         }
-        Task::Loop(line, test, t, body) => turn(items, variables, *line, test, t, body),
+        Task::Loop(line, test, t, body) => turn(statics, variables, *line, test, t, body),
         Task::Return => Outcome::Returned,
-        Task::ReturnValue(line, t) => return_value(items, variables, *line, t),
+        Task::ReturnValue(line, t) => return_value(statics, variables, *line, t),
         Task::Invoke(_) => unreachable!(),
     }
 }
@@ -262,27 +271,26 @@ fn plain_step<'a>(items: &[Item], variables: &[Variable<'a>], task: &mut Task<'a
 /// Lets a task take its next step. With its object refused only a call is possible.
 pub(crate) fn step<'a>(
     alloc: Global,
-    items: &[Item],
     classes: &'a ClassTable,
-    store: &mut Store,
+    shared: &mut Shared<'_>,
     variables: &[Variable<'a>],
-    frame: &mut Frame,
+    frames: &mut Frames,
     pending: &mut Option<usize>,
     refused: bool,
     task: &mut Task<'a>,
 ) -> Result<Outcome<'a>, AllocError>
     requires { TaskInRange task.old }
-    ensures step { IfOk result (λ o. Does refused (scene_with (unit_tree items.now) classes.now store.old variables.now (frame_view frame.old) pending.old) task.old o
-        (scene_with (unit_tree items.now) classes.now store.new variables.now (frame_view frame.new) pending.new) task.new) }
+    ensures step { IfOk result (λ o. Does refused (scene_with classes.now (shared_view shared.old) variables.now frames.old pending.old) task.old o
+        (scene_with classes.now (shared_view shared.new) variables.now frames.new pending.new) task.new) }
     ensures task { IfOk result (λ _. TaskInRange task.new) }
     ensures range { IfOk result OutcomeInRange }
 {
     if let Task::Invoke(i) = task {
         return invoke(
-            alloc, items, classes, store, variables, frame, pending, refused, i,
+            alloc, classes, shared, variables, frames, pending, refused, i,
         );
     }
-    let outcome = plain_step(items, variables, task);
+    let outcome = plain_step(&shared.statics, variables, task);
     if refused {
         return Ok(Outcome::Impossible);
     }

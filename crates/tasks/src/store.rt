@@ -1,4 +1,4 @@
-//! What all threads share.
+//! The objects that all threads share.
 
 ghost use Rattle.std.specs.Prelude.{◌≡◌, ◌<◌, ◌^◌, ◌++◌, ◌∷◌, [], IfOk, IfSome, length, map, slice_set};
 ghost use Rattle.std.specs.Option.{option_map};

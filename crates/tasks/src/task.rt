@@ -9,10 +9,10 @@ ghost use Rattle.syntax.specs.Parts.{argument_expressions};
 ghost use Rattle.types.specs.BuiltCalls.{is_built_call};
 ghost use Rattle.source.specs.Task.{Declared, Loop, Print, ReturnValue, SetElement, set_task, right_side_task, if_task, task_of, call_task, operand};
 ghost use Rattle.source.specs.Term.{term_of};
-ghost use Rattle.tasks.specs.Outcomes.{kind_view, target_view};
-ghost use Rattle.tasks.specs.Tasks.{task_view, operand_view, else_tree, ArgumentsInRange, OperandInRange, OperandsInRange, ExprInRange, RightSideInRange, TestInRange, BlockInRange, ElseInRange, StatementInRange, TaskInRange};
+ghost use Rattle.tasks.specs.Outcomes.{else_tree, kind_view, purpose_view, target_view};
+ghost use Rattle.tasks.specs.Tasks.{task_view, operand_view, ArgumentsInRange, OperandInRange, OperandsInRange, ExprInRange, RightSideInRange, TestInRange, BlockInRange, PurposeInRange, ElseInRange, StatementInRange, TaskInRange};
 
-use crate::outcome::{Target, VariableKind, kind_of};
+use crate::outcome::{Purpose, Target, VariableKind, kind_of};
 use jni::{JniFunction, ParameterKind, function_named};
 use std::alloc::{AllocError, Global};
 use syntax::{
@@ -24,7 +24,7 @@ use terms::{Term, term_of};
 #[derive(Drop)]
 pub struct Invocation<'a> {
     pub line: usize,
-    pub target: Target<'a>,
+    pub purpose: Purpose<'a>,
     pub function: JniFunction,
     /// The arguments after `env`.
     pub operands: Vec<Operand<'a>>,
@@ -86,12 +86,13 @@ fn value_task<'a>(
 fn call_task<'a>(
     alloc: Global,
     line: usize,
-    target: Target<'a>,
+    purpose: Purpose<'a>,
     call: &'a Call,
 ) -> Result<Task<'a>, AllocError>
     requires numbers { ArgumentsInRange (call_tree call.now).arguments }
+    requires ways { PurposeInRange purpose }
     requires built { IsTrue (is_built_call (call_tree call.now)) }
-    ensures view { IfOk result (λ t. task_view t ≡ call_task line (target_view target.entry) (call_tree call.entry.now)) }
+    ensures view { IfOk result (λ t. task_view t ≡ call_task line (purpose_view line purpose.entry) (call_tree call.entry.now)) }
     ensures range { IfOk result TaskInRange }
 {
     let Some(function) = function_named(call.function.as_bytes()) else {
@@ -102,7 +103,7 @@ fn call_task<'a>(
     push_operands(alloc, &mut operands, parameters, &call.arguments)?;
     Ok(Task::Invoke(Invocation {
         line,
-        target,
+        purpose,
         function,
         operands,
     }))
@@ -166,11 +167,11 @@ fn set_task<'a>(
 {
     match right {
         RightSide::Expr(e) => value_task(alloc, line, target, name, e),
-        RightSide::Call(call) => call_task(alloc, line, target, call),
+        RightSide::Call(call) => call_task(alloc, line, Purpose::Put(target), call),
     }
 }
 
-/// The task of an `if`. No function that can be called today may be called in a test.
+/// The task of an `if`.
 fn if_task<'a>(
     alloc: Global,
     line: usize,
@@ -191,7 +192,7 @@ fn if_task<'a>(
             block,
             otherwise,
         })),
-        Test::Call(_) => Err(AllocError),
+        Test::Call(call) => call_task(alloc, line, Purpose::Test(block, otherwise), call),
     }
 }
 
@@ -285,7 +286,7 @@ pub(crate) fn task_of(alloc: Global, s: &Stmt) -> Result<Task<'_>, AllocError>
         Form::DeclareArray(t, x, size) => Ok(Task::MakeArray(*t, x, *size)),
         Form::Assign(x, right) => set_task(alloc, line, Target::Assigned(x), x, right),
         Form::AssignElement(x, i, e) => element_task(alloc, line, x, i, e),
-        Form::Perform(call) => call_task(alloc, line, Target::Dropped, call),
+        Form::Perform(call) => call_task(alloc, line, Purpose::Put(Target::Dropped), call),
         Form::PutJint(e) => print_task(alloc, line, e),
         Form::If(test, block) => if_task(alloc, line, test, block, None),
         Form::IfElse(test, block, other) => if_task(alloc, line, test, block, Some(other)),

@@ -1,3 +1,5 @@
 mod TermLemmas
+pub mod ByNameLemmas
 pub mod VariableLemmas
 pub mod SightLemmas
+pub mod StaticLemmas

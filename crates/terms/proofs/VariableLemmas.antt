@@ -1,109 +1,41 @@
 -- A variable is assigned at the first place of its name.
-use Rattle.std.proofs.Common.{◌≡◌, ℕ, zero, suc, ◌+◌, ◌<◌, ◌≤◌, Bool, true, false, cond, List, [], ◌∷◌, ◌++◌, length, Some, None, refl, sym, ap, ◌∙◌, arith, append_assoc, get_or}
-use Rattle.std.specs.Prelude.{position, slice_get, slice_set, nat_lt, not}
-use Rattle.std.specs.List.{position_or_len}
+use Rattle.std.proofs.Common.{◌≡◌, ℕ, Bool, List, [], ◌∷◌, ◌++◌, Some, None, ap, ◌∙◌, append_assoc, get_or}
+use Rattle.std.specs.Prelude.{position, slice_get, slice_set}
 use Rattle.std.specs.Str.{bytes_eq}
 use Rattle.std.proofs.lemmas.List.{map-append}
-use Rattle.std.proofs.lemmas.Bool.Decides.{nat_tests}
-use Rattle.std.proofs.lemmas.Option.{slice_get_read}
-use Rattle.std.proofs.lemmas.Slice.Eq.{bytes_eq-Decides}
 use Rattle.base.specs.Bytes.{Identifier, lookup}
 use Rattle.source.specs.Variable.{Variable as Content, Variables, assign}
 use Rattle.terms.specs.Views.{content_view, variable_view, variables_view}
 use Rattle.terms.specs.declared.variable.Variable.{Variable}
+use Rattle.terms.proofs.ByNameLemmas as by_name
+
+abbrev name_of : Variable → Identifier
+name_of v = v.name.now
+
+abbrev value_of : Variable → Content
+value_of v = content_view v.content
 
 module _ (x : Identifier) (content : Content) where
   abbrev named : Variable → Bool
   named v = bytes_eq x v.name.now
 
-  in_first : (v : Variable) (vs : List Variable) (b : Bool) → named v ≡ b → length (v ∷ vs) ≤ cond (not b) (1 + position_or_len named vs) 0
-      → (length vs ≤ position_or_len named vs → assign x content (variables_view vs) ≡ variables_view vs ++ (x, content) ∷ [])
-      → cond b ((x, content) ∷ variables_view vs) (variable_view v ∷ assign x content (variables_view vs)) ≡ variables_view (v ∷ vs) ++ (x, content) ∷ []
-  in_first v vs true is past further = absurd (omega arith)
-  in_first v vs false is past further = ap (λ (l : Variables). variable_view v ∷ l) (further (omega arith))
-
-  -- no variable has the name
-  assign_new : (vs : List Variable) → length vs ≤ position_or_len named vs → assign x content (variables_view vs) ≡ variables_view vs ++ (x, content) ∷ []
-  assign_new [] past = refl
-  assign_new (v ∷ vs) past = in_first v vs (named v) refl past (assign_new vs)
-
-  set_first : (v : Variable) (vs : List Variable) (i : ℕ) (b : Bool) → named v ≡ b → cond (not b) (1 + position_or_len named vs) 0 ≡ i
-      → i < length (v ∷ vs) → ((j : ℕ) → position_or_len named vs ≡ j → j < length vs → assign x content (variables_view vs) ≡ slice_set (variables_view vs) j (x, content))
-      → cond b ((x, content) ∷ variables_view vs) (variable_view v ∷ assign x content (variables_view vs)) ≡ slice_set (variables_view (v ∷ vs)) i (x, content)
-  set_first v vs zero true is at low further = refl
-  set_first v vs (suc i) true is at low further = absurd (omega arith)
-  set_first v vs zero false is at low further = absurd (omega arith)
-  set_first v vs (suc i) false is at low further = ap (λ (l : Variables). variable_view v ∷ l) (further i (omega arith) (omega arith))
-
-  -- the first variable of the name is here
-  assign_there : (vs : List Variable) (i : ℕ) → position_or_len named vs ≡ i → i < length vs → assign x content (variables_view vs) ≡ slice_set (variables_view vs) i (x, content)
-  assign_there [] i at low = absurd (omega arith)
-  assign_there (v ∷ vs) i at low = set_first v vs i (named v) refl at low (assign_there vs)
-
-  view_set : (vs : List Variable) (i : ℕ) (v : Variable) → variables_view (slice_set vs i v) ≡ slice_set (variables_view vs) i (variable_view v)
-  view_set [] i v = refl
-  view_set (u ∷ vs) zero v = refl
-  view_set (u ∷ vs) (suc i) v = ap (λ (l : Variables). variable_view u ∷ l) (view_set vs i v)
-
-  place : (n i : ℕ) (b : Bool) → cond b (Some n) None ≡ Some i → (b ≡ true) × (n ≡ i)
-  place n i true e = (refl, cc)
-  place n i false e = absurd (cc)
-
-  no_place : (n : ℕ) (b : Bool) → cond b (Some n) None ≡ None → b ≡ false
-  no_place n true e = absurd (cc)
-  no_place n false e = refl
-
   pub assigned_there : (vs : List Variable) (i : ℕ) (v : Variable) → position named vs ≡ Some i → variable_view v ≡ (x, content) → variables_view (slice_set vs i v) ≡ assign x content (variables_view vs)
-  assigned_there vs i v at is =
-      let here = place (position_or_len named vs) i (nat_lt (position_or_len named vs) (length vs)) at in
-      let low : position_or_len named vs < length vs = grind (arith, nat_tests, here.0) in
-      view_set vs i v ∙ ap (slice_set (variables_view vs) i) is ∙ sym (assign_there vs i here.1 (omega (arith, here.1)))
-
-  found_first : (v : Variable) (vs : List Variable) (i : ℕ) (w : Variable) (b : Bool) → named v ≡ b → cond (not b) (1 + position_or_len named vs) 0 ≡ i → slice_get (v ∷ vs) i ≡ Some w
-      → ((j : ℕ) → position_or_len named vs ≡ j → slice_get vs j ≡ Some w → (lookup x (variables_view vs) ≡ Some (content_view w.content)) × (named w ≡ true))
-      → (cond b (Some (content_view v.content)) (lookup x (variables_view vs)) ≡ Some (content_view w.content)) × (named w ≡ true)
-  found_first v vs zero w true is at there further = let same : v ≡ w = cc in (ap (λ (u : Variable). Some (content_view u.content)) same, ap named (sym same) ∙ is)
-  found_first v vs (suc i) w true is at there further = absurd (omega arith)
-  found_first v vs zero w false is at there further = absurd (omega arith)
-  found_first v vs (suc i) w false is at there further = further i (omega arith) there
-
-  found_there : (vs : List Variable) (i : ℕ) (w : Variable) → position_or_len named vs ≡ i → slice_get vs i ≡ Some w → (lookup x (variables_view vs) ≡ Some (content_view w.content)) × (named w ≡ true)
-  found_there [] i w at there = absurd (cc)
-  found_there (v ∷ vs) i w at there = found_first v vs i w (named v) refl at there (λ j. found_there vs j w)
+  assigned_there = by_name.assigned_there name_of value_of x content
 
   -- what the variable at the place of the name holds, and its name
   pub variable_found : (vs : List Variable) (i : ℕ) (w : Variable) → position named vs ≡ Some i → slice_get vs i ≡ Some w → (lookup x (variables_view vs) ≡ Some (content_view w.content)) × (w.name.now ≡ x)
-  variable_found vs i w at there =
-      let here = place (position_or_len named vs) i (nat_lt (position_or_len named vs) (length vs)) at in
-      let f = found_there vs i w here.1 there in
-      (f.0, sym ((bytes_eq-Decides x w.name.now).0 f.1))
-
-  missing_first : (v : Variable) (vs : List Variable) (b : Bool) → named v ≡ b → length (v ∷ vs) ≤ cond (not b) (1 + position_or_len named vs) 0
-      → (length vs ≤ position_or_len named vs → lookup x (variables_view vs) ≡ None) → cond b (Some (content_view v.content)) (lookup x (variables_view vs)) ≡ None
-  missing_first v vs true is past further = absurd (omega arith)
-  missing_first v vs false is past further = further (omega arith)
-
-  missing_there : (vs : List Variable) → length vs ≤ position_or_len named vs → lookup x (variables_view vs) ≡ None
-  missing_there [] past = refl
-  missing_there (v ∷ vs) past = missing_first v vs (named v) refl past (missing_there vs)
+  variable_found = by_name.variable_found name_of value_of x content
 
   -- no variable has the name
   pub variable_missing : (vs : List Variable) → position named vs ≡ None → lookup x (variables_view vs) ≡ None
-  variable_missing vs none =
-      let past : nat_lt (position_or_len named vs) (length vs) ≡ false = no_place (position_or_len named vs) (nat_lt (position_or_len named vs) (length vs)) none in
-      missing_there vs (grind (arith, nat_tests, past))
+  variable_missing = by_name.variable_missing name_of value_of x content
 
   -- the variable at the place of the name
   pub variable_at : (vs : List Variable) (i : ℕ) (w : Variable) → position named vs ≡ Some i → w ≡ get_or vs i w → slice_get vs i ≡ Some w
-  variable_at vs i w at h =
-      let here = place (position_or_len named vs) i (nat_lt (position_or_len named vs) (length vs)) at in
-      let low : position_or_len named vs < length vs = grind (arith, nat_tests, here.0) in
-      slice_get_read vs (length vs) i w refl (omega (arith, here.1)) h
+  variable_at = by_name.variable_at name_of value_of x content
 
   pub assigned_new : (vs : List Variable) (v : Variable) → position named vs ≡ None → variable_view v ≡ (x, content) → variables_view (vs ++ v ∷ []) ≡ assign x content (variables_view vs)
-  assigned_new vs v none is =
-      let past : nat_lt (position_or_len named vs) (length vs) ≡ false = no_place (position_or_len named vs) (nat_lt (position_or_len named vs) (length vs)) none in
-      map-append variable_view vs (v ∷ []) ∙ ap (λ (y : Identifier × Content). variables_view vs ++ y ∷ []) is ∙ sym (assign_new vs (grind (arith, nat_tests, past)))
+  assigned_new = by_name.assigned_new name_of value_of x content
 
 pub ruleset assigned_rules = (assigned_there, assigned_new)
 

@@ -10,11 +10,14 @@ use Rattle.source.specs.Heap.{Heap}
 use Rattle.source.specs.Sight.{seen, in_range}
 use Rattle.source.specs.Term.{Term, Done, Number, Named, Read, Element, IsNull, Prefix, And, Or, Binary, Reduction, binary_term, done, reduce}
 use Rattle.source.specs.Value.{Value, Word, Int, Flag, Truth, Trap, DivisionByZero, ShiftTooFar, OutOfRange, NullReference, ExceptionPending, WrongObject, DeletedReference, NoCapacity, Outcome, Gives, Traps, Stuck, outcome_then, outcome_map, convert}
-use Rattle.source.specs.Variable.{Variable, Scalar, LocalRef, FieldHandle, Elements, LocalArray, NoBuffer, Variables, Statics}
+use Rattle.source.specs.Variable.{Variable, Scalar, LocalRef, FieldHandle, Elements, LocalArray, NoBuffer, StaticReference, Empty, Live, Deleted, Variables, Statics}
 use Rattle.terms.specs.declared.reduction.Reduction.{Reduction as ReductionInMemory}
 use Rattle.terms.specs.declared.reduction.Reduction.TheVariants as reduction
 use Rattle.terms.specs.declared.sight.Indexed.{Indexed}
 use Rattle.terms.specs.declared.sight.Indexed.TheVariants as indexed
+use Rattle.terms.specs.declared.statics.Static.{Static as StaticInMemory}
+use Rattle.terms.specs.declared.statics.StaticReference.{StaticReference as HeldInMemory}
+use Rattle.terms.specs.declared.statics.StaticReference.TheVariants as held
 use Rattle.terms.specs.declared.trap.Trap.{Trap as TrapInMemory}
 use Rattle.terms.specs.declared.trap.Trap.TheVariants as trap
 use Rattle.terms.specs.declared.value.Evaluated.{Evaluated}
@@ -55,10 +58,9 @@ indexed_view indexed.Stuck = Stuck
 
 -- ---- variables
 
--- each reference variable is declared in the first frame, so its level is 1
 abbrev pub content_view : Content → Variable
 content_view (content.Number v) = Scalar (value_view v)
-content_view (content.Reference r) = LocalRef 1 r
+content_view (content.Reference level r) = LocalRef level r
 content_view (content.Field f) = FieldHandle (option_map field_id_view f)
 content_view (content.Buffer T) = Elements (element_tree T) NoBuffer
 content_view (content.Array T numbers) = LocalArray (element_tree T) numbers.items
@@ -69,6 +71,16 @@ variable_view v = (v.name.now, content_view v.content)
 
 abbrev pub variables_view : List VariableInMemory → Variables
 variables_view vs = map variable_view vs
+
+-- what a static holds
+abbrev pub held_view : HeldInMemory → StaticReference
+held_view held.Empty = Empty
+held_view (held.Live n) = Live n
+held_view held.Deleted = Deleted
+
+-- a static with its name
+abbrev pub static_view : StaticInMemory → Identifier × StaticReference
+static_view s = (s.name.now, held_view s.held)
 
 -- what is there, or nothing fits
 abbrev pub if_there : {A : Type 0} → Option A → Outcome A

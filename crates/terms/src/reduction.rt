@@ -1,20 +1,18 @@
 //! Steps of terms.
 
 ghost use Rattle.std.specs.Prelude.{◌≡◌};
-ghost use Rattle.syntax.specs.Views.{unit_tree};
 ghost use Rattle.source.specs.Heap.{Heap};
 ghost use Rattle.source.specs.Sight.{seen};
-ghost use Rattle.source.specs.Start.{null_statics};
 ghost use Rattle.source.specs.Term.{Term as TermOfTree, and_then, or_else, done, reduce};
 ghost use Rattle.terms.specs.Views.{value_view, evaluated_view, term_view, variables_view, NumbersInRange, decided, right_side, IsLeaf, HasValues, IsReplaced, Reduces};
 
 use crate::sight::{element_in, null_value, number_in};
+use crate::statics::Statics;
 use crate::term::{Term, put_term};
 use crate::trap::Trap;
 use crate::value::{Evaluated, Value, binary_value, constant, literal, prefix_value};
 use crate::variable::Variable;
 use std::mem;
-use syntax::Item;
 
 /// What a step of a term did.
 #[derive(Clone, Copy)]
@@ -71,24 +69,24 @@ fn replace(term: &mut Term, value: Evaluated) -> Reduction
 }
 
 /// The value of a part without parts.
-fn leaf_value(items: &[Item], variables: &[Variable<'_>], term: &Term) -> Evaluated
+fn leaf_value(statics: &Statics<'_>, variables: &[Variable<'_>], term: &Term) -> Evaluated
     requires { NumbersInRange term.now }
-    ensures { IsLeaf term.now → (heap : Heap) → reduce (seen (variables_view variables.now) (null_statics (unit_tree items.now)) heap) (term_view term.now) ≡ done (evaluated_view result) }
+    ensures { IsLeaf term.now → (heap : Heap) → reduce (seen (variables_view variables.now) (statics.now) heap) (term_view term.now) ≡ done (evaluated_view result) }
 {
     match term {
         Term::Number { value, unsigned } => Evaluated::Gives(literal(*value, *unsigned)),
         Term::Named(c) => constant(*c),
         Term::Read(name) => number_in(variables, name),
-        Term::IsNull(wanted, name) => null_value(items, variables, *wanted, name),
+        Term::IsNull(wanted, name) => null_value(statics, variables, *wanted, name),
         Term::Done(_) | Term::Element(_, _) | Term::Prefix(_, _) => Evaluated::Stuck,
         Term::And(_, _) | Term::Or(_, _) | Term::Binary(_, _, _) => Evaluated::Stuck,
     }
 }
 
 /// The value of a term whose parts have theirs; none where its right side decides.
-fn value_of(items: &[Item], variables: &[Variable<'_>], term: &Term) -> Option<Evaluated>
+fn value_of(statics: &Statics<'_>, variables: &[Variable<'_>], term: &Term) -> Option<Evaluated>
     requires { NumbersInRange term.now }
-    ensures { HasValues term.now → (heap : Heap) → reduce (seen (variables_view variables.now) (null_statics (unit_tree items.now)) heap) (term_view term.now) ≡ decided result (right_side (term_view term.now)) }
+    ensures { HasValues term.now → (heap : Heap) → reduce (seen (variables_view variables.now) (statics.now) heap) (term_view term.now) ≡ decided result (right_side (term_view term.now)) }
 {
     match term {
         Term::Element(name, i) => match **i {
@@ -115,9 +113,9 @@ fn value_of(items: &[Item], variables: &[Variable<'_>], term: &Term) -> Option<E
             _ => None,
         },
         Term::Done(_) | Term::Number { .. } | Term::Named(_) => Some(leaf_value(
-            items, variables, term,
+            statics, variables, term,
         )),
-        Term::Read(_) | Term::IsNull(_, _) => Some(leaf_value(items, variables, term)),
+        Term::Read(_) | Term::IsNull(_, _) => Some(leaf_value(statics, variables, term)),
     }
 }
 
@@ -133,13 +131,13 @@ fn replace_by_right(term: &mut Term)
 }
 
 /// Replaces a term whose parts have their values.
-fn settle(items: &[Item], variables: &[Variable<'_>], term: &mut Term) -> Reduction
+fn settle(statics: &Statics<'_>, variables: &[Variable<'_>], term: &mut Term) -> Reduction
     requires numbers { NumbersInRange term.old }
     requires values { HasValues term.old }
-    ensures step { Reduces (variables_view variables.now) (null_statics (unit_tree items.now)) term.old result term.new }
+    ensures step { Reduces (variables_view variables.now) (statics.now) term.old result term.new }
     ensures numbers { NumbersInRange term.new }
 {
-    match value_of(items, variables, term) {
+    match value_of(statics, variables, term) {
         Some(value) => replace(term, value),
         None => {
             replace_by_right(term);
@@ -150,36 +148,36 @@ fn settle(items: &[Item], variables: &[Variable<'_>], term: &mut Term) -> Reduct
 
 /// Replaces the leftmost part that can be reduced by its value, or by the right side of `&&` or `||`.
 /// It walks to that part, through at most as many terms as the tree is high.
-pub fn reduce(items: &[Item], variables: &[Variable<'_>], term: &mut Term) -> Reduction
+pub fn reduce(statics: &Statics<'_>, variables: &[Variable<'_>], term: &mut Term) -> Reduction
     requires { NumbersInRange term.old }
-    ensures step { Reduces (variables_view variables.now) (null_statics (unit_tree items.now)) term.old result term.new }
+    ensures step { Reduces (variables_view variables.now) (statics.now) term.old result term.new }
     ensures numbers { NumbersInRange term.new }
 {
     match term {
         Term::Element(_, i) => match &mut **i {
-            Term::Done(_) => settle(items, variables, term),
-            i => reduce(items, variables, i),
+            Term::Done(_) => settle(statics, variables, term),
+            i => reduce(statics, variables, i),
         },
         Term::Prefix(_, a) => match &mut **a {
-            Term::Done(_) => settle(items, variables, term),
-            a => reduce(items, variables, a),
+            Term::Done(_) => settle(statics, variables, term),
+            a => reduce(statics, variables, a),
         },
         Term::And(a, _) => match &mut **a {
-            Term::Done(_) => settle(items, variables, term),
-            a => reduce(items, variables, a),
+            Term::Done(_) => settle(statics, variables, term),
+            a => reduce(statics, variables, a),
         },
         Term::Or(a, _) => match &mut **a {
-            Term::Done(_) => settle(items, variables, term),
-            a => reduce(items, variables, a),
+            Term::Done(_) => settle(statics, variables, term),
+            a => reduce(statics, variables, a),
         },
         Term::Binary(_, a, b) => match &mut **a {
             Term::Done(_) => match &mut **b {
-                Term::Done(_) => settle(items, variables, term),
-                b => reduce(items, variables, b),
+                Term::Done(_) => settle(statics, variables, term),
+                b => reduce(statics, variables, b),
             },
-            a => reduce(items, variables, a),
+            a => reduce(statics, variables, a),
         },
-        Term::Done(_) | Term::Number { .. } | Term::Named(_) => settle(items, variables, term),
-        Term::Read(_) | Term::IsNull(_, _) => settle(items, variables, term),
+        Term::Done(_) | Term::Number { .. } | Term::Named(_) => settle(statics, variables, term),
+        Term::Read(_) | Term::IsNull(_, _) => settle(statics, variables, term),
     }
 }

@@ -1,21 +1,20 @@
 //! What can be seen in the variables and the statics.
 
-ghost use Rattle.std.specs.Prelude.{◌≡◌, is_some};
+ghost use Rattle.std.specs.Prelude.{◌≡◌};
 ghost use Rattle.std.specs.Option.{option_map};
 ghost use Rattle.base.specs.Bytes.{lookup};
-ghost use Rattle.syntax.specs.Views.{unit_tree};
 ghost use Rattle.source.specs.Heap.{Heap};
 ghost use Rattle.source.specs.Sight.{scalar, seen, elements_of, variable_is_null, holds_null};
-ghost use Rattle.source.specs.Start.{null_statics};
 ghost use Rattle.source.specs.Term.{IsNull, done, index_of, element_value, reduce};
 ghost use Rattle.source.specs.Value.{outcome_map, Truth};
 ghost use Rattle.source.specs.Variable.{Statics};
 ghost use Rattle.terms.specs.Views.{value_view, evaluated_view, indexed_view, content_view, variables_view, if_there, negated, place_in};
 
+use crate::statics::{Statics, is_empty};
 use crate::trap::Trap;
 use crate::value::{Evaluated, Value, truth};
 use crate::variable::{Content, Variable, content_of};
-use syntax::{Item, Name};
+use syntax::Name;
 
 /// The value of a number variable.
 pub fn number_in(variables: &[Variable<'_>], name: &Name) -> Evaluated
@@ -25,27 +24,10 @@ pub fn number_in(variables: &[Variable<'_>], name: &Name) -> Evaluated
         None => Evaluated::Stuck,
         Some(content) => match content {
             Content::Number(value) => Evaluated::Gives(*value),
-            Content::Reference(_) | Content::Field(_) => Evaluated::Stuck,
+            Content::Reference(_, _) | Content::Field(_) => Evaluated::Stuck,
             Content::Buffer(_) | Content::Array(_, _) => Evaluated::Stuck,
         },
     }
-}
-
-/// Whether a static has this name; each is NULL, as nothing makes global references yet.
-pub fn is_static(items: &[Item], name: &Name) -> bool
-    ensures { result ≡ is_some (lookup name.now (null_statics (unit_tree items.now))) }
-{
-    for item in items {
-        match item {
-            Item::Static(s) => {
-                if name.as_bytes() == s.name.as_bytes() {
-                    return true;
-                }
-            }
-            Item::Function(_) => {}
-        }
-    }
-    false
 }
 
 /// Whether a variable holds NULL, as a truth.
@@ -53,7 +35,7 @@ fn is_null(content: &Content<'_>) -> Evaluated
     ensures { evaluated_view result ≡ outcome_map Truth (variable_is_null (content_view content.now)) }
 {
     match content {
-        Content::Reference(object) => truth(object.is_none()),
+        Content::Reference(_, object) => truth(object.is_none()),
         Content::Field(field) => truth(field.is_none()),
         Content::Buffer(_) => truth(true),
         Content::Number(_) | Content::Array(_, _) => Evaluated::Stuck,
@@ -72,33 +54,29 @@ fn negated(value: Evaluated) -> Evaluated
 }
 
 /// Whether a variable or a static holds NULL, as a truth.
-#[tactic(auto, using(crate::proofs::SightLemmas::null_rules))]
-fn null_of(items: &[Item], variables: &[Variable<'_>], name: &Name) -> Evaluated
-    ensures { evaluated_view result ≡ outcome_map Truth (holds_null (lookup name.now (variables_view variables.now)) (lookup name.now (null_statics (unit_tree items.now)))) }
+fn null_of(statics: &Statics<'_>, variables: &[Variable<'_>], name: &Name) -> Evaluated
+    ensures { evaluated_view result ≡ outcome_map Truth (holds_null (lookup name.now (variables_view variables.now)) (lookup name.now (statics.now))) }
 {
     match content_of(variables, name) {
         Some(content) => is_null(content),
-        None => {
-            if is_static(items, name) {
-                truth(true)
-            } else {
-                Evaluated::Stuck
-            }
-        }
+        None => match statics.held(name) {
+            Some(held) => truth(is_empty(held)),
+            None => Evaluated::Stuck,
+        },
     }
 }
 
 /// Whether a variable or a static holds NULL, or, where that isn't wanted, whether it doesn't.
 #[tactic(auto, using(crate::proofs::SightLemmas::null_rules))]
 pub(crate) fn null_value(
-    items: &[Item],
+    statics: &Statics<'_>,
     variables: &[Variable<'_>],
     wanted: bool,
     name: &Name,
 ) -> Evaluated
-    ensures { (heap : Heap) → reduce (seen (variables_view variables.now) (null_statics (unit_tree items.now)) heap) (IsNull wanted name.now) ≡ done (evaluated_view result) }
+    ensures { (heap : Heap) → reduce (seen (variables_view variables.now) (statics.now) heap) (IsNull wanted name.now) ≡ done (evaluated_view result) }
 {
-    let null = null_of(items, variables, name);
+    let null = null_of(statics, variables, name);
     if wanted { null } else { negated(null) }
 }
 
@@ -136,7 +114,7 @@ fn numbers_in<'v>(variables: &'v [Variable<'_>], name: &Name) -> Option<&'v [i32
         None => None,
         Some(content) => match content {
             Content::Array(_, numbers) => Some(numbers.as_slice()),
-            Content::Number(_) | Content::Reference(_) => None,
+            Content::Number(_) | Content::Reference(_, _) => None,
             Content::Field(_) | Content::Buffer(_) => None,
         },
     }

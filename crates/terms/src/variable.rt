@@ -18,8 +18,8 @@ use syntax::{ElementType, Name};
 #[derive(Drop)]
 pub enum Content<'a> {
     Number(Value),
-    /// NULL or an object, by its name.
-    Reference(Option<usize>),
+    /// A local reference: its level, the number of frames at its declaration, and NULL or an object, by its name.
+    Reference(usize, Option<usize>),
     /// A field ID: NULL, or a field or static.
     Field(Option<FieldId<'a>>),
     /// A buffer, which is NULL: no function gives another today.
@@ -105,7 +105,7 @@ pub fn write_content(content: &mut Content<'_>, index: usize, number: i32) -> bo
             write(*kind, numbers, index, number);
             true
         }
-        Content::Number(_) | Content::Reference(_) => false,
+        Content::Number(_) | Content::Reference(_, _) => false,
         Content::Field(_) | Content::Buffer(_) => false,
     }
 }

@@ -17,7 +17,7 @@ use Rattle.machine.specs.declared.carry_out.Carried.{Carried}
 use Rattle.machine.specs.declared.store.Store.{Store}
 use Rattle.machine.specs.Answers.{IsAnswer}
 use Rattle.machine.specs.CarriedOut.{CarriesOut, failed}
-use Rattle.machine.specs.Frames.{Frame, can_ensure, with_capacity}
+use Rattle.machine.specs.Frames.{Frame, can_ensure, can_push, with_capacity, with_frame}
 use Rattle.machine.specs.Made.{HasMade, Makes}
 use Rattle.machine.proofs.AnswerCases.{makes_it, throws_it}
 use Rattle.machine.proofs.CarryOuts as carries
@@ -26,6 +26,7 @@ use Rattle.machine.specs.declared.statics.StaticReference.{StaticReference}
 use Rattle.machine.specs.declared.statics.StaticReference.TheVariants as static
 use Rattle.std.specs.Vec.{with_items}
 use Rattle.std.proofs.lemmas.List.{with_items_is, places}
+use Rattle.machine.proofs.FrameChanges.{as_many_frames}
 use Rattle.machine.proofs.LongTables.{classes_loaded}
 use Rattle.machine.proofs.Makes.{few_births}
 use Rattle.machine.proofs.carry_out.carry_out.Goals as goal
@@ -77,8 +78,8 @@ returns-in-Writes-clause-carried c p shared s effect h does =
     let k = result_value c.args.kind in
     let old = c.args.store.now in
     let writes = subst (λ (a : Answer). IsAnswer w.classes old.heap k shared s a effect) c.in-Writes.is does in
-    subst (λ (space : Space). CarriesOut p w old.heap k shared s effect false (record old { heap = space }) c.args.pending.now c.args.frames.now.items given.Nothing) (sym c.set.ensures)
-    (carries.writes p w old c.args.pending.now c.args.frames.now.items k shared s h c.in-Writes.addr c.in-Writes.place c.in-Writes.value effect writes)
+    subst (λ (space : Space). CarriesOut p w old.heap k shared s effect false (record old { heap = space }) c.args.pending.now c.args.frames.now given.Nothing) (sym c.set.ensures)
+    (carries.writes p w old c.args.pending.now c.args.frames.now k shared s h c.in-Writes.addr c.in-Writes.place c.in-Writes.value effect writes)
 
 pub returns-in-Some-clause-carried : goal.returns-in-Some-clause-carried
 returns-in-Some-clause-carried c p shared s effect h does =
@@ -86,7 +87,7 @@ returns-in-Some-clause-carried c p shared s effect h does =
     let k = result_value c.args.kind in
     let old = c.args.store.now in
     let makes = subst (λ (a : Answer). IsAnswer w.classes old.heap k shared s a effect) c.in-Makes.is does in
-    carries.makes p w old c.args.pending.now c.args.frames.now.items k shared s h c.make.new.store c.in-Makes.class c.in-Some.addr
+    carries.makes p w old c.args.pending.now c.args.frames.now k shared s h c.make.new.store c.in-Makes.class c.in-Some.addr
     (has_made w.classes c.classes.result.now old c.make.new.store c.in-Makes.class c.in-Some.addr c.make.result c.classes.ensures.classes c.make.ensures c.in-Some.is) effect makes
 
 pub returns-in-None-clause-carried : goal.returns-in-None-clause-carried
@@ -95,9 +96,9 @@ returns-in-None-clause-carried c p shared s effect h does =
     let k = result_value c.args.kind in
     let old = c.args.store.now in
     let makes = subst (λ (a : Answer). IsAnswer w.classes old.heap k shared s a effect) c.in-Makes.is does in
-    refused_in p w old.heap k shared s effect old c.make.new.store c.refuse.new.pending c.args.frames.now.items c.refuse.result
+    refused_in p w old.heap k shared s effect old c.make.new.store c.refuse.new.pending c.args.frames.now c.refuse.result
     (unchanged c.classes.result.now old c.make.new.store c.in-Makes.class c.make.result c.make.ensures c.in-None.is) c.refuse.ensures.pending c.refuse.ensures.carried
-    (carries.refuses_object p w old c.args.pending.now c.args.frames.now.items k shared s h c.in-Makes.class effect makes)
+    (carries.refuses_object p w old c.args.pending.now c.args.frames.now k shared s h c.in-Makes.class effect makes)
 
 pub returns-in-Some-make-clause-carried : goal.returns-in-Some-make-clause-carried
 returns-in-Some-make-clause-carried c p shared s effect h does =
@@ -105,8 +106,8 @@ returns-in-Some-make-clause-carried c p shared s effect h does =
     let k = result_value c.args.kind in
     let old = c.args.store.now in
     let throws = subst (λ (a : Answer). IsAnswer w.classes old.heap k shared s a effect) c.in-Throws.is does in
-    subst (λ (g : Given). CarriesOut p w old.heap k shared s effect false c.make-in-Throws.new.store (Some c.in-Some-make.addr) c.args.frames.now.items g) (sym c.failed.ensures)
-    (carries.throws p w old c.args.pending.now c.args.frames.now.items k shared s h c.make-in-Throws.new.store c.in-Throws.class c.in-Some-make.addr
+    subst (λ (g : Given). CarriesOut p w old.heap k shared s effect false c.make-in-Throws.new.store (Some c.in-Some-make.addr) c.args.frames.now g) (sym c.failed.ensures)
+    (carries.throws p w old c.args.pending.now c.args.frames.now k shared s h c.make-in-Throws.new.store c.in-Throws.class c.in-Some-make.addr
     (has_made w.classes c.classes-in-Throws.result.now old c.make-in-Throws.new.store c.in-Throws.class c.in-Some-make.addr c.make-in-Throws.result c.classes-in-Throws.ensures.classes c.make-in-Throws.ensures c.in-Some-make.is) effect throws)
 
 pub returns-in-None-make-clause-carried : goal.returns-in-None-make-clause-carried
@@ -115,9 +116,9 @@ returns-in-None-make-clause-carried c p shared s effect h does =
     let k = result_value c.args.kind in
     let old = c.args.store.now in
     let throws = subst (λ (a : Answer). IsAnswer w.classes old.heap k shared s a effect) c.in-Throws.is does in
-    refused_in p w old.heap k shared s effect old c.make-in-Throws.new.store c.refuse-in-None-make.new.pending c.args.frames.now.items c.refuse-in-None-make.result
+    refused_in p w old.heap k shared s effect old c.make-in-Throws.new.store c.refuse-in-None-make.new.pending c.args.frames.now c.refuse-in-None-make.result
     (unchanged c.classes-in-Throws.result.now old c.make-in-Throws.new.store c.in-Throws.class c.make-in-Throws.result c.make-in-Throws.ensures c.in-None-make.is) c.refuse-in-None-make.ensures.pending c.refuse-in-None-make.ensures.carried
-    (carries.refuses_exception p w old c.args.pending.now c.args.frames.now.items k shared s h c.in-Throws.class effect throws)
+    (carries.refuses_exception p w old c.args.pending.now c.args.frames.now k shared s h c.in-Throws.class effect throws)
 
 -- what was told of frames that can't have the room
 told_of_frames : (p : Lowered) (w : World) (space : Space) (kind : ResultKind) (shared : Shared) (s : Thread) (effect : CallEffect) (store : Store) (after : Option ℕ) (frames old : List Frame) (carried : Carried) → frames ≡ old → after ≡ slice_get store.loaded.items (length w.classes)
@@ -128,30 +129,30 @@ told_of_frames p w space kind shared s effect store after frames old carried sam
     (subst (λ (o : Option ℕ). CarriesOut p w space kind shared s effect false store o frames (given.Number (2 ^ 32 - 4))) (sym is)
     (subst (λ (l : List Frame). CarriesOut p w space kind shared s effect false store (slice_get store.loaded.items (length w.classes)) l (given.Number (2 ^ 32 - 4))) (sym same) h))
 
-pub returns-then-ensure_capacity-clause-carried : goal.returns-then-ensure_capacity-clause-carried
-returns-then-ensure_capacity-clause-carried c p shared s effect h does =
+pub returns-then-ensure-clause-carried : goal.returns-then-ensure-clause-carried
+returns-then-ensure-clause-carried c p shared s effect h does =
     let w = c.args.world.now in
     let k = result_value c.args.kind in
     let old = c.args.store.now in
-    let frames = c.args.frames.now.items in
+    let frames = c.args.frames.now in
     let more = c.in-Ensures.more in
     let ensures = subst (λ (a : Answer). IsAnswer w.classes old.heap k shared s a effect) c.in-Ensures.is does in
-    let can : can_ensure frames more ≡ true = sym c.ensure_capacity.ensures.possible ∙ c.if-ensure_capacity.true in
-    let are : c.ensure_capacity.new.frames ≡ with_capacity frames more = c.ensure_capacity.ensures.frames ∙ ap (λ (b : Bool). if b then with_capacity frames more else frames) can in
+    let can : can_ensure frames more ≡ true = sym c.ensure.ensures.possible ∙ c.if-ensure.true in
+    let are : c.ensure.new.self ≡ with_capacity frames more = c.ensure.ensures.frames ∙ ap (λ (b : Bool). if b then with_capacity frames more else frames) can in
     subst (λ (l : List Frame). CarriesOut p w old.heap k shared s effect false old c.args.pending.now l (given.Number 0)) (sym are)
     (carries.ensures p w old c.args.pending.now frames k shared s h more effect ensures can)
 
-pub returns-else-ensure_capacity-clause-carried : goal.returns-else-ensure_capacity-clause-carried
-returns-else-ensure_capacity-clause-carried c p shared s effect h does =
+pub returns-else-ensure-clause-carried : goal.returns-else-ensure-clause-carried
+returns-else-ensure-clause-carried c p shared s effect h does =
     let w = c.args.world.now in
     let k = result_value c.args.kind in
     let old = c.args.store.now in
-    let frames = c.args.frames.now.items in
+    let frames = c.args.frames.now in
     let more = c.in-Ensures.more in
     let ensures = subst (λ (a : Answer). IsAnswer w.classes old.heap k shared s a effect) c.in-Ensures.is does in
-    let can : can_ensure frames more ≡ false = sym c.ensure_capacity.ensures.possible ∙ c.if-ensure_capacity.false in
-    let are : c.ensure_capacity.new.frames ≡ frames = c.ensure_capacity.ensures.frames ∙ ap (λ (b : Bool). if b then with_capacity frames more else frames) can in
-    told_of_frames p w old.heap k shared s effect old c.refuse_frames.new.pending c.ensure_capacity.new.frames frames c.refuse_frames.result are c.refuse_frames.ensures.pending c.refuse_frames.ensures.carried
+    let can : can_ensure frames more ≡ false = sym c.ensure.ensures.possible ∙ c.if-ensure.false in
+    let are : c.ensure.new.self ≡ frames = c.ensure.ensures.frames ∙ ap (λ (b : Bool). if b then with_capacity frames more else frames) can in
+    told_of_frames p w old.heap k shared s effect old c.refuse_frames.new.pending c.ensure.new.self frames c.refuse_frames.result are c.refuse_frames.ensures.pending c.refuse_frames.ensures.carried
     (carries.ensures_not p w old c.args.pending.now frames k shared s h more effect ensures can)
 
 pub returns-in-RefusesFrames-clause-carried : goal.returns-in-RefusesFrames-clause-carried
@@ -159,7 +160,7 @@ returns-in-RefusesFrames-clause-carried c p shared s effect h does =
     let w = c.args.world.now in
     let k = result_value c.args.kind in
     let old = c.args.store.now in
-    let frames = c.args.frames.now.items in
+    let frames = c.args.frames.now in
     let refuses = subst (λ (a : Answer). IsAnswer w.classes old.heap k shared s a effect) c.in-RefusesFrames.is does in
     told_of_frames p w old.heap k shared s effect old c.refuse_frames-in-RefusesFrames.new.pending frames frames c.refuse_frames-in-RefusesFrames.result refl c.refuse_frames-in-RefusesFrames.ensures.pending c.refuse_frames-in-RefusesFrames.ensures.carried
     (carries.refuses_room p w old c.args.pending.now frames k shared s h effect refuses)
@@ -194,3 +195,63 @@ returns-in_ok-held-in-MakesGlobal-clause-carried c p shared s effect h does =
     let old = c.args.store.now in
     let makes = subst (λ (a : Answer). IsAnswer w.classes old.heap k shared s a effect) c.in-MakesGlobal.is does in
     carries.makes_global p w old c.args.pending.now c.args.frames.now k shared s h c.make_global.new.globals c.in_ok-held-in-MakesGlobal.held effect c.in-MakesGlobal.reference makes.1.0 makes.0 makes.1.1 makes.1.2 c.in_ok-held-in-MakesGlobal.ensures.made
+
+pub returns-then-made-clause-carried : goal.returns-then-made-clause-carried
+returns-then-made-clause-carried c p shared s effect h does =
+    let w = c.args.world.now in
+    let k = result_value c.args.kind in
+    let old = c.args.store.now in
+    let frames = c.args.frames.now in
+    let capacity = c.in-Pushes.capacity in
+    let pushes = subst (λ (a : Answer). IsAnswer w.classes old.heap k shared s a effect) c.in-Pushes.is does in
+    let can : can_push frames capacity ≡ true = sym c.in_ok-made-in-Pushes.ensures.possible ∙ c.if-made.true in
+    let are : c.push.new.self ≡ with_frame frames capacity = c.in_ok-made-in-Pushes.ensures.frames ∙ ap (λ (b : Bool). if b then with_frame frames capacity else frames) can in
+    subst (λ (l : List Frame). CarriesOut p w old.heap k shared s effect false old c.args.pending.now l (given.Number 0)) (sym are)
+    (carries.pushes p w old c.args.pending.now frames k shared s h capacity effect pushes can)
+
+pub returns-else-made-clause-carried : goal.returns-else-made-clause-carried
+returns-else-made-clause-carried c p shared s effect h does =
+    let w = c.args.world.now in
+    let k = result_value c.args.kind in
+    let old = c.args.store.now in
+    let frames = c.args.frames.now in
+    let capacity = c.in-Pushes.capacity in
+    let pushes = subst (λ (a : Answer). IsAnswer w.classes old.heap k shared s a effect) c.in-Pushes.is does in
+    let can : can_push frames capacity ≡ false = sym c.in_ok-made-in-Pushes.ensures.possible ∙ c.if-made.false in
+    let are : c.push.new.self ≡ frames = c.in_ok-made-in-Pushes.ensures.frames ∙ ap (λ (b : Bool). if b then with_frame frames capacity else frames) can in
+    told_of_frames p w old.heap k shared s effect old c.refuse_frames-else-made.new.pending c.push.new.self frames c.refuse_frames-else-made.result are c.refuse_frames-else-made.ensures.pending c.refuse_frames-else-made.ensures.carried
+    (carries.pushes_not p w old c.args.pending.now frames k shared s h capacity effect pushes can)
+
+pub returns-in-Pops-clause-carried : goal.returns-in-Pops-clause-carried
+returns-in-Pops-clause-carried c p shared s effect h does =
+    let w = c.args.world.now in
+    let k = result_value c.args.kind in
+    let old = c.args.store.now in
+    let frames = c.args.frames.now in
+    let pops = subst (λ (a : Answer). IsAnswer w.classes old.heap k shared s a effect) c.in-Pops.is does in
+    subst (λ (l : List Frame). CarriesOut p w old.heap k shared s effect false old c.args.pending.now l (given.Reference c.in-Pops.reference)) (sym c.pop.ensures)
+    (carries.pops p w old c.args.pending.now frames k shared s h c.in-Pops.reference effect pops)
+
+pub returns-in-Deletes-clause-carried : goal.returns-in-Deletes-clause-carried
+returns-in-Deletes-clause-carried c p shared s effect h does =
+    let w = c.args.world.now in
+    let k = result_value c.args.kind in
+    let old = c.args.store.now in
+    let frames = c.args.frames.now in
+    let deletes = subst (λ (a : Answer). IsAnswer w.classes old.heap k shared s a effect) c.in-Deletes.is does in
+    subst (λ (l : List Frame). CarriesOut p w old.heap k shared s effect false old c.args.pending.now l given.Nothing) (sym c.delete.ensures)
+    (carries.deletes p w old c.args.pending.now frames k shared s h c.in-Deletes.level c.in-Deletes.addr effect deletes)
+
+pub delete-requires : goal.delete-requires
+delete-requires c =
+    let r = c.requires.possible in
+    let deletes = subst (λ (a : Answer). IsAnswer c.args.world.now.classes c.args.store.now.heap (result_value c.args.kind) r.1 r.2 a r.3) c.in-Deletes.is r.5 in
+    let count : length c.args.frames.now ≡ length r.2.frames = as_many_frames c.args.store.now.heap c.args.frames.now r.2.frames r.4.frames_agree in
+    (deletes.1, omega (arith, deletes.2, count))
+
+pub returns-in-Gives-clause-carried : goal.returns-in-Gives-clause-carried
+returns-in-Gives-clause-carried c p shared s effect h does =
+    let w = c.args.world.now in
+    let k = result_value c.args.kind in
+    let old = c.args.store.now in
+    carries.gives p w old c.args.pending.now c.args.frames.now k shared s h c.in-Gives.given effect (subst (λ (a : Answer). IsAnswer w.classes old.heap k shared s a effect) c.in-Gives.is does)

@@ -1,8 +1,7 @@
-use Rattle.std.proofs.Common.{◌≡◌, ◌<◌, ◌≤◌, ◌-◌, ℕ, List, [], ◌∷◌, ◌++◌, None, length, map, filter_map, take, replicate, refl, sym, ap, ◌∙◌, arith}
+use Rattle.std.proofs.Common.{◌≡◌, ◌<◌, ◌≤◌, ◌-◌, ℕ, List, [], ◌++◌, None, length, map, filter_map, take, replicate, refl, sym, ap, ◌∙◌, arith}
 use Rattle.std.specs.Prelude.{vec_len}
 use Rattle.std.proofs.lemmas.List.{take_all}
 use Rattle.code.specs.declared.slots.SlotCounts.{SlotCounts}
-use Rattle.machine.specs.Frames.{Frame}
 use Rattle.world.specs.Views.{object_value_view}
 use Rattle.lower.specs.Slots.{argument_reference}
 use Rattle.machine.proofs.ArgumentSlots.{addresses_count}
@@ -33,7 +32,7 @@ returns c = record {
   references = rw (sym c.slots-slots.ensures.counts, sym c.deref-3.ensures.value) c.in_ok-reference_slots.ensures;
   levels = c.in_ok-resize-2.ensures.items ∙ resized 1 c.new-levels.result.items c.args.code.now.slots.references c.slots-slots.result.references (vec_len c.new-levels.result) c.new-levels.ensures.items c.new-levels.ensures.len (ap (λ (s : SlotCounts). s.references) c.slots-slots.ensures.counts);
   fields = c.in_ok-resize.ensures.items ∙ resized None c.new-fields.result.items c.args.code.now.slots.field_ids c.slots-slots.result.field_ids (vec_len c.new-fields.result) c.new-fields.ensures.items c.new-fields.ensures.len (ap (λ (s : SlotCounts). s.field_ids) c.slots-slots.ensures.counts);
-  frame = c.in_ok-entry_frame.frame;
-  frames = c.in_ok-of.ensures;
-  entry_frame = rw (sym c.deref.ensures.value) c.in_ok-entry_frame.ensures;
+  frame = c.in_ok-frame.frame;
+  frames = c.in_ok-frames.ensures;
+  entry_frame = rw (sym c.deref.ensures.value) c.in_ok-frame.ensures;
 }

@@ -29,15 +29,15 @@ use Rattle.machine.specs.Statics.{References, all_held}
 use Rattle.machine.specs.declared.statics.StaticReference.{StaticReference}
 use Rattle.machine.specs.CarriedOut.{CarriesOut, IsPossible, shared_after}
 use Rattle.machine.specs.Checked.{fit_together, is_answered, trap_found}
-use Rattle.machine.specs.Frames.{has_room}
+use Rattle.machine.specs.Frames.{frames_after, has_room}
 use Rattle.machine.specs.Given.{AreAddresses, AreHandles}
 use Rattle.machine.specs.Invoked.{AtCall}
-use Rattle.machine.specs.Received.{HasFrame, HasStatic, Receives, statics_with}
+use Rattle.machine.specs.Received.{HasRoom, HasStatic, Receives, statics_with}
 use Rattle.machine.specs.Stops.{trap_view}
 use Rattle.machine.specs.WorkedOut.{IsWorkedOut}
 use Rattle.machine.proofs.BlockObjects.{is_address}
 use Rattle.machine.proofs.CallAnswers.{answers}
-use Rattle.machine.proofs.CallInstructions.{CalledAs, called, r, goes_on, held, has_frame, has_static, has_target, possible, traps}
+use Rattle.machine.proofs.CallInstructions.{CalledAs, called, r, goes_on, held, has_static, has_target, possible, traps, levelled, room_after}
 use Rattle.machine.proofs.StaticStores.{shared_long, statics_long}
 use Rattle.machine.proofs.CallTraps.{found_is, handles_there, has_passed, objects_there}
 use Rattle.machine.proofs.invoke.invoke.Goals as goal
@@ -53,7 +53,7 @@ module _ (p : Lowered) (w : World) (store : Store) (pending : Option ℕ) (call 
       → option_map trap_view o ≡ trap_of_call w.classes shared s it.target it.f it.args
   told classes is_pending room references fields o same_classes same_pending same_room same_references same_fields found =
       found
-      ∙ (λ i. trap_found (same_classes i) store.heap (same_pending i) (same_room i) (same_references i) (same_fields i) (it.asked.same_function i) function.operands.items)
+      ∙ (λ i. trap_found (same_classes i) store.heap (same_pending i) ((same_room ∙ ap (λ (f : JniFunction). has_room (frames_after f call.frames)) it.asked.same_function) i) (same_references i) (same_fields i) (it.asked.same_function i) function.operands.items)
       ∙ found_is p w store pending call (call_view function) shared s it.f it.args it.asked it.target
 
   there : (references : References) → references ≡ references_of store call → AreAddresses store.heap references function.operands.items
@@ -113,8 +113,8 @@ check-trap-requires-clause-handles c =
     let a = c.requires.at_call in
     handled a.0 c.args.world.now c.args.store.now c.args.pending.now c.args.call.now c.args.function.now a.1 a.2 a.3 a.4 a.5 c.classes.result.now c.deref-3.result.now c.classes.ensures.classes c.deref-3.ensures.value
 
-pub returns-in-Some : goal.returns-in-Some
-returns-in-Some c p lent k shared s task rest h =
+pub returns-in-Some-clause-done : goal.returns-in-Some-clause-done
+returns-in-Some-clause-done c p lent k shared s task rest h =
     let w = c.args.world.now in
     let found = told p w c.args.store.now c.args.pending.now c.args.call.now c.args.function.now shared s task rest h c.classes.result.now c.is_some.result c.room_after.result c.new-references.result c.deref-3.result.now c.check-trap.result
     c.classes.ensures.classes c.is_some.ensures c.room_after.ensures (named_are c.args.store.now c.args.call.now c.deref.result.now c.deref-2.result.now c.new-references.result c.new-references.ensures c.deref.ensures.value c.deref-2.ensures.value) c.deref-3.ensures.value c.check-trap.ensures in
@@ -151,8 +151,8 @@ work_out-answer-requires-clause-passed c =
     c.classes.ensures.classes c.is_some.ensures c.room_after.ensures (named_are c.args.store.now c.args.call.now c.deref.result.now c.deref-2.result.now c.new-references.result c.new-references.ensures c.deref.ensures.value c.deref-2.ensures.value) c.deref-3.ensures.value c.check-trap.ensures in
     passes a.0 w c.args.store.now c.args.pending.now c.args.call.now c.args.function.now a.1 a.2 a.3 a.4 a.5 (no_trap c.check-trap.result _ found c.in_default.is) c.classes-2.result.now c.new-references.result c.deref-6.result.now c.classes-2.ensures.classes (named_are c.args.store.now c.args.call.now c.deref.result.now c.deref-2.result.now c.new-references.result c.new-references.ensures c.deref.ensures.value c.deref-2.ensures.value) c.deref-6.ensures.value
 
-pub carry_out-carried-requires : goal.carry_out-carried-requires
-carry_out-carried-requires c =
+pub carry_out-requires : goal.carry_out-requires
+carry_out-requires c =
     let a = c.requires.at_call in
     let w = c.args.world.now in
     let found = told a.0 w c.args.store.now c.args.pending.now c.args.call.now c.args.function.now a.1 a.2 a.3 a.4 a.5 c.classes.result.now c.is_some.result c.room_after.result c.new-references.result c.deref-3.result.now c.check-trap.result
@@ -193,10 +193,10 @@ receive-requires-clause-static_target c =
     let effect = call_effect w.classes lent 0 a.1 a.2 it.args it.f in
     let carried = c.in_ok-carried.ensures.carried a.0 a.1 a.2 effect (can_carry a.0 w c.args.store.now c.args.pending.now c.args.call.now c.args.function.now a.1 a.2 a.3 a.4 a.5 free kind same) (answered a.0 w c.args.store.now c.args.pending.now c.args.call.now c.args.function.now a.1 a.2 a.3 a.4 a.5 free c.classes.ensures.sound lent 0 c.classes-2.result.now c.deref-4.result.now c.new-references.result c.deref-5.result.now c.deref-6.result.now kind c.work_out-answer.result
     c.classes-2.ensures.classes c.deref-4.ensures.value (named_are c.args.store.now c.args.call.now c.deref.result.now c.deref-2.result.now c.new-references.result c.new-references.ensures c.deref.ensures.value c.deref-2.ensures.value) c.deref-5.ensures.value c.deref-6.ensures.value same c.work_out-answer.ensures) in
-    let same_count : length a.1.statics ≡ length c.carry_out-carried.new.store.statics.items =
-    shared_long a.0 w c.args.store.now a.1 a.5.shares ∙ sym (statics_long a.0 w c.carry_out-carried.new.store (shared_after w.classes c.in_ok-carried.carried.refused a.1 effect) carried.store_agrees) in
+    let same_count : length a.1.statics ≡ length c.carry_out.new.store.statics.items =
+    shared_long a.0 w c.args.store.now a.1 a.5.shares ∙ sym (statics_long a.0 w c.carry_out.new.store (shared_after w.classes c.in_ok-carried.carried.refused a.1 effect) carried.store_agrees) in
     subst (λ (l : List StaticReference). HasStatic c.args.function.now.target (length l)) (sym c.deref_mut.ensures.value)
-    (has_static a.0 w c.args.store.now c.args.pending.now c.args.call.now c.args.function.now a.1 a.2 a.3 a.4 a.5 (length c.carry_out-carried.new.store.statics.items) same_count)
+    (has_static a.0 w c.args.store.now c.args.pending.now c.args.call.now c.args.function.now a.1 a.2 a.3 a.4 a.5 (length c.carry_out.new.store.statics.items) same_count)
 
 pub receive-requires-clause-frame : goal.receive-requires-clause-frame
 receive-requires-clause-frame c =
@@ -213,12 +213,12 @@ receive-requires-clause-frame c =
     let carried = c.in_ok-carried.ensures.carried a.0 a.1 a.2 effect (can_carry a.0 w c.args.store.now c.args.pending.now c.args.call.now c.args.function.now a.1 a.2 a.3 a.4 a.5 free kind same) (answered a.0 w c.args.store.now c.args.pending.now c.args.call.now c.args.function.now a.1 a.2 a.3 a.4 a.5 free c.classes.ensures.sound lent 0 c.classes-2.result.now c.deref-4.result.now c.new-references.result c.deref-5.result.now c.deref-6.result.now kind c.work_out-answer.result
     c.classes-2.ensures.classes c.deref-4.ensures.value (named_are c.args.store.now c.args.call.now c.deref.result.now c.deref-2.result.now c.new-references.result c.new-references.ensures c.deref.ensures.value c.deref-2.ensures.value) c.deref-5.ensures.value c.deref-6.ensures.value same c.work_out-answer.ensures) in
     let is = kind_is a.0 w c.args.store.now c.args.pending.now c.args.call.now c.args.function.now a.1 a.2 a.3 a.4 a.5 kind same in
-    subst (λ (x : ResultKind). HasRoom x c.carry_out-carried.new.frames) (sym is)
-    (room_after a.0 w c.args.store.now c.args.pending.now c.args.call.now c.args.function.now a.1 a.2 a.3 a.4 a.5 lent 0 free c.in_ok-carried.carried.refused c.carry_out-carried.new.store c.carry_out-carried.new.pending c.carry_out-carried.new.frames c.in_ok-carried.carried.given
-    (subst (λ (x : ResultKind). CarriesOut c.requires.at_call.0 w c.args.store.now.heap x a.1 a.2 effect c.in_ok-carried.carried.refused c.carry_out-carried.new.store c.carry_out-carried.new.pending c.carry_out-carried.new.frames c.in_ok-carried.carried.given) is carried))
+    subst (λ (x : ResultKind). HasRoom x c.carry_out.new.frames) (sym is)
+    (room_after a.0 w c.args.store.now c.args.pending.now c.args.call.now c.args.function.now a.1 a.2 a.3 a.4 a.5 lent 0 free c.in_ok-carried.carried.refused c.carry_out.new.store c.carry_out.new.pending c.carry_out.new.frames c.in_ok-carried.carried.given
+    (subst (λ (x : ResultKind). CarriesOut c.requires.at_call.0 w c.args.store.now.heap x a.1 a.2 effect c.in_ok-carried.carried.refused c.carry_out.new.store c.carry_out.new.pending c.carry_out.new.frames c.in_ok-carried.carried.given) is carried))
 
-pub returns-then-carried : goal.returns-then-carried
-returns-then-carried c p lent k shared s task rest h =
+pub returns-then-carried-clause-done : goal.returns-then-carried-clause-done
+returns-then-carried-clause-done c p lent k shared s task rest h =
     let w = c.args.world.now in
     let store = c.args.store.now in
     let pending = c.args.pending.now in
@@ -235,15 +235,15 @@ returns-then-carried c p lent k shared s task rest h =
     let answer = answered p w store pending call function shared s task rest h free c.classes.ensures.sound lent k c.classes-2.result.now c.deref-4.result.now c.new-references.result c.deref-5.result.now c.deref-6.result.now kind c.work_out-answer.result
     c.classes-2.ensures.classes c.deref-4.ensures.value (named_are c.args.store.now c.args.call.now c.deref.result.now c.deref-2.result.now c.new-references.result c.new-references.ensures c.deref.ensures.value c.deref-2.ensures.value) c.deref-5.ensures.value c.deref-6.ensures.value same c.work_out-answer.ensures in
     let carried = c.in_ok-carried.ensures.carried p shared s effect (can_carry p w store pending call function shared s task rest h free kind same) answer in
-    let told_refused = subst (λ (b : Bool). CarriesOut p w store.heap kind shared s effect b c.carry_out-carried.new.store c.carry_out-carried.new.pending c.carry_out-carried.new.frames c.in_ok-carried.carried.given) c.if-carried.true carried in
-    goes_on p w store pending call function shared s task rest h lent k true c.carry_out-carried.new.store c.carry_out-carried.new.pending c.carry_out-carried.new.frames c.in_ok-carried.carried.given c.receive.new.call (with_items c.carry_out-carried.new.store.statics c.receive.new.statics) c.work_out-answer.result free
+    let told_refused = subst (λ (b : Bool). CarriesOut p w store.heap kind shared s effect b c.carry_out.new.store c.carry_out.new.pending c.carry_out.new.frames c.in_ok-carried.carried.given) c.if-carried.true carried in
+    goes_on p w store pending call function shared s task rest h lent k true c.carry_out.new.store c.carry_out.new.pending c.carry_out.new.frames c.in_ok-carried.carried.given c.receive.new.call (with_items c.carry_out.new.store.statics c.receive.new.statics) c.work_out-answer.result free
     (subst (λ (x : ResultKind). IsAnswer w.classes store.heap x shared s c.work_out-answer.result effect) is answer)
-    (subst (λ (x : ResultKind). CarriesOut p w store.heap x shared s effect true c.carry_out-carried.new.store c.carry_out-carried.new.pending c.carry_out-carried.new.frames c.in_ok-carried.carried.given) is told_refused)
-    (subst (λ (x : ResultKind). Receives function.target x c.in_ok-carried.carried.given (record call { frames = c.carry_out-carried.new.frames }) c.receive.new.call) is c.receive.ensures.call)
-    (with_items_is c.carry_out-carried.new.store.statics c.receive.new.statics (search (rules, places)) ∙ c.receive.ensures.statics ∙ ap (λ (l : List StaticReference). statics_with function.target c.in_ok-carried.carried.given l) c.deref_mut.ensures.value)
+    (subst (λ (x : ResultKind). CarriesOut p w store.heap x shared s effect true c.carry_out.new.store c.carry_out.new.pending c.carry_out.new.frames c.in_ok-carried.carried.given) is told_refused)
+    (subst (λ (x : ResultKind). Receives function.target x c.in_ok-carried.carried.given (record call { frames = c.carry_out.new.frames }) c.receive.new.call) is c.receive.ensures.call)
+    (with_items_is c.carry_out.new.store.statics c.receive.new.statics (search (rules, places)) ∙ c.receive.ensures.statics ∙ ap (λ (l : List StaticReference). statics_with function.target c.in_ok-carried.carried.given l) c.deref_mut.ensures.value)
 
-pub returns-else-carried : goal.returns-else-carried
-returns-else-carried c p lent k shared s task rest h =
+pub returns-else-carried-clause-done : goal.returns-else-carried-clause-done
+returns-else-carried-clause-done c p lent k shared s task rest h =
     let w = c.args.world.now in
     let store = c.args.store.now in
     let pending = c.args.pending.now in
@@ -260,9 +260,9 @@ returns-else-carried c p lent k shared s task rest h =
     let answer = answered p w store pending call function shared s task rest h free c.classes.ensures.sound lent k c.classes-2.result.now c.deref-4.result.now c.new-references.result c.deref-5.result.now c.deref-6.result.now kind c.work_out-answer.result
     c.classes-2.ensures.classes c.deref-4.ensures.value (named_are c.args.store.now c.args.call.now c.deref.result.now c.deref-2.result.now c.new-references.result c.new-references.ensures c.deref.ensures.value c.deref-2.ensures.value) c.deref-5.ensures.value c.deref-6.ensures.value same c.work_out-answer.ensures in
     let carried = c.in_ok-carried.ensures.carried p shared s effect (can_carry p w store pending call function shared s task rest h free kind same) answer in
-    let told_refused = subst (λ (b : Bool). CarriesOut p w store.heap kind shared s effect b c.carry_out-carried.new.store c.carry_out-carried.new.pending c.carry_out-carried.new.frames c.in_ok-carried.carried.given) c.if-carried.false carried in
-    goes_on p w store pending call function shared s task rest h lent k false c.carry_out-carried.new.store c.carry_out-carried.new.pending c.carry_out-carried.new.frames c.in_ok-carried.carried.given c.receive.new.call (with_items c.carry_out-carried.new.store.statics c.receive.new.statics) c.work_out-answer.result free
+    let told_refused = subst (λ (b : Bool). CarriesOut p w store.heap kind shared s effect b c.carry_out.new.store c.carry_out.new.pending c.carry_out.new.frames c.in_ok-carried.carried.given) c.if-carried.false carried in
+    goes_on p w store pending call function shared s task rest h lent k false c.carry_out.new.store c.carry_out.new.pending c.carry_out.new.frames c.in_ok-carried.carried.given c.receive.new.call (with_items c.carry_out.new.store.statics c.receive.new.statics) c.work_out-answer.result free
     (subst (λ (x : ResultKind). IsAnswer w.classes store.heap x shared s c.work_out-answer.result effect) is answer)
-    (subst (λ (x : ResultKind). CarriesOut p w store.heap x shared s effect false c.carry_out-carried.new.store c.carry_out-carried.new.pending c.carry_out-carried.new.frames c.in_ok-carried.carried.given) is told_refused)
-    (subst (λ (x : ResultKind). Receives function.target x c.in_ok-carried.carried.given (record call { frames = c.carry_out-carried.new.frames }) c.receive.new.call) is c.receive.ensures.call)
-    (with_items_is c.carry_out-carried.new.store.statics c.receive.new.statics (search (rules, places)) ∙ c.receive.ensures.statics ∙ ap (λ (l : List StaticReference). statics_with function.target c.in_ok-carried.carried.given l) c.deref_mut.ensures.value)
+    (subst (λ (x : ResultKind). CarriesOut p w store.heap x shared s effect false c.carry_out.new.store c.carry_out.new.pending c.carry_out.new.frames c.in_ok-carried.carried.given) is told_refused)
+    (subst (λ (x : ResultKind). Receives function.target x c.in_ok-carried.carried.given (record call { frames = c.carry_out.new.frames }) c.receive.new.call) is c.receive.ensures.call)
+    (with_items_is c.carry_out.new.store.statics c.receive.new.statics (search (rules, places)) ∙ c.receive.ensures.statics ∙ ap (λ (l : List StaticReference). statics_with function.target c.in_ok-carried.carried.given l) c.deref_mut.ensures.value)

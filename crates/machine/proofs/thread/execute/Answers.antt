@@ -122,9 +122,9 @@ invoke-requires c =
     let f = fetched (goal.at.invoke-requires c).After-unwrap-instr in
     record { at_call = (c.args.program.now, s.0, s.1, s.2, s.3, at_call c.args.program.now c.args.world.now c.args.store.now c.args.pending.now c.args.call.now c.unwrap-instr.result.now f c.call.result.now (c.in-Call.is ∙ ap (λ (x : Call). instr.Call x) (sym c.call.ensures)) s.0 s.1 s.2 s.3 s.4); place = limit_of c.get.result c.unwrap-instr.result (c.args.call.now.place + 1 < 2 ^ 64) c.get.ensures.limit c.unwrap-instr.ensures }
 
-pub returns-in-TestNull : goal.returns-in-TestNull
-returns-in-TestNull c lent k shared s task rest e =
-    let f = fetched (goal.at.returns-in-TestNull c).After-unwrap-instr in
+pub returns-in-TestNull-clause-done : goal.returns-in-TestNull-clause-done
+returns-in-TestNull-clause-done c lent k shared s task rest e =
+    let f = fetched (goal.at.returns-in-TestNull-clause-done c).After-unwrap-instr in
     let after : Activation = record c.args.call.now { place = c.args.call.now.place + 1; stack = c.push.new.self } in
     let named : c.new-references.result ≡ references_of c.args.store.now c.args.call.now =
     c.new-references.ensures
@@ -146,9 +146,9 @@ returns-in-TestNull c lent k shared s task rest e =
       frames = refl;
     })
 
-pub returns-in-StoreNull : goal.returns-in-StoreNull
-returns-in-StoreNull c lent k shared s task rest e =
-    let f = fetched (goal.at.returns-in-StoreNull c).After-unwrap-instr in
+pub returns-in-StoreNull-clause-done : goal.returns-in-StoreNull-clause-done
+returns-in-StoreNull-clause-done c lent k shared s task rest e =
+    let f = fetched (goal.at.returns-in-StoreNull-clause-done c).After-unwrap-instr in
     let after : Activation = record c.args.call.now { place = c.args.call.now.place + 1; references = with_items c.args.call.now.references c.set_null.new.references; fields = with_items c.args.call.now.fields c.set_null.new.fields } in
     store_executes c.args.program.now c.args.world.now c.args.store.now lent k shared e.store_agrees s c.args.pending.now e.pending_agrees e.viewless c.args.call.now f.code task rest (ready_for _ c.args.world.now.classes c.args.store.now.heap _ _ f (visible_to shared s) s.frames task rest e.stands) c.unwrap-instr.result.now f.at
     c.in-StoreNull.variable after (with_items c.args.store.now.statics c.set_null.new.statics) c.in-StoreNull.is
@@ -164,9 +164,9 @@ returns-in-StoreNull c lent k shared s task rest e =
       frames = refl;
     })
 
-pub returns-in-PutJint : goal.returns-in-PutJint
-returns-in-PutJint c lent k shared s task rest e =
-    let f = fetched (goal.at.returns-in-PutJint c).After-unwrap-instr in
+pub returns-in-PutJint-clause-done : goal.returns-in-PutJint-clause-done
+returns-in-PutJint-clause-done c lent k shared s task rest e =
+    let f = fetched (goal.at.returns-in-PutJint-clause-done c).After-unwrap-instr in
     let number : cast_signed w32 (cast_unsigned w32 c.cast_signed.result) ≡ cast_signed w32 c.pop-word.result = to_z-of_z {w = w32} (record { sfits = c.cast_signed.type_inv }) ∙ c.cast_signed.ensures in
     let after : Activation = record c.args.call.now { place = c.args.call.now.place + 1; stack = c.pop-word.new.self } in
     subst (λ (z : ℤ). Executes c.args.program.now c.args.world.now c.args.store.now.heap c.args.store.now lent k shared s rest after c.args.pending.now (effect_of (sight_of shared s) task) (Did (Printed z))) (sym number)
@@ -174,30 +174,30 @@ returns-in-PutJint c lent k shared s task rest e =
     c.pop-word.result after c.pop-word.new.self c.in-PutJint.is c.pop-word.ensures.words
     (record { function = refl; place = refl; stack = refl; numbers = refl; references = refl; levels = refl; fields = refl; frames = refl }))
 
-pub returns-in-Call : goal.returns-in-Call
-returns-in-Call c lent k shared s task rest e =
-    let f = fetched (goal.at.returns-in-Call c).After-unwrap-instr in
-    c.invoke.ensures c.args.program.now lent k shared s task rest
+pub returns-in_ok-done-in-Call-clause-done : goal.returns-in_ok-done-in-Call-clause-done
+returns-in_ok-done-in-Call-clause-done c lent k shared s task rest e =
+    let f = fetched (goal.at.returns-in_ok-done-in-Call-clause-done c).After-unwrap-instr in
+    c.in_ok-done-in-Call.ensures.done c.args.program.now lent k shared s task rest
     (at_call c.args.program.now c.args.world.now c.args.store.now c.args.pending.now c.args.call.now c.unwrap-instr.result.now f c.call.result.now (c.in-Call.is ∙ ap (λ (x : Call). instr.Call x) (sym c.call.ensures)) shared s task rest e)
 
-pub returns-in-Return : goal.returns-in-Return
-returns-in-Return c lent k shared s task rest e =
-    let f = fetched (goal.at.returns-in-Return c).After-unwrap-instr in
+pub returns-in-Return-clause-done : goal.returns-in-Return-clause-done
+returns-in-Return-clause-done c lent k shared s task rest e =
+    let f = fetched (goal.at.returns-in-Return-clause-done c).After-unwrap-instr in
     return_executes _ c.args.world.now c.args.store.now lent k shared e.store_agrees s c.args.pending.now e.pending_agrees e.viewless _ f.code task rest (ready_for _ c.args.world.now.classes c.args.store.now.heap _ _ f (visible_to shared s) s.frames task rest e.stands) c.unwrap-instr.result.now f.at (returns_is _ c.in-Return.is) c.args.call.now
 
-pub returns-in-Return-2 : goal.returns-in-Return-2
-returns-in-Return-2 c lent k shared s task rest e =
-    let f = fetched (goal.at.returns-in-Return-2 c).After-unwrap-instr in
+pub returns-in-Return-2-clause-done : goal.returns-in-Return-2-clause-done
+returns-in-Return-2-clause-done c lent k shared s task rest e =
+    let f = fetched (goal.at.returns-in-Return-2-clause-done c).After-unwrap-instr in
     return_executes _ c.args.world.now c.args.store.now lent k shared e.store_agrees s c.args.pending.now e.pending_agrees e.viewless _ f.code task rest (ready_for _ c.args.world.now.classes c.args.store.now.heap _ _ f (visible_to shared s) s.frames task rest e.stands) c.unwrap-instr.result.now f.at (returns_is _ c.in-Return.is) c.args.call.now
 
-pub returns-in-Return-3 : goal.returns-in-Return-3
-returns-in-Return-3 c lent k shared s task rest e =
-    let f = fetched (goal.at.returns-in-Return-3 c).After-unwrap-instr in
+pub returns-in-Return-3-clause-done : goal.returns-in-Return-3-clause-done
+returns-in-Return-3-clause-done c lent k shared s task rest e =
+    let f = fetched (goal.at.returns-in-Return-3-clause-done c).After-unwrap-instr in
     return_executes _ c.args.world.now c.args.store.now lent k shared e.store_agrees s c.args.pending.now e.pending_agrees e.viewless _ f.code task rest (ready_for _ c.args.world.now.classes c.args.store.now.heap _ _ f (visible_to shared s) s.frames task rest e.stands) c.unwrap-instr.result.now f.at (returns_is _ c.in-Return.is) c.args.call.now
 
-pub returns-in-Next : goal.returns-in-Next
-returns-in-Next c lent k shared s task rest e =
-    let f = fetched (goal.at.returns-in-Next c).After-unwrap-instr in
+pub returns-in-Next-clause-done : goal.returns-in-Next-clause-done
+returns-in-Next-clause-done c lent k shared s task rest e =
+    let f = fetched (goal.at.returns-in-Next-clause-done c).After-unwrap-instr in
     let i = c.unwrap-instr.result.now in
     let stack = c.args.call.now.stack in
     let is : ◌≡◌ {A = Answer} (plain_of i stack c.args.call.now.numbers.items) (Some (plain.Next, c.plain.new.stack, c.plain.new.numbers)) =
@@ -207,9 +207,9 @@ returns-in-Next c lent k shared s task rest e =
     after Quiet plain.Next c.plain.new.stack c.plain.new.numbers is
     (record { function = refl; place = refl; stack = refl; numbers = with_items_is c.args.call.now.numbers c.plain.new.numbers (search (rules, places)); references = refl; levels = refl; fields = refl; frames = refl }) refl
 
-pub returns-in-Skip : goal.returns-in-Skip
-returns-in-Skip c lent k shared s task rest e =
-    let f = fetched (goal.at.returns-in-Skip c).After-unwrap-instr in
+pub returns-in-Skip-clause-done : goal.returns-in-Skip-clause-done
+returns-in-Skip-clause-done c lent k shared s task rest e =
+    let f = fetched (goal.at.returns-in-Skip-clause-done c).After-unwrap-instr in
     let i = c.unwrap-instr.result.now in
     let stack = c.args.call.now.stack in
     let is : ◌≡◌ {A = Answer} (plain_of i stack c.args.call.now.numbers.items) (Some (plain.Skip c.in-Skip.skipped, c.plain.new.stack, c.plain.new.numbers)) =
@@ -219,9 +219,9 @@ returns-in-Skip c lent k shared s task rest e =
     after Quiet (plain.Skip c.in-Skip.skipped) c.plain.new.stack c.plain.new.numbers is
     (record { function = refl; place = omega arith; stack = refl; numbers = with_items_is c.args.call.now.numbers c.plain.new.numbers (search (rules, places)); references = refl; levels = refl; fields = refl; frames = refl }) refl
 
-pub returns-in-Back : goal.returns-in-Back
-returns-in-Back c lent k shared s task rest e =
-    let f = fetched (goal.at.returns-in-Back c).After-unwrap-instr in
+pub returns-in-Back-clause-done : goal.returns-in-Back-clause-done
+returns-in-Back-clause-done c lent k shared s task rest e =
+    let f = fetched (goal.at.returns-in-Back-clause-done c).After-unwrap-instr in
     let i = c.unwrap-instr.result.now in
     let stack = c.args.call.now.stack in
     let is : ◌≡◌ {A = Answer} (plain_of i stack c.args.call.now.numbers.items) (Some (plain.Back c.in-Back.back, c.plain.new.stack, c.plain.new.numbers)) =
@@ -231,9 +231,9 @@ returns-in-Back c lent k shared s task rest e =
     after Quiet (plain.Back c.in-Back.back) c.plain.new.stack c.plain.new.numbers is
     (record { function = refl; place = refl; stack = refl; numbers = with_items_is c.args.call.now.numbers c.plain.new.numbers (search (rules, places)); references = refl; levels = refl; fields = refl; frames = refl }) refl
 
-pub returns-in-Trap : goal.returns-in-Trap
-returns-in-Trap c lent k shared s task rest e =
-    let f = fetched (goal.at.returns-in-Trap c).After-unwrap-instr in
+pub returns-in-Trap-clause-done : goal.returns-in-Trap-clause-done
+returns-in-Trap-clause-done c lent k shared s task rest e =
+    let f = fetched (goal.at.returns-in-Trap-clause-done c).After-unwrap-instr in
     let i = c.unwrap-instr.result.now in
     let stack = c.args.call.now.stack in
     let is : ◌≡◌ {A = Answer} (plain_of i stack c.args.call.now.numbers.items) (Some (plain.Trap c.in-Trap.trap c.in-Trap.line, c.plain.new.stack, c.plain.new.numbers)) =

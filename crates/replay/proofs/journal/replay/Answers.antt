@@ -1,4 +1,4 @@
-use Rattle.std.proofs.Common.{List, length, refl, ap, ◌∙◌, subst, arith}
+use Rattle.std.proofs.Common.{List, ◌++◌, length, refl, ap, ◌∙◌, subst, arith}
 use Rattle.std.specs.List.{flat_map}
 use Rattle.syntax.specs.declared.unit.Item.{Item}
 use Rattle.syntax.specs.Views.{unit_tree}
@@ -29,7 +29,7 @@ returns-in-Ok-write_run-clause-ok g c =
       is = writes (unit_tree c.args.checked.now) c.args.world.now c.args.journal.now c.in-Ok.state c.in_ok-standings.standings.items _ _ _ _ _ replayed c.in_ok-standings.ensures
           c.classes.ensures.classes refl
           (omega (arith, c.made_before.ensures.count, ap (λ os. length os) c.objects.ensures.objects, ap (λ (v : World). length v.classes) replayed.stands.world, ap (λ (v : World). length v.objects) replayed.stands.world))
-          (c.deref-2.ensures.value ∙ c.in_ok-names.ensures ∙ ap (λ (ts : List Thread). flat_map thread_names ts) c.deref.ensures.value) c.in_ok-rows.ensures;
+          (c.deref-2.ensures.value ∙ c.in_ok-names.ensures ∙ ap (λ (ts : List Thread). c.in-Ok.state.shared.globals ++ flat_map thread_names ts) c.deref.ensures.value) c.in_ok-rows.ensures;
       written = rw (c.deref-4.ensures.value, c.deref-3.ensures.value) at c.in-Ok-write_run.ensures.text;
     }
 
@@ -49,6 +49,6 @@ returns-clause-err g c =
       is = writes (unit_tree c.args.checked.now) c.args.world.now c.args.journal.now c.in-Ok.state c.in_ok-standings.standings.items _ _ _ _ _ replayed c.in_ok-standings.ensures
           c.classes.ensures.classes refl
           (omega (arith, c.made_before.ensures.count, ap (λ os. length os) c.objects.ensures.objects, ap (λ (v : World). length v.classes) replayed.stands.world, ap (λ (v : World). length v.objects) replayed.stands.world))
-          (c.deref-2.ensures.value ∙ c.in_ok-names.ensures ∙ ap (λ (ts : List Thread). flat_map thread_names ts) c.deref.ensures.value) c.in_ok-rows.ensures;
+          (c.deref-2.ensures.value ∙ c.in_ok-names.ensures ∙ ap (λ (ts : List Thread). c.in-Ok.state.shared.globals ++ flat_map thread_names ts) c.deref.ensures.value) c.in_ok-rows.ensures;
       stopped = rw (c.deref-4.ensures.value, c.deref-3.ensures.value) at c.in-Err-write_run.ensures.text;
     }

@@ -1,6 +1,4 @@
-use Rattle.std.proofs.Common.{refl, sym, ap}
-use Rattle.source.specs.Start.{null_statics}
-use Rattle.tasks.specs.Stores.{shared_with}
+use Rattle.std.proofs.Common.{refl, sym}
 use Rattle.syntax.specs.Views.{unit_tree}
 use Rattle.replay.proofs.LoadLemmas.{refused, no_call, not_some, stand_waiting}
 use Rattle.replay.proofs.load.start.Goals as goal
@@ -12,7 +10,7 @@ returns-clause-stands c =
     let none = no_call (refused unit w.classes w.threads) c.in_ok-line.field-0 c.in_ok-line.ensures (not_some c.in_ok-line.field-0 c.in_default.not-Some) in
     record {
       world = refl;
-      shared = ap (shared_with (null_statics unit)) (sym c.in_ok-loaded_store.ensures);
+      shared = sym c.in_ok-loaded.ensures;
       threads = stand_waiting unit w.classes c.in_ok-waiting_threads.field-0.items c.args.world.now.threads c.in_ok-waiting_threads.ensures.waiting none;
       printed = sym c.new.ensures.items;
       stop = refl;

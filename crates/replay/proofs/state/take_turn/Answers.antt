@@ -1,7 +1,8 @@
 use Rattle.std.proofs.Common.{◌≡◌, ℕ, ◌-◌, ◌≤◌, length, get_or, Some, refl, sym, ap, ◌∙◌, subst, arith}
 use Rattle.std.specs.Prelude.{Vec as RawVec, slice_get, vec_len}
 use Rattle.std.specs.Global.{Vec}
-use Rattle.source.specs.Heap.{Heap}
+use Rattle.tasks.specs.declared.shared.Shared.{Shared}
+use Rattle.tasks.specs.Shares.{shared_view}
 use Rattle.source.specs.World.{World}
 use Rattle.std.proofs.lemmas.Option.{slice_get_read}
 use Rattle.syntax.specs.Views.{unit_tree}
@@ -41,8 +42,8 @@ returns-clause-step c = λ w s h.
     let unit = unit_tree c.args.items.now in
     let m = c.args.state.now in
     let noted = c.in_ok-possible.ensures.noted in
-    let step = subst (λ (v : World). TakesStep unit v.classes c.args.refused m.store c.index_mut-thread.result.now c.in_ok-step.step c.note.new.state.store c.take_step.new.thread) (sym h.world)
-    (subst (λ (heap : Heap). TakesStep unit m.world.now.classes c.args.refused m.store c.index_mut-thread.result.now c.in_ok-step.step heap c.take_step.new.thread) (sym noted.store) c.in_ok-step.ensures.step) in
+    let step = subst (λ (v : World). TakesStep unit v.classes c.args.refused (shared_view m.shared) c.index_mut-thread.result.now c.in_ok-step.step (shared_view c.note.new.state.shared) c.take_step.new.thread) (sym h.world)
+    (subst (λ (s' : Shared). TakesStep unit m.world.now.classes c.args.refused (shared_view m.shared) c.index_mut-thread.result.now c.in_ok-step.step (shared_view s') c.take_step.new.thread) (sym noted.shared) c.in_ok-step.ensures.step) in
     rw c.in_ok-possible.ensures.possible (takes unit w m s h c.requires.range c.args.k c.args.refused (c.from-number.result - 1) c.index_mut-thread.result.now c.take_step.new.thread c.in_ok-step.step c.note.new.state
     (omega arith) at (sym c.is_unfinished.ensures ∙ c.if-not-is_unfinished.false) (sym c.is_some.ensures ∙ c.if-is_some.false) step
     noted.world (ap (λ (v : Vec Thread). v.items) noted.threads) noted.printed noted.stop)

@@ -13,15 +13,15 @@ term_of-requires c =
     turn.0
 
 pub returns-then-refused-clause-step : goal.returns-then-refused-clause-step
-returns-then-refused-clause-step c = λ unit classes heap.
+returns-then-refused-clause-step c = λ classes shared.
     let old = c.args.activation.now in
-    subst (λ b. Advances unit classes b heap old outcome.Impossible heap old) (sym c.if-refused.true) (nothing_to_refuse unit classes heap old old c.requires.task c.requires.rest)
+    subst (λ b. Advances classes b shared old outcome.Impossible shared old) (sym c.if-refused.true) (nothing_to_refuse classes shared old old c.requires.task c.requires.rest)
 
 pub returns-in-If-clause-step : goal.returns-in-If-clause-step
-returns-in-If-clause-step c = λ unit classes heap.
+returns-in-If-clause-step c = λ classes shared.
     let old = c.args.activation.now in
     let new : Activation = record old { rest = c.in-Some.outer.rest; outer = c.pop.new.self } in
-    subst (λ b. Advances unit classes b heap old outcome.Ends heap new) (sym c.if-refused.false) (if_over unit classes heap old new c.requires.task c.requires.rest c.pop.new.self.items c.in-Some.outer c.in-Some.ensures.items refl refl (record { variables = refl; frame = refl; pending = refl }) c.in-If.is c.requires.task)
+    subst (λ b. Advances classes b shared old outcome.Ends shared new) (sym c.if-refused.false) (if_over classes shared old new c.requires.task c.requires.rest c.pop.new.self.items c.in-Some.outer c.in-Some.ensures.items refl refl (record { variables = refl; frames = refl; pending = refl }) c.in-If.is c.requires.task)
 
 pub returns-in-If-clause-range : goal.returns-in-If-clause-range
 returns-in-If-clause-range c =
@@ -29,10 +29,10 @@ returns-in-If-clause-range c =
     record { begun = c.requires.range.begun; rest = parts.2; outer = parts.0 }
 
 pub returns-in_ok-term-in-Turn-clause-step : goal.returns-in_ok-term-in-Turn-clause-step
-returns-in_ok-term-in-Turn-clause-step c = λ unit classes heap.
+returns-in_ok-term-in-Turn-clause-step c = λ classes shared.
     let old = c.args.activation.now in
     let new : Activation = record old { task = c.put_task.new.place; rest = c.in-Some.outer.rest; outer = c.pop.new.self } in
-    subst (λ b. Advances unit classes b heap old outcome.Stays heap new) (sym c.if-refused.false) (turn_over unit classes heap old new c.requires.task c.requires.rest c.pop.new.self.items c.in-Some.outer c.in-Some.ensures.items refl refl (record { variables = refl; frame = refl; pending = refl })
+    subst (λ b. Advances classes b shared old outcome.Stays shared new) (sym c.if-refused.false) (turn_over classes shared old new c.requires.task c.requires.rest c.pop.new.self.items c.in-Some.outer c.in-Some.ensures.items refl refl (record { variables = refl; frames = refl; pending = refl })
     c.in-Turn.line c.in-Turn.test c.in_ok-term-in-Turn.term c.in-Turn.body c.in-Turn.is c.put_task.ensures c.in_ok-term-in-Turn.ensures.view)
 
 pub returns-in_ok-term-in-Turn-clause-range : goal.returns-in_ok-term-in-Turn-clause-range

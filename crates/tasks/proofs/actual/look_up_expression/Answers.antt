@@ -1,4 +1,4 @@
-use Rattle.std.proofs.Common.{◌≡◌, [], refl, sym, ◌∙◌}
+use Rattle.std.proofs.Common.{◌≡◌, refl, sym, ◌∙◌}
 use Rattle.syntax.specs.Tree.{Expr}
 use Rattle.syntax.specs.Views.{expr_tree}
 use Rattle.syntax.specs.declared.declared_type.ElementType.{ElementType}
@@ -7,8 +7,8 @@ use Rattle.jni.specs.declared.kinds.ParameterKind.{ParameterKind}
 use Rattle.jni.specs.declared.kinds.ParameterKind.TheVariants as parameter
 use Rattle.jni.specs.Table.{parameter_value}
 use Rattle.source.specs.Arguments.{look_up_expression, reference_argument}
-use Rattle.source.specs.Sight.{Sight, seen}
-use Rattle.terms.specs.Views.{variables_view}
+use Rattle.source.specs.Sight.{Sight}
+use Rattle.tasks.specs.Shares.{shared_view, sight_in}
 use Rattle.tasks.proofs.actual.look_up_expression.Goals as goal
 
 -- a parameter that is none of those before
@@ -31,9 +31,9 @@ by_default sight e parameter.Mode f a b m i = absurd (m refl)
 by_default sight e parameter.IsCopy f a b m i = absurd (i refl)
 
 pub returns-in-FieldID : goal.returns-in-FieldID
-returns-in-FieldID c = rw c.in-FieldID.is c.field_argument.ensures
+returns-in-FieldID c = rw c.in-FieldID.is (c.field_argument.ensures (shared_view c.args.shared.now))
 
 pub returns-in_default : goal.returns-in_default
 returns-in_default c =
     c.reference_argument.ensures
-    ∙ sym (by_default (seen (variables_view c.args.variables.now) [] []) (expr_tree c.args.e.now) c.args.parameter c.in_default.not-FieldID c.in_default.not-ArrayVariable c.in_default.not-BufferVariable c.in_default.not-Mode c.in_default.not-IsCopy)
+    ∙ sym (by_default (sight_in (shared_view c.args.shared.now) c.args.variables.now) (expr_tree c.args.e.now) c.args.parameter c.in_default.not-FieldID c.in_default.not-ArrayVariable c.in_default.not-BufferVariable c.in_default.not-Mode c.in_default.not-IsCopy)

@@ -1,8 +1,6 @@
 use Rattle.std.proofs.Common.{◌≡◌, ◌+◌, true, List, length, map, refl, sym, ◌∙◌, subst, arith}
 use Rattle.std.specs.Prelude.{slice_set}
 use Rattle.std.proofs.lemmas.Option.{slice_get_read}
-use Rattle.syntax.specs.Views.{unit_tree}
-use Rattle.source.specs.Start.{null_statics}
 use Rattle.tasks.specs.declared.task.Operand.{Operand}
 use Rattle.tasks.specs.Calls.{ReducesFirst, ReducesOne}
 use Rattle.source.specs.Effect.{is_ready}
@@ -24,7 +22,7 @@ reduce_one-reduction-requires c =
 pub returns-then-is_some-clause-step : goal.returns-then-is_some-clause-step
 returns-then-is_some-clause-step c =
     let vs = variables_view c.args.variables.now in
-    let ss = null_statics (unit_tree c.args.items.now) in
+    let ss = c.args.statics.now in
     let os = c.loop-place.operands in
     let o = c.index-operands-place.result in
     let took = c.reduce_one-reduction.result in
@@ -40,7 +38,7 @@ returns-then-is_some-clause-numbers c = operand_set c.loop-place.operands c.loop
 pub loop-place-preserved : goal.loop-place-preserved
 loop-place-preserved c =
     let vs = variables_view c.args.variables.now in
-    let ss = null_statics (unit_tree c.args.items.now) in
+    let ss = c.args.statics.now in
     let os = c.loop-place.operands in
     let o = c.index-operands-place.result in
     let took = c.reduce_one-reduction.result in
@@ -56,7 +54,7 @@ loop-place-preserved c =
 pub returns-clause-step : goal.returns-clause-step
 returns-clause-step c =
     let vs = variables_view c.args.variables.now in
-    let ss = null_statics (unit_tree c.args.items.now) in
+    let ss = c.args.statics.now in
     let os = c.loop-place.operands in
     let none = none_first vs ss os (λ i o low there. c.loop-place.invariant.1 i o (omega (arith, low, c.loop-place-test.false, c.loop-place.auto.operands)) there) in
     (subst (λ (xs : List Operand). is_ready (map operand_view xs) ≡ true) c.loop-place.invariant.0 none.0, c.loop-place.invariant.0)

@@ -1,7 +1,6 @@
 use Rattle.std.proofs.Common.{None, ap, ◌∙◌, rules}
-use Rattle.syntax.specs.Views.{unit_tree}
-use Rattle.source.specs.Start.{null_statics}
-use Rattle.source.specs.Variable.{Variable, FieldHandle, assign}
+use Rattle.source.specs.Variable.{Variable, FieldHandle, StaticReference, assign}
+use Rattle.tasks.proofs.CallLemmas.{if_ok}
 use Rattle.tasks.specs.Answers.{given_view}
 use Rattle.terms.specs.Views.{content_view, variables_view}
 use Rattle.tasks.proofs.PutLemmas.{content_set, assigned_leaves, static_leaves}
@@ -14,12 +13,15 @@ returns-in-Some c = λ s t h.
     let old = c.args.variables.now.items in
     let v = c.index_mut-variable.result.now in
     let there = variable_at x (content_view v.content) old c.in-Some.place v (search rules) (search rules) in
-    rw c.in-Assigned.is (assigned_leaves (null_statics (unit_tree c.args.items.now)) old _ x (content_view v.content) (given_view c.args.given)
+    rw c.in-Assigned.is (assigned_leaves c.args.frames c.args.statics.now old _ x (content_view v.content) (given_view c.args.given)
     (variable_found x (content_view v.content) old c.in-Some.place v (search rules) there).0
     (content_set x old c.in-Some.place v c.fill.new.content (search rules) there ∙ ap (λ (w : Variable). assign x w (variables_view old)) c.fill.ensures)
     s t h)
 
-pub returns-else-gives_object : goal.returns-else-gives_object
-returns-else-gives_object c = λ s t h.
+pub returns-in-None : goal.returns-in-None
+returns-in-None c =
     let x = c.in-Assigned.name.now in
-    rw c.in-Assigned.is (static_leaves (unit_tree c.args.items.now) c.args.variables.now.items x c.args.given (search rules) (variable_missing x (FieldHandle None) c.args.variables.now.items (search rules)) (search rules) s t h)
+    let old = c.args.variables.now.items in
+    if_ok c.set.result
+    (λ done is. rw c.in-Assigned.is (static_leaves c.args.frames c.args.statics.now c.set.new.self old x (given_view c.args.given) (variable_missing x (FieldHandle None) old (search rules)) (is ∙ ap (λ (r : StaticReference). assign x r c.args.statics.now) c.static_result.ensures)))
+    c.set.ensures

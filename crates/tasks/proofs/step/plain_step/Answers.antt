@@ -1,6 +1,4 @@
 use Rattle.std.proofs.Common.{◌≡◌, sym, subst, rules}
-use Rattle.syntax.specs.Views.{unit_tree}
-use Rattle.source.specs.Start.{null_statics}
 use Rattle.terms.specs.Views.{variables_view}
 use Rattle.tasks.specs.declared.task.Task.{Task}
 use Rattle.tasks.specs.Steps.{HasEffect}
@@ -10,5 +8,5 @@ use Rattle.tasks.proofs.step.plain_step.Goals as goal
 pub returns-in-Branch-clause-step : goal.returns-in-Branch-clause-step
 returns-in-Branch-clause-step c =
     let same : c.args.task.now ≡ branch_task c.in-Branch.c.line c.in-Branch.c.test c.in-Branch.c.block c.in-Branch.c.otherwise = search rules in
-    subst (λ (u : Task). HasEffect (variables_view c.args.variables.now) (null_statics (unit_tree c.args.items.now)) u c.branch-items.result (branch_task c.in-Branch.c.line c.branch-items.new.t c.in-Branch.c.block c.in-Branch.c.otherwise))
-    (sym same) c.branch-items.ensures.step
+    subst (λ (u : Task). HasEffect (variables_view c.args.variables.now) c.args.statics.now u c.branch-statics.result (branch_task c.in-Branch.c.line c.branch-statics.new.t c.in-Branch.c.block c.in-Branch.c.otherwise))
+    (sym same) c.branch-statics.ensures.step

@@ -1,5 +1,3 @@
-use Rattle.syntax.specs.Views.{unit_tree}
-use Rattle.source.specs.Start.{null_statics}
 use Rattle.terms.specs.Views.{variables_view}
 use Rattle.tasks.proofs.TaskLemmas.{index_reduces}
 use Rattle.tasks.proofs.step.set_element.Goals as goal
@@ -9,4 +7,4 @@ returns-in-Done-clause-step c = rw c.in-Done.is c.set_at.ensures.step
 
 pub returns-in_default-clause-step : goal.returns-in_default-clause-step
 returns-in_default-clause-step c =
-    rw c.reduced.ensures.view (index_reduces (variables_view c.args.variables.now) (null_statics (unit_tree c.args.items.now)) c.args.line _ _ _ c.in_default.not-Done c.reduce.ensures.step c.args.name c.args.t.now)
+    rw c.reduced.ensures.view (index_reduces (variables_view c.args.variables.now) c.args.statics.now c.args.line _ _ _ c.in_default.not-Done c.reduce.ensures.step c.args.name c.args.t.now)

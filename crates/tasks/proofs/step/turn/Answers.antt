@@ -1,6 +1,5 @@
 use Rattle.std.proofs.Common.{◌≡◌, true}
-use Rattle.syntax.specs.Views.{expr_tree, block_tree, unit_tree}
-use Rattle.source.specs.Start.{null_statics}
+use Rattle.syntax.specs.Views.{expr_tree, block_tree}
 use Rattle.source.specs.Task.{EndTurn}
 use Rattle.terms.specs.declared.term.Term.TheVariants as term
 use Rattle.terms.specs.declared.value.Value.TheVariants as value
@@ -10,7 +9,7 @@ use Rattle.tasks.proofs.step.turn.Goals as goal
 
 pub returns-in_default-clause-step : goal.returns-in_default-clause-step
 returns-in_default-clause-step c =
-    rw c.reduced.ensures.view (loop_reduces (variables_view c.args.variables.now) (null_statics (unit_tree c.args.items.now)) c.args.line _ _ _ c.in_default.not-Done c.reduce.ensures.step c.args.test c.args.body)
+    rw c.reduced.ensures.view (loop_reduces (variables_view c.args.variables.now) c.args.statics.now c.args.line _ _ _ c.in_default.not-Done c.reduce.ensures.step c.args.test c.args.body)
 
 pub returns-in-Truth-true-clause-step : goal.returns-in-Truth-true-clause-step
 returns-in-Truth-true-clause-step c =

@@ -1,6 +1,4 @@
 use Rattle.std.proofs.Common.{Option, ap, sym, ◌∙◌}
-use Rattle.syntax.specs.Views.{unit_tree}
-use Rattle.source.specs.Start.{null_statics}
 use Rattle.source.specs.Value.{Gives}
 use Rattle.terms.specs.declared.value.Evaluated.{Evaluated}
 use Rattle.terms.specs.Views.{term_view, variables_view, decided, right_side}
@@ -9,7 +7,7 @@ use Rattle.terms.proofs.reduction.settle.Goals as goal
 
 pub returns-in-Some-clause-step : goal.returns-in-Some-clause-step
 returns-in-Some-clause-step c =
-    replaced (variables_view c.args.variables.now) (null_statics (unit_tree c.args.items.now)) c.args.term.now c.replace.new.term c.in-Some.value c.replace.result c.replace.ensures
+    replaced (variables_view c.args.variables.now) c.args.statics.now c.args.term.now c.replace.new.term c.in-Some.value c.replace.result c.replace.ensures
     (λ heap. c.value_of.ensures c.requires.values heap ∙ ap (λ (o : Option Evaluated). decided o (right_side (term_view c.args.term.now))) c.in-Some.is)
 
 pub returns-in-None-clause-step : goal.returns-in-None-clause-step

@@ -1,3 +1,6 @@
+use Rattle.types.specs.SortRules.{IsSorted}
+use Rattle.regions.specs.Regions.{HasRegions}
+use Rattle.machine.proofs.SafeLoads.{all_load, all_have_calls}
 use Rattle.std.proofs.Common.{◌≡◌, ℕ, List, [], Option, length, replicate, refl, sym, ap, ◌∙◌, subst, arith}
 use Rattle.syntax.specs.Views.{unit_tree}
 use Rattle.source.specs.Start.{start, waiting_thread}
@@ -22,6 +25,9 @@ invariant_of-result c =
     let count : length c.in-Ok.threads.items ≡ length c.args.world.threads = agree_length _ _ _ _ _ _ _ agree ∙ length-map c.args.world.threads waiting_thread in
     record {
       lowered = c.items.ensures.lowered;
+      safe = c.accepted_is_safe.ensures (unit_tree c.args.program.unit) w
+          (subst (λ (l : List Item). IsSorted (unit_tree l)) c.items.ensures.items c.items.ensures.sorted) (subst (λ (l : List Item). HasRegions (unit_tree l)) c.items.ensures.items c.items.ensures.regions)
+          (all_load (unit_tree c.args.program.unit) w.classes w.threads c.in-Ok.ensures.all) (all_have_calls w.threads c.threads.ensures.sound.calls);
       state = s;
       replays = rw c.new-in-Ok.ensures.items refl;
       store_agrees = record {

@@ -1,0 +1,189 @@
+-- Names and frames that lie in memory, the last first.
+use Rattle.std.proofs.Common.{◌≡◌, ℕ, zero, suc, ◌+◌, ◌-◌, ◌<◌, ◌≤◌, Bool, true, false, cond, List, [], ◌∷◌, ◌++◌, length, map, drop, take, reverse, slice_get, Some, refl, sym, ap, ◌∙◌, arith, append_assoc, append-nil, get_or}
+use Rattle.std.specs.Prelude.{remove, ◌==◌, slice_set}
+use Rattle.std.proofs.lemmas.List.{reverse-append, map-append, length-reverse, length-append}
+use Rattle.std.proofs.lemmas.List.Sums.{sum_by-cons}
+use Rattle.std.proofs.lemmas.Option.{slice_get_read}
+use Rattle.std.proofs.lemmas.Grind.{flat_map-append}
+use Rattle.source.specs.CallEffects.{deleted_in, without_local, without_one}
+use Rattle.source.specs.Thread.{Frame, capacities}
+use Rattle.tasks.specs.declared.frame.Frame.{Frame as InMemory}
+use Rattle.tasks.specs.Frames.{frame_view, frames_view, references_in, without_in}
+use Rattle.tasks.proofs.Lists.{take_next}
+
+drop_next : {A : Type 0} (xs : List A) (i : ℕ) (x : A) → slice_get xs i ≡ Some x → drop i xs ≡ x ∷ drop (i + 1) xs
+drop_next [] i x h = absurd (cc)
+drop_next {A} (y ∷ xs) zero x h = let same : y ≡ x = cc in ap (λ (z : A). z ∷ xs) same
+drop_next (y ∷ xs) (suc i) x h = let e : suc i + 1 ≡ suc (i + 1) = omega arith in rw e (drop_next xs i x h)
+
+-- an element more at the end is one more at the beginning
+last_first : {A : Type 0} (xs : List A) (p : ℕ) (x : A) → slice_get xs p ≡ Some x → reverse (take (p + 1) xs) ≡ x ∷ reverse (take p xs)
+last_first xs p x at = ap reverse (take_next xs p x at) ∙ reverse-append (take p xs) (x ∷ [])
+
+first_last : {A : Type 0} (xs : List A) (p : ℕ) (x : A) → slice_get xs p ≡ Some x → reverse (drop p xs) ≡ reverse (drop (p + 1) xs) ++ x ∷ []
+first_last xs p x at = ap reverse (drop_next xs p x at) ∙ reverse-append (x ∷ []) (drop (p + 1) xs)
+
+-- ---- names
+
+module _ (n : ℕ) (xs : List ℕ) where
+  -- the names after a place are others
+  abbrev pub AreOthers : ℕ → Type 0
+  AreOthers q = without_one n (reverse xs) ≡ reverse (drop q xs) ++ without_one n (reverse (take q xs))
+
+  at_last : (p x : ℕ) (b : Bool) → slice_get xs p ≡ Some x → (n == x) ≡ b → AreOthers (p + 1)
+      → without_one n (reverse xs) ≡ reverse (drop (p + 1) xs) ++ cond b (reverse (take p xs)) (x ∷ without_one n (reverse (take p xs)))
+  at_last p x b at is h =
+      h
+      ∙ ap (λ (l : List ℕ). reverse (drop (p + 1) xs) ++ without_one n l) (last_first xs p x at)
+      ∙ ap (λ (c : Bool). reverse (drop (p + 1) xs) ++ cond c (reverse (take p xs)) (x ∷ without_one n (reverse (take p xs)))) is
+
+  pub passed : (p q x : ℕ) → q ≡ p + 1 → slice_get xs p ≡ Some x → (n == x) ≡ false → AreOthers q → AreOthers p
+  passed p q x next at is h =
+      at_last p x false at is (rw next at h)
+      ∙ sym (append_assoc (reverse (drop (p + 1) xs)) (x ∷ []) (without_one n (reverse (take p xs))))
+      ∙ ap (λ (l : List ℕ). l ++ without_one n (reverse (take p xs))) (sym (first_last xs p x at))
+
+  pub found : (p q x : ℕ) → q ≡ p + 1 → slice_get xs p ≡ Some x → (n == x) ≡ true → AreOthers q → without_one n (reverse xs) ≡ reverse (remove xs p)
+  found p q x next at is h =
+      let e : p + 1 ≡ suc p = omega arith in
+      at_last p x true at is (rw next at h)
+      ∙ sym (reverse-append (take p xs) (drop (p + 1) xs))
+      ∙ ap (λ (m : ℕ). reverse (take p xs ++ drop m xs)) e
+
+  pub none_found : (q : ℕ) → q ≡ 0 → AreOthers q → without_one n (reverse xs) ≡ reverse xs
+  none_found q is h = (rw is at h) ∙ append-nil (reverse xs)
+
+-- ---- frames
+
+-- the references in the frames from a place on
+abbrev pub references_from : List InMemory → ℕ → List ℕ
+references_from xs q = references_in (reverse (map frame_view (drop q xs)))
+
+pub references_next : (xs : List InMemory) (p q : ℕ) (x : InMemory) → q ≡ p + 1 → slice_get xs p ≡ Some x → references_from xs p ≡ references_from xs q ++ x.references
+references_next xs p q x next at =
+    ap (λ (fs : List InMemory). references_in (reverse (map frame_view fs))) (drop_next xs p x at)
+    ∙ ap references_in (reverse-append (frame_view x ∷ []) (map frame_view (drop (p + 1) xs)))
+    ∙ flat_map-append (λ (f : Frame). f.references) (reverse (map frame_view (drop (p + 1) xs))) (frame_view x ∷ [])
+    ∙ ap (λ (l : List ℕ). references_from xs (p + 1) ++ l) (append-nil x.references)
+    ∙ ap (λ (m : ℕ). references_from xs m ++ x.references) (sym next)
+
+-- ---- one frame among them
+
+set_last : {A : Type 0} (xs : List A) (x y : A) → slice_set (xs ++ x ∷ []) (length xs) y ≡ xs ++ y ∷ []
+set_last [] x y = refl
+set_last {A} (z ∷ xs) x y = ap (λ (l : List A). z ∷ l) (set_last xs x y)
+
+get_last : {A : Type 0} (xs : List A) (x : A) → slice_get (xs ++ x ∷ []) (length xs) ≡ Some x
+get_last [] x = refl
+get_last (z ∷ xs) x = get_last xs x
+
+set_before : {A : Type 0} (xs ys : List A) (j : ℕ) (v : A) → j < length xs → slice_set (xs ++ ys) j v ≡ slice_set xs j v ++ ys
+set_before [] ys j v low = absurd (omega (arith, low))
+set_before (x ∷ xs) ys zero v low = refl
+set_before {A} (x ∷ xs) ys (suc j) v low = ap (λ (l : List A). x ∷ l) (set_before xs ys j v (omega (arith, low)))
+
+get_before : {A : Type 0} (xs ys : List A) (j : ℕ) → j < length xs → slice_get (xs ++ ys) j ≡ slice_get xs j
+get_before [] ys j low = absurd (omega (arith, low))
+get_before (x ∷ xs) ys zero low = refl
+get_before (x ∷ xs) ys (suc j) low = get_before xs ys j (omega (arith, low))
+
+set_reversed : {A : Type 0} (xs : List A) (p j : ℕ) (v : A) → length xs ≡ p + 1 + j → slice_set (reverse xs) j v ≡ reverse (slice_set xs p v)
+set_reversed [] p j v counted = absurd (omega (arith, counted))
+set_reversed {A} (x ∷ xs) zero j v counted =
+    let at : j ≡ length (reverse xs) = omega (arith, counted, length-reverse xs) in
+    ap (λ (l : List A). slice_set l j v) (reverse-append (x ∷ []) xs)
+    ∙ ap (λ i. slice_set (reverse xs ++ x ∷ []) i v) at
+    ∙ set_last (reverse xs) x v
+    ∙ sym (reverse-append (v ∷ []) xs)
+set_reversed {A} (x ∷ xs) (suc p) j v counted =
+    ap (λ (l : List A). slice_set l j v) (reverse-append (x ∷ []) xs)
+    ∙ set_before (reverse xs) (x ∷ []) j v (omega (arith, counted, length-reverse xs))
+    ∙ ap (λ (l : List A). l ++ x ∷ []) (set_reversed xs p j v (omega (arith, counted)))
+    ∙ sym (reverse-append (x ∷ []) (slice_set xs p v))
+
+get_reversed : {A : Type 0} (xs : List A) (p j : ℕ) → length xs ≡ p + 1 + j → slice_get (reverse xs) j ≡ slice_get xs p
+get_reversed [] p j counted = absurd (omega (arith, counted))
+get_reversed {A} (x ∷ xs) zero j counted =
+    let at : j ≡ length (reverse xs) = omega (arith, counted, length-reverse xs) in
+    ap (λ (l : List A). slice_get l j) (reverse-append (x ∷ []) xs)
+    ∙ ap (λ i. slice_get (reverse xs ++ x ∷ []) i) at
+    ∙ get_last (reverse xs) x
+get_reversed {A} (x ∷ xs) (suc p) j counted =
+    ap (λ (l : List A). slice_get l j) (reverse-append (x ∷ []) xs)
+    ∙ get_before (reverse xs) (x ∷ []) j (omega (arith, counted, length-reverse xs))
+    ∙ get_reversed xs p j (omega (arith, counted))
+
+map_set : {A B : Type 0} (f : A → B) (xs : List A) (p : ℕ) (v : A) → map f (slice_set xs p v) ≡ slice_set (map f xs) p (f v)
+map_set f [] p v = refl
+map_set f (x ∷ xs) zero v = refl
+map_set {A} {B} f (x ∷ xs) (suc p) v = ap (λ (l : List B). f x ∷ l) (map_set f xs p v)
+
+map_get : {A B : Type 0} (f : A → B) (xs : List A) (p : ℕ) (x : A) → slice_get xs p ≡ Some x → slice_get (map f xs) p ≡ Some (f x)
+map_get f [] p x at = absurd (cc)
+map_get f (y ∷ xs) zero x at = let same : y ≡ x = cc in ap (λ z. Some (f z)) same
+map_get f (y ∷ xs) (suc p) x at = map_get f xs p x at
+
+map_length : {A B : Type 0} (f : A → B) (xs : List A) → length (map f xs) ≡ length xs
+map_length f [] = refl
+map_length f (x ∷ xs) = ap suc (map_length f xs)
+
+-- a frame of the same capacity in its place
+same_capacities : (frames : List Frame) (j : ℕ) (old new : Frame) → slice_get frames j ≡ Some old → new.capacity ≡ old.capacity → capacities (slice_set frames j new) ≡ capacities frames
+same_capacities [] j old new at same = absurd (cc)
+same_capacities (f ∷ frames) zero old new at same =
+    let here : f ≡ old = cc in
+    sum_by-cons (λ (g : Frame). g.capacity) new frames
+    ∙ ap (λ n. n + capacities frames) (same ∙ ap (λ (g : Frame). g.capacity) (sym here))
+    ∙ sym (sum_by-cons (λ (g : Frame). g.capacity) f frames)
+same_capacities (f ∷ frames) (suc j) old new at same =
+    sum_by-cons (λ (g : Frame). g.capacity) f (slice_set frames j new)
+    ∙ ap (λ n. f.capacity + n) (same_capacities frames j old new at same)
+    ∙ sym (sum_by-cons (λ (g : Frame). g.capacity) f frames)
+
+module _ (current : InMemory) (below : List InMemory) where
+  -- a new frame, and the one that was current below it
+  pub pushed_view : (items : List InMemory) (new x y : InMemory) (i : ℕ) → items ≡ below ++ new ∷ [] → i + 1 ≡ length items → x ≡ get_or items i x → y ≡ current
+      → frames_view x (slice_set items i y) ≡ frame_view new ∷ frames_view current below
+  pushed_view items new x y i is counted at same =
+      let long : length (below ++ new ∷ []) ≡ length below + 1 = length-append below (new ∷ []) in
+      let last : i ≡ length below = omega (arith, counted, ap (λ (l : List InMemory). length l) is, long) in
+      let there : slice_get items i ≡ Some x = slice_get_read items (length items) i x refl (omega (arith, counted)) at in
+      let both : Some x ≡ Some new = sym there ∙ ap (λ (l : List InMemory). slice_get l i) is ∙ ap (slice_get (below ++ new ∷ [])) last ∙ get_last below new in
+      let first : x ≡ new = cc in
+      let rest : slice_set items i y ≡ below ++ current ∷ [] = ap (λ (l : List InMemory). slice_set l i y) is ∙ ap (λ j. slice_set (below ++ new ∷ []) j y) last ∙ set_last below new y ∙ ap (λ (f : InMemory). below ++ f ∷ []) same in
+      ap (λ (l : List InMemory). frames_view x l) rest
+      ∙ ap (λ (f : InMemory). frames_view f (below ++ current ∷ [])) first
+      ∙ ap (λ (l : List Frame). frame_view new ∷ reverse l) (map-append frame_view below (current ∷ []))
+      ∙ ap (λ (l : List Frame). frame_view new ∷ l) (reverse-append (map frame_view below) (frame_view current ∷ []))
+
+  pub pushed_total : (new : InMemory) (total : ℕ) → total ≡ capacities (frames_view current below) → total + new.capacity ≡ capacities (frame_view new ∷ frames_view current below)
+  pushed_total new total is =
+      let whole = sum_by-cons (λ (g : Frame). g.capacity) (frame_view new) (frames_view current below) in
+      omega (arith, is, whole)
+
+  module _ (level n : ℕ) (old new : InMemory) (above : 0 < level) (within : level ≤ length below) (at : slice_get below (level - 1) ≡ Some old) where
+    abbrev place : ℕ
+    place = length below - level
+
+    counted : length (map frame_view below) ≡ (level - 1) + 1 + place
+    counted = omega (arith, map_length frame_view below, above, within)
+
+    from_top : length (frames_view current below) - level ≡ suc place
+    from_top = omega (arith, length-reverse (map frame_view below), map_length frame_view below, above, within)
+
+    there : slice_get (frames_view current below) (suc place) ≡ Some (frame_view old)
+    there = get_reversed (map frame_view below) (level - 1) place counted ∙ map_get frame_view below (level - 1) old at
+
+    set_there : frames_view current (slice_set below (level - 1) new) ≡ slice_set (frames_view current below) (suc place) (frame_view new)
+    set_there =
+        ap (λ (l : List Frame). frame_view current ∷ reverse l) (map_set frame_view below (level - 1) new)
+        ∙ ap (λ (l : List Frame). frame_view current ∷ l) (sym (set_reversed (map frame_view below) (level - 1) place (frame_view new) counted))
+
+    pub removed_view : frame_view new ≡ without_in n (frame_view old) → frames_view current (slice_set below (level - 1) new) ≡ without_local level n (frames_view current below)
+    removed_view is =
+        set_there
+        ∙ ap (slice_set (frames_view current below) (suc place)) (is ∙ ap (deleted_in n) (sym there))
+        ∙ ap (λ i. slice_set (frames_view current below) i (deleted_in n (slice_get (frames_view current below) i))) (sym from_top)
+
+    pub removed_total : new.capacity ≡ old.capacity → capacities (frames_view current below) ≡ capacities (frames_view current (slice_set below (level - 1) new))
+    removed_total same = sym (ap capacities set_there ∙ same_capacities (frames_view current below) (suc place) (frame_view old) (frame_view new) there same)
