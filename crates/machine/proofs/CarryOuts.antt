@@ -18,7 +18,7 @@ use Rattle.machine.proofs.StaticStores.{fresh_global, keeps_but_statics, live_th
 use Rattle.std.specs.Prelude.{slice_get, slice_set, nat_le, if◌then◌else◌}
 use Rattle.std.proofs.lemmas.Option.{slice_get_within}
 use Rattle.classes.specs.Class.{Classes}
-use Rattle.heap.specs.Heap.{Space, with_value}
+use Rattle.heap.specs.Heap.{with_value}
 use Rattle.heap.proofs.Names.{one_address}
 use Rattle.heap.specs.declared.value.Value.{Value}
 use Rattle.jni.specs.Prototype.{ResultKind, NewLocal, NewGlobal, GivesFlag, GivesInt, GivesField, GivesNothing, GivesBuffer}

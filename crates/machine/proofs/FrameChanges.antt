@@ -1,11 +1,11 @@
 -- Frames that are made, that end, and out of which a reference is taken, in memory and in the source.
-use Rattle.std.proofs.Common.{◌≡◌, ◌≢◌, ℕ, zero, suc, ◌+◌, ◌-◌, ◌<◌, ◌≤◌, Bool, true, false, List, [], ◌∷◌, ◌++◌, drop, length, reverse, take, Option, Some, None, refl, sym, ap, ◌∙◌, subst, arith, slice_get, slice_set, nat_le, if◌then◌else◌}
-use Rattle.std.specs.Prelude.{◌==◌, IsSome}
+use Rattle.std.proofs.Common.{◌≡◌, ℕ, zero, suc, ◌+◌, ◌-◌, ◌<◌, ◌≤◌, Bool, true, false, List, [], ◌∷◌, ◌++◌, drop, length, reverse, take, Option, Some, refl, sym, ap, ◌∙◌, subst, arith, slice_get, slice_set, if◌then◌else◌}
+use Rattle.std.specs.Prelude.{◌==◌}
 use Rattle.std.specs.List.{AllZip}
 use Rattle.std.proofs.Math.ListN.{length-reverse}
 use Rattle.std.proofs.lemmas.Bool.Decides.{Decides-eqb}
 use Rattle.std.proofs.lemmas.List.{reverse-append, reverse-reverse}
-use Rattle.heap.specs.Heap.{Space, AreNamesUnique, name_at}
+use Rattle.heap.specs.Heap.{Space, name_at}
 use Rattle.jni.specs.JniFunction.{JniFunction, PopLocalFrame}
 use Rattle.source.specs.CallEffects as source
 use Rattle.source.specs.Checks as checks

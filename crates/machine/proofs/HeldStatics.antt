@@ -1,10 +1,10 @@
 -- What statics hold stands for what they hold in the source.
-use Rattle.std.proofs.Common.{inl, inr, ◌≡◌, ◌≢◌, ℕ, zero, suc, ◌<◌, Bool, true, false, List, [], ◌∷◌, ◌++◌, length, map, replicate, Option, Some, None, refl, sym, ap, ◌∙◌, subst, arith, if◌then◌else◌}
+use Rattle.std.proofs.Common.{◌≡◌, ℕ, zero, suc, ◌<◌, Bool, true, false, List, [], ◌∷◌, ◌++◌, length, map, replicate, Option, Some, None, refl, sym, ap, ◌∙◌, subst, arith, if◌then◌else◌}
 use Rattle.std.specs.Prelude.{slice_get, slice_set, IsSome}
 use Rattle.std.specs.Option.{option_map}
 use Rattle.std.specs.Str.{bytes_eq}
 use Rattle.std.proofs.lemmas.Slice.Eq.{bytes_eq-Decides}
-use Rattle.base.specs.Bytes.{Identifier, ByName, lookup}
+use Rattle.base.specs.Bytes.{Identifier, lookup}
 use Rattle.heap.specs.Heap.{Space}
 use Rattle.syntax.specs.Tree.{Static}
 use Rattle.source.specs.Start.{null_static}
@@ -17,7 +17,6 @@ use Rattle.machine.specs.declared.statics.StaticReference.{StaticReference as In
 use Rattle.machine.specs.declared.statics.StaticReference.TheVariants as static
 use Rattle.machine.specs.Agrees.{HeldAgrees, StaticsAgree}
 use Rattle.machine.specs.Statics.{HaveKeys, all_held, held as held_of, held_or_null, holds_null}
-use Rattle.machine.proofs.Changes.{get_set_other, get_set_same}
 
 -- ---- places
 

@@ -1,5 +1,5 @@
 -- The level beside the slot of a reference that DeleteLocalRef is given.
-use Rattle.std.proofs.Common.{inl, inr, ◌≡◌, ℕ, ◌+◌, ◌-◌, ◌<◌, ◌≤◌, Bool, true, false, List, [], ◌∷◌, length, Option, Some, None, refl, sym, ap, ◌∙◌, subst, arith, nat_le, slice_get, if◌then◌else◌}
+use Rattle.std.proofs.Common.{inl, inr, ◌≡◌, ℕ, ◌-◌, ◌≤◌, Bool, true, false, List, [], ◌∷◌, length, Option, Some, None, refl, sym, ap, ◌∙◌, subst, arith, nat_le, slice_get, if◌then◌else◌}
 use Rattle.std.specs.Prelude.{IsTrue, unwrap_or, ◌==◌}
 use Rattle.std.specs.List.{AllZip, list_any}
 use Rattle.std.proofs.lemmas.Bool.{leb-true}
@@ -12,7 +12,7 @@ use Rattle.source.specs.Object.{Reference}
 use Rattle.source.specs.Sight.{held_reference}
 use Rattle.source.specs.Task.{Task}
 use Rattle.source.specs.Thread.{Frame, Shared, Thread}
-use Rattle.source.specs.Variable.{Variable, Scalar, LocalRef, FieldHandle, Elements, LocalArray, StaticReference, Empty, Live, as_static}
+use Rattle.source.specs.Variable.{Variable, Scalar, LocalRef, FieldHandle, Elements, LocalArray, StaticReference, Empty, as_static}
 use Rattle.code.specs.declared.instr.Operand.{Operand}
 use Rattle.code.specs.declared.instr.Operand.TheVariants as operand
 use Rattle.code.specs.Depth.{Listing}

@@ -1,5 +1,5 @@
 -- The static whose global reference DeleteGlobalRef is given.
-use Rattle.std.proofs.Common.{◌≡◌, ℕ, List, [], ◌∷◌, Some, refl, sym, ap, ◌∙◌, subst}
+use Rattle.std.proofs.Common.{◌≡◌, ℕ, List, [], ◌∷◌, Some, sym, ap, ◌∙◌, subst}
 use Rattle.std.specs.List.{AllZip}
 use Rattle.base.specs.Bytes.{Identifier}
 use Rattle.classes.specs.Class.{Classes}

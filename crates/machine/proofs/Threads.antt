@@ -1,7 +1,7 @@
 -- A thread's step is that of the source's thread.
 use Rattle.source.proofs.BuiltCalls.{waits_for_none}
 use Rattle.std.proofs.Common.{zip, ◌≡◌, ℕ, zero, suc, ◌+◌, ◌-◌, ◌<◌, ◌≤◌, Bool, true, false, List, [], ◌∷◌, ◌++◌, length, filter_map, map, reverse, replicate, cond, eqb, Option, Some, None, refl, sym, ap, ◌∙◌, subst, arith, append_assoc, length-append, if◌then◌else◌}
-use Rattle.std.specs.Prelude.{find, slice_get, nat_lt, nat_le, ◌&&◌, ◌||◌, IsTrue}
+use Rattle.std.specs.Prelude.{find, slice_get, nat_lt, nat_le, ◌&&◌}
 use Rattle.std.specs.List.{list_all}
 use Rattle.std.specs.Str.{bytes_eq}
 use Rattle.std.specs.Option.{option_map, option_map_or, option_and_then}

@@ -1,5 +1,5 @@
 -- Variables that can be NULL.
-use Rattle.std.specs.Prelude.{ℕ, ◌<◌, Bool, true, is_none, List, slice_get, slice_set, Option, Some, None}
+use Rattle.std.specs.Prelude.{ℕ, ◌<◌, Bool, true, is_none, List, slice_get, slice_set, Option, None}
 use Rattle.class_table.specs.declared.class.FieldHandle.{FieldHandle}
 use Rattle.code.specs.declared.instr.NullableVariable.{NullableVariable}
 use Rattle.code.specs.declared.instr.NullableVariable.TheVariants.{Local, Static, FieldId}
