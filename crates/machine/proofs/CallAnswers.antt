@@ -529,8 +529,8 @@ module _ (p : Lowered) (w : World) (store : Store) (pending : Option ℕ) (call 
   answers_delete_global held h answer is =
       subst (λ (x : Answer). Does DeleteGlobalRef x) (sym is)
       (let static = only_static function.operands h.kinds in
-       subst (λ (o : Operand). IsAnswer w.classes store.heap GivesNothing shared s (deletes_global (at 0) o) (delete_global_effect shared s (variable_given args 0) (reference_given args 0))) (sym static.1)
-       (by_reference static.0 (at 0) (reference_given args 0) (λ n given. held refl static.0 n static.1 given) (agrees DeleteGlobalRef h 0)))
+      subst (λ (o : Operand). IsAnswer w.classes store.heap GivesNothing shared s (deletes_global (at 0) o) (delete_global_effect shared s (variable_given args 0) (reference_given args 0))) (sym static.1)
+      (by_reference static.0 (at 0) (reference_given args 0) (λ n given. held refl static.0 n static.1 given) (agrees DeleteGlobalRef h 0)))
     where
       by_reference : (i : ℕ) (o : Option ℕ) (r : Reference) → ((n : ℕ) → r ≡ Some n → HoldsObject shared (variable_given args 0) i n) → ReferenceAgrees store.heap o r → IsAnswer w.classes store.heap GivesNothing shared s (deletes_global o (operand.Static i)) (delete_global_effect shared s (variable_given args 0) r)
       by_reference i None None holds agree = (refl, refl, tt)
