@@ -1,5 +1,5 @@
 -- A journal's replay goes on by an entry, or stops before it.
-use Rattle.std.proofs.Common.{◌≡◌, ℕ, ◌+◌, ◌<◌, ◌≤◌, true, false, List, ◌∷◌, ◌++◌, length, map, drop, take, Option, Some, None, refl, sym, ap, ◌∙◌, subst, arith}
+use Rattle.std.proofs.Common.{Contains, ◌≡◌, ℕ, ◌+◌, ◌<◌, ◌≤◌, true, false, List, ◌∷◌, ◌++◌, length, map, drop, take, Option, Some, None, refl, sym, ap, ◌∙◌, subst, arith}
 use Rattle.std.specs.Prelude.{slice_get, is_some}
 use Rattle.std.specs.List.{flat_map}
 use Rattle.std.specs.Option.{option_and_then, option_map}
@@ -11,7 +11,7 @@ use Rattle.source.specs.JournalText.{journal_line}
 use Rattle.classes.specs.Class.{Classes}
 use Rattle.reached.specs.Rows.{AreReported}
 use Rattle.source.specs.Heap.{Heap}
-use Rattle.source.specs.Reachable.{from_one, loaded_count}
+use Rattle.source.specs.Reachable.{roots, from_one, loaded_count}
 use Rattle.source.specs.Report.{Report, ShownRow}
 use Rattle.source.specs.ReportOf.{report}
 use Rattle.source.specs.Thread.{Shared}
@@ -123,13 +123,15 @@ ends unit w journal m h = record {
 rows_are : (unit : SourceUnit) (w : World) (m : StateInMemory) (s : State) (classes : Classes) (objects : Heap) (loaded : ℕ) (names : List ℕ) (rows : List ShownRow) → Stands unit w m s
     → classes ≡ m.world.now.classes → objects ≡ m.shared.store → loaded ≡ loaded_count w → names ≡ m.shared.globals ++ flat_map thread_names m.threads.items → AreReported classes objects loaded names rows → rows ≡ (report w s).objects
 rows_are unit w m s classes objects loaded names rows h k o l n told =
+    let same : roots w s ≡ from_one loaded ++ names =
+    roots_are unit w m s h
+    ∙ ap (λ c. from_one c ++ (m.shared.globals ++ flat_map thread_names m.threads.items)) (sym l)
+    ∙ ap (λ (ns : List ℕ). from_one loaded ++ ns) (sym n) in
     told w s (record {
       classes = ap (λ (v : World). v.classes) h.world ∙ sym k;
       heap = ap (λ (x : Shared). x.heap) h.shared ∙ sym o;
-      roots =
-          roots_are unit w m s h
-          ∙ ap (λ c. from_one c ++ (m.shared.globals ++ flat_map thread_names m.threads.items)) (sym l)
-          ∙ ap (λ (ns : List ℕ). from_one loaded ++ ns) (sym n);
+      sound = λ i there. subst (λ (l : List ℕ). Contains l i) same there;
+      complete = λ i there. subst (λ (l : List ℕ). Contains l i) (sym same) there;
     })
 
 -- what is written from the state in memory is what the run writes
