@@ -28,7 +28,7 @@ use Rattle.source.specs.Task.{Task, SetScalar, Branch, ReturnValue, Target, Decl
 use Rattle.code_generator.specs.Layout.{Slot, Known, Layout, new_slot, closed, layout_after, block_layout}
 use Rattle.code_generator.specs.Coding.{nullable_of, store_of, element_of, write_code, of_slot, operand_of, address_operand, term_code, expr_code, value_code, right_code, assign_code, returned_code, return_code, ways_code, turn_code, loop_code, if_code, stmt_code, block_code, named_call_code, operand_code, argument_code, arguments_code, argument_text, arguments_texts, result_target}
 use Rattle.lower.specs.Slots.{IsNumberSort}
-use Rattle.lower.specs.Fits.{IsUntouched, NumberFits, IndexWithin, IsLaidOut, HasRoomFor, IsVariable, TakesLocal, TakesGlobal, NameFits, ArrayFits, BufferFits, ArgumentFits, ValueFits, RightFits, TestFits, ReturnFits, StmtFits, BlockFits, CallFits, ReferenceFits, FieldFits, ResultFits}
+use Rattle.lower.specs.Fits.{IsUntouched, NumberFits, IndexWithin, IsLaidOut, HaveOwnSlots, HasRoomFor, IsVariable, TakesLocal, TakesGlobal, NameFits, ArrayFits, BufferFits, ArgumentFits, ValueFits, RightFits, TestFits, ReturnFits, StmtFits, BlockFits, CallFits, ReferenceFits, FieldFits, ResultFits}
 use Rattle.lower.specs.Stands.{held, IsBegun, IsUnderWay, HasAt, AreAmong, IsSlotOf, kind_of_sort, GoesTo, ResultStands, ResultGoes, StaticStands, TargetStands, operand_text, operands_texts, target_name, BlockStands, TasksStand, OperandStands, AreUntouched, operand_rest, operands_rest}
 use Rattle.lower.proofs.SlotLaws.{known_among, known_again, all_among}
 use Rattle.lower.proofs.CodePlaces.{has_front, has_back}
@@ -228,9 +228,9 @@ module _ (code : Listing) (known : Known) (line place : ℕ) (tail : List Task) 
   operand_count (p ∷ parameters) (a ∷ arguments) h = ap (λ n. suc n) (operand_count parameters arguments h.1)
 
   -- what is to be worked out for a call is at the place, and then its instruction, and what comes after it
-  call_stands : (target : Target) (goes : Destination) (c : Call) → (fits : CallFits known c) → HasAt code.instrs place (named_call_code known line goes (function_named c.function) c.arguments)
+  call_stands : (target : Target) (goes : Destination) (c : Call) → HaveOwnSlots known → (fits : CallFits known c) → HasAt code.instrs place (named_call_code known line goes (function_named c.function) c.arguments)
       → TargetStands code known (λ p names. TasksStand code names p [] tail) (place + length (named_call_code known line goes (function_named c.function) c.arguments)) line goes (prototype fits.function).result target → TasksStand code known place [] (call_task line target c ∷ tail)
-  call_stands target goes c fits at stands =
+  call_stands target goes c own_slots fits at stands =
       let parameters = (prototype fits.function).parameters in
       let given = zip parameters c.arguments in
       let call : calls.Call = record { line = line; target = goes; function = fits.function; operands = map (operand_code known) given; texts = arguments_texts c.arguments } in
@@ -250,6 +250,7 @@ module _ (code : Listing) (known : Known) (line place : ℕ) (tail : List Task) 
         texts = all_texts parameters c.arguments fits.arguments;
         count = operand_count parameters c.arguments fits.arguments;
         operands_stand = arguments_found parameters c.arguments fits.arguments;
+        own_slots = own_slots;
         goes = subst (λ p. TargetStands code known (λ q names. TasksStand code names q [] tail) p line goes (prototype fits.function).result target) size stands;
       })
 
@@ -290,11 +291,11 @@ module _ (code : Listing) (known : Known) (line place : ℕ) (tail : List Task) 
   result_comes p i GivesField target x s name e = subst (ResultComes p i GivesField target x) (sym e) (λ goes stands. (refl, result_goes p FieldKind (record { sort = FieldId; index = i }) target x refl name goes stands))
   result_comes p i gives target x s name e = absurd e
 
-  pub right_stands : (target : Target) (x : Identifier) (s : Slot) (r : RightSide) (names : Known) → RightFits known s.sort r → target_name target ≡ Some x → GoesTo known s target → HasAt code.instrs place (right_code known line s r) → IsSlotOf code known x s
+  pub right_stands : (target : Target) (x : Identifier) (s : Slot) (r : RightSide) (names : Known) → HaveOwnSlots known → RightFits known s.sort r → target_name target ≡ Some x → GoesTo known s target → HasAt code.instrs place (right_code known line s r) → IsSlotOf code known x s
       → AreAmong names ((x, s) ∷ known) → TasksStand code names (place + length (right_code known line s r)) [] tail → TasksStand code known place [] (right_side_task line target x r ∷ tail)
-  right_stands target x s (FromExpr e) names fits name goes at own among further = value_set target x s.sort s.index e names fits name goes at own among further
-  right_stands target x s (FromCall c) names fits name goes at own among further =
-      call_stands target (result_target s.sort s.index) c fits.fits at
+  right_stands target x s (FromExpr e) names own_slots fits name goes at own among further = value_set target x s.sort s.index e names fits name goes at own among further
+  right_stands target x s (FromCall c) names own_slots fits name goes at own among further =
+      call_stands target (result_target s.sort s.index) c own_slots fits.fits at
       (result_comes (place + length (right_code known line s (FromCall c))) s.index (prototype fits.fits.function).result target x s.sort name fits.result goes (record { own = own; further = (names, among, further) }))
 
 -- ---- statements
@@ -359,7 +360,7 @@ if_stands code line (TestCall c) then' else' l slots_else place tail at test fit
     let W = ways_code (block_code l then') (block_code (record { known = l.known; slots = slots_else }) else' ++ instr.Jump 0 ∷ []) in
     let end : place + length (T ++ W) ≡ place + length T + length W = omega (arith, length-append T W) in
     let after = subst (λ p. TasksStand code l.known p [] tail) end further in
-    call_stands code l.known line place tail (Tested then' else') destination.Test c test.fits (has_front code.instrs place T W at) (
+    call_stands code l.known line place tail (Tested then' else') destination.Test c laid.own test.fits (has_front code.instrs place T W at) (
       jint_given (prototype test.fits.function).result test.result,
       record {
         then' = then';
@@ -453,11 +454,11 @@ declared_goes tree.JFieldId x l = refl
 
 pub stmt_begins : (code : Listing) (s : Stmt) → StmtBegins code s
 stmt_begins code (tree.Declare line t x r) l place tail at fits laid room further =
-    right_stands code l.known line place tail (Declared (kind_of t) x) x (new_slot (variable_sort t) l) r ((x, new_slot (variable_sort t) l) ∷ l.known) fits.1 refl (declared_goes t x l) at (declared_slot code (variable_sort t) l x (variable_size t) laid room) (self_among x (new_slot (variable_sort t) l) l.known) further
+    right_stands code l.known line place tail (Declared (kind_of t) x) x (new_slot (variable_sort t) l) r ((x, new_slot (variable_sort t) l) ∷ l.known) laid.own fits.1 refl (declared_goes t x l) at (declared_slot code (variable_sort t) l x (variable_size t) laid room) (self_among x (new_slot (variable_sort t) l) l.known) further
 stmt_begins code (tree.DeclareBuffer line t x r) l place tail at fits laid room further =
-    right_stands code l.known line place tail (Declared (BufferKind t) x) x (new_slot (Buffer t true) l) r ((x, new_slot (Buffer t true) l) ∷ l.known) fits.1 refl refl at (declared_slot code (Buffer t true) l x tt laid room) (self_among x (new_slot (Buffer t true) l) l.known) further
+    right_stands code l.known line place tail (Declared (BufferKind t) x) x (new_slot (Buffer t true) l) r ((x, new_slot (Buffer t true) l) ∷ l.known) laid.own fits.1 refl refl at (declared_slot code (Buffer t true) l x tt laid room) (self_among x (new_slot (Buffer t true) l) l.known) further
 stmt_begins code (tree.DeclareChars line x r) l place tail at fits laid room further =
-    right_stands code l.known line place tail (Declared (BufferKind JChar) x) x (new_slot (Buffer JChar false) l) r ((x, new_slot (Buffer JChar false) l) ∷ l.known) fits.1 refl refl at (declared_slot code (Buffer JChar false) l x tt laid room) (self_among x (new_slot (Buffer JChar false) l) l.known) further
+    right_stands code l.known line place tail (Declared (BufferKind JChar) x) x (new_slot (Buffer JChar false) l) r ((x, new_slot (Buffer JChar false) l) ∷ l.known) laid.own fits.1 refl refl at (declared_slot code (Buffer JChar false) l x tt laid room) (self_among x (new_slot (Buffer JChar false) l) l.known) further
 stmt_begins code (tree.DeclareArray line t x size) l place tail at fits laid room further = record {
   empty = refl;
   start = l.slots.numbers;
@@ -470,10 +471,10 @@ stmt_begins code (tree.Assign line x r) l place tail at fits laid room further =
     let found = fits.1 in
     let there = subst (HasAt code.instrs place) (ap (λ (o : Option Slot). assign_code l.known line o r) found) at in
     let own : IsSlotOf code l.known x slot = record { within = slot_within code l x slot found laid room; own = laid.own x slot found } in
-    right_stands code l.known line place tail (Assigned x) x slot r l.known fits.2 refl found there own (known_among x slot l.known found)
+    right_stands code l.known line place tail (Assigned x) x slot r l.known laid.own fits.2 refl found there own (known_among x slot l.known found)
     (subst (λ c. TasksStand code l.known (place + length c) [] tail) (ap (λ (o : Option Slot). assign_code l.known line o r) found) further)
 stmt_begins code (tree.AssignElement line x i e) l place tail at fits laid room further = element_set_stands code line x i e l place tail at fits laid room further
-stmt_begins code (tree.Perform line c) l place tail at fits laid room further = call_stands code l.known line place tail Dropped destination.Dropped c fits at (refl, further)
+stmt_begins code (tree.Perform line c) l place tail at fits laid room further = call_stands code l.known line place tail Dropped destination.Dropped c laid.own fits at (refl, further)
 stmt_begins code (tree.PutJint line e) l place tail at fits laid room further =
     let size : place + length (expr_code l.known line e ++ instr.PutJint ∷ []) ≡ place + length (expr_code l.known line e) + 1 = omega (arith, length-append (expr_code l.known line e) (instr.PutJint ∷ [])) in
     ((number_begins l.known (term_of e) Jint fits, at), subst (λ p. TasksStand code l.known p [] tail) size further)

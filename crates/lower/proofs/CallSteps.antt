@@ -228,7 +228,7 @@ module _ (code : Listing) (known : Known) (place : ℕ) (stack : List ℕ) (slot
   takes_reference i x rest returns h = record {
     within = omega (arith, h.own.within, shows.references);
     names = h.further.0;
-    shows = λ r new set. fewer_shown code h.further.0 ((x, record { sort = Ref; index = i }) ∷ known) new (record slots { references = slice_set slots.references i r; levels = slice_set slots.levels i (new.level x) }) h.further.1 (shows_referred code known visible new slots x i r shows h.own set);
+    shows = λ r new set. fewer_shown code h.further.0 ((x, record { sort = Ref; index = i }) ∷ known) new (record slots { references = slice_set slots.references i r; owners = slice_set slots.owners i (new.owner x) }) h.further.1 (shows_referred code known visible new slots x i r shows h.own set);
     stands = record { stand = h.further.2; returns = returns };
   }
 
@@ -450,6 +450,7 @@ module _ (code : Listing) (known : Known) (place : ℕ) (stack : List ℕ) (slot
           count = actual_count (prototype f).parameters operands c.count;
           fit = are_fit c.call.operands (prototype f).parameters operands c.count ready c.operands_stand;
           kinds = operands_fit c.call.operands (prototype f).parameters operands c.count c.operands_stand;
+          own_slots = c.own_slots;
           given = are_operands c.call.operands (prototype f).parameters operands ready c.operands_stand;
           goes = takes_result line f operands c.call.target (prototype f).result target rest (subst (λ p. TargetStands code known (λ q names. TasksStand code names q [] rest) p line c.call.target (prototype f).result target) next c.goes) returns;
         }
@@ -480,6 +481,7 @@ module _ (code : Listing) (known : Known) (place : ℕ) (stack : List ℕ) (slot
           held = sym (held_with operands u unready c.begun);
           texts = c.texts ∙ sym (texts_with operands u);
           count = count_same operands u ∙ c.count;
+          own_slots = c.own_slots;
           operands_stand = stand_with known c.call.operands (prototype f).parameters operands u sorted c.operands_stand;
           goes = subst (λ q. TargetStands code known (λ r names. TasksStand code names r [] rest) q line c.call.target (prototype f).result target) end c.goes;
         }))

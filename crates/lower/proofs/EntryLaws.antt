@@ -11,7 +11,6 @@ use Rattle.types.specs.Sorts.{Sort, Jint, Ref, Global}
 use Rattle.source.specs.Object.{ObjectValue, Number, Refers, Reference}
 use Rattle.source.specs.World.{Invocation}
 use Rattle.source.specs.Activation.{entered, parameter_variables}
-use Rattle.source.specs.CallEffects.{level_of}
 use Rattle.source.specs.Sight.{scalar, held_reference, holds_null, static_is_null}
 use Rattle.source.specs.Thread.{Shared, Thread}
 use Rattle.source.specs.Value.{Int, Gives}
@@ -19,7 +18,7 @@ use Rattle.source.specs.Variable.{Variable, Scalar, LocalRef, StaticReference, E
 use Rattle.code.specs.Depth.{Listing}
 use Rattle.code.proofs.Arrays.{get_replicate}
 use Rattle.code_generator.specs.Layout.{Slot, Known, parameter_slot, parameter_slots, numbers_after, references_after, numbers_of, references_of, entry_names, entry_layout}
-use Rattle.lower.specs.Slots.{visible_to, type_of_array, kind_of_variable, is_empty, Slots, ShowsSlot, Shows, ArgumentFits, ArgumentsFit, argument_word, argument_reference, EntrySlots, AreShared}
+use Rattle.lower.specs.Slots.{visible_to, type_of_array, kind_of_variable, is_empty, Slots, ShowsSlot, Shows, ArgumentFits, ArgumentsFit, argument_word, argument_reference, EntrySlots, AreShared, AreOfLowest}
 use Rattle.lower.specs.Fits.{AreStatics}
 use Rattle.lower.proofs.CodePlaces.{get-append_seam}
 
@@ -127,25 +126,25 @@ null_of Empty = refl
 null_of (Live n) = refl
 null_of Deleted = refl
 
-module _ (statics : Known) (f : Function) (code : Listing) (known : AreStatics statics) (shared : Shared) (thread : Thread) (calls : List Invocation) (class : ℕ) (arguments : List ObjectValue) (slots : Slots) (fit : ArgumentsFit f.parameters arguments) (entry : EntrySlots code class arguments slots) (there : AreShared statics shared) where
-  -- a reference that is there at the entry has level 1
-  first_level : (i : ℕ) (q : Reference) → slice_get slots.references i ≡ Some q → slice_get slots.levels i ≡ Some 1
+module _ (statics : Known) (f : Function) (code : Listing) (known : AreStatics statics) (own : Identifier → Option ℕ) (shared : Shared) (thread : Thread) (calls : List Invocation) (class : ℕ) (arguments : List ObjectValue) (slots : Slots) (fit : ArgumentsFit f.parameters arguments) (entry : EntrySlots code class arguments slots) (there : AreShared statics shared) (lowest : AreOfLowest own) where
+  -- a reference that is there at the entry is a variable's own, of level 1
+  first_level : (i : ℕ) (q : Reference) → slice_get slots.references i ≡ Some q → slice_get slots.owners i ≡ Some (Some 1)
   first_level i q there =
       let below : i < code.slots.references = omega (arith, slice_get_within slots.references i q there, entry.references) in
-      ap (λ (levels : List ℕ). slice_get levels i) entry.levels ∙ get_replicate code.slots.references 1 i below
+      ap (λ (owners : List (Option ℕ)). slice_get owners i) entry.owners ∙ get_replicate code.slots.references (Some 1) i below
 
-  found_shown : (x : Identifier) (s : Slot) → Found slots s (lookup x ((f.class_name, LocalRef 1 (Some class)) ∷ parameter_variables (zip f.parameters arguments))) → ShowsSlot (visible_to shared (entered thread calls f class arguments)) x slots s s.sort
+  found_shown : (x : Identifier) (s : Slot) → Found slots s (lookup x ((f.class_name, LocalRef 1 (Some class)) ∷ parameter_variables (zip f.parameters arguments))) → ShowsSlot (visible_to own shared (entered thread calls f class arguments)) x slots s s.sort
   found_shown x s (inl (z, i, is, variable, fits, there)) =
-      subst (λ (t : Slot). ShowsSlot (visible_to shared (entered thread calls f class arguments)) x slots t t.sort) (sym is) (record { value = Int z; is = ap scalar variable; kind = ap kind_of_variable variable; sort = (fits, refl); word = there })
+      subst (λ (t : Slot). ShowsSlot (visible_to own shared (entered thread calls f class arguments)) x slots t t.sort) (sym is) (record { value = Int z; is = ap scalar variable; kind = ap kind_of_variable variable; sort = (fits, refl); word = there })
   found_shown x s (inr (q, i, is, variable, there)) =
-      subst (λ (t : Slot). ShowsSlot (visible_to shared (entered thread calls f class arguments)) x slots t t.sort) (sym is) (record {
+      subst (λ (t : Slot). ShowsSlot (visible_to own shared (entered thread calls f class arguments)) x slots t t.sort) (sym is) (record {
         reference = q;
         is = ap (λ (v : Option Variable). held_reference v (lookup x shared.statics)) variable;
         is_null = ap (λ (v : Option Variable). holds_null v (lookup x shared.statics)) variable;
         no_number = ap scalar variable;
         kind = ap kind_of_variable variable;
         there = there;
-        level = λ n same. first_level i q there ∙ ap (λ (v : Option Variable). Some (level_of v)) (sym variable);
+        owner = λ n level same own_level. first_level i q there ∙ ap (λ (k : ℕ). Some (Some k)) (sym (lowest x level own_level));
       })
 
   entry_found : (x : Identifier) (s : Slot) → lookup x (entry_names f) ≡ Some s → Found slots s (lookup x ((f.class_name, LocalRef 1 (Some class)) ∷ parameter_variables (zip f.parameters arguments)))
@@ -166,31 +165,31 @@ module _ (statics : Known) (f : Function) (code : Listing) (known : AreStatics s
   entry_none : (x : Identifier) → lookup x (entry_names f) ≡ None → lookup x ((f.class_name, LocalRef 1 (Some class)) ∷ parameter_variables (zip f.parameters arguments)) ≡ None
   entry_none x h = none_after (bytes_eq x f.class_name) (record { sort = Ref; index = 0 }) (LocalRef 1 (Some class)) (lookup x (parameter_slots f.parameters 0 1)) (lookup x (parameter_variables (zip f.parameters arguments))) (no_parameter x f.parameters arguments 0 1) h
 
-  static_shown : (x : Identifier) (s : Slot) → lookup x (entry_names f) ≡ None → lookup x statics ≡ Some s → ShowsSlot (visible_to shared (entered thread calls f class arguments)) x slots s s.sort
+  static_shown : (x : Identifier) (s : Slot) → lookup x (entry_names f) ≡ None → lookup x statics ≡ Some s → ShowsSlot (visible_to own shared (entered thread calls f class arguments)) x slots s s.sort
   static_shown x s none at =
       let variable = entry_none x none in
       let held = there x s at in
       let is : s.sort ≡ Global = (known x s at).0 in
-      subst (λ (k : Sort). ShowsSlot (visible_to shared (entered thread calls f class arguments)) x slots s k) (sym is) (record {
+      subst (λ (k : Sort). ShowsSlot (visible_to own shared (entered thread calls f class arguments)) x slots s k) (sym is) (record {
         static = held;
         no_variable = record { number = ap scalar variable; array_type = ap type_of_array variable; kind = ap kind_of_variable variable };
         is_null = ap (λ (v : Option Variable). holds_null v (lookup x shared.statics)) variable ∙ ap (λ (v : Option StaticReference). holds_null None v) held.there ∙ null_of held.held;
         reference = ap (λ (v : Option Variable). held_reference v (lookup x shared.statics)) variable ∙ ap (λ (v : Option StaticReference). held_reference None v) held.there;
       })
 
-  either_shown : (x : Identifier) (s : Slot) → (lookup x (entry_names f) ≡ Some s) ⊎ ((lookup x (entry_names f) ≡ None) × (lookup x statics ≡ Some s)) → ShowsSlot (visible_to shared (entered thread calls f class arguments)) x slots s s.sort
+  either_shown : (x : Identifier) (s : Slot) → (lookup x (entry_names f) ≡ Some s) ⊎ ((lookup x (entry_names f) ≡ None) × (lookup x statics ≡ Some s)) → ShowsSlot (visible_to own shared (entered thread calls f class arguments)) x slots s s.sort
   either_shown x s (inl h) = found_shown x s (entry_found x s h)
   either_shown x s (inr h) = static_shown x s h.0 h.1
 
 -- the slots at the entry show the class, the arguments and the statics
-pub entry_shows : (statics : Known) (f : Function) (code : Listing) → AreStatics statics → (shared : Shared) (thread : Thread) (calls : List Invocation) (class : ℕ) (arguments : List ObjectValue) (slots : Slots) → ArgumentsFit f.parameters arguments → EntrySlots code class arguments slots → AreShared statics shared
-    → Shows code (entry_layout statics f).known (visible_to shared (entered thread calls f class arguments)) slots
-entry_shows statics f code known shared thread calls class arguments slots fit entry there = record {
+pub entry_shows : (statics : Known) (f : Function) (code : Listing) → AreStatics statics → (own : Identifier → Option ℕ) (shared : Shared) (thread : Thread) (calls : List Invocation) (class : ℕ) (arguments : List ObjectValue) (slots : Slots) → ArgumentsFit f.parameters arguments → EntrySlots code class arguments slots → AreShared statics shared → AreOfLowest own
+    → Shows code (entry_layout statics f).known (visible_to own shared (entered thread calls f class arguments)) slots
+entry_shows statics f code known own shared thread calls class arguments slots fit entry there lowest = record {
   numbers = entry.numbers;
   references = entry.references;
-  levels = ap length entry.levels ∙ length-replicate code.slots.references 1;
+  owners = ap length entry.owners ∙ length-replicate code.slots.references (Some 1);
   fields = entry.fields;
-  each = λ x s at. either_shown statics f code known shared thread calls class arguments slots fit entry there x s (in_both x (entry_names f) statics (lookup x (entry_names f)) refl s at);
+  each = λ x s at. either_shown statics f code known own shared thread calls class arguments slots fit entry there lowest x s (in_both x (entry_names f) statics (lookup x (entry_names f)) refl s at);
 }
 
 -- ---- room for the arguments

@@ -1,6 +1,7 @@
 pub mod CodePlaces
 pub mod StaticPlaces
 pub mod SlotLaws
+pub mod OwnerLaws
 pub mod StaticLaws
 pub mod TermSteps
 pub mod ElementWords

@@ -77,7 +77,7 @@ pub all_among : (known : Known) → AreAmong known known
 all_among known x s h = h
 
 pub fewer_shown : (code : Listing) (names known : Known) (visible : Visible) (slots : Slots) → AreAmong names known → Shows code known visible slots → Shows code names visible slots
-fewer_shown code names known visible slots among shows = record { numbers = shows.numbers; references = shows.references; levels = shows.levels; fields = shows.fields; each = λ x s at. shows.each x s (among x s at) }
+fewer_shown code names known visible slots among shows = record { numbers = shows.numbers; references = shows.references; owners = shows.owners; fields = shows.fields; each = λ x s at. shows.each x s (among x s at) }
 
 -- ---- what stays
 
@@ -92,7 +92,7 @@ number_place s h = number_place_at s.sort s.index h
 
 -- a local reference stays in its slot, with its level
 abbrev pub ReferenceStays : (slots slots' : Slots) (i : ℕ) → Type 0
-ReferenceStays slots slots' i = (slice_get slots'.references i ≡ slice_get slots.references i) × (slice_get slots'.levels i ≡ slice_get slots.levels i)
+ReferenceStays slots slots' i = (slice_get slots'.references i ≡ slice_get slots.references i) × (slice_get slots'.owners i ≡ slice_get slots.owners i)
 
 module _ (old new : Visible) (x : Identifier) (slots slots' : Slots) (same : IsAsBefore old new x) where
   number_stays : (kind : Sort) (i : ℕ) → slice_get slots'.numbers i ≡ slice_get slots.numbers i → ShowsNumber old x slots.numbers (record { sort = kind; index = i }) → ShowsNumber new x slots'.numbers (record { sort = kind; index = i })
@@ -104,7 +104,7 @@ module _ (old new : Visible) (x : Identifier) (slots slots' : Slots) (same : IsA
   slot_stays Jint i numbers references fields statics h = number_stays Jint i (numbers i (omega arith, omega arith)) h
   slot_stays sort.Flag i numbers references fields statics h = number_stays sort.Flag i (numbers i (omega arith, omega arith)) h
   slot_stays sort.Truth i numbers references fields statics h = tt
-  slot_stays Ref i numbers references fields statics h = record { reference = h.reference; is = same.reference ∙ h.is; is_null = same.is_null ∙ h.is_null; no_number = same.number ∙ h.no_number; kind = same.kind ∙ h.kind; there = (references refl).0 ∙ h.there; level = λ n is. (references refl).1 ∙ h.level n is ∙ ap (λ (k : ℕ). Some k) (sym same.level) }
+  slot_stays Ref i numbers references fields statics h = record { reference = h.reference; is = same.reference ∙ h.is; is_null = same.is_null ∙ h.is_null; no_number = same.number ∙ h.no_number; kind = same.kind ∙ h.kind; there = (references refl).0 ∙ h.there; owner = λ n level is own. (references refl).1 ∙ h.owner n level is (sym same.owner ∙ own) }
   slot_stays Global i numbers references fields statics h = record {
     static = record { place = (statics refl).place ∙ h.static.place; held = h.static.held; there = (statics refl).there ∙ h.static.there };
     no_variable = record { number = same.number ∙ h.no_variable.number; array_type = same.array_type ∙ h.no_variable.array_type; kind = same.kind ∙ h.no_variable.kind };
@@ -124,13 +124,13 @@ module _ (old new : Visible) (x : Identifier) (slots slots' : Slots) (same : IsA
 
 -- A name has this slot, which it shows, and the others are as they were.
 module _ (code : Listing) (known : Known) (old new : Visible) (slots slots' : Slots) (x : Identifier) (s : Slot) (shows : Shows code known old slots) (own : IsOwn known x s) (others : OthersStay old new x) (statics : (y : Identifier) → y ≢ x → StaticStays old.statics new.statics y) where
-  pub with_changed : length slots'.numbers ≡ length slots.numbers → length slots'.references ≡ length slots.references → length slots'.levels ≡ length slots.levels → length slots'.fields ≡ length slots.fields → ((k : ℕ) → (IsPlaceOf s k → ⊥) → slice_get slots'.numbers k ≡ slice_get slots.numbers k)
+  pub with_changed : length slots'.numbers ≡ length slots.numbers → length slots'.references ≡ length slots.references → length slots'.owners ≡ length slots.owners → length slots'.fields ≡ length slots.fields → ((k : ℕ) → (IsPlaceOf s k → ⊥) → slice_get slots'.numbers k ≡ slice_get slots.numbers k)
       → ((i : ℕ) → (s.sort ≡ Ref → i ≢ s.index) → ReferenceStays slots slots' i)
       → ((i : ℕ) → (s.sort ≡ FieldId → i ≢ s.index) → slice_get slots'.fields i ≡ slice_get slots.fields i) → ShowsSlot new x slots' s s.sort → Shows code ((x, s) ∷ known) new slots'
-  with_changed numbers references levels fields number reference field here = record {
+  with_changed numbers references owners fields number reference field here = record {
     numbers = numbers ∙ shows.numbers;
     references = references ∙ shows.references;
-    levels = levels ∙ shows.levels;
+    owners = owners ∙ shows.owners;
     fields = fields ∙ shows.fields;
     each = λ y t at.
         first_or_after x y s t known (ShowsSlot new y slots' t t.sort)
@@ -174,21 +174,21 @@ shows_set code known old new slots x s v shows own n fits set =
 
 -- ---- a local reference or a field ID is set
 
--- a reference is written, and its level, if the reference is not NULL
-with_reference : (code : Listing) (known : Known) (old new : Visible) (slots : Slots) (x : Identifier) (i : ℕ) (r : Reference) (levels : List ℕ) → Shows code known old slots → IsSlotOf code known x (record { sort = Ref; index = i }) → IsReferred old x r new → length levels ≡ length slots.levels
-    → ((j : ℕ) → j ≢ i → slice_get levels j ≡ slice_get slots.levels j) → ((n : ℕ) → r ≡ Some n → slice_get levels i ≡ Some (new.level x))
-    → Shows code ((x, record { sort = Ref; index = i }) ∷ known) new (record slots { references = slice_set slots.references i r; levels = levels })
-with_reference code known old new slots x i r levels shows own set count others level =
+-- a reference is written, and its level, if it is an object and the variable's own
+with_reference : (code : Listing) (known : Known) (old new : Visible) (slots : Slots) (x : Identifier) (i : ℕ) (r : Reference) (owners : List (Option ℕ)) → Shows code known old slots → IsSlotOf code known x (record { sort = Ref; index = i }) → IsReferred old x r new → length owners ≡ length slots.owners
+    → ((j : ℕ) → j ≢ i → slice_get owners j ≡ slice_get slots.owners j) → ((n level : ℕ) → r ≡ Some n → new.owner x ≡ Some level → slice_get owners i ≡ Some (Some level))
+    → Shows code ((x, record { sort = Ref; index = i }) ∷ known) new (record slots { references = slice_set slots.references i r; owners = owners })
+with_reference code known old new slots x i r owners shows own set count others owner =
     let below : i < length slots.references = omega (arith, own.within, shows.references) in
-    with_changed code known old new slots (record slots { references = slice_set slots.references i r; levels = levels }) x (record { sort = Ref; index = i }) shows own.own set.others (λ y other. statics_stay old.statics new.statics set.statics y)
+    with_changed code known old new slots (record slots { references = slice_set slots.references i r; owners = owners }) x (record { sort = Ref; index = i }) shows own.own set.others (λ y other. statics_stay old.statics new.statics set.statics y)
     refl (length-set slots.references i r) count refl (λ k outside. refl) (λ j other. (get-set_other slots.references i j r (other refl), others j (other refl))) (λ j other. refl)
-    (record { reference = r; is = set.reference; is_null = set.is_null; no_number = set.number; kind = set.kind; there = get-set_same slots.references i r below; level = level })
+    (record { reference = r; is = set.reference; is_null = set.is_null; no_number = set.number; kind = set.kind; there = get-set_same slots.references i r below; owner = owner })
 
 pub shows_referred : (code : Listing) (known : Known) (old new : Visible) (slots : Slots) (x : Identifier) (i : ℕ) (r : Reference) → Shows code known old slots → IsSlotOf code known x (record { sort = Ref; index = i }) → IsReferred old x r new
-    → Shows code ((x, record { sort = Ref; index = i }) ∷ known) new (record slots { references = slice_set slots.references i r; levels = slice_set slots.levels i (new.level x) })
+    → Shows code ((x, record { sort = Ref; index = i }) ∷ known) new (record slots { references = slice_set slots.references i r; owners = slice_set slots.owners i (new.owner x) })
 shows_referred code known old new slots x i r shows own set =
-    let below : i < length slots.levels = omega (arith, own.within, shows.levels) in
-    with_reference code known old new slots x i r (slice_set slots.levels i (new.level x)) shows own set (length-set slots.levels i (new.level x)) (λ j other. get-set_other slots.levels i j (new.level x) other) (λ n is. get-set_same slots.levels i (new.level x) below)
+    let below : i < length slots.owners = omega (arith, own.within, shows.owners) in
+    with_reference code known old new slots x i r (slice_set slots.owners i (new.owner x)) shows own set (length-set slots.owners i (new.owner x)) (λ j other. get-set_other slots.owners i j (new.owner x) other) (λ n level is owner. get-set_same slots.owners i (new.owner x) below ∙ ap (λ (o : Option ℕ). Some o) owner)
 
 pub shows_field_set : (code : Listing) (known : Known) (old new : Visible) (slots : Slots) (x : Identifier) (i : ℕ) (f : Option source.FieldId) → Shows code known old slots → IsSlotOf code known x (record { sort = FieldId; index = i }) → IsFieldSet old x f new
     → Shows code ((x, record { sort = FieldId; index = i }) ∷ known) new (record slots { fields = slice_set slots.fields i f })
@@ -232,7 +232,7 @@ pub static_changes : (code : Listing) (known : Known) (old new : Visible) (slots
 static_changes code known old new slots x h shows held = record {
   numbers = shows.numbers;
   references = shows.references;
-  levels = shows.levels;
+  owners = shows.owners;
   fields = shows.fields;
   each = λ y s at.
       elim (bytes_eq y x) as (λ b. bytes_eq y x ≡ b → ShowsSlot new y slots s s.sort) [
@@ -264,7 +264,7 @@ pub shows_nulled : (code : Listing) (known : Known) (old new : Visible) (slots :
 shows_nulled code known old new slots x Ref kind i variable shows own same e set =
     let is : nullable.Local i ≡ variable = cc in
     subst (λ v. Shows code ((x, record { sort = Ref; index = i }) ∷ known) new (with_null v slots)) is
-    (with_reference code known old new slots x i None slots.levels shows own (record { number = set.number; is_null = set.is_null; reference = set.reference; kind = set.same_kind ∙ e; statics = nulled_stay old new x kind ReferenceKind e set.statics; others = set.others }) refl (λ j other. refl) (λ n is. absurd (let c : None ≡ Some n = is in cc)))
+    (with_reference code known old new slots x i None slots.owners shows own (record { number = set.number; is_null = set.is_null; reference = set.reference; kind = set.same_kind ∙ e; statics = nulled_stay old new x kind ReferenceKind e set.statics; others = set.others }) refl (λ j other. refl) (λ n level is owner. absurd (let c : None ≡ Some n = is in cc)))
 shows_nulled code known old new slots x Global kind i variable shows own same e set =
     let is : nullable.Static i ≡ variable = cc in
     let assigned : new.statics ≡ assign x Empty old.statics = set.statics ∙ ap (λ (o : Option VariableKind). nulled_statics o x old.statics) e.0 in

@@ -38,25 +38,25 @@ no_kind (FieldHandle f) kind array = cc
 no_kind (Elements t held) kind array = cc
 
 -- A thread, of which nothing changes, and a static that holds something else.
-module _ (shared : Shared) (t : Thread) (x : Identifier) (h : StaticReference) where
+module _ (own : Identifier → Option ℕ) (shared : Shared) (t : Thread) (x : Identifier) (h : StaticReference) where
   abbrev after : Shared
   after = record shared { statics = assign x h shared.statics }
 
-  no_variable : (s : Shared) → lookup x t.variables ≡ None → HasNoVariable (visible_to s t) x
+  no_variable : (s : Shared) → lookup x t.variables ≡ None → HasNoVariable (visible_to own s t) x
   no_variable s none = record { number = ap scalar none; array_type = ap type_of_array none; kind = ap kind_of_variable none }
 
   -- a name shows what it did, if what it may show of a static is the same
   as_before : (y : Identifier) → holds_null (lookup y t.variables) (lookup y after.statics) ≡ holds_null (lookup y t.variables) (lookup y shared.statics)
-      → held_reference (lookup y t.variables) (lookup y after.statics) ≡ held_reference (lookup y t.variables) (lookup y shared.statics) → IsAsBefore (visible_to shared t) (visible_to after t) y
-  as_before y is_null reference = record { number = refl; is_null = is_null; element = λ i. refl; reference = reference; field = refl; array_type = refl; kind = refl; level = refl }
+      → held_reference (lookup y t.variables) (lookup y after.statics) ≡ held_reference (lookup y t.variables) (lookup y shared.statics) → IsAsBefore (visible_to own shared t) (visible_to own after t) y
+  as_before y is_null reference = record { number = refl; is_null = is_null; element = λ i. refl; reference = reference; field = refl; array_type = refl; kind = refl; owner = refl }
 
-  others_as_before : (y : Identifier) → y ≢ x → IsAsBefore (visible_to shared t) (visible_to after t) y
+  others_as_before : (y : Identifier) → y ≢ x → IsAsBefore (visible_to own shared t) (visible_to own after t) y
   others_as_before y other =
       let stays = assigned_stays x y h shared.statics other in
       as_before y (ap (holds_null (lookup y t.variables)) stays.there) (ap (held_reference (lookup y t.variables)) stays.there)
 
   -- a name that no variable has shows the static
-  pub is_held : lookup x t.variables ≡ None → IsHeld (visible_to shared t) x h (visible_to after t)
+  pub is_held : lookup x t.variables ≡ None → IsHeld (visible_to own shared t) x h (visible_to own after t)
   is_held none =
       let there = assigned_held x h shared.statics in
       record {
@@ -69,35 +69,35 @@ module _ (shared : Shared) (t : Thread) (x : Identifier) (h : StaticReference) w
       }
 
   -- a variable is not known as a static
-  variable_shown : (v : Variable) → lookup x t.variables ≡ Some v → (slots : Slots) (s : Slot) → ShowsSlot (visible_to shared t) x slots s s.sort → ShowsSlot (visible_to after t) x slots s s.sort
+  variable_shown : (v : Variable) → lookup x t.variables ≡ Some v → (slots : Slots) (s : Slot) → ShowsSlot (visible_to own shared t) x slots s s.sort → ShowsSlot (visible_to own after t) x slots s s.sort
   variable_shown v is slots s shown =
-      slot_stays (visible_to shared t) (visible_to after t) x slots slots
+      slot_stays (visible_to own shared t) (visible_to own after t) x slots slots
       (as_before x (hidden_null (lookup x t.variables) v _ _ is) (ap (λ (o : Option Variable). held_reference o (lookup x after.statics)) is ∙ hidden_reference v _ _ ∙ sym (ap (λ (o : Option Variable). held_reference o (lookup x shared.statics)) is)))
       s.sort s.index (λ k p. refl) (λ e. (refl, refl)) (λ e. refl)
       (λ e. absurd (
-      let static = subst (ShowsSlot (visible_to shared t) x slots s) e shown in
+      let static = subst (ShowsSlot (visible_to own shared t) x slots s) e shown in
       no_kind v (ap kind_of_variable (sym is) ∙ static.no_variable.kind) (ap type_of_array (sym is) ∙ static.no_variable.array_type)))
       shown
 
   -- the slots show each known name still
-  pub shows_still : (code : Listing) (known : Known) (slots : Slots) → Shows code known (visible_to shared t) slots → Shows code known (visible_to after t) slots
+  pub shows_still : (code : Listing) (known : Known) (slots : Slots) → Shows code known (visible_to own shared t) slots → Shows code known (visible_to own after t) slots
   shows_still code known slots shows = by_variable (lookup x t.variables) refl
     where
-      by_variable : (o : Option Variable) → lookup x t.variables ≡ o → Shows code known (visible_to after t) slots
-      by_variable None none = static_changes code known (visible_to shared t) (visible_to after t) slots x h shows (is_held none)
+      by_variable : (o : Option Variable) → lookup x t.variables ≡ o → Shows code known (visible_to own after t) slots
+      by_variable None none = static_changes code known (visible_to own shared t) (visible_to own after t) slots x h shows (is_held none)
       by_variable (Some v) is = record {
         numbers = shows.numbers;
         references = shows.references;
-        levels = shows.levels;
+        owners = shows.owners;
         fields = shows.fields;
         each = λ y s at.
-            elim (bytes_eq y x) as (λ b. bytes_eq y x ≡ b → ShowsSlot (visible_to after t) y slots s s.sort) [
+            elim (bytes_eq y x) as (λ b. bytes_eq y x ≡ b → ShowsSlot (visible_to own after t) y slots s s.sort) [
               | true ↦ λ e.
                   let same : y ≡ x = same_name y x e in
-                  subst (λ (z : Identifier). ShowsSlot (visible_to after t) z slots s s.sort) (sym same) (variable_shown v is slots s (subst (λ (z : Identifier). ShowsSlot (visible_to shared t) z slots s s.sort) same (shows.each y s at)))
+                  subst (λ (z : Identifier). ShowsSlot (visible_to own after t) z slots s s.sort) (sym same) (variable_shown v is slots s (subst (λ (z : Identifier). ShowsSlot (visible_to own shared t) z slots s s.sort) same (shows.each y s at)))
               | false ↦ λ e.
                   let other : y ≢ x = not_from_Decides (bytes_eq y x) (bytes_eq-Decides y x) e in
-                  slot_stays (visible_to shared t) (visible_to after t) y slots slots (others_as_before y other) s.sort s.index (λ k p. refl) (λ r. (refl, refl)) (λ r. refl) (λ r. assigned_stays x y h shared.statics other) (shows.each y s at)
+                  slot_stays (visible_to own shared t) (visible_to own after t) y slots slots (others_as_before y other) s.sort s.index (λ k p. refl) (λ r. (refl, refl)) (λ r. refl) (λ r. assigned_stays x y h shared.statics other) (shows.each y s at)
             ] refl;
       }
 

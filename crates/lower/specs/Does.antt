@@ -38,7 +38,7 @@ use Rattle.code_generator.specs.Coding.{mode_code}
 use Rattle.code_generator.specs.Layout.{Known}
 use Rattle.lower.specs.Slots.{word_of, ValueHasSort, Visible, Slots, Shows, IsSet, IsNulled, IsReferred, IsFieldSet, IsMade, IsElementSet, IsHeld, ShowsStatic, holds_null, with_null}
 use Rattle.lower.specs.Stands.{target_name, number_sort, StandsFor}
-use Rattle.lower.specs.Fits.{IsReferenceKind, TakesNull, TakesLocal, TakesGlobal, IsArray}
+use Rattle.lower.specs.Fits.{IsReferenceKind, TakesNull, TakesLocal, TakesGlobal, IsArray, HaveOwnSlots}
 
 -- the instructions that leave a function
 abbrev pub IsReturn : Instr → Type 0
@@ -205,11 +205,11 @@ module _ (code : Listing) (known : Known) (place : ℕ) (stack : List ℕ) (slot
     pub shows : (v : Value) (new : Visible) → ValueHasSort v s → IsSet visible x v new → Shows code names new (record slots { numbers = slice_set slots.numbers i (word_of v) })
     pub stands : StandsFor code names (place + 1) [] tasks
 
-  -- the same of a reference, beside which stands its level
+  -- the same of a reference, beside which is its level, if it is the variable's own
   pub record TakesReference (i : ℕ) (x : Identifier) (tasks : List Task) : Type 0 where
     pub within : i < length slots.references
     pub names : Known
-    pub shows : (r : Reference) (new : Visible) → IsReferred visible x r new → Shows code names new (record slots { references = slice_set slots.references i r; levels = slice_set slots.levels i (new.level x) })
+    pub shows : (r : Reference) (new : Visible) → IsReferred visible x r new → Shows code names new (record slots { references = slice_set slots.references i r; owners = slice_set slots.owners i (new.owner x) })
     pub stands : StandsFor code names (place + 1) [] tasks
 
   -- the same of a field ID
@@ -262,6 +262,7 @@ module _ (code : Listing) (known : Known) (place : ℕ) (stack : List ℕ) (slot
     pub kinds : AllZip OperandFits (prototype f).parameters call.operands
     pub fit : AllZip ActualFits (prototype f).parameters args
     pub given : AllZip IsOperand call.operands args
+    pub own_slots : HaveOwnSlots known
     pub goes : TakesResult line call.target (prototype f).result target tasks
 
   -- it leaves the function

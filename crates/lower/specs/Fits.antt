@@ -117,10 +117,14 @@ pub record AreApart (s t : Slot) : Type 0 where
 abbrev pub IsOwn : Known → Identifier → Slot → Type 0
 IsOwn known x s = (y : Identifier) (t : Slot) → lookup y known ≡ Some t → y ≢ x → AreApart t s
 
+-- each known name has slots of its own
+abbrev pub HaveOwnSlots : Known → Type 0
+HaveOwnSlots known = (x : Identifier) (s : Slot) → lookup x known ≡ Some s → IsOwn known x s
+
 -- each known name has slots of its own, which are there
 pub record IsLaidOut (known : Known) (slots : SlotCounts) : Type 0 where
   pub within : (x : Identifier) (s : Slot) → lookup x known ≡ Some s → IndexWithin slots s.sort s.index
-  pub own : (x : Identifier) (s : Slot) → lookup x known ≡ Some s → IsOwn known x s
+  pub own : HaveOwnSlots known
 
 -- slots of statics alone, counted from 0
 abbrev pub AreStatics : Known → Type 0

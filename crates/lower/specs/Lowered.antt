@@ -1,6 +1,6 @@
 -- What a lowered program is.
-use Rattle.std.specs.Prelude.{◌≡◌, ℕ, ◌+◌, ◌≤◌, List, [], ◌∷◌, length, None}
-use Rattle.base.specs.Bytes.{lookup}
+use Rattle.std.specs.Prelude.{◌≡◌, ℕ, ◌+◌, ◌≤◌, List, [], ◌∷◌, length, Option, None}
+use Rattle.base.specs.Bytes.{Identifier, lookup}
 use Rattle.syntax.specs.declared.unit.Item.{Item as ItemInMemory}
 use Rattle.syntax.specs.Tree.{Function, Item, StaticItem, FunctionItem}
 use Rattle.syntax.specs.Views.{unit_tree}
@@ -13,7 +13,7 @@ use Rattle.source.specs.Thread.{Shared, Thread}
 use Rattle.code.specs.Depth.{Listing, IsValid}
 use Rattle.code_generator.specs.Layout.{Known, with_static, entry_layout}
 use Rattle.lower.specs.Length.{function_steps, step_limit}
-use Rattle.lower.specs.Slots.{Visible, visible_to, Slots, Shows, ArgumentsFit, EntrySlots, HasRoom, AreShared}
+use Rattle.lower.specs.Slots.{Visible, visible_to, Slots, Shows, ArgumentsFit, EntrySlots, HasRoom, AreShared, AreOfLowest}
 use Rattle.lower.specs.Stands.{StandsFor}
 use Rattle.lower.specs.Does.{DoesEffect}
 
@@ -31,9 +31,9 @@ pub record IsCodeOf (statics : Known) (f : Function) (code : Listing) : Type 0 w
   pub short : function_steps f ≤ step_limit
   pub begins : StandsFor code (entry_layout statics f).known 0 [] (tasks_of f.body)
   pub room : (arguments : List ObjectValue) → ArgumentsFit f.parameters arguments → HasRoom code arguments
-  pub shows : (shared : Shared) (thread : Thread) (calls : List Invocation) (class : ℕ) (arguments : List ObjectValue) (slots : Slots)
-      → ArgumentsFit f.parameters arguments → EntrySlots code class arguments slots → AreShared statics shared
-      → Shows code (entry_layout statics f).known (visible_to shared (entered thread calls f class arguments)) slots
+  pub shows : (own : Identifier → Option ℕ) (shared : Shared) (thread : Thread) (calls : List Invocation) (class : ℕ) (arguments : List ObjectValue) (slots : Slots)
+      → ArgumentsFit f.parameters arguments → EntrySlots code class arguments slots → AreShared statics shared → AreOfLowest own
+      → Shows code (entry_layout statics f).known (visible_to own shared (entered thread calls f class arguments)) slots
   pub steps : (visible : Visible) (known : Known) (slots : Slots) (place : ℕ) (stack : List ℕ) (task : Task) (rest : List Task)
       → Shows code known visible slots → StandsFor code known place stack (task ∷ rest)
       → DoesEffect code known place stack slots visible rest (effect_of visible.sight task)

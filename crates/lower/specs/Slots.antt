@@ -9,7 +9,6 @@ use Rattle.syntax.specs.Tree.{ParameterType, IntParameter, ReferenceParameter, P
 use Rattle.types.specs.Sorts.{Sort, Jint, Ref, Global, FieldId, Buffer, Array}
 use Rattle.types.specs.Sorts as sort
 use Rattle.classes.specs.Fields as source
-use Rattle.source.specs.CallEffects.{level_of}
 use Rattle.source.specs.Object.{ObjectValue, Number, Refers, Reference}
 use Rattle.source.specs.Sight.{Sight}
 use Rattle.source.specs.Task.{VariableKind, ScalarKind, ReferenceKind, FieldKind, BufferKind}
@@ -47,13 +46,13 @@ IsNumberSort s = ⊥
 
 -- ---- what can be seen
 
--- what can be seen, the element types of local arrays, of what kind the other variables are declared, the levels of local
--- references, and what the statics hold, in the unit's order
+-- what can be seen, the element types of local arrays, of what kind the other variables are declared, the levels of the references
+-- that are variables' own, and what the statics hold, in the unit's order
 pub record Visible : Type 0 where
   pub sight : Sight
   pub array_type : Identifier → Option ElementType
   pub kind : Identifier → Option VariableKind
-  pub level : Identifier → ℕ
+  pub owner : Identifier → Option ℕ
   pub statics : Statics
 
 -- the element type of a local array
@@ -70,13 +69,13 @@ kind_of_variable (Some (Elements t b)) = Some (BufferKind t)
 kind_of_variable (Some (LocalArray t zs)) = None
 kind_of_variable None = None
 
--- what a thread can see
-abbrev pub visible_to : Shared → Thread → Visible
-visible_to s t = record {
+-- what a thread can see, whose variables have these references of their own
+abbrev pub visible_to : (Identifier → Option ℕ) → Shared → Thread → Visible
+visible_to own s t = record {
   sight = sight_of s t;
   array_type = λ x. type_of_array (lookup x t.variables);
   kind = λ x. kind_of_variable (lookup x t.variables);
-  level = λ x. level_of (lookup x t.variables);
+  owner = own;
   statics = s.statics;
 }
 
@@ -89,7 +88,7 @@ pub record IsAsBefore (old new : Visible) (x : Identifier) : Type 0 where
   pub field : new.sight.field x ≡ old.sight.field x
   pub array_type : new.array_type x ≡ old.array_type x
   pub kind : new.kind x ≡ old.kind x
-  pub level : new.level x ≡ old.level x
+  pub owner : new.owner x ≡ old.owner x
 
 -- each other name shows what it did
 abbrev pub OthersStay : (old new : Visible) → Identifier → Type 0
@@ -176,11 +175,11 @@ pub record IsElementSet (old : Visible) (t : ElementType) (x : Identifier) (inde
 -- ---- slots
 
 -- The words of the number variables and the elements of arrays, what the local references hold, and what the field IDs do.
--- The levels are those of the local references: how many frames there were where each variable was declared.
+-- The owners are the levels of those local references that are variables' own.
 pub record Slots : Type 0 where
   pub numbers : List ℕ
   pub references : List Reference
-  pub levels : List ℕ
+  pub owners : List (Option ℕ)
   pub fields : List (Option source.FieldId)
 
 -- a number variable has a value of its sort, whose word is in its slot
@@ -191,7 +190,7 @@ pub record ShowsNumber (visible : Visible) (x : Identifier) (numbers : List ℕ)
   pub sort : ValueHasSort value s.sort
   pub word : slice_get numbers s.index ≡ Some (word_of value)
 
--- what a local reference holds is in its slot, and so is its level, which is no matter of NULL
+-- what a local reference holds is in its slot, and so is its level where it is an object and the variable's own
 pub record ShowsReference (visible : Visible) (x : Identifier) (slots : Slots) (i : ℕ) : Type 0 where
   pub reference : Reference
   pub is : visible.sight.reference x ≡ as_static reference
@@ -199,7 +198,7 @@ pub record ShowsReference (visible : Visible) (x : Identifier) (slots : Slots) (
   pub no_number : visible.sight.number x ≡ Stuck
   pub kind : visible.kind x ≡ Some ReferenceKind
   pub there : slice_get slots.references i ≡ Some reference
-  pub level : (n : ℕ) → reference ≡ Some n → slice_get slots.levels i ≡ Some (visible.level x)
+  pub owner : (n level : ℕ) → reference ≡ Some n → visible.owner x ≡ Some level → slice_get slots.owners i ≡ Some (Some level)
 
 -- what a field ID holds is in its slot
 pub record ShowsField (visible : Visible) (x : Identifier) (fields : List (Option source.FieldId)) (i : ℕ) : Type 0 where
@@ -263,7 +262,7 @@ ShowsSlot visible x slots s (Array t size) = ShowsArray visible x slots.numbers 
 pub record Shows (code : Listing) (known : Known) (visible : Visible) (slots : Slots) : Type 0 where
   pub numbers : length slots.numbers ≡ code.slots.numbers
   pub references : length slots.references ≡ code.slots.references
-  pub levels : length slots.levels ≡ code.slots.references
+  pub owners : length slots.owners ≡ code.slots.references
   pub fields : length slots.fields ≡ code.slots.field_ids
   pub each : (x : Identifier) (s : Slot) → lookup x known ≡ Some s → ShowsSlot visible x slots s s.sort
 
@@ -307,8 +306,12 @@ abbrev pub argument_reference : ObjectValue → Option Reference
 argument_reference (Number z) = None
 argument_reference (Refers r) = Some r
 
+-- variables' own references are all of the lowest frame
+abbrev pub AreOfLowest : (Identifier → Option ℕ) → Type 0
+AreOfLowest own = (x : Identifier) (level : ℕ) → own x ≡ Some level → level ≡ 1
+
 -- The slots at the entry: the words of the numbers, and the class and then the references, each kind in order. After them
--- stands anything. There is one frame then, and so each level is 1.
+-- stands anything. Each is the variable's own then, in the one frame that there is.
 pub record EntrySlots (code : Listing) (class : ℕ) (arguments : List ObjectValue) (slots : Slots) : Type 0 where
   pub numbers : length slots.numbers ≡ code.slots.numbers
   pub more_numbers : List ℕ
@@ -317,7 +320,7 @@ pub record EntrySlots (code : Listing) (class : ℕ) (arguments : List ObjectVal
   pub references : length slots.references ≡ code.slots.references
   pub more_references : List Reference
   pub given : slots.references ≡ Some class ∷ filter_map argument_reference arguments ++ more_references
-  pub levels : slots.levels ≡ replicate code.slots.references 1
+  pub owners : slots.owners ≡ replicate code.slots.references (Some 1)
 
 -- the code has slots for the class and these arguments
 pub record HasRoom (code : Listing) (arguments : List ObjectValue) : Type 0 where

@@ -31,7 +31,7 @@ use Rattle.code.specs.Depth.{Listing}
 use Rattle.code.specs.Effect.{truth_word}
 use Rattle.code_generator.specs.Layout.{Slot, Known, Layout, block_layout}
 use Rattle.code_generator.specs.Coding.{mode_code, nullable_of, element_of, term_code, expr_code, ways_code, turn_code, block_code}
-use Rattle.lower.specs.Fits.{TakesNull, TakesLocal, TakesGlobal, IsArray, IsIndexSort, TermHasSort, IsUntouched, NumberFits, IndexWithin, IsOwn, IsLaidOut, HasRoomFor, BlockFits}
+use Rattle.lower.specs.Fits.{TakesNull, TakesLocal, TakesGlobal, IsArray, IsIndexSort, TermHasSort, IsUntouched, NumberFits, IndexWithin, IsOwn, HaveOwnSlots, IsLaidOut, HasRoomFor, BlockFits}
 use Rattle.lower.specs.Slots.{word_of, IsNumberSort}
 
 -- ---- terms
@@ -342,6 +342,7 @@ pub record InvokeStands (code : Listing) (known : Known) (place : ℕ) (stack : 
   pub texts : call.texts ≡ operands_texts operands
   pub count : length operands ≡ length (prototype f).parameters
   pub operands_stand : AllZip (OperandStands known) call.operands (zip (prototype f).parameters operands)
+  pub own_slots : HaveOwnSlots known
   pub goes : TargetStands code known after (place + length (operands_rest known line operands) + 1) line call.target (prototype f).result target
 
 -- ---- ways and loops

@@ -29,6 +29,7 @@ impl<'a> Model for Program<'a> {
 impl<'a> Program<'a> {
     ghost use Rattle.std.specs.Prelude.{◌≡◌, slice_get, length};
     ghost use Rattle.std.specs.Option.{option_copied};
+    ghost use Rattle.syntax.specs.Limits.{IsTree};
     ghost use Rattle.syntax.specs.Views.{unit_tree};
     ghost use Rattle.types.specs.SortRules.{IsSorted};
     ghost use Rattle.regions.specs.Regions.{HasRegions};
@@ -46,6 +47,7 @@ impl<'a> Program<'a> {
     pub fn items(&self) -> &[Item]
         ensures items { result.now ≡ self.now.unit }
         ensures lowered { IsLowered self.now }
+        ensures tree { IsTree (unit_tree result.now) }
         ensures sorted { IsSorted (unit_tree result.now) }
         ensures regions { HasRegions (unit_tree result.now) }
     {

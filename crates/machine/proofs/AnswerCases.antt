@@ -10,16 +10,17 @@ use Rattle.source.specs.Thread.{Shared, Thread}
 use Rattle.source.specs.World.{fresh_object}
 use Rattle.machine.specs.declared.answer.Given.{Given}
 use Rattle.machine.specs.declared.answer.Answer.TheVariants as answer
+use Rattle.tables.specs.Locals.{LocalTable}
 use Rattle.machine.specs.Answers.{GivenAgrees, IsAnswer, IsMakeable, WritesAt}
 
-module _ (classes : Classes) (space : Space) (kind : ResultKind) (shared : Shared) (s : Thread) where
+module _ (classes : Classes) (space : Space) (locals : LocalTable) (kind : ResultKind) (shared : Shared) (s : Thread) where
   -- nothing changes, and this is given
   pub record GivesIt (g : Given) (effect : CallEffect) : Type 0 where
     pub gave : CallResult
     pub is : effect ≡ Leaves [] shared s gave
     pub agrees : GivenAgrees classes space kind g gave
 
-  pub gives_it : (g : Given) (effect : CallEffect) → IsAnswer classes space kind shared s (answer.Gives g) effect → GivesIt g effect
+  pub gives_it : (g : Given) (effect : CallEffect) → IsAnswer classes space locals kind shared s (answer.Gives g) effect → GivesIt g effect
   gives_it g (Throws c) h = absurd h
   gives_it g (Halts trap) h = absurd h
   gives_it g (Leaves (o ∷ made) s' t' c) h = absurd h
@@ -32,7 +33,7 @@ module _ (classes : Classes) (space : Space) (kind : ResultKind) (shared : Share
     pub kind_is : kind ≡ GivesNothing
     pub writes : WritesAt space shared after a place v
 
-  pub writes_it : (a place : ℕ) (v : Value) (effect : CallEffect) → IsAnswer classes space kind shared s (answer.Writes a place v) effect → WritesIt a place v effect
+  pub writes_it : (a place : ℕ) (v : Value) (effect : CallEffect) → IsAnswer classes space locals kind shared s (answer.Writes a place v) effect → WritesIt a place v effect
   writes_it a place v (Throws c) h = absurd h
   writes_it a place v (Halts trap) h = absurd h
   writes_it a place v (Leaves (o ∷ made) s' t' c) h = absurd h
@@ -49,7 +50,7 @@ module _ (classes : Classes) (space : Space) (kind : ResultKind) (shared : Share
     pub kind_is : kind ≡ NewLocal
     pub makeable : IsMakeable classes class
 
-  pub makes_it : (class : ℕ) (effect : CallEffect) → IsAnswer classes space kind shared s (answer.Makes class) effect → MakesIt class effect
+  pub makes_it : (class : ℕ) (effect : CallEffect) → IsAnswer classes space locals kind shared s (answer.Makes class) effect → MakesIt class effect
   makes_it class (Throws c) h = absurd h
   makes_it class (Halts trap) h = absurd h
   makes_it class (Leaves [] s' t' c) h = absurd h
@@ -66,7 +67,7 @@ module _ (classes : Classes) (space : Space) (kind : ResultKind) (shared : Share
     pub is : effect ≡ Throws class
     pub makeable : IsMakeable classes class
 
-  pub throws_it : (class : ℕ) (effect : CallEffect) → IsAnswer classes space kind shared s (answer.Throws class) effect → ThrowsIt class effect
+  pub throws_it : (class : ℕ) (effect : CallEffect) → IsAnswer classes space locals kind shared s (answer.Throws class) effect → ThrowsIt class effect
   throws_it class (Throws c) h = record { is = ap Throws (sym h.0); makeable = h.1 }
   throws_it class (Halts trap) h = absurd h
   throws_it class (Leaves made s' t' c) h = absurd h

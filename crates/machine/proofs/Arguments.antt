@@ -1,7 +1,7 @@
 -- The operands of a call give what the arguments of the source's call are.
 use Rattle.std.proofs.Common.{inl, inr, ◌≡◌, ℕ, zero, suc, ◌+◌, ◌-◌, List, [], ◌∷◌, length, Option, Some, None, refl, sym, ap, ◌∙◌, subst, arith, length-append}
 use Rattle.std.specs.Prelude.{slice_get}
-use Rattle.std.specs.List.{AllZip}
+use Rattle.std.specs.List.{AllByRecursion, AllZip}
 use Rattle.std.proofs.lemmas.Bool.{le-leb}
 use Rattle.classes.specs.Class.{Classes}
 use Rattle.classes.specs.Fields.{FieldId}
@@ -20,23 +20,15 @@ use Rattle.lower.specs.Slots.{Visible}
 use Rattle.lower.specs.Does.{IsOperand, word_given, words_given}
 use Rattle.lower.specs.Lowered.{Lowered}
 use Rattle.machine.specs.declared.thread.Activation.{Activation}
-use Rattle.machine.specs.Agrees.{FieldAgrees, FieldsAgree, ReferencesAgree, StaticsAgree}
+use Rattle.machine.specs.Agrees.{FieldAgrees, FieldsAgree, StaticsAgree}
 use Rattle.machine.specs.Statics.{References}
 use Rattle.machine.specs.declared.statics.Held.{Held}
 use Rattle.machine.proofs.HeldStatics.{static_there}
+use Rattle.machine.proofs.KeyLaws.{address_there}
 use Rattle.machine.specs.Given.{held_in, IsGiven}
-use Rattle.machine.specs.HeapAgrees.{ReferenceAgrees}
 use Rattle.machine.proofs.Calls.{slots_of, Ready}
 
 -- ---- slots
-
--- what the slot of a reference holds
-reference_there : (space : Space) (addresses : List (Option ℕ)) (references : List Reference) (i : ℕ) (q : Reference) → ReferencesAgree space addresses references → slice_get references i ≡ Some q → ReferenceAgrees space (held_in (slice_get addresses i)) q
-reference_there space [] [] i q h e = absurd (cc)
-reference_there space [] (r ∷ rs) i q h e = absurd h
-reference_there space (a ∷ more) [] i q h e = absurd h
-reference_there space (a ∷ more) (r ∷ rs) zero q h e = let same : r ≡ q = cc in subst (λ (x : Reference). ReferenceAgrees space a x) same h.0
-reference_there space (a ∷ more) (r ∷ rs) (suc i) q h e = reference_there space more rs i q h.1 e
 
 -- what the slot of a field ID holds
 field_there : (classes : Classes) (handles : List (Option FieldHandle)) (fields : List (Option FieldId)) (i : ℕ) (q : Option FieldId) → FieldsAgree classes handles fields → slice_get fields i ≡ Some q → FieldAgrees classes (held_in (slice_get handles i)) q
@@ -48,23 +40,28 @@ field_there classes (a ∷ handles) (f ∷ fields) (suc i) q h e = field_there c
 
 -- ---- operands
 
+-- a slot with a local reference to an object has an owner
+abbrev pub HasOwner : List Reference → (owners : List (Option ℕ)) → Operand → Type 0
+HasOwner references owners (operand.Local i) = (n : ℕ) → slice_get references i ≡ Some (Some n) → (level : ℕ) × (slice_get owners i ≡ Some (Some level))
+HasOwner references owners o = Unit {0}
+
 module _ (p : Lowered) (classes : Classes) (space : Space) (call : Activation) (code : Listing) (visible : Visible) (frames : List Frame) (task : Task) (rest : List Task) (r : Ready p classes space call code visible frames task rest) (helds : List Held) (statics : StaticsAgree space helds visible.statics) where
   abbrev references : References
-  references = record { locals = call.references.items; statics = helds }
+  references = record { keys = call.references.items; locals = call.locals; statics = helds }
 
-  one_given : (o : Operand) (a : Actual) → IsOperand code r.known call.place call.stack (slots_of call r.references r.fields) visible o a → IsGiven classes space references call.fields.items o a
-  one_given operand.Null a (inl h) = inl (record { name = h.0; reference = None; is = h.1; agrees = tt })
-  one_given operand.Null a (inr (inl h)) = inr (inl (record { field = None; is = h; agrees = tt }))
-  one_given operand.Null a (inr (inr h)) = inr (inr h)
-  one_given (operand.Local i) a h =
+  one_given : (o : Operand) (a : Actual) → HasOwner r.references r.owners o → IsOperand code r.known call.place call.stack (slots_of call r.references r.owners r.fields) visible o a → IsGiven classes space references call.fields.items o a
+  one_given operand.Null a owned (inl h) = inl (record { name = h.0; reference = None; is = h.1; agrees = tt })
+  one_given operand.Null a owned (inr (inl h)) = inr (inl (record { field = None; is = h; agrees = tt }))
+  one_given operand.Null a owned (inr (inr h)) = inr (inr h)
+  one_given (operand.Local i) a owned h =
       let shown = r.shows.each h.0 (record { sort = Ref; index = i }) h.2 in
       record {
         name = h.0;
         reference = shown.reference;
         is = h.1 ∙ ap (ReferenceActual h.0) shown.is;
-        agrees = reference_there space call.references.items r.references i shown.reference r.agree shown.there;
+        agrees = address_there space call.locals call.references.items r.references r.owners i shown.reference r.agree shown.there (λ n is. owned n (shown.there ∙ ap (λ (q : Reference). Some q) is));
       }
-  one_given (operand.Static i) a h =
+  one_given (operand.Static i) a owned h =
       let shown = r.shows.each h.0 (record { sort = Global; index = i }) h.2 in
       record {
         name = h.0;
@@ -72,22 +69,22 @@ module _ (p : Lowered) (classes : Classes) (space : Space) (call : Activation) (
         is = h.1 ∙ ap (ReferenceActual h.0) shown.reference;
         agrees = static_there space h.0 helds visible.statics i shown.static.held statics shown.static.place shown.static.there;
       }
-  one_given operand.Number a h = h
-  one_given (operand.FieldId i) a h =
+  one_given operand.Number a owned h = h
+  one_given (operand.FieldId i) a owned h =
       let shown = r.shows.each h.0 (record { sort = sort.FieldId; index = i }) h.2 in
       record { field = shown.field; is = h.1 ∙ ap FieldActual shown.is; agrees = field_there classes call.fields.items r.fields i shown.field r.fields_agree shown.there }
-  one_given operand.Text a h = h
-  one_given (operand.Array array) a h = (h.0, h.1)
-  one_given (operand.Buffer i) a h = (h.0, h.1)
-  one_given (operand.Mode mode) a h = h
-  one_given (operand.IsCopy i) a h = (h.0, h.1)
+  one_given operand.Text a owned h = h
+  one_given (operand.Array array) a owned h = (h.0, h.1)
+  one_given (operand.Buffer i) a owned h = (h.0, h.1)
+  one_given (operand.Mode mode) a owned h = h
+  one_given (operand.IsCopy i) a owned h = (h.0, h.1)
 
-  pub all_given : (operands : List Operand) (args : List Actual) → AllZip (IsOperand code r.known call.place call.stack (slots_of call r.references r.fields) visible) operands args
+  pub all_given : (operands : List Operand) (args : List Actual) → AllByRecursion (HasOwner r.references r.owners) operands → AllZip (IsOperand code r.known call.place call.stack (slots_of call r.references r.owners r.fields) visible) operands args
       → AllZip (IsGiven classes space references call.fields.items) operands args
-  all_given [] [] h = tt
-  all_given [] (a ∷ args) h = absurd h
-  all_given (o ∷ operands) [] h = absurd h
-  all_given (o ∷ operands) (a ∷ args) h = (one_given o a h.0, all_given operands args h.1)
+  all_given [] [] owned h = tt
+  all_given [] (a ∷ args) owned h = absurd h
+  all_given (o ∷ operands) [] owned h = absurd h
+  all_given (o ∷ operands) (a ∷ args) owned h = (one_given o a owned.0 h.0, all_given operands args owned.1 h.1)
 
 -- ---- words
 

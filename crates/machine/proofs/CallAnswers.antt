@@ -1,5 +1,5 @@
 -- What the machine works out of calls is what the source's calls do.
-use Rattle.std.proofs.Common.{nat_lt, if◌then◌else◌, inl, inr, ◌≡◌, ℕ, pos, negsuc, zero, suc, ◌+◌, ◌-◌, ◌<◌, ◌≤◌, ◌^◌, Bool, true, false, not, List, [], ◌∷◌, ◌++◌, length, Option, Some, None, is_none, slice_get, refl, sym, ap, ◌∙◌, subst, arith, eqb, ⊎_elim, ℤ}
+use Rattle.std.proofs.Common.{inl, inr, ◌≡◌, ℕ, pos, negsuc, zero, suc, ◌+◌, ◌-◌, ◌<◌, ◌≤◌, ◌^◌, Bool, true, false, not, List, [], ◌∷◌, ◌++◌, length, Option, Some, None, is_none, slice_get, refl, sym, ap, ◌∙◌, subst, arith, eqb, ⊎_elim, ℤ}
 use Rattle.std.specs.Prelude.{◌||◌, ◌==◌, unwrap_or, FitsSigned, ◌&&◌}
 use Rattle.std.specs.Int.{w32, cast_signed, cast_unsigned}
 use Rattle.std.specs.List.{AllZip, list_any}
@@ -19,7 +19,7 @@ use Rattle.heap.specs.Heap.{Space, IsLaidOut, name_at}
 use Rattle.jni.specs.JniFunction.{JniFunction, FindClass, AllocObject, NewLocalRef, NewGlobalRef, DeleteLocalRef, DeleteGlobalRef, IsSameObject, EnsureLocalCapacity, PushLocalFrame, PopLocalFrame, GetFieldID, GetStaticFieldID, GetArrayLength, GetSuperclass, GetObjectClass, IsInstanceOf, IsAssignableFrom, GetField, SetField, GetObjectField, SetObjectField, GetStaticField, SetStaticField, GetStaticObjectField, SetStaticObjectField}
 use Rattle.jni.specs.Prototype.{prototype, ParameterKind, StaticVariable, ClassObject, FieldID, IntNumber, NonNull, TextBytes, NewLocal, GivesField, GivesInt, Nullable, GivesNothing}
 use Rattle.source.specs.Arguments.{Actual, variable_given, reference_given, object_given, name_or_zero, text_given, text_in_actual, NumberActual, field_given, number_given, number_in_actual}
-use Rattle.source.specs.CallEffects.{delete_global_effect, delete_local_effect, ensure_effect, push_effect, without_local, Leaves, NoResult, found_class_effect, found_field_effect, heap_effect, same_reference, CallEffect, level_of}
+use Rattle.source.specs.CallEffects.{delete_global_effect, delete_local_effect, ensure_effect, push_effect, found_class_effect, found_field_effect, heap_effect, same_reference, CallEffect, level_of}
 use Rattle.source.specs.CallStep.{trap_of_call}
 use Rattle.source.specs.CallTable.{call_effect}
 use Rattle.source.specs.Heap.{Heap, class_of, object_at, values_of, field_place, number_in, place_in, value_at, reference_in, static_place, with_value_at}
@@ -37,14 +37,9 @@ use Rattle.lower.specs.Lowered.{Lowered}
 use Rattle.base.specs.Element.{ElementType}
 use Rattle.source.specs.Value.{Int, convert}
 use Rattle.lower.specs.Slots.{word_of}
-use Rattle.machine.proofs.Levels.{HasLevel}
-use Rattle.machine.specs.declared.answer.Answer.TheVariants.{Gives, Deletes}
-use Rattle.machine.specs.declared.answer.Given.TheVariants as given
-use Rattle.std.proofs.lemmas.Bool.{ltb-true, ltb-false}
+use Rattle.machine.proofs.KeyLaws.{OwnKey}
 use Rattle.base.specs.Bytes.{lookup}
 use Rattle.source.specs.Variable.{Variable}
-use Rattle.source.specs.Thread.{Frame}
-use Rattle.machine.proofs.FrameChanges.{set_past}
 use Rattle.machine.proofs.FieldValues.{word_there, reference_there, writes}
 use Rattle.code_generator.specs.Coding.{element_of}
 use Rattle.heap.specs.declared.value.Value.TheVariants as cell
@@ -61,7 +56,7 @@ use Rattle.machine.specs.Statics.{References, held_address, holds_deleted, holds
 use Rattle.machine.specs.declared.statics.Held.{Held}
 use Rattle.machine.specs.declared.statics.Held.TheVariants as held
 use Rattle.machine.specs.Checked.{gives_deleted, gives_null, is_answered, misfits, some_misfit, some_missing, may_be_null}
-use Rattle.machine.specs.Given.{level_at, operand_at, operand_of, class_of_given, class_there, fits_there, name_there, IsGiven, field_at, field_there}
+use Rattle.machine.specs.Given.{key_at, operand_at, operand_of, class_of_given, class_there, fits_there, name_there, IsGiven, field_at, field_there}
 use Rattle.machine.specs.HeapAgrees.{HeapAgrees, ReferenceAgrees, BlocksAgree, IsTable, ValueAgrees}
 use Rattle.machine.specs.WorkedOut.{deletes, deletes_global, frame_for, count_there, class_object, found_class, IsFoundField, IsWorkedOut, place_there, value_there, word_in, address_in, held_reference, room_for, top_word, writes_there}
 use Rattle.machine.proofs.CallChecks.{class_given_is, class_is, field_at_place, fits_is, name_is, reference_at_place, handle_of}
@@ -378,11 +373,11 @@ module _ (p : Lowered) (w : World) (store : Store) (pending : Option ℕ) (call 
 
   -- what is worked out for it
   abbrev Works : JniFunction → Answer → Type 0
-  Works f answer = IsWorkedOut w.classes store.heap store.loaded.items references call.levels.items fields call.stack function f answer
+  Works f answer = IsWorkedOut w.classes store.heap store.loaded.items references fields call.stack function f answer
 
   -- the answer is what it does
   abbrev Does : JniFunction → Answer → Type 0
-  Does f answer = IsAnswer w.classes store.heap (prototype f).result shared s answer (call_effect w.classes lent k shared s args f)
+  Does f answer = IsAnswer w.classes store.heap call.locals (prototype f).result shared s answer (call_effect w.classes lent k shared s args f)
 
   abbrev at : (i : ℕ) → Option ℕ
   at i = operand_at references (operand_of function.operands i)
@@ -469,9 +464,9 @@ module _ (p : Lowered) (w : World) (store : Store) (pending : Option ℕ) (call 
       let only = only_number w.classes store.heap references fields function.operands args h.kinds h.given in
       let word : cast_signed w32 (top_word call.stack) ≡ only.0 = ap (λ (l : List ℕ). cast_signed w32 (top_word l)) (h.words ∙ only.3) ∙ to_z-of_z {w = w32} only.2 in
       subst (λ (x : Answer). Does EnsureLocalCapacity x) (sym (is ∙ ap room_for word))
-      (subst (λ (z : ℤ). IsAnswer w.classes store.heap GivesInt shared s (room_for only.0) (ensure_effect w.classes shared s z)) (sym only.1) (by_number only.0))
+      (subst (λ (z : ℤ). IsAnswer w.classes store.heap call.locals GivesInt shared s (room_for only.0) (ensure_effect w.classes shared s z)) (sym only.1) (by_number only.0))
     where
-      by_number : (z : ℤ) → IsAnswer w.classes store.heap GivesInt shared s (room_for z) (ensure_effect w.classes shared s z)
+      by_number : (z : ℤ) → IsAnswer w.classes store.heap call.locals GivesInt shared s (room_for z) (ensure_effect w.classes shared s z)
       by_number (pos n) = (refl, refl)
       by_number (negsuc n) = (refl, refl)
 
@@ -481,9 +476,9 @@ module _ (p : Lowered) (w : World) (store : Store) (pending : Option ℕ) (call 
       let only = only_number w.classes store.heap references fields function.operands args h.kinds h.given in
       let word : cast_signed w32 (top_word call.stack) ≡ only.0 = ap (λ (l : List ℕ). cast_signed w32 (top_word l)) (h.words ∙ only.3) ∙ to_z-of_z {w = w32} only.2 in
       subst (λ (x : Answer). Does PushLocalFrame x) (sym (is ∙ ap frame_for word))
-      (subst (λ (z : ℤ). IsAnswer w.classes store.heap GivesInt shared s (frame_for only.0) (push_effect w.classes shared s z)) (sym only.1) (by_number only.0))
+      (subst (λ (z : ℤ). IsAnswer w.classes store.heap call.locals GivesInt shared s (frame_for only.0) (push_effect w.classes shared s z)) (sym only.1) (by_number only.0))
     where
-      by_number : (z : ℤ) → IsAnswer w.classes store.heap GivesInt shared s (frame_for z) (push_effect w.classes shared s z)
+      by_number : (z : ℤ) → IsAnswer w.classes store.heap call.locals GivesInt shared s (frame_for z) (push_effect w.classes shared s z)
       by_number (pos n) = (refl, refl)
       by_number (negsuc n) = (refl, refl)
 
@@ -491,34 +486,22 @@ module _ (p : Lowered) (w : World) (store : Store) (pending : Option ℕ) (call 
   unfolding call_effect
   answers_pop h answer is = subst (λ (x : Answer). Does PopLocalFrame x) (sym is) (refl, (reference_given args 0, agrees PopLocalFrame h 0, refl))
 
-  -- what is known of the level of a reference that is deleted
-  abbrev pub IsLevelled : JniFunction → Type 0
-  IsLevelled f = f ≡ DeleteLocalRef → (n : ℕ) → reference_given args 0 ≡ Some n → HasLevel call.levels.items (operand_of function.operands 0) (lookup (variable_given args 0) s.variables) s.frames
+  -- what is known of the key of a reference that is deleted
+  abbrev pub HasKey : JniFunction → Type 0
+  HasKey f = f ≡ DeleteLocalRef → OwnKey store.heap call.locals (key_at references (operand_of function.operands 0)) (reference_given args 0) (level_of (lookup (variable_given args 0) s.variables))
 
-  answers_delete : IsLevelled DeleteLocalRef → Asked DeleteLocalRef → (answer : Answer) → Works DeleteLocalRef answer → Does DeleteLocalRef answer
+  answers_delete : HasKey DeleteLocalRef → (answer : Answer) → Works DeleteLocalRef answer → Does DeleteLocalRef answer
   unfolding call_effect
-  answers_delete levelled h answer is =
-      subst (λ (x : Answer). Does DeleteLocalRef x) (sym is) (by_reference (operand_at references (operand_of function.operands 0)) (reference_given args 0) refl (agrees DeleteLocalRef h 0))
+  answers_delete keyed answer is = subst (λ (x : Answer). Does DeleteLocalRef x) (sym is) (by_key (key_at references (operand_of function.operands 0)) (reference_given args 0) (keyed refl))
     where
-      level : ℕ
-      level = level_at call.levels.items (operand_of function.operands 0)
-
       variable : Option Variable
       variable = lookup (variable_given args 0) s.variables
 
-      by_level : (a n : ℕ) → ReferenceAgrees store.heap (Some a) (Some n) → HasLevel call.levels.items (operand_of function.operands 0) variable s.frames → (b : Bool) → nat_lt 0 level ≡ b
-          → IsAnswer w.classes store.heap GivesNothing shared s (if b then Deletes level a else Gives given.Nothing) (delete_local_effect shared s variable (Some n))
-      by_level a n agree has true e = (refl, ltb-true 0 level e, has.high, (n, agree, ap (λ (l : ℕ). Leaves [] shared (record s { frames = without_local l n s.frames }) NoResult) (sym has.same)))
-      by_level a n agree has false e =
-          let none : level ≡ 0 = omega (arith, ltb-false 0 level e) in
-          let stays : without_local (level_of variable) n s.frames ≡ s.frames = ap (λ (l : ℕ). without_local l n s.frames) (sym has.same ∙ none) ∙ set_past s.frames (length s.frames - 0) _ (omega arith) in
-          (refl, ap (λ (fs : List Frame). record s { frames = fs }) stays, tt)
-
-      by_reference : (o : Option ℕ) (r : Reference) → reference_given args 0 ≡ r → ReferenceAgrees store.heap o r → IsAnswer w.classes store.heap GivesNothing shared s (deletes o level) (delete_local_effect shared s variable r)
-      by_reference None None e agree = (refl, refl, tt)
-      by_reference None (Some n) e agree = absurd agree
-      by_reference (Some a) None e agree = absurd agree
-      by_reference (Some a) (Some n) e agree = by_level a n agree (levelled refl n e) (nat_lt 0 level) refl
+      by_key : (key : Option ℕ) (r : Reference) → OwnKey store.heap call.locals key r (level_of variable) → IsAnswer w.classes store.heap call.locals GivesNothing shared s (deletes key) (delete_local_effect shared s variable r)
+      by_key None None own = (refl, refl, tt)
+      by_key None (Some n) own = absurd own
+      by_key (Some key) None own = absurd own
+      by_key (Some key) (Some n) own = (refl, (n, level_of variable, own, refl))
 
   -- what is known of the static whose global reference ends
   abbrev pub IsHeld : JniFunction → Type 0
@@ -529,10 +512,10 @@ module _ (p : Lowered) (w : World) (store : Store) (pending : Option ℕ) (call 
   answers_delete_global held h answer is =
       subst (λ (x : Answer). Does DeleteGlobalRef x) (sym is)
       (let static = only_static function.operands h.kinds in
-      subst (λ (o : Operand). IsAnswer w.classes store.heap GivesNothing shared s (deletes_global (at 0) o) (delete_global_effect shared s (variable_given args 0) (reference_given args 0))) (sym static.1)
+      subst (λ (o : Operand). IsAnswer w.classes store.heap call.locals GivesNothing shared s (deletes_global (at 0) o) (delete_global_effect shared s (variable_given args 0) (reference_given args 0))) (sym static.1)
       (by_reference static.0 (at 0) (reference_given args 0) (λ n given. held refl static.0 n static.1 given) (agrees DeleteGlobalRef h 0)))
     where
-      by_reference : (i : ℕ) (o : Option ℕ) (r : Reference) → ((n : ℕ) → r ≡ Some n → HoldsObject shared (variable_given args 0) i n) → ReferenceAgrees store.heap o r → IsAnswer w.classes store.heap GivesNothing shared s (deletes_global o (operand.Static i)) (delete_global_effect shared s (variable_given args 0) r)
+      by_reference : (i : ℕ) (o : Option ℕ) (r : Reference) → ((n : ℕ) → r ≡ Some n → HoldsObject shared (variable_given args 0) i n) → ReferenceAgrees store.heap o r → IsAnswer w.classes store.heap call.locals GivesNothing shared s (deletes_global o (operand.Static i)) (delete_global_effect shared s (variable_given args 0) r)
       by_reference i None None holds agree = (refl, refl, tt)
       by_reference i None (Some n) holds agree = absurd agree
       by_reference i (Some a) None holds agree = absurd agree
@@ -589,13 +572,13 @@ module _ (p : Lowered) (w : World) (store : Store) (pending : Option ℕ) (call 
       let text : unwrap_or (slice_get function.texts 0) [] ≡ text_given args 0 = ap (λ (l : List (List ℕ)). unwrap_or (slice_get l 0) []) h.texts ∙ only_text w.classes store.heap references fields function.operands args h.kinds h.given in
       subst (λ (x : Answer). Does FindClass x) (sym (is ∙ ap (λ (l : List ℕ). found_class store.loaded.items (class_named w.classes l)) text)) (by_class (class_named w.classes (text_given args 0)) refl)
     where
-      by_class : (o : Option ℕ) → class_named w.classes (text_given args 0) ≡ o → IsAnswer w.classes store.heap NewLocal shared s (found_class store.loaded.items o) (found_class_effect shared s no_class_def_found_error o)
+      by_class : (o : Option ℕ) → class_named w.classes (text_given args 0) ≡ o → IsAnswer w.classes store.heap call.locals NewLocal shared s (found_class store.loaded.items o) (found_class_effect shared s no_class_def_found_error o)
       by_class None e = (refl, no_class_class)
       by_class (Some c) e = let known = found_within w.classes (text_given args 0) c e in (refl, refl, table_of FindClass h c known.0 known.1)
 
-  found_field : (o : Option FieldId) (answer : Answer) → IsFoundField w.classes o answer → IsAnswer w.classes store.heap GivesField shared s answer (found_field_effect shared s no_such_field_error o)
-  found_field None answer is = subst (λ (x : Answer). IsAnswer w.classes store.heap GivesField shared s x (found_field_effect shared s no_such_field_error None)) (sym is) (refl, no_field_class)
-  found_field (Some f) answer is = subst (λ (x : Answer). IsAnswer w.classes store.heap GivesField shared s x (found_field_effect shared s no_such_field_error (Some f))) (sym is.1) (refl, refl, is.2)
+  found_field : (o : Option FieldId) (answer : Answer) → IsFoundField w.classes o answer → IsAnswer w.classes store.heap call.locals GivesField shared s answer (found_field_effect shared s no_such_field_error o)
+  found_field None answer is = subst (λ (x : Answer). IsAnswer w.classes store.heap call.locals GivesField shared s x (found_field_effect shared s no_such_field_error None)) (sym is) (refl, no_field_class)
+  found_field (Some f) answer is = subst (λ (x : Answer). IsAnswer w.classes store.heap call.locals GivesField shared s x (found_field_effect shared s no_such_field_error (Some f))) (sym is.1) (refl, refl, is.2)
 
   answers_field : Asked GetFieldID → (answer : Answer) → Works GetFieldID answer → Does GetFieldID answer
   unfolding call_effect
@@ -664,11 +647,11 @@ module _ (p : Lowered) (w : World) (store : Store) (pending : Option ℕ) (call 
 
   -- a value of an object is written
   value_written : (o : Option ℕ) (a n m i j : ℕ) (v v' : Value) (u u' : ObjectValue) → o ≡ Some a → name_at store.heap a ≡ Some n → m ≡ n → i ≡ j → v ≡ v' → u ≡ u' → ValueAgrees store.heap v' u' → StoreAgrees p w store shared
-      → IsAnswer w.classes store.heap GivesNothing shared s (writes_there store.heap o i v) (heap_effect shared s (with_value_at shared.heap m j u))
+      → IsAnswer w.classes store.heap call.locals GivesNothing shared s (writes_there store.heap o i v) (heap_effect shared s (with_value_at shared.heap m j u))
   value_written o a n m i j v v' u u' held there same place value is fits agree =
-      subst (λ (x : Answer). IsAnswer w.classes store.heap GivesNothing shared s x (heap_effect shared s (with_value_at shared.heap m j u))) (sym (λ k. writes_there store.heap (held k) (place k) (value k)))
-      (subst (λ (x : CallEffect). IsAnswer w.classes store.heap GivesNothing shared s (writes_there store.heap (Some a) j v') x) (sym (λ k. heap_effect shared s (with_value_at shared.heap (same k) j (is k))))
-      (writes p w store shared agree s a n j v' u' there fits))
+      subst (λ (x : Answer). IsAnswer w.classes store.heap call.locals GivesNothing shared s x (heap_effect shared s (with_value_at shared.heap m j u))) (sym (λ k. writes_there store.heap (held k) (place k) (value k)))
+      (subst (λ (x : CallEffect). IsAnswer w.classes store.heap call.locals GivesNothing shared s (writes_there store.heap (Some a) j v') x) (sym (λ k. heap_effect shared s (with_value_at shared.heap (same k) j (is k))))
+      (writes p w store shared agree call.locals s a n j v' u' there fits))
 
   -- the number on top of the stack, as a cell of a type holds it
   record Kept (T : ElementType) : Type 0 where
@@ -798,30 +781,30 @@ module _ (p : Lowered) (w : World) (store : Store) (pending : Option ℕ) (call 
       it.at_holder it.named_holder refl it.place refl refl (held_agrees (at 2) (reference_given args 2) (agrees SetStaticObjectField h 2)) h.store_agrees)
 
   -- the answer is what the call does
-  pub answers : (f : JniFunction) → Asked f → (target : Target) → trap_of_call w.classes shared s target f args ≡ None → (answer : Answer) → Works f answer → IsLevelled f → IsHeld f → Does f answer
-  answers FindClass h target free answer is levelled held = answers_find h answer is
-  answers GetSuperclass h target free answer is levelled held = answers_superclass h answer is
-  answers GetObjectClass h target free answer is levelled held = answers_class h target free answer is
-  answers IsInstanceOf h target free answer is levelled held = answers_instance h answer is
-  answers IsAssignableFrom h target free answer is levelled held = answers_assignable h answer is
-  answers NewGlobalRef h target free answer is levelled held = answers_new_global h answer is
-  answers DeleteGlobalRef h target free answer is levelled held = answers_delete_global held h answer is
-  answers NewLocalRef h target free answer is levelled held = answers_new_local h answer is
-  answers IsSameObject h target free answer is levelled held = answers_same h answer is
-  answers EnsureLocalCapacity h target free answer is levelled held = answers_ensure h answer is
-  answers PushLocalFrame h target free answer is levelled held = answers_push h answer is
-  answers PopLocalFrame h target free answer is levelled held = answers_pop h answer is
-  answers DeleteLocalRef h target free answer is levelled held = answers_delete levelled h answer is
-  answers AllocObject h target free answer is levelled held = answers_alloc h target free answer is
-  answers GetFieldID h target free answer is levelled held = answers_field h answer is
-  answers GetStaticFieldID h target free answer is levelled held = answers_static h answer is
-  answers (GetField T) h target free answer is levelled held = answers_get T h target free answer is
-  answers (SetField T) h target free answer is levelled held = answers_set T h target free answer is
-  answers GetObjectField h target free answer is levelled held = answers_get_object h target free answer is
-  answers SetObjectField h target free answer is levelled held = answers_set_object h target free answer is
-  answers (GetStaticField T) h target free answer is levelled held = answers_get_static T h target free answer is
-  answers (SetStaticField T) h target free answer is levelled held = answers_set_static T h target free answer is
-  answers GetStaticObjectField h target free answer is levelled held = answers_get_static_object h target free answer is
-  answers SetStaticObjectField h target free answer is levelled held = answers_set_static_object h target free answer is
-  answers GetArrayLength h target free answer is levelled held = answers_length h answer is
-  answers f h target free answer is levelled held = absurd (let no : is_answered f ≡ true = h.answered in cc)
+  pub answers : (f : JniFunction) → Asked f → (target : Target) → trap_of_call w.classes shared s target f args ≡ None → (answer : Answer) → Works f answer → HasKey f → IsHeld f → Does f answer
+  answers FindClass h target free answer is keyed held = answers_find h answer is
+  answers GetSuperclass h target free answer is keyed held = answers_superclass h answer is
+  answers GetObjectClass h target free answer is keyed held = answers_class h target free answer is
+  answers IsInstanceOf h target free answer is keyed held = answers_instance h answer is
+  answers IsAssignableFrom h target free answer is keyed held = answers_assignable h answer is
+  answers NewGlobalRef h target free answer is keyed held = answers_new_global h answer is
+  answers DeleteGlobalRef h target free answer is keyed held = answers_delete_global held h answer is
+  answers NewLocalRef h target free answer is keyed held = answers_new_local h answer is
+  answers IsSameObject h target free answer is keyed held = answers_same h answer is
+  answers EnsureLocalCapacity h target free answer is keyed held = answers_ensure h answer is
+  answers PushLocalFrame h target free answer is keyed held = answers_push h answer is
+  answers PopLocalFrame h target free answer is keyed held = answers_pop h answer is
+  answers DeleteLocalRef h target free answer is keyed held = answers_delete keyed answer is
+  answers AllocObject h target free answer is keyed held = answers_alloc h target free answer is
+  answers GetFieldID h target free answer is keyed held = answers_field h answer is
+  answers GetStaticFieldID h target free answer is keyed held = answers_static h answer is
+  answers (GetField T) h target free answer is keyed held = answers_get T h target free answer is
+  answers (SetField T) h target free answer is keyed held = answers_set T h target free answer is
+  answers GetObjectField h target free answer is keyed held = answers_get_object h target free answer is
+  answers SetObjectField h target free answer is keyed held = answers_set_object h target free answer is
+  answers (GetStaticField T) h target free answer is keyed held = answers_get_static T h target free answer is
+  answers (SetStaticField T) h target free answer is keyed held = answers_set_static T h target free answer is
+  answers GetStaticObjectField h target free answer is keyed held = answers_get_static_object h target free answer is
+  answers SetStaticObjectField h target free answer is keyed held = answers_set_static_object h target free answer is
+  answers GetArrayLength h target free answer is keyed held = answers_length h answer is
+  answers f h target free answer is keyed held = absurd (let no : is_answered f ≡ true = h.answered in cc)

@@ -31,13 +31,13 @@ use Rattle.machine.specs.Statics.{References, held_address, static_at}
 use Rattle.machine.specs.declared.statics.Held.{Held}
 use Rattle.machine.specs.declared.statics.Held.TheVariants as held
 use Rattle.machine.specs.Checked.{fit_together, gives_deleted, some_missing, some_misfit, puts_local, trap_found}
-use Rattle.machine.specs.Frames as memory
-use Rattle.machine.specs.Frames.{has_room}
+use Rattle.machine.specs.Locals.{locals_after}
+use Rattle.tables.specs.Locals.{has_room}
 use Rattle.machine.specs.Given.{operand_at, field_at, AreAddresses, AreHandles, IsGiven}
 use Rattle.machine.specs.HeapAgrees.{ReferenceAgrees}
 use Rattle.machine.proofs.CallChecks as checks
-use Rattle.machine.proofs.FrameChanges.{frames_left}
-use Rattle.machine.proofs.Rooms.{full_where}
+use Rattle.machine.proofs.LocalFrames.{frames_left}
+use Rattle.machine.proofs.LocalFrames.{full_where}
 
 -- ---- operands
 
@@ -146,16 +146,16 @@ module _ (p : Lowered) (w : World) (store : Store) (pending : Option ℕ) (call 
   pub handles_there : AreHandles w.classes call.fields.items function.operands
   handles_there = all_handles w.classes store.heap (references_of store call) call.fields.items function.operands args h.given
 
-  pub found_is : (target : Target) → trap_found w.classes store.heap (is_some pending) (has_room (memory.frames_after f call.frames)) (references_of store call) call.fields.items f function.operands ≡ trap_of_call w.classes shared s target f args
+  pub found_is : (target : Target) → trap_found w.classes store.heap (is_some pending) (has_room (locals_after f call.locals)) (references_of store call) call.fields.items f function.operands ≡ trap_of_call w.classes shared s target f args
   found_is target =
-      checks.found_is w.classes store.heap (references_of store call) call.fields.items shared.heap h.store_agrees.heap.blocks (is_some pending) (has_room (memory.frames_after f call.frames)) f function.operands args shared s target h.answered refl
-      (same_pending store.heap pending s.pending h.pending_agrees) (full_where store.heap (memory.frames_after f call.frames) (frames_after f s.frames) (frames_left store.heap f call.frames s.frames h.frames_agree)) h.fit h.given
+      checks.found_is w.classes store.heap (references_of store call) call.fields.items shared.heap h.store_agrees.heap.blocks (is_some pending) (has_room (locals_after f call.locals)) f function.operands args shared s target h.answered refl
+      (same_pending store.heap pending s.pending h.pending_agrees) (full_where store.heap (locals_after f call.locals) (frames_after f s.frames) (frames_left store.heap f call.locals s.frames h.frames_agree)) h.fit h.given
 
   module _ (target : Target) (free : trap_of_call w.classes shared s target f args ≡ None) where
     passed : Passed (is_some pending && not (is_allowed_pending f)) (list_any (gives_deleted (references_of store call)) function.operands) (some_missing (references_of store call) call.fields.items (prototype f).parameters function.operands)
-        (some_misfit w.classes store.heap (references_of store call) (prototype f).parameters function.operands || not (fit_together w.classes store.heap (references_of store call) call.fields.items function.operands f)) (puts_local (prototype f).result && not (has_room (memory.frames_after f call.frames)))
+        (some_misfit w.classes store.heap (references_of store call) (prototype f).parameters function.operands || not (fit_together w.classes store.heap (references_of store call) call.fields.items function.operands f)) (puts_local (prototype f).result && not (has_room (locals_after f call.locals)))
     passed = all_passed (is_some pending && not (is_allowed_pending f)) (list_any (gives_deleted (references_of store call)) function.operands) (some_missing (references_of store call) call.fields.items (prototype f).parameters function.operands)
-        (some_misfit w.classes store.heap (references_of store call) (prototype f).parameters function.operands || not (fit_together w.classes store.heap (references_of store call) call.fields.items function.operands f)) (puts_local (prototype f).result && not (has_room (memory.frames_after f call.frames))) (found_is target ∙ free)
+        (some_misfit w.classes store.heap (references_of store call) (prototype f).parameters function.operands || not (fit_together w.classes store.heap (references_of store call) call.fields.items function.operands f)) (puts_local (prototype f).result && not (has_room (locals_after f call.locals))) (found_is target ∙ free)
 
     fitting : (some_misfit w.classes store.heap (references_of store call) (prototype f).parameters function.operands ≡ false) × (fit_together w.classes store.heap (references_of store call) call.fields.items function.operands f ≡ true)
     fitting = neither (some_misfit w.classes store.heap (references_of store call) (prototype f).parameters function.operands) (fit_together w.classes store.heap (references_of store call) call.fields.items function.operands f) passed.wrong
@@ -177,5 +177,5 @@ module _ (p : Lowered) (w : World) (store : Store) (pending : Option ℕ) (call 
     none_unfit = fitting.0
 
     -- a local reference has room
-    pub room_left : (puts_local (prototype f).result && not (has_room (memory.frames_after f call.frames))) ≡ false
+    pub room_left : (puts_local (prototype f).result && not (has_room (locals_after f call.locals))) ≡ false
     room_left = passed.room

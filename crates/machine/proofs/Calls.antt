@@ -31,8 +31,9 @@ use Rattle.classes.specs.Class.{Classes}
 use Rattle.classes.specs.Fields.{FieldId}
 use Rattle.class_table.specs.declared.class.FieldHandle.{FieldHandle}
 use Rattle.source.specs.Thread.{Frame}
-use Rattle.machine.specs.Frames.{Frame as FrameInMemory}
-use Rattle.machine.specs.Agrees.{CallStands, ReferencesAgree, FieldsAgree, FramesAgree}
+use Rattle.tables.specs.Locals.{LocalTable}
+use Rattle.machine.specs.Locals.{FramesAgree, KeysAgree}
+use Rattle.machine.specs.Agrees.{CallStands, FieldsAgree}
 
 -- ---- a function's code
 
@@ -46,8 +47,8 @@ code_lowered statics (FunctionItem f ∷ items) (c ∷ codes) zero code h e = (s
 code_lowered statics (FunctionItem f ∷ items) (c ∷ codes) (suc n) code h e = code_lowered statics items codes n code h.1 e
 
 -- the slots of a call, with the names of the objects that they refer to
-abbrev pub slots_of : Activation → List Reference → List (Option FieldId) → Slots
-slots_of call references fields = record { numbers = call.numbers.items; references = references; levels = call.levels.items; fields = fields }
+abbrev pub slots_of : Activation → List Reference → (owners : List (Option ℕ)) → List (Option FieldId) → Slots
+slots_of call references owners fields = record { numbers = call.numbers.items; references = references; owners = owners; fields = fields }
 
 -- ---- effects
 
@@ -120,42 +121,43 @@ pub record Ready (p : Lowered) (classes : Classes) (space : Space) (call : Activ
   pub valid : IsValid code
   pub known : Known
   pub references : List Reference
-  pub agree : ReferencesAgree space call.references.items references
+  pub owners : List (Option ℕ)
+  pub agree : KeysAgree space call.locals call.references.items references owners
   pub fields : List (Option FieldId)
   pub fields_agree : FieldsAgree classes call.fields.items fields
-  pub frames_agree : FramesAgree space call.frames frames
-  pub shows : Shows code known visible (slots_of call references fields)
+  pub frames_agree : FramesAgree space call.locals frames
+  pub shows : Shows code known visible (slots_of call references owners fields)
   pub stands : StandsFor code known call.place call.stack (task ∷ rest)
-  pub does : DoesEffect code known call.place call.stack (slots_of call references fields) visible rest (effect_of visible.sight task)
+  pub does : DoesEffect code known call.place call.stack (slots_of call references owners fields) visible rest (effect_of visible.sight task)
   pub depth : depth_at code.instrs call.place ≡ Some (length call.stack)
 
 pub ready : (p : Lowered) (classes : Classes) (space : Space) (call : Activation) (code : Listing) (visible : Visible) (frames : List Frame) (task : Task) (rest : List Task) → IsLowered p → slice_get p.codes call.function ≡ Some code → CallStands p classes space call visible frames (task ∷ rest) → Ready p classes space call code visible frames task rest
 ready p classes space call code visible frames task rest lowered at h =
     let same : h.code ≡ code = cc (h.of_function) in
     let found = code_lowered [] (unit_tree p.unit).items p.codes call.function code lowered at in
-    let shows = subst (λ (k : Listing). Shows k h.known visible (slots_of call h.references h.fields)) same h.shows in
+    let shows = subst (λ (k : Listing). Shows k h.known visible (slots_of call h.references h.owners h.fields)) same h.shows in
     let stands = subst (λ (k : Listing). StandsFor k h.known call.place call.stack (task ∷ rest)) same h.stands in
     record {
       of_function = at;
       valid = found.2.valid;
       known = h.known;
       references = h.references;
+      owners = h.owners;
       agree = h.agree;
       fields = h.fields;
       fields_agree = h.fields_agree;
       frames_agree = h.frames_agree;
       shows = shows;
       stands = stands;
-      does = found.2.steps visible h.known (slots_of call h.references h.fields) call.place call.stack task rest shows stands;
+      does = found.2.steps visible h.known (slots_of call h.references h.owners h.fields) call.place call.stack task rest shows stands;
       depth = subst (λ (k : Listing). depth_at k.instrs call.place ≡ Some (length call.stack)) same h.depth;
     }
 
--- as many references as addresses
-pub agree_count : (space : Space) (addresses : List (Option ℕ)) (references : List Reference) → ReferencesAgree space addresses references → length references ≡ length addresses
-agree_count space [] [] h = refl
-agree_count space [] (r ∷ rs) h = absurd h
-agree_count space (a ∷ addresses) [] h = absurd h
-agree_count space (a ∷ addresses) (r ∷ rs) h = ap suc (agree_count space addresses rs h.1)
+-- the owners are those of the call
+pub ready_owners : (p : Lowered) (classes : Classes) (space : Space) (call : Activation) (code : Listing) (visible : Visible) (frames : List Frame) (task : Task) (rest : List Task) (lowered : IsLowered p) (at : slice_get p.codes call.function ≡ Some code) (h : CallStands p classes space call visible frames (task ∷ rest))
+    → (ready p classes space call code visible frames task rest lowered at h).owners ≡ h.owners
+unfolding ready
+ready_owners p classes space call code visible frames task rest lowered at h = refl
 
 -- as many field IDs as handles
 pub fields_count : (classes : Classes) (handles : List (Option FieldHandle)) (fields : List (Option FieldId)) → FieldsAgree classes handles fields → length fields ≡ length handles
@@ -164,16 +166,15 @@ fields_count classes [] (f ∷ fields) h = absurd h
 fields_count classes (a ∷ handles) [] h = absurd h
 fields_count classes (a ∷ handles) (f ∷ fields) h = ap suc (fields_count classes handles fields h.1)
 
--- the call stands at a place, with these operands, number slots, references and field IDs, and its frames as they were
-pub record HasMoved (call after : Activation) (to : ℕ) (words slots : List ℕ) (addresses : List (Option ℕ)) (handles : List (Option FieldHandle)) : Type 0 where
+-- the call stands at a place, with these operands, number slots, keys and field IDs, and its table as it was
+pub record HasMoved (call after : Activation) (to : ℕ) (words slots : List ℕ) (keys : List (Option ℕ)) (handles : List (Option FieldHandle)) : Type 0 where
   pub function : after.function ≡ call.function
   pub place : after.place ≡ to
   pub stack : after.stack ≡ words
   pub numbers : after.numbers.items ≡ slots
-  pub references : after.references.items ≡ addresses
-  pub levels : after.levels.items ≡ call.levels.items
+  pub references : after.references.items ≡ keys
   pub fields : after.fields.items ≡ handles
-  pub frames : after.frames ≡ call.frames
+  pub locals : after.locals ≡ call.locals
 
 some_is : {A : Type 0} (o : Option A) (x : A) → o ≡ Some x → IsSome o
 some_is None x h = absurd (cc)
@@ -187,29 +188,30 @@ module _ (p : Lowered) (classes : Classes) (space : Space) (call : Activation) (
   -- there is an instruction
   pub here : (i : Instr) × (slice_get code.instrs call.place ≡ Some i)
   here =
-      does_cases code r.known call.place call.stack (slots_of call r.references r.fields) visible rest (λ e. (i : Instr) × (slice_get code.instrs call.place ≡ Some i))
+      does_cases code r.known call.place call.stack (slots_of call r.references r.owners r.fields) visible rest (λ e. (i : Instr) × (slice_get code.instrs call.place ≡ Some i))
       (λ tasks g. (g.here, g.at)) (λ x v g. (g.here, g.at)) (λ target g. (instr.StoreNull g.variable, g.at)) (λ x i z t a g. (g.here, g.at)) (λ t x n g. (g.here, g.at))
       (λ z g. (instr.PutJint, g.at)) (λ line target f args g. (instr.Call g.call, g.at)) (λ g. (g.here, g.at)) (λ trap line g. (g.here, g.at))
       (effect_of visible.sight task) r.does
 
   -- the call stands for tasks at another place
-  pub stands_at : (after : Activation) (to : ℕ) (stack numbers : List ℕ) (addresses : List (Option ℕ)) (references : List Reference) (handles : List (Option FieldHandle)) (fields : List (Option FieldId)) (names : Known) (visible' : Visible) (tasks : List Task)
-      → depth_at code.instrs to ≡ Some (length stack) → HasMoved call after to stack numbers addresses handles → ReferencesAgree space addresses references → FieldsAgree classes handles fields → StandsFor code names to stack tasks
-      → Shows code names visible' (record { numbers = numbers; references = references; levels = call.levels.items; fields = fields }) → CallStands p classes space after visible' frames tasks
-  stands_at after to stack numbers addresses references handles fields names visible' tasks d m agree handled stands shows = record {
+  pub stands_at : (after : Activation) (to : ℕ) (stack numbers : List ℕ) (keys : List (Option ℕ)) (references : List Reference) (handles : List (Option FieldHandle)) (fields : List (Option FieldId)) (names : Known) (visible' : Visible) (tasks : List Task)
+      → depth_at code.instrs to ≡ Some (length stack) → HasMoved call after to stack numbers keys handles → KeysAgree space call.locals keys references r.owners → FieldsAgree classes handles fields → StandsFor code names to stack tasks
+      → Shows code names visible' (record { numbers = numbers; references = references; owners = r.owners; fields = fields }) → CallStands p classes space after visible' frames tasks
+  stands_at after to stack numbers keys references handles fields names visible' tasks d m agree handled stands shows = record {
     code = code;
     of_function = ap (slice_get p.codes) m.function ∙ r.of_function;
     known = names;
     stands = subst (λ (n : ℕ). StandsFor code names n after.stack tasks) (sym m.place) (subst (λ (s : List ℕ). StandsFor code names to s tasks) (sym m.stack) stands);
     references = references;
-    agree = subst (λ (l : List (Option ℕ)). ReferencesAgree space l references) (sym m.references) agree;
+    owners = r.owners;
+    agree =
+        subst (λ (t : LocalTable). KeysAgree space t after.references.items references r.owners) (sym m.locals)
+        (subst (λ (l : List (Option ℕ)). KeysAgree space call.locals l references r.owners) (sym m.references) agree);
     fields = fields;
     fields_agree = subst (λ (l : List (Option FieldHandle)). FieldsAgree classes l fields) (sym m.fields) handled;
-    shows =
-        subst (λ (ls : List ℕ). Shows code names visible' (record { numbers = after.numbers.items; references = references; levels = ls; fields = fields })) (sym m.levels)
-        (subst (λ (ns : List ℕ). Shows code names visible' (record { numbers = ns; references = references; levels = call.levels.items; fields = fields })) (sym m.numbers) shows);
+    shows = subst (λ (ns : List ℕ). Shows code names visible' (record { numbers = ns; references = references; owners = r.owners; fields = fields })) (sym m.numbers) shows;
     depth = ap (depth_at code.instrs) m.place ∙ d ∙ ap (λ (s : List ℕ). Some (length s)) (sym m.stack);
-    frames_agree = subst (λ (l : List FrameInMemory). FramesAgree space l frames) (sym m.frames) r.frames_agree;
+    frames_agree = subst (λ (t : LocalTable). FramesAgree space t frames) (sym m.locals) r.frames_agree;
   }
 
   module _ (i : Instr) (at : slice_get code.instrs call.place ≡ Some i) where

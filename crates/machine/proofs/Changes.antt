@@ -8,7 +8,6 @@ use Rattle.std.proofs.lemmas.Slice.Eq.{bytes_eq-Decides}
 use Rattle.base.specs.Bytes.{Identifier, ByName, lookup}
 use Rattle.base.specs.Element.{ElementType}
 use Rattle.classes.specs.Fields.{FieldId}
-use Rattle.source.specs.CallEffects.{level_of}
 use Rattle.source.specs.Object.{Reference}
 use Rattle.source.specs.Sight.{scalar, holds_null, elements_of, in_range, held_reference, held_field}
 use Rattle.source.specs.Thread as source
@@ -16,6 +15,7 @@ use Rattle.source.specs.Thread.{Shared}
 use Rattle.source.specs.Value.{Value, Gives, Stuck, outcome_then, convert}
 use Rattle.source.specs.Variable.{Variable, Scalar, LocalRef, FieldHandle, Elements, LocalArray, Empty, Variables, assign}
 use Rattle.source.specs.Task.{VariableKind, ScalarKind, ReferenceKind, FieldKind}
+use Rattle.safety.specs.Owners.{Owners}
 use Rattle.lower.specs.Slots.{visible_to, type_of_array, kind_of_variable, OthersStay, IsSet, IsNulled, IsReferred, IsFieldSet, IsMade, IsElementSet}
 
 -- ---- lists by name
@@ -125,12 +125,16 @@ field_by_kind (Some (LocalArray t zs)) h = absurd (cc)
 
 -- ---- a variable is set
 
+-- the other variables' own references are what they were
+abbrev pub OthersOwn : Owners → Owners → Identifier → Type 0
+OthersOwn own own' x = (y : Identifier) → y ≢ x → own' y ≡ own y
+
 -- the thread's variables with one of them set
-module _ (shared : Shared) (s t : source.Thread) (x : Identifier) (v : Variable) (e : t.variables ≡ assign x v s.variables) where
+module _ (own own' : Owners) (shared : Shared) (s t : source.Thread) (x : Identifier) (stay : OthersOwn own own' x) (v : Variable) (e : t.variables ≡ assign x v s.variables) where
   found : lookup x t.variables ≡ Some v
   found = ap (λ (vs : Variables). lookup x vs) e ∙ lookup_same x v s.variables
 
-  others : OthersStay (visible_to shared s) (visible_to shared t) x
+  others : OthersStay (visible_to own shared s) (visible_to own' shared t) x
   others y other =
       let same : lookup y t.variables ≡ lookup y s.variables = ap (λ (vs : Variables). lookup y vs) e ∙ lookup_other x y v s.variables other in
       record {
@@ -141,15 +145,15 @@ module _ (shared : Shared) (s t : source.Thread) (x : Identifier) (v : Variable)
         field = ap held_field same;
         array_type = ap type_of_array same;
         kind = ap kind_of_variable same;
-        level = ap level_of same;
+        owner = stay y other;
       }
 
-  element_of : (i : ℕ) → (visible_to shared t).sight.element x i ≡ outcome_then (λ (zs : List ℤ). in_range (slice_get zs i)) (elements_of shared.heap (Some v))
+  element_of : (i : ℕ) → (visible_to own' shared t).sight.element x i ≡ outcome_then (λ (zs : List ℤ). in_range (slice_get zs i)) (elements_of shared.heap (Some v))
   element_of i = ap (λ (o : Option Variable). outcome_then (λ (zs : List ℤ). in_range (slice_get zs i)) (elements_of shared.heap o)) found
 
   -- a variable that is NULL
   pub is_nulled : (kind : VariableKind) → scalar (Some v) ≡ Stuck → holds_null (Some v) (lookup x shared.statics) ≡ Gives true → held_reference (Some v) (lookup x shared.statics) ≡ Empty → held_field (Some v) ≡ None → type_of_array (Some v) ≡ None → kind_of_variable (Some v) ≡ Some kind
-      → IsNulled (visible_to shared s) (Some kind) x (visible_to shared t)
+      → IsNulled (visible_to own shared s) (Some kind) x (visible_to own' shared t)
   is_nulled kind number null reference field no_array same_kind = record {
     number = ap scalar found ∙ number;
     is_null = ap (λ (o : Option Variable). holds_null o (lookup x shared.statics)) found ∙ null;
@@ -162,56 +166,56 @@ module _ (shared : Shared) (s t : source.Thread) (x : Identifier) (v : Variable)
   }
 
 -- a number
-pub is_set : (shared : Shared) (s t : source.Thread) (x : Identifier) (v : Value) → t.variables ≡ assign x (Scalar v) s.variables → IsSet (visible_to shared s) x v (visible_to shared t)
-is_set shared s t x v e = record { is = ap scalar (found shared s t x (Scalar v) e); kind = ap kind_of_variable (found shared s t x (Scalar v) e); statics = refl; others = others shared s t x (Scalar v) e }
+pub is_set : (own own' : Owners) (shared : Shared) (s t : source.Thread) (x : Identifier) → OthersOwn own own' x → (v : Value) → t.variables ≡ assign x (Scalar v) s.variables → IsSet (visible_to own shared s) x v (visible_to own' shared t)
+is_set own own' shared s t x stay v e = record { is = ap scalar (found own own' shared s t x stay (Scalar v) e); kind = ap kind_of_variable (found own own' shared s t x stay (Scalar v) e); statics = refl; others = others own own' shared s t x stay (Scalar v) e }
 
 -- a local reference
-pub is_referred : (shared : Shared) (s t : source.Thread) (x : Identifier) (level : ℕ) (r : Reference) → t.variables ≡ assign x (LocalRef level r) s.variables → IsReferred (visible_to shared s) x r (visible_to shared t)
-is_referred shared s t x level r e =
-    let is = found shared s t x (LocalRef level r) e in
+pub is_referred : (own own' : Owners) (shared : Shared) (s t : source.Thread) (x : Identifier) → OthersOwn own own' x → (level : ℕ) (r : Reference) → t.variables ≡ assign x (LocalRef level r) s.variables → IsReferred (visible_to own shared s) x r (visible_to own' shared t)
+is_referred own own' shared s t x stay level r e =
+    let is = found own own' shared s t x stay (LocalRef level r) e in
     record {
       number = ap scalar is;
       is_null = ap (λ (o : Option Variable). holds_null o (lookup x shared.statics)) is;
       reference = ap (λ (o : Option Variable). held_reference o (lookup x shared.statics)) is;
       kind = ap kind_of_variable is;
       statics = refl;
-      others = others shared s t x (LocalRef level r) e;
+      others = others own own' shared s t x stay (LocalRef level r) e;
     }
 
 -- a field ID
-pub is_field_set : (shared : Shared) (s t : source.Thread) (x : Identifier) (f : Option FieldId) → t.variables ≡ assign x (FieldHandle f) s.variables → IsFieldSet (visible_to shared s) x f (visible_to shared t)
-is_field_set shared s t x f e =
-    let is = found shared s t x (FieldHandle f) e in
+pub is_field_set : (own own' : Owners) (shared : Shared) (s t : source.Thread) (x : Identifier) → OthersOwn own own' x → (f : Option FieldId) → t.variables ≡ assign x (FieldHandle f) s.variables → IsFieldSet (visible_to own shared s) x f (visible_to own' shared t)
+is_field_set own own' shared s t x stay f e =
+    let is = found own own' shared s t x stay (FieldHandle f) e in
     record {
       number = ap scalar is;
       is_null = ap (λ (o : Option Variable). holds_null o (lookup x shared.statics)) is;
       field = ap held_field is;
       kind = ap kind_of_variable is;
       statics = refl;
-      others = others shared s t x (FieldHandle f) e;
+      others = others own own' shared s t x stay (FieldHandle f) e;
     }
 
 -- a new array
-pub is_made : (shared : Shared) (s t : source.Thread) (x : Identifier) (type : ElementType) (n : ℕ) → t.variables ≡ assign x (LocalArray type (replicate n (pos 0))) s.variables → IsMade (visible_to shared s) type x n (visible_to shared t)
-is_made shared s t x type n e = record {
-  array_type = ap type_of_array (found shared s t x (LocalArray type (replicate n (pos 0))) e);
-  zeros = λ i below. element_of shared s t x (LocalArray type (replicate n (pos 0))) e i ∙ ap in_range (get_replicate n i (pos 0) below);
-  past = λ i above. element_of shared s t x (LocalArray type (replicate n (pos 0))) e i ∙ ap in_range (slice_get_past (replicate n (pos 0)) i (omega (arith, above, length-replicate {A = ℤ} n (pos 0))));
+pub is_made : (own own' : Owners) (shared : Shared) (s t : source.Thread) (x : Identifier) → OthersOwn own own' x → (type : ElementType) (n : ℕ) → t.variables ≡ assign x (LocalArray type (replicate n (pos 0))) s.variables → IsMade (visible_to own shared s) type x n (visible_to own' shared t)
+is_made own own' shared s t x stay type n e = record {
+  array_type = ap type_of_array (found own own' shared s t x stay (LocalArray type (replicate n (pos 0))) e);
+  zeros = λ i below. element_of own own' shared s t x stay (LocalArray type (replicate n (pos 0))) e i ∙ ap in_range (get_replicate n i (pos 0) below);
+  past = λ i above. element_of own own' shared s t x stay (LocalArray type (replicate n (pos 0))) e i ∙ ap in_range (slice_get_past (replicate n (pos 0)) i (omega (arith, above, length-replicate {A = ℤ} n (pos 0))));
   statics = refl;
-  others = others shared s t x (LocalArray type (replicate n (pos 0))) e;
+  others = others own own' shared s t x stay (LocalArray type (replicate n (pos 0))) e;
 }
 
 -- an element of an array
-pub is_element_set : (shared : Shared) (s t : source.Thread) (x : Identifier) (type : ElementType) (zs : List ℤ) (i : ℕ) (z old : ℤ) → lookup x s.variables ≡ Some (LocalArray type zs) → (visible_to shared s).sight.element x i ≡ Gives old
-    → t.variables ≡ assign x (LocalArray type (slice_set zs i (convert type z))) s.variables → IsElementSet (visible_to shared s) type x i z (visible_to shared t)
-is_element_set shared s t x type zs i z old array seen e =
+pub is_element_set : (own own' : Owners) (shared : Shared) (s t : source.Thread) (x : Identifier) → OthersOwn own own' x → (type : ElementType) (zs : List ℤ) (i : ℕ) (z old : ℤ) → lookup x s.variables ≡ Some (LocalArray type zs) → (visible_to own shared s).sight.element x i ≡ Gives old
+    → t.variables ≡ assign x (LocalArray type (slice_set zs i (convert type z))) s.variables → IsElementSet (visible_to own shared s) type x i z (visible_to own' shared t)
+is_element_set own own' shared s t x stay type zs i z old array seen e =
     let new : Variable = LocalArray type (slice_set zs i (convert type z)) in
-    let elements : (j : ℕ) → (visible_to shared s).sight.element x j ≡ in_range (slice_get zs j) = λ j. ap (λ (o : Option Variable). outcome_then (λ (ys : List ℤ). in_range (slice_get ys j)) (elements_of shared.heap o)) array in
+    let elements : (j : ℕ) → (visible_to own shared s).sight.element x j ≡ in_range (slice_get zs j) = λ j. ap (λ (o : Option Variable). outcome_then (λ (ys : List ℤ). in_range (slice_get ys j)) (elements_of shared.heap o)) array in
     let inside : i < length zs = seen_within zs i old (sym (elements i) ∙ seen) in
     record {
-      array_type = ap type_of_array (found shared s t x new e) ∙ sym (ap type_of_array array);
-      is = element_of shared s t x new e i ∙ ap in_range (get_set_same zs i (convert type z) inside);
-      elements = λ j other. element_of shared s t x new e j ∙ ap in_range (get_set_other zs i j (convert type z) other) ∙ sym (elements j);
+      array_type = ap type_of_array (found own own' shared s t x stay new e) ∙ sym (ap type_of_array array);
+      is = element_of own own' shared s t x stay new e i ∙ ap in_range (get_set_same zs i (convert type z) inside);
+      elements = λ j other. element_of own own' shared s t x stay new e j ∙ ap in_range (get_set_other zs i j (convert type z) other) ∙ sym (elements j);
       statics = refl;
-      others = others shared s t x new e;
+      others = others own own' shared s t x stay new e;
     }

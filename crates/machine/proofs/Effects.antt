@@ -28,6 +28,7 @@ use Rattle.source.specs.Thread.{BuffersInUse, Shared, sight_of, viewed_by}
 use Rattle.source.specs.ThreadStep.{with_tasks, after_effect, set_element}
 use Rattle.source.specs.Value.{Trap, convert}
 use Rattle.source.specs.Variable.{Variable, Scalar, LocalArray, assign}
+use Rattle.safety.specs.Owners.{Owners}
 use Rattle.lower.specs.Slots as lower
 use Rattle.lower.specs.Slots.{Visible, Slots, visible_to, Shows, IsSet, IsMade, IsElementSet}
 use Rattle.lower.specs.Stands.{StandsFor}
@@ -49,9 +50,10 @@ use Rattle.machine.specs.Asked.{references_of}
 use Rattle.machine.specs.declared.statics.StaticReference.{StaticReference}
 use Rattle.machine.specs.Variables.{is_null, HasSlot, nulled_references, nulled_fields, nulled_statics}
 use Rattle.machine.proofs.Views.{Viewless, assigned_viewless}
-use Rattle.machine.proofs.Calls.{does_cases, slots_of, Ready, plain_instr, plain_works, IsNullTest, no_return, agree_count, HasMoved, stands_at, runs, room, leads, depth_behind, fields_count}
+use Rattle.machine.proofs.Calls.{does_cases, slots_of, Ready, plain_instr, plain_works, IsNullTest, no_return, HasMoved, stands_at, runs, room, leads, depth_behind, fields_count}
 use Rattle.machine.proofs.Changes.{array_of, is_set, is_made, is_element_set}
 use Rattle.machine.proofs.Keeping.{keeps_same}
+use Rattle.machine.proofs.KeyLaws.{keys_count}
 use Rattle.machine.proofs.Elements.{SetsWhatIsThere, sets_what_is_there}
 use Rattle.machine.proofs.NullLaws.{puts_null, nulled_agree, variable_null_agrees}
 use Rattle.machine.proofs.StaticStores.{keeps_but_statics, may_be_nulled, store_nulled}
@@ -144,9 +146,9 @@ one_more n h = by_test (nat_lt n 64) h
     by_test false k = absurd (cc (k))
 
 -- An instruction that isn't plain has one of these effects.
--- NULL in a variable changes no level
+-- NULL in a variable changes no owner
 null_shows : (code : Listing) (known : Known) (visible : Visible) (slots : Slots) (v : NullableVariable) → Shows code known visible (lower.with_null v slots)
-    → Shows code known visible (record { numbers = (lower.with_null v slots).numbers; references = (lower.with_null v slots).references; levels = slots.levels; fields = (lower.with_null v slots).fields })
+    → Shows code known visible (record { numbers = (lower.with_null v slots).numbers; references = (lower.with_null v slots).references; owners = slots.owners; fields = (lower.with_null v slots).fields })
 null_shows code known visible slots (nullable.Local i) h = h
 null_shows code known visible slots (nullable.Static i) h = h
 null_shows code known visible slots (nullable.FieldId i) h = h
@@ -154,7 +156,7 @@ null_shows code known visible slots (nullable.Buffer i) h = h
 
 module _ (p : Lowered) (classes : Classes) (space : Space) (call : Activation) (code : Listing) (visible : Visible) (frames : List source.Frame) (task : Task) (rest : List Task) (r : Ready p classes space call code visible frames task rest) (i : Instr) (at : slice_get code.instrs call.place ≡ Some i) where
   abbrev slots : Slots
-  slots = slots_of call r.references r.fields
+  slots = slots_of call r.references r.owners r.fields
 
   other_cases : (P : Effect → Type 0) → (IsPlain i → ⊥) → (IsNullTest i → (tasks : List Task) → GoesOn code r.known call.place call.stack slots visible (tasks ++ rest) → P (Becomes tasks))
       → ((target : Target) (h : StoresNull code r.known call.place call.stack slots visible target rest) → i ≡ instr.StoreNull h.variable → P (SetsNull target))
@@ -195,7 +197,7 @@ module _ (p : Lowered) (classes : Classes) (space : Space) (call : Activation) (
   slot_there (nullable.Local j) statics is same =
       let within : within_slots code.slots (instr.StoreNull (nullable.Local j)) ≡ true = subst (λ (h : Instr). IsTrue (within_slots code.slots h)) is (runs p classes space call code visible frames task rest r i at).slots in
       let below : j < code.slots.references = ltb-true j code.slots.references within in
-      omega (arith, below, agree_count space call.references.items r.references r.agree, r.shows.references)
+      omega (arith, below, keys_count space call.locals call.references.items r.references r.owners r.agree, r.shows.references)
   slot_there (nullable.FieldId j) statics is same =
       let within : within_slots code.slots (instr.StoreNull (nullable.FieldId j)) ≡ true = subst (λ (h : Instr). IsTrue (within_slots code.slots h)) is (runs p classes space call code visible frames task rest r i at).slots in
       let below : j < code.slots.field_ids = ltb-true j code.slots.field_ids within in
@@ -221,8 +223,8 @@ module _ (p : Lowered) (classes : Classes) (space : Space) (call : Activation) (
 
 -- ---- what an instruction did
 
-module _ (p : Lowered) (w : World) (store : Store) (lent : BuffersInUse) (k : ℕ) (shared : Shared) (shares : StoreAgrees p w store shared) (s : source.Thread) (pending : Option ℕ) (pends : ReferenceAgrees store.heap pending s.pending) (none : viewed_by s ≡ []) (call : Activation) (code : Listing) (task : Task) (rest : List Task)
-    (r : Ready p w.classes store.heap call code (visible_to shared s) s.frames task rest) (i : Instr) (at : slice_get code.instrs call.place ≡ Some i) where
+module _ (p : Lowered) (w : World) (store : Store) (lent : BuffersInUse) (k : ℕ) (own : Owners) (shared : Shared) (shares : StoreAgrees p w store shared) (s : source.Thread) (pending : Option ℕ) (pends : ReferenceAgrees store.heap pending s.pending) (none : viewed_by s ≡ []) (call : Activation) (code : Listing) (task : Task) (rest : List Task)
+    (r : Ready p w.classes store.heap call code (visible_to own shared s) s.frames task rest) (i : Instr) (at : slice_get code.instrs call.place ≡ Some i) where
   abbrev classes : Classes
   classes = w.classes
 
@@ -230,15 +232,15 @@ module _ (p : Lowered) (w : World) (store : Store) (lent : BuffersInUse) (k : �
   space = store.heap
 
   abbrev seen : Visible
-  seen = visible_to shared s
+  seen = visible_to own shared s
 
   abbrev held : Slots
-  held = slots_of call r.references r.fields
+  held = slots_of call r.references r.owners r.fields
 
   -- an instruction on the stack and the number slots alone
   module _ (tasks_are : s.tasks ≡ Some (task ∷ rest)) (after : Activation) (e : Event) (way : Plain) (stack numbers : List ℕ) (is : plain_of i call.stack call.numbers.items ≡ Some (way, stack, numbers))
       (m : HasMoved call after (end_of_way call.place way) stack numbers call.references.items call.fields.items) (way_seen : WayIsSeen way e) where
-    becomes : IsPlain i → (tasks : List Task) → GoesOn code r.known call.place call.stack held seen (tasks ++ rest) → agrees.GoesOn p w space store lent k shared s rest after pending (Becomes tasks) false e
+    becomes : IsPlain i → (tasks : List Task) → GoesOn code r.known call.place call.stack held seen (tasks ++ rest) → agrees.GoesOn p w space store lent k own shared s rest after pending (Becomes tasks) false e
     becomes works tasks h =
         let same : h.here ≡ i = cc (h.at, at) in
         let plain_is : plain_of i call.stack call.numbers.items ≡ Some (h.way, h.after, call.numbers.items) = plain_works seen held i call.stack h.way h.after works (subst (λ (j : Instr). Works seen held j call.stack h.way h.after) same h.works) in
@@ -251,10 +253,10 @@ module _ (p : Lowered) (w : World) (store : Store) (lent : BuffersInUse) (k : �
         record {
           next = next;
           steps = ap (λ (v : Event). source.Advances shared next (event_view v)) (sym (quiet_at_end call.place way (λ q. StandsFor code h.names q stack (tasks ++ rest)) e end way_seen));
-          work = stands_at p classes space call code seen s.frames task rest r after (end_of_way call.place way) stack numbers call.references.items r.references call.fields.items r.fields h.names (visible_to shared next) (tasks ++ rest)
+          work = stands_at p classes space call code seen s.frames task rest r after (end_of_way call.place way) stack numbers call.references.items r.references call.fields.items r.fields h.names (visible_to own shared next) (tasks ++ rest)
               (depth_at_end code call.place way (length stack) (λ q. StandsFor code h.names q stack (tasks ++ rest)) (leads p classes space call code seen s.frames task rest r i at way stack numbers is) end) m r.agree r.fields_agree
               (at_end call.place way (λ q. StandsFor code h.names q stack (tasks ++ rest)) end)
-              (subst (λ (ns : List ℕ). Shows code h.names (visible_to shared next) (record { numbers = ns; references = r.references; levels = call.levels.items; fields = r.fields })) numbers_are h.shows);
+              (subst (λ (ns : List ℕ). Shows code h.names (visible_to own shared next) (record { numbers = ns; references = r.references; owners = r.owners; fields = r.fields })) numbers_are h.shows);
           next_shared = shared;
           store_agrees = shares;
           keeps = keeps_same space shared;
@@ -265,8 +267,8 @@ module _ (p : Lowered) (w : World) (store : Store) (lent : BuffersInUse) (k : �
         }
 
     writes : (did : Effect) (changed : Visible → Type 0) → Writes code r.known call.place call.stack held seen changed rest → (vs : _) → after_effect classes lent k shared s rest did ≡ source.Advances shared (record s { tasks = Some rest; variables = vs }) source.Quiet
-        → changed (visible_to shared (record s { tasks = Some rest; variables = vs })) → Viewless vs → agrees.GoesOn p w space store lent k shared s rest after pending did false e
-    writes did changed h vs steps shown no_view =
+        → changed (visible_to own shared (record s { tasks = Some rest; variables = vs })) → Viewless vs → agrees.owners_left did (event_view e) (length s.frames) own vs ≡ own → agrees.GoesOn p w space store lent k own shared s rest after pending did false e
+    writes did changed h vs steps shown no_view left =
         let same : h.here ≡ i = cc (h.at, at) in
         let plain_is : plain_of i call.stack call.numbers.items ≡ Some (plain.Next, [], h.numbers) = subst (λ (j : Instr). plain_of j call.stack call.numbers.items ≡ Some (plain.Next, [], h.numbers)) same h.plain in
         let way_is : way ≡ plain.Next = same_way _ _ _ _ _ _ (sym is ∙ plain_is) in
@@ -278,10 +280,11 @@ module _ (p : Lowered) (w : World) (store : Store) (lent : BuffersInUse) (k : �
         record {
           next = next;
           steps = steps ∙ ap (λ (v : Event). source.Advances shared next (event_view v)) (sym quiet);
-          work = stands_at p classes space call code seen s.frames task rest r after (call.place + 1) stack numbers call.references.items r.references call.fields.items r.fields h.names (visible_to shared next) rest end.words
+          work = subst (λ (o : Owners). CallStands p classes space after (visible_to o shared next) s.frames rest) (sym left)
+              (stands_at p classes space call code seen s.frames task rest r after (call.place + 1) stack numbers call.references.items r.references call.fields.items r.fields h.names (visible_to own shared next) rest end.words
               (subst (λ (w : Plain). HasMoved call after (end_of_way call.place w) stack numbers call.references.items call.fields.items) way_is m) r.agree r.fields_agree
               (subst (λ (st : List ℕ). StandsFor code h.names (call.place + 1) st rest) after_is h.stands)
-              (subst (λ (ns : List ℕ). Shows code h.names (visible_to shared next) (record { numbers = ns; references = r.references; levels = call.levels.items; fields = r.fields })) numbers_are (h.shows (visible_to shared next) shown));
+              (subst (λ (ns : List ℕ). Shows code h.names (visible_to own shared next) (record { numbers = ns; references = r.references; owners = r.owners; fields = r.fields })) numbers_are (h.shows (visible_to own shared next) shown)));
           next_shared = shared;
           store_agrees = shares;
           keeps = keeps_same space shared;
@@ -291,7 +294,7 @@ module _ (p : Lowered) (w : World) (store : Store) (lent : BuffersInUse) (k : �
           viewless = no_view;
         }
 
-    traps : (reason : Trap) (line : ℕ) → Stops code r.known call.place call.stack held seen reason line → agrees.GoesOn p w space store lent k shared s rest after pending (TrapsAt reason line) false e
+    traps : (reason : Trap) (line : ℕ) → Stops code r.known call.place call.stack held seen reason line → agrees.GoesOn p w space store lent k own shared s rest after pending (TrapsAt reason line) false e
     traps reason line h =
         let same : h.here ≡ i = cc (h.at, at) in
         let plain_is : plain_of i call.stack call.numbers.items ≡ Some (plain.Trap h.trap line, call.stack, call.numbers.items) =
@@ -305,7 +308,7 @@ module _ (p : Lowered) (w : World) (store : Store) (lent : BuffersInUse) (k : �
         stands_at p classes space call code seen s.frames task rest r after call.place stack numbers call.references.items r.references call.fields.items r.fields r.known seen (task ∷ rest) (r.depth ∙ ap (λ (st : List ℕ). Some (length st)) after_is)
         (subst (λ (w : Plain). HasMoved call after (end_of_way call.place w) stack numbers call.references.items call.fields.items) way_is m) r.agree r.fields_agree
         (subst (λ (st : List ℕ). StandsFor code r.known call.place st (task ∷ rest)) after_is r.stands)
-        (subst (λ (ns : List ℕ). Shows code r.known seen (record { numbers = ns; references = r.references; levels = call.levels.items; fields = r.fields })) numbers_are r.shows) in
+        (subst (λ (ns : List ℕ). Shows code r.known seen (record { numbers = ns; references = r.references; owners = r.owners; fields = r.fields })) numbers_are r.shows) in
         record {
           next = s;
           steps = ap (λ (t : Trap). source.Advances shared s (source.Trapped t line)) trap_is ∙ ap (λ (v : Event). source.Advances shared s (event_view v)) (sym seen_trap.2);
@@ -320,22 +323,22 @@ module _ (p : Lowered) (w : World) (store : Store) (lent : BuffersInUse) (k : �
         }
 
     sets_element : (x : Identifier) (j : ℕ) (z : ℤ) (t : ElementType) → seen.array_type x ≡ Some t → Writes code r.known call.place call.stack held seen (IsElementSet seen t x j z) rest → SetsWhatIsThere seen.sight (SetsElement x j z)
-        → agrees.GoesOn p w space store lent k shared s rest after pending (SetsElement x j z) false e
+        → agrees.GoesOn p w space store lent k own shared s rest after pending (SetsElement x j z) false e
     sets_element x j z t type h there =
         let array = array_of (lookup x s.variables) t type in
         let v : Variable = LocalArray t (slice_set array.0 j (convert t z)) in
         writes (SetsElement x j z) (IsElementSet seen t x j z) h (assign x v s.variables) (ap (set_element shared (with_tasks s rest) x j z) array.1)
-        (is_element_set shared s (record s { tasks = Some rest; variables = assign x v s.variables }) x t array.0 j z there.0 array.1 there.1 refl) (assigned_viewless x v s.variables refl none)
+        (is_element_set own own shared s (record s { tasks = Some rest; variables = assign x v s.variables }) x (λ y other. refl) t array.0 j z there.0 array.1 there.1 refl) (assigned_viewless x v s.variables refl none) refl
 
-    pub plain_executes : Executes p w space store lent k shared s rest after pending (effect_of (sight_of shared s) task) (Did e)
+    pub plain_executes : Executes p w space store lent k own shared s rest after pending (effect_of (sight_of shared s) task) (Did e)
     plain_executes =
         let works : IsPlain i = plain_instr i call.stack call.numbers.items (way, stack, numbers) is in
-        does_cases code r.known call.place call.stack held seen rest (λ effect. SetsWhatIsThere seen.sight effect → Executes p w space store lent k shared s rest after pending effect (Did e))
+        does_cases code r.known call.place call.stack held seen rest (λ effect. SetsWhatIsThere seen.sight effect → Executes p w space store lent k own shared s rest after pending effect (Did e))
         (λ tasks h there. becomes works tasks h)
-        (λ x v h there. writes (Sets x v) (IsSet seen x v) h (assign x (Scalar v) s.variables) refl (is_set shared s (record s { tasks = Some rest; variables = assign x (Scalar v) s.variables }) x v refl) (assigned_viewless x (Scalar v) s.variables refl none))
+        (λ x v h there. writes (Sets x v) (IsSet seen x v) h (assign x (Scalar v) s.variables) refl (is_set own own shared s (record s { tasks = Some rest; variables = assign x (Scalar v) s.variables }) x (λ y other. refl) v refl) (assigned_viewless x (Scalar v) s.variables refl none) refl)
         (λ target h. absurd (let same : i ≡ instr.StoreNull h.variable = cc (at, h.at) in subst IsPlain same works))
         (λ x j z t type h there. sets_element x j z t type h there)
-        (λ t x n h there. let v : Variable = LocalArray t (replicate n (pos 0)) in writes (MakesArray t x n) (IsMade seen t x n) h (assign x v s.variables) refl (is_made shared s (record s { tasks = Some rest; variables = assign x v s.variables }) x t n refl) (assigned_viewless x v s.variables refl none))
+        (λ t x n h there. let v : Variable = LocalArray t (replicate n (pos 0)) in writes (MakesArray t x n) (IsMade seen t x n) h (assign x v s.variables) refl (is_made own own shared s (record s { tasks = Some rest; variables = assign x v s.variables }) x (λ y other. refl) t n refl) (assigned_viewless x v s.variables refl none) refl)
         (λ z h. absurd (let same : i ≡ instr.PutJint = cc (at, h.at) in subst IsPlain same works))
         (λ line target f args h. absurd (let same : i ≡ instr.Call h.call = cc (at, h.at) in subst IsPlain same works))
         (λ h. absurd (no_return i (let same : h.here ≡ i = cc (at, h.at) in subst IsReturn same h.returns) works))
@@ -344,16 +347,16 @@ module _ (p : Lowered) (w : World) (store : Store) (lent : BuffersInUse) (k : �
 
   -- a test of NULL
   pub test_executes : (variable : NullableVariable) (equal : Bool) (after : Activation) → i ≡ instr.TestNull variable equal → HasMoved call after (call.place + 1) (truth_word (beq (is_null (references_of store call) call.fields.items variable) equal) ∷ call.stack) call.numbers.items call.references.items call.fields.items
-      → Executes p w space store lent k shared s rest after pending (effect_of (sight_of shared s) task) (Did event.Quiet)
+      → Executes p w space store lent k own shared s rest after pending (effect_of (sight_of shared s) task) (Did event.Quiet)
   test_executes variable equal after is m =
-      other_cases p classes space call code seen s.frames task rest r i at (λ effect. Executes p w space store lent k shared s rest after pending effect (Did event.Quiet)) (λ plain. subst IsPlain is plain)
+      other_cases p classes space call code seen s.frames task rest r i at (λ effect. Executes p w space store lent k own shared s rest after pending effect (Did event.Quiet)) (λ plain. subst IsPlain is plain)
       (λ test tasks h. goes tasks h)
       (λ target h same. absurd (let both : instr.StoreNull h.variable ≡ instr.TestNull variable equal = sym same ∙ is in cc))
       (λ z h same. absurd (let both : instr.PutJint ≡ instr.TestNull variable equal = sym same ∙ is in cc))
       (λ line target f args h same. absurd (let both : instr.Call h.call ≡ instr.TestNull variable equal = sym same ∙ is in cc))
       (λ returns. absurd (subst IsReturn is returns))
     where
-      goes : (tasks : List Task) → GoesOn code r.known call.place call.stack held seen (tasks ++ rest) → agrees.GoesOn p w space store lent k shared s rest after pending (Becomes tasks) false event.Quiet
+      goes : (tasks : List Task) → GoesOn code r.known call.place call.stack held seen (tasks ++ rest) → agrees.GoesOn p w space store lent k own shared s rest after pending (Becomes tasks) false event.Quiet
       goes tasks h =
           let same : h.here ≡ instr.TestNull variable equal = cc (h.at, at, is) in
           let v = subst (λ (j : Instr). Works seen held j call.stack h.way h.after) same h.works in
@@ -366,7 +369,7 @@ module _ (p : Lowered) (w : World) (store : Store) (lent : BuffersInUse) (k : �
           record {
             next = next;
             steps = refl;
-            work = stands_at p classes space call code seen s.frames task rest r after (call.place + 1) stack call.numbers.items call.references.items r.references call.fields.items r.fields h.names (visible_to shared next) (tasks ++ rest)
+            work = stands_at p classes space call code seen s.frames task rest r after (call.place + 1) stack call.numbers.items call.references.items r.references call.fields.items r.fields h.names (visible_to own shared next) (tasks ++ rest)
                 (depth_behind p classes space call code seen s.frames task rest r i at (length stack) (λ leaves. subst Leaves is leaves)
                 (ap (λ (j : Instr). depth_after j (length call.stack)) is ∙ one_more (length call.stack) (subst (λ (j : Instr). IsSome (depth_after j (length call.stack))) is (room p classes space call code seen s.frames task rest r i at)))) m r.agree r.fields_agree end h.shows;
             next_shared = shared;
@@ -380,33 +383,33 @@ module _ (p : Lowered) (w : World) (store : Store) (lent : BuffersInUse) (k : �
 
   -- NULL is stored
   pub store_executes : (variable : NullableVariable) (after : Activation) (statics : Vec StaticReference) → i ≡ instr.StoreNull variable → statics.items ≡ nulled_statics variable store.statics.items → HasMoved call after (call.place + 1) call.stack call.numbers.items (nulled_references variable call.references.items) (nulled_fields variable call.fields.items)
-      → Executes p w space (record store { statics = statics }) lent k shared s rest after pending (effect_of (sight_of shared s) task) (Did event.Quiet)
+      → Executes p w space (record store { statics = statics }) lent k own shared s rest after pending (effect_of (sight_of shared s) task) (Did event.Quiet)
   store_executes variable after statics is nulled_are m =
-      other_cases p classes space call code seen s.frames task rest r i at (λ effect. Executes p w space (record store { statics = statics }) lent k shared s rest after pending effect (Did event.Quiet)) (λ plain. subst IsPlain is plain)
+      other_cases p classes space call code seen s.frames task rest r i at (λ effect. Executes p w space (record store { statics = statics }) lent k own shared s rest after pending effect (Did event.Quiet)) (λ plain. subst IsPlain is plain)
       (λ test tasks h. absurd (subst IsNullTest is test))
       (λ target h same. stores target h (let both : instr.StoreNull h.variable ≡ instr.StoreNull variable = sym same ∙ is in cc))
       (λ z h same. absurd (let both : instr.PutJint ≡ instr.StoreNull variable = sym same ∙ is in cc))
       (λ line target f args h same. absurd (let both : instr.Call h.call ≡ instr.StoreNull variable = sym same ∙ is in cc))
       (λ returns. absurd (subst IsReturn is returns))
     where
-      stores : (target : Target) (h : StoresNull code r.known call.place call.stack held seen target rest) → h.variable ≡ variable → agrees.GoesOn p w space (record store { statics = statics }) lent k shared s rest after pending (SetsNull target) false event.Quiet
+      stores : (target : Target) (h : StoresNull code r.known call.place call.stack held seen target rest) → h.variable ≡ variable → agrees.GoesOn p w space (record store { statics = statics }) lent k own shared s rest after pending (SetsNull target) false event.Quiet
       stores target h same =
           let kind = kind_of_target code r.known call.place call.stack held seen target in
-          let null = puts_null shared s none rest code r.known call.place call.stack held target h.name h.is h.takes in
+          let null = puts_null own shared s none rest code r.known call.place call.stack held target h.name h.is h.takes in
           let next : source.Thread = record s { tasks = Some rest; variables = null.variables } in
           let now : Shared = record shared { statics = lower.nulled_statics kind h.name shared.statics } in
           let stored = subst (λ (v : NullableVariable). IsStoredIn code r.known call.place call.stack held seen v kind h.name) same h.stored in
-          let nulled = nulled_agree classes space call.references.items call.fields.items held variable r.agree r.fields_agree in
+          let nulled = nulled_agree classes space call.locals call.references.items call.fields.items held variable r.agree r.fields_agree in
           let m' : HasMoved call after (call.place + 1) [] (lower.with_null variable held).numbers (nulled_references variable call.references.items) (nulled_fields variable call.fields.items) =
-          record { function = m.function; place = m.place; stack = m.stack ∙ h.empty; numbers = m.numbers ∙ sym nulled.numbers; references = m.references; levels = m.levels; fields = m.fields; frames = m.frames } in
+          record { function = m.function; place = m.place; stack = m.stack ∙ h.empty; numbers = m.numbers ∙ sym nulled.numbers; references = m.references; fields = m.fields; locals = m.locals } in
           record {
             next = next;
             steps = null.steps;
-            work = stands_at p classes space call code seen s.frames task rest r after (call.place + 1) [] (lower.with_null variable held).numbers (nulled_references variable call.references.items) (lower.with_null variable held).references (nulled_fields variable call.fields.items) (lower.with_null variable held).fields h.names (visible_to now next) rest
+            work = stands_at p classes space call code seen s.frames task rest r after (call.place + 1) [] (lower.with_null variable held).numbers (nulled_references variable call.references.items) (lower.with_null variable held).references (nulled_fields variable call.fields.items) (lower.with_null variable held).fields h.names (visible_to own now next) rest
                 (depth_behind p classes space call code seen s.frames task rest r i at 0 (λ leaves. subst Leaves is leaves) (ap (λ (j : Instr). depth_after j (length call.stack)) is ∙ ap (λ (st : List ℕ). Some (length st)) h.empty)) m' nulled.references nulled.fields h.stands
-                (null_shows code h.names (visible_to now next) held variable (subst (λ (v : NullableVariable). Shows code h.names (visible_to now next) (lower.with_null v held)) same (h.shows (visible_to now next) null.nulled)));
+                (null_shows code h.names (visible_to own now next) held variable (subst (λ (v : NullableVariable). Shows code h.names (visible_to own now next) (lower.with_null v held)) same (h.shows (visible_to own now next) null.nulled)));
             next_shared = now;
-            store_agrees = store_nulled p w store shared shares code r.known call.place call.stack held s statics h.name variable kind stored nulled_are;
+            store_agrees = store_nulled p w store shared shares own code r.known call.place call.stack held s statics h.name variable kind stored nulled_are;
             keeps = keeps_but_statics p w store shared shares now.statics shared.globals (may_be_nulled kind h.name shared.statics);
             pending_agrees = pends;
             calls = refl;
@@ -416,16 +419,16 @@ module _ (p : Lowered) (w : World) (store : Store) (lent : BuffersInUse) (k : �
 
   -- a print
   pub put_executes : (word : ℕ) (after : Activation) (stack : List ℕ) → i ≡ instr.PutJint → call.stack ≡ word ∷ stack → HasMoved call after (call.place + 1) stack call.numbers.items call.references.items call.fields.items
-      → Executes p w space store lent k shared s rest after pending (effect_of (sight_of shared s) task) (Did (event.Printed (cast_signed w32 word)))
+      → Executes p w space store lent k own shared s rest after pending (effect_of (sight_of shared s) task) (Did (event.Printed (cast_signed w32 word)))
   put_executes word after stack put top m =
-      other_cases p classes space call code seen s.frames task rest r i at (λ effect. Executes p w space store lent k shared s rest after pending effect (Did (event.Printed (cast_signed w32 word)))) (λ plain. subst IsPlain put plain)
+      other_cases p classes space call code seen s.frames task rest r i at (λ effect. Executes p w space store lent k own shared s rest after pending effect (Did (event.Printed (cast_signed w32 word)))) (λ plain. subst IsPlain put plain)
       (λ test tasks h. absurd (subst IsNullTest put test))
       (λ target h same. absurd (let both : instr.StoreNull h.variable ≡ instr.PutJint = sym same ∙ put in cc))
       (λ z h same. prints z h)
       (λ line target f args h same. absurd (let both : instr.Call h.call ≡ instr.PutJint = sym same ∙ put in cc))
       (λ returns. absurd (subst IsReturn put returns))
     where
-      prints : (z : ℤ) → PrintsTop code r.known call.place call.stack held seen z rest → agrees.GoesOn p w space store lent k shared s rest after pending (Prints z) false (event.Printed (cast_signed w32 word))
+      prints : (z : ℤ) → PrintsTop code r.known call.place call.stack held seen z rest → agrees.GoesOn p w space store lent k own shared s rest after pending (Prints z) false (event.Printed (cast_signed w32 word))
       prints z h =
           let words : word ≡ h.word = cc (top, h.top) in
           let nothing : [] ≡ stack = cc (top, h.top) in
@@ -446,9 +449,9 @@ module _ (p : Lowered) (w : World) (store : Store) (lent : BuffersInUse) (k : �
           }
 
   -- a return
-  pub return_executes : IsReturn i → (after : Activation) → Executes p w space store lent k shared s rest after pending (effect_of (sight_of shared s) task) Returned
+  pub return_executes : IsReturn i → (after : Activation) → Executes p w space store lent k own shared s rest after pending (effect_of (sight_of shared s) task) Returned
   return_executes is after =
-      other_cases p classes space call code seen s.frames task rest r i at (λ effect. Executes p w space store lent k shared s rest after pending effect Returned) (no_return i is)
+      other_cases p classes space call code seen s.frames task rest r i at (λ effect. Executes p w space store lent k own shared s rest after pending effect Returned) (no_return i is)
       (λ test tasks h. absurd (no_return_test i is test))
       (λ target h same. absurd (subst IsReturn same is))
       (λ z h same. absurd (subst IsReturn same is))

@@ -12,7 +12,7 @@ use Rattle.machine.specs.declared.statics.StaticReference.TheVariants as static
 use Rattle.machine.specs.Statics.{HaveKeys, all_held, held, held_at}
 use Rattle.machine.specs.declared.statics.Held.{Held}
 use Rattle.machine.specs.declared.statics.Held.TheVariants as memory
-use Rattle.machine.specs.Agrees.{GlobalsAgree, times}
+use Rattle.machine.specs.HeapAgrees.{SlotsAgree, times}
 use Rattle.machine.specs.HeapAgrees.{NamesAgree}
 
 -- ---- how often
@@ -92,15 +92,15 @@ module _ (space : Space) where
       (k ∷ further.0, (h.0, further.1), λ n. behind n k further.0 (m ∷ names) (further.2 n) ∙ exchanged n k m names)
 
   -- a global reference more
-  pub globals_made : (globals globals' : List (Option ℕ)) (source_globals : List ℕ) (key a m : ℕ) → GlobalsAgree space globals source_globals → IsPut 0 globals key a globals' → name_at space a ≡ Some m → GlobalsAgree space globals' (m ∷ source_globals)
-  globals_made globals globals' source_globals key a m h (inl uses) named =
+  pub slots_made : (globals globals' : List (Option ℕ)) (source_globals : List ℕ) (key a m : ℕ) → SlotsAgree space globals source_globals → IsPut 0 globals key a globals' → name_at space a ≡ Some m → SlotsAgree space globals' (m ∷ source_globals)
+  slots_made globals globals' source_globals key a m h (inl uses) named =
       let put = put_names globals h.names key a m h.agree uses.was_free named in
       record {
         names = put.with;
         agree = subst (λ (l : List (Option ℕ)). NamesAgree space (references_in l) put.with) (sym uses.changes) put.agree;
         same = λ n. put.same n ∙ behind n m h.names source_globals (h.same n);
       }
-  globals_made globals globals' source_globals key a m h (inr adds) named =
+  slots_made globals globals' source_globals key a m h (inr adds) named =
       let more = add_names globals h.names a m h.agree named in
       record {
         names = more.0;
@@ -147,8 +147,8 @@ in_front n m xs ys h = by_test (n == m) h
     by_test false k = k
 
 -- a global reference less
-pub globals_deleted : (space : Space) (globals : List (Option ℕ)) (source_globals : List ℕ) (key a m : ℕ) → GlobalsAgree space globals source_globals → slice_get globals key ≡ Some (Some a) → name_at space a ≡ Some m → GlobalsAgree space (without globals key) (without_one m source_globals)
-globals_deleted space globals source_globals key a m h at named =
+pub slots_deleted : (space : Space) (globals : List (Option ℕ)) (source_globals : List ℕ) (key a m : ℕ) → SlotsAgree space globals source_globals → slice_get globals key ≡ Some (Some a) → name_at space a ≡ Some m → SlotsAgree space (without globals key) (without_one m source_globals)
+slots_deleted space globals source_globals key a m h at named =
     let left = taken_names space globals h.names key a m h.agree at named in
     let some : 0 < times m source_globals = subst (λ (k : ℕ). 0 < k) (sym (left.2 m) ∙ h.same m) (contains_often (m ∷ left.0) m (0, omega arith, refl)) in
     record {

@@ -1,10 +1,11 @@
 -- Calls that load, and calls that don't.
-use Rattle.std.proofs.Common.{◌≡◌, ℕ, ℤ, pos, negsuc, ◌+◌, ◌<◌, ◌≤◌, Bool, true, false, List, [], ◌∷◌, ◌++◌, length, drop, map, Option, Some, None, refl, sym, ap, ◌∙◌, subst, arith, append_assoc, append-nil}
-use Rattle.std.specs.Prelude.{slice_get, is_some, ◌&&◌, FitsSigned}
+use Rattle.std.proofs.Common.{◌≡◌, ℕ, ℤ, pos, negsuc, suc, ◌+◌, ◌<◌, ◌≤◌, Bool, true, false, List, [], ◌∷◌, ◌++◌, length, drop, map, Option, Some, None, refl, sym, ap, ◌∙◌, subst, arith, append_assoc, append-nil, length-append}
+use Rattle.std.specs.Prelude.{slice_get, is_some, nat_le, ◌&&◌, FitsSigned}
 use Rattle.std.specs.Int.{w32}
 use Rattle.std.specs.List.{list_all}
 use Rattle.std.specs.Option.{option_and_then}
 use Rattle.std.proofs.lemmas.Bool.{and_from}
+use Rattle.std.proofs.lemmas.List.{length-map}
 use Rattle.std.proofs.lemmas.Bool.Decides.{nat_tests}
 use Rattle.std.proofs.Math.ListN.{drop_of_length-le}
 use Rattle.base.specs.Bytes.{Identifier}
@@ -12,6 +13,8 @@ use Rattle.base.specs.Element.{JInt}
 use Rattle.base.specs.Options.{some_passes}
 use Rattle.syntax.specs.declared.unit.Function.{Function as FunctionInMemory}
 use Rattle.syntax.specs.Tree.{SourceUnit, Function, Parameter, ParameterType, IntParameter, ReferenceParameter}
+use Rattle.syntax.specs.Limits.{IsTree}
+use Rattle.syntax.specs.Parts.{functions_of, names_declared, parameter_names, statements_of}
 use Rattle.syntax.specs.Views.{unit_tree, function_tree}
 use Rattle.classes.specs.Class.{Classes, class_named}
 use Rattle.classes.specs.Mangling.{native_class}
@@ -21,7 +24,7 @@ use Rattle.source.specs.World.{Invocation}
 use Rattle.world.specs.SoundWorlds.{has_call}
 use Rattle.world.specs.Views.{object_value_view}
 use Rattle.world.specs.WorldRules.{is_in_range}
-use Rattle.world.proofs.LoadedWorlds.{class_within}
+use Rattle.world.proofs.LoadedWorlds.{class_within, passes_at}
 use Rattle.source.specs.Activation.{class_of_function}
 use Rattle.source.specs.Load.{call_loads, is_callable, fits_parameter, fit_parameters}
 use Rattle.lower.specs.Lowered.{Lowered}
@@ -53,6 +56,29 @@ arguments_fit made (p ∷ ps) (v ∷ vs) h k =
     let b = both_true (is_argument made v) (list_all (is_argument made) vs) k in
     (argument_fits made p.type v a.0 b.0, arguments_fit made ps vs a.1 b.1)
 
+-- as many arguments as parameters
+arguments_count : (ps : List Parameter) (vs : List ObjectValue) → fit_parameters ps vs ≡ true → length vs ≡ length ps
+arguments_count [] [] h = refl
+arguments_count [] (v ∷ vs) h = absurd (cc)
+arguments_count (p ∷ ps) [] h = absurd (cc)
+arguments_count (p ∷ ps) (v ∷ vs) h = ap suc (arguments_count ps vs (both_true (fits_parameter p.type v) (fit_parameters ps vs) h).1)
+
+-- a function has at most 256 names, of which the parameters are some
+few_parameters : (f : Function) (more : List Identifier) → nat_le (length (parameter_names f ++ more)) 256 ≡ true → length f.parameters ≤ 256
+few_parameters f more h =
+    let most : length (parameter_names f ++ more) ≤ 256 = grind (arith, nat_tests, h) in
+    let whole = length-append (parameter_names f) more in
+    let own : length (map (λ (p : Parameter). p.name) f.parameters) ≡ length f.parameters = length-map f.parameters (λ (p : Parameter). p.name) in
+    omega (arith, most, whole, own)
+
+-- so a call of a function of the unit has few arguments
+few_arguments : (unit : SourceUnit) (n : ℕ) (f : Function) (vs : List ObjectValue) → IsTree unit → slice_get (functions_of unit) n ≡ Some f → fit_parameters f.parameters vs ≡ true → length vs ≤ 256
+few_arguments unit n f vs tree at fits =
+    let few = few_parameters f (names_declared (statements_of f.body))
+    (passes_at (λ (g : Function). nat_le (length (parameter_names g ++ names_declared (statements_of g.body))) 256) (functions_of unit) n f tree.few_names at) in
+    let count = arguments_count f.parameters vs fits in
+    omega (arith, few, count)
+
 -- ---- calls
 
 class_made : (classes : Classes) (made : ℕ) (o : Option Identifier) (c : ℕ) → length classes ≤ made → option_and_then (class_named classes) o ≡ Some c → (0 < c) × (c ≤ made)
@@ -60,9 +86,9 @@ class_made classes made None c few h = absurd (cc)
 class_made classes made (Some name) c few h = let w = class_within classes name c h in (w.0, omega (arith, w.1))
 
 -- a call whose function and class are there, and whose arguments fit
-pub call_found : (p : Lowered) (classes : Classes) (made : ℕ) (call : Invocation) (f : FunctionInMemory) (next : PendingCall) → IsNumberOf p call.function next.function f → length classes ≤ made → option_and_then (class_named classes) (native_class call.function) ≡ Some next.class
+pub call_found : (p : Lowered) (classes : Classes) (made : ℕ) (call : Invocation) (f : FunctionInMemory) (next : PendingCall) → IsTree (unit_tree p.unit) → IsNumberOf p call.function next.function f → length classes ≤ made → option_and_then (class_named classes) (native_class call.function) ≡ Some next.class
     → map object_value_view next.arguments.items ≡ call.arguments → are_arguments made call ≡ true → fit_parameters (function_tree f).parameters call.arguments ≡ true → IsCallOf p classes made call (Some next)
-call_found p classes made call f next n few known arguments given fits =
+call_found p classes made call f next tree n few known arguments given fits =
     let function : Function = function_tree f in
     let class : class_of_function classes function ≡ Some next.class = ap (λ name. option_and_then (class_named classes) (native_class name)) n.has_name ∙ known in (
       record {
@@ -74,6 +100,7 @@ call_found p classes made call f next n few known arguments given fits =
         arguments = arguments;
         given = given;
         fit = arguments_fit made function.parameters call.arguments fits given;
+        few = few_arguments (unit_tree p.unit) next.function function call.arguments tree n.numbered fits;
       },
       ap (some_passes (is_callable classes call.arguments)) n.named ∙ and_from (is_some (class_of_function classes function)) (fit_parameters function.parameters call.arguments) (ap is_some class) fits,
     )

@@ -15,7 +15,8 @@ use Rattle.source.specs.World.{World, fresh_object, initial, loaded_objects}
 use Rattle.world.proofs.LoadedWorlds.{few_objects}
 use Rattle.lower.specs.Lowered.{Lowered}
 use Rattle.machine.specs.declared.store.Store.{Store}
-use Rattle.machine.specs.Agrees.{GlobalsAgree, Keeps, StaticsAgree, StoreAgrees}
+use Rattle.machine.specs.HeapAgrees.{SlotsAgree}
+use Rattle.machine.specs.Agrees.{Keeps, StaticsAgree, StoreAgrees}
 use Rattle.machine.specs.Statics.{HaveKeys, all_held}
 use Rattle.machine.specs.declared.statics.Held.{Held}
 use Rattle.machine.specs.declared.statics.StaticReference.{StaticReference}
@@ -24,7 +25,7 @@ use Rattle.machine.specs.HeapAgrees.{HeapAgrees, IsTable, ValueAgrees, ValuesAgr
 use Rattle.machine.specs.Made.{HasMade, initial_value, new_block}
 use Rattle.machine.proofs.Classed.{classed_more}
 use Rattle.machine.proofs.HeapLaws.{IsNext, IsName-more, Needs, agrees_with_block, name_kept, name_new, table_kept}
-use Rattle.machine.proofs.Keeping.{globals_stay, sizes_more, statics_stay}
+use Rattle.machine.proofs.Keeping.{slots_stay, sizes_more, statics_stay}
 
 -- zero and NULL
 initial_agree : (space : Space) (fields : List FieldId) → ValuesAgree space (map (λ (f : FieldId). initial_value f.field.type) fields) (map (λ (f : FieldId). initial f.field.type) fields)
@@ -92,7 +93,7 @@ module _ (p : Lowered) (w : World) (store new : Store) (shared : Shared) (c a : 
         statics = subst (λ (helds : List Held). StaticsAgree new.heap helds shared.statics) (sym (λ i. all_held (made.globals i) (made.statics i).items)) (statics_stay store.heap new.heap names_stay (all_held store.globals store.statics.items) shared.statics h.statics);
         named = h.named;
         keys = subst (λ (globals : List (Option ℕ)). HaveKeys globals new.statics.items) (sym made.globals) (subst (λ (v : Vec StaticReference). HaveKeys store.globals v.items) (sym made.statics) h.keys);
-        globals = subst (λ (globals : List (Option ℕ)). GlobalsAgree new.heap globals shared.globals) (sym made.globals) (globals_stay store.heap new.heap names_stay store.globals shared.globals h.globals);
+        globals = subst (λ (globals : List (Option ℕ)). SlotsAgree new.heap globals shared.globals) (sym made.globals) (slots_stay store.heap new.heap names_stay store.globals shared.globals h.globals);
         monitors = h.monitors;
       }
 

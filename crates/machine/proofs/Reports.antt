@@ -38,7 +38,9 @@ use Rattle.machine.specs.declared.thread.Ending.TheVariants as ending
 use Rattle.machine.specs.declared.thread.Activation.{Activation}
 use Rattle.machine.specs.declared.thread.Thread.{Thread}
 use Rattle.machine.specs.declared.stop.Stop.{Stop}
-use Rattle.machine.specs.Agrees.{ThreadsAgree, FramesAgree, WorkAgrees, ending_view}
+use Rattle.machine.specs.Agrees.{ThreadsAgree, WorkAgrees, ending_view}
+use Rattle.machine.specs.HeapAgrees.{times}
+use Rattle.safety.specs.Owners.{AllOwners, owners_after}
 use Rattle.machine.specs.Stops as machine
 use Rattle.machine.specs.Stops.{stop_view, trap_view}
 use Rattle.machine.specs.Run as run
@@ -47,24 +49,24 @@ use Rattle.machine.specs.declared.store.Store.{Store}
 use Rattle.machine.specs.Run.{Run, Corresponds, WritesRun, IsFinished}
 use Rattle.machine.proofs.Standings.{standings}
 use Rattle.machine.proofs.Threads.{unblocked}
-use Rattle.machine.specs.Roots.{AreAddresses, frames_of, name_of, thread_names, ThreadsAreThere}
+use Rattle.machine.specs.Roots.{AreAddresses, name_of, thread_names, ThreadsAreStacked, ThreadsAreThere}
 use Rattle.std.specs.Prelude.{Contains}
 use Rattle.machine.proofs.GlobalLaws.{among_both}
 use Rattle.tables.specs.References.{references_in}
-use Rattle.machine.proofs.RootNames.{HasRootsOf, names_are, names_there, threads_are, threads_there}
+use Rattle.machine.proofs.RootNames.{CallFrames, HasRootsOf, names_are, names_there, threads_same, threads_there, times_both}
 
 -- ---- how threads stand
 
-free_at : (p : Lowered) (classes : Classes) (space : Space) (made k : ℕ) (shared : Shared) (ts : List Thread) (ss : List source.Thread) (i : ℕ) → IsLowered p → ThreadsAgree p classes space made shared ts ss → is_waiting classes k shared (slice_get ss i) ≡ false
-free_at p classes space made k shared [] [] i l h = refl
-free_at p classes space made k shared [] (s ∷ ss) i l h = absurd h
-free_at p classes space made k shared (t ∷ ts) [] i l h = absurd h
-free_at p classes space made k shared (t ∷ ts) (s ∷ ss) zero l h = unblocked p classes space made k shared t s l h.0
-free_at p classes space made k shared (t ∷ ts) (s ∷ ss) (suc i) l h = free_at p classes space made k shared ts ss i l h.1
+free_at : (p : Lowered) (classes : Classes) (space : Space) (made : ℕ) (owners : AllOwners) (j k : ℕ) (shared : Shared) (ts : List Thread) (ss : List source.Thread) (i : ℕ) → IsLowered p → ThreadsAgree p classes space made owners j shared ts ss → is_waiting classes k shared (slice_get ss i) ≡ false
+free_at p classes space made owners j k shared [] [] i l h = refl
+free_at p classes space made owners j k shared [] (s ∷ ss) i l h = absurd h
+free_at p classes space made owners j k shared (t ∷ ts) [] i l h = absurd h
+free_at p classes space made owners j k shared (t ∷ ts) (s ∷ ss) zero l h = unblocked p classes space made k (owners j) shared t s l h.0
+free_at p classes space made owners j k shared (t ∷ ts) (s ∷ ss) (suc i) l h = free_at p classes space made owners (suc j) k shared ts ss i l h.1
 
-never_blocked : (p : Lowered) (classes : Classes) (space : Space) (made : ℕ) (s : State) (ts : List Thread) → IsLowered p → ThreadsAgree p classes space made s.shared ts s.threads → (k : ℕ) → is_blocked classes s k ≡ false
-never_blocked p classes space made s ts l h zero = refl
-never_blocked p classes space made s ts l h (suc i) = free_at p classes space made (suc i) s.shared ts s.threads i l h
+never_blocked : (p : Lowered) (classes : Classes) (space : Space) (made : ℕ) (owners : AllOwners) (j : ℕ) (s : State) (ts : List Thread) → IsLowered p → ThreadsAgree p classes space made owners j s.shared ts s.threads → (k : ℕ) → is_blocked classes s k ≡ false
+never_blocked p classes space made owners j s ts l h zero = refl
+never_blocked p classes space made owners j s ts l h (suc i) = free_at p classes space made owners j (suc i) s.shared ts s.threads i l h
 
 stands : (classes : Classes) (blocked : Bool) (e : Ending) (f : source.Ending) → blocked ≡ false → f ≡ ending_view e → standing_by_ending classes blocked f ≡ machine.standing_by_ending classes e
 stands classes blocked ending.Unfinished f b e = rw (b, e) refl
@@ -76,14 +78,14 @@ one_stands classes s None k e x free same = stands classes (is_blocked classes s
 one_stands classes s (Some stop) k e x free same =
     ap (λ (other : ThreadStanding). cond (stop.thread == k) (HasTrapped (trap_number (trap_view stop.trap)) stop.line) other) (stands classes (is_blocked classes s k) e x.ending free same)
 
-each_stands : (p : Lowered) (classes : Classes) (space : Space) (made : ℕ) (shared : Shared) (s : State) (stop : Option Stop) (n : ℕ) (ts : List Thread) (ss : List source.Thread) → ((k : ℕ) → is_blocked classes s k ≡ false) → ThreadsAgree p classes space made shared ts ss
+each_stands : (p : Lowered) (classes : Classes) (space : Space) (made : ℕ) (owners : AllOwners) (k : ℕ) (shared : Shared) (s : State) (stop : Option Stop) (n : ℕ) (ts : List Thread) (ss : List source.Thread) → ((k : ℕ) → is_blocked classes s k ≡ false) → ThreadsAgree p classes space made owners k shared ts ss
     → map (λ (t : ℕ × source.Thread). standing_of classes s t.0 t.1 (option_map stop_view stop)) (enumerate_from n ss) ≡ standings classes stop n ts
-each_stands p classes space made shared s stop n [] [] free h = refl
-each_stands p classes space made shared s stop n [] (x ∷ ss) free h = absurd h
-each_stands p classes space made shared s stop n (t ∷ ts) [] free h = absurd h
-each_stands p classes space made shared s stop n (t ∷ ts) (x ∷ ss) free h =
+each_stands p classes space made owners k shared s stop n [] [] free h = refl
+each_stands p classes space made owners k shared s stop n [] (x ∷ ss) free h = absurd h
+each_stands p classes space made owners k shared s stop n (t ∷ ts) [] free h = absurd h
+each_stands p classes space made owners k shared s stop n (t ∷ ts) (x ∷ ss) free h =
     ap (λ v. v ∷ map (λ (t : ℕ × source.Thread). standing_of classes s t.0 t.1 (option_map stop_view stop)) (enumerate_from (n + 1) ss)) (one_stands classes s stop n t.ending x (free n) h.0.ending)
-    ∙ ap (λ vs. machine.standing_of classes stop n t.ending ∷ vs) (each_stands p classes space made shared s stop (n + 1) ts ss free h.1)
+    ∙ ap (λ vs. machine.standing_of classes stop n t.ending ∷ vs) (each_stands p classes space made owners (suc k) shared s stop (n + 1) ts ss free h.1)
 
 -- ---- the report
 
@@ -94,7 +96,7 @@ report_is p world store ts printed stop journal c shown_standings rows told show
     let before = map (λ (t : ℕ × source.Thread). standing_of world.classes c.state t.0 t.1 c.state.stop) (enumerate_from 1 c.state.threads) in
     let same : before ≡ map standing_view shown_standings =
     ap (λ (o : Option state.Stop). map (λ (t : ℕ × source.Thread). standing_of world.classes c.state t.0 t.1 o) (enumerate_from 1 c.state.threads)) c.same_stop
-    ∙ each_stands p world.classes store.heap (length (loaded_objects world)) c.state.shared c.state stop 1 ts c.state.threads (never_blocked p world.classes store.heap (length (loaded_objects world)) c.state ts c.lowered c.threads_agree) c.threads_agree
+    ∙ each_stands p world.classes store.heap (length (loaded_objects world)) (owners_after (unit_tree p.unit) world journal) 1 c.state.shared c.state stop 1 ts c.state.threads (never_blocked p world.classes store.heap (length (loaded_objects world)) (owners_after (unit_tree p.unit) world journal) 1 c.state ts c.lowered c.threads_agree) c.threads_agree
     ∙ sym told in
     ap (λ (l : List Printed). let r : Report = record { printed = l; standings = before; objects = map (shown_row world.classes c.state.shared.heap) (shown world c.state) } in r) c.same_printed
     ∙ ap (λ (l : List ThreadStanding). let r : Report = record { printed = printed; standings = l; objects = map (shown_row world.classes c.state.shared.heap) (shown world c.state) } in r) same
@@ -107,22 +109,22 @@ one_ended ending.Unfinished f b h e = rw (h, e) refl
 one_ended ending.Ended f b h e = rw (h, e) refl
 one_ended (ending.Uncaught c) f b h e = rw (h, e) refl
 
-each_ended : (p : Lowered) (classes : Classes) (space : Space) (made : ℕ) (shared : Shared) (s : State) (n : ℕ) (ts : List Thread) (ss : List source.Thread) → ((k : ℕ) → is_blocked classes s k ≡ false) → ThreadsAgree p classes space made shared ts ss
+each_ended : (p : Lowered) (classes : Classes) (space : Space) (made : ℕ) (owners : AllOwners) (k : ℕ) (shared : Shared) (s : State) (n : ℕ) (ts : List Thread) (ss : List source.Thread) → ((k : ℕ) → is_blocked classes s k ≡ false) → ThreadsAgree p classes space made owners k shared ts ss
     → list_all (λ (t : Thread). run.has_ended t.ending) ts ≡ list_all (λ (t : ℕ × source.Thread). not (is_unfinished t.1.ending) || is_blocked classes s t.0) (enumerate_from n ss)
-each_ended p classes space made shared s n [] [] free h = refl
-each_ended p classes space made shared s n [] (x ∷ ss) free h = absurd h
-each_ended p classes space made shared s n (t ∷ ts) [] free h = absurd h
-each_ended p classes space made shared s n (t ∷ ts) (x ∷ ss) free h =
+each_ended p classes space made owners k shared s n [] [] free h = refl
+each_ended p classes space made owners k shared s n [] (x ∷ ss) free h = absurd h
+each_ended p classes space made owners k shared s n (t ∷ ts) [] free h = absurd h
+each_ended p classes space made owners k shared s n (t ∷ ts) (x ∷ ss) free h =
     ap (λ b. b && list_all (λ (t : Thread). run.has_ended t.ending) ts) (one_ended t.ending x.ending (is_blocked classes s n) (free n) h.0.ending)
-    ∙ ap (λ b. (not (is_unfinished x.ending) || is_blocked classes s n) && b) (each_ended p classes space made shared s (n + 1) ts ss free h.1)
+    ∙ ap (λ b. (not (is_unfinished x.ending) || is_blocked classes s n) && b) (each_ended p classes space made owners (suc k) shared s (n + 1) ts ss free h.1)
 
 pub is_finished : (p : Lowered) (world : World) (store : Store) (ts : List Thread) (printed : List Printed) (stop : Option Stop) (journal : List Entry) (c : Corresponds p world store ts printed stop journal) (now : Run)
     → ◌≡◌ {A = Run} (record { unit = p.unit; world = world; journal = journal; left = left_of store.heap }) now
     → (answer : Bool) → answer ≡ (is_some stop || list_all (λ (t : Thread). run.has_ended t.ending) ts) → IsFinished now answer
 is_finished p world store ts printed stop journal c now view answer h =
-    let free = never_blocked p world.classes store.heap (length (loaded_objects world)) c.state ts c.lowered c.threads_agree in
+    let free = never_blocked p world.classes store.heap (length (loaded_objects world)) (owners_after (unit_tree p.unit) world journal) 1 c.state ts c.lowered c.threads_agree in
     let same : answer ≡ run.is_finished world.classes c.state =
-    h ∙ ap (λ b. is_some stop || b) (each_ended p world.classes store.heap (length (loaded_objects world)) c.state.shared c.state 1 ts c.state.threads free c.threads_agree)
+    h ∙ ap (λ b. is_some stop || b) (each_ended p world.classes store.heap (length (loaded_objects world)) (owners_after (unit_tree p.unit) world journal) 1 c.state.shared c.state 1 ts c.state.threads free c.threads_agree)
     ∙ ap (λ b. b || list_all (λ (t : ℕ × source.Thread). not (is_unfinished t.1.ending) || is_blocked world.classes c.state t.0) (enumerate_from 1 c.state.threads)) (has_stopped stop ∙ ap (λ (o : Option state.Stop). is_some o) (sym c.same_stop)) in
     subst (λ (r : Run). IsFinished r answer) view (c.state, c.replays, same)
   where
@@ -132,34 +134,40 @@ is_finished p world store ts printed stop journal c now view answer h =
 
 -- ---- the rows
 
+-- a name among some stays where those at the end are others, each as often
+among_last : (front xs ys : List ℕ) → ((n : ℕ) → times n xs ≡ times n ys) → (n : ℕ) → Contains (front ++ xs) n → Contains (front ++ ys) n
+among_last front xs ys same n h =
+    subst (λ (l : List ℕ). Contains (front ++ l) n) (append-nil ys)
+    (among_both front xs ys [] same n (subst (λ (l : List ℕ). Contains (front ++ l) n) (sym (append-nil xs)) h))
+
 -- the frames and the pending exception of a thread stand for those of its thread of the source
-frames_in : (p : Lowered) (classes : Classes) (space : Space) (visible : Visible) (call : Option Activation) (frames : List source.Frame) (tasks : Option (List Task)) → WorkAgrees p classes space visible call frames tasks → FramesAgree space (frames_of call) frames
-frames_in p classes space visible None frames None h = subst (λ (fs : List source.Frame). FramesAgree space [] fs) (sym h) tt
+frames_in : (p : Lowered) (classes : Classes) (space : Space) (visible : Visible) (call : Option Activation) (frames : List source.Frame) (tasks : Option (List Task)) → WorkAgrees p classes space visible call frames tasks → CallFrames space call frames
+frames_in p classes space visible None frames None h = h
 frames_in p classes space visible None frames (Some tasks) h = absurd h
 frames_in p classes space visible (Some call) frames None h = absurd h
 frames_in p classes space visible (Some call) frames (Some tasks) h = h.frames_agree
 
-roots_of : (p : Lowered) (classes : Classes) (space : Space) (made : ℕ) (shared : Shared) (ts : List Thread) (ss : List source.Thread) → ThreadsAgree p classes space made shared ts ss → AllZip (HasRootsOf space) ts ss
-roots_of p classes space made shared [] [] h = tt
-roots_of p classes space made shared [] (s ∷ ss) h = absurd h
-roots_of p classes space made shared (t ∷ ts) [] h = absurd h
-roots_of p classes space made shared (t ∷ ts) (s ∷ ss) h = (
-  record { frames = frames_in p classes space (visible_to shared s) t.call s.frames s.tasks (h.0).work; pending = (h.0).pending },
-  roots_of p classes space made shared ts ss h.1,
+roots_of : (p : Lowered) (classes : Classes) (space : Space) (made : ℕ) (owners : AllOwners) (k : ℕ) (shared : Shared) (ts : List Thread) (ss : List source.Thread) → ThreadsAgree p classes space made owners k shared ts ss → AllZip (HasRootsOf space) ts ss
+roots_of p classes space made owners k shared [] [] h = tt
+roots_of p classes space made owners k shared [] (s ∷ ss) h = absurd h
+roots_of p classes space made owners k shared (t ∷ ts) [] h = absurd h
+roots_of p classes space made owners k shared (t ∷ ts) (s ∷ ss) h = (
+  record { frames = frames_in p classes space (visible_to (owners k) shared s) t.call s.frames s.tasks (h.0).work; pending = (h.0).pending },
+  roots_of p classes space made owners (suc k) shared ts ss h.1,
 )
 
 -- no function that gives a view can be called yet
-no_views : (p : Lowered) (classes : Classes) (space : Space) (made : ℕ) (shared : Shared) (ts : List Thread) (ss : List source.Thread) → ThreadsAgree p classes space made shared ts ss → flat_map viewed_by ss ≡ []
-no_views p classes space made shared ts [] h = refl
-no_views p classes space made shared [] (s ∷ ss) h = absurd h
-no_views p classes space made shared (t ∷ ts) (s ∷ ss) h =
+no_views : (p : Lowered) (classes : Classes) (space : Space) (made : ℕ) (owners : AllOwners) (k : ℕ) (shared : Shared) (ts : List Thread) (ss : List source.Thread) → ThreadsAgree p classes space made owners k shared ts ss → flat_map viewed_by ss ≡ []
+no_views p classes space made owners k shared ts [] h = refl
+no_views p classes space made owners k shared [] (s ∷ ss) h = absurd h
+no_views p classes space made owners k shared (t ∷ ts) (s ∷ ss) h =
     flat_map-cons viewed_by s ss
     ∙ ap (λ (l : List ℕ). l ++ flat_map viewed_by ss) (h.0).viewless
-    ∙ no_views p classes space made shared ts ss h.1
+    ∙ no_views p classes space made owners (suc k) shared ts ss h.1
 
 module _ (p : Lowered) (world : World) (store : Store) (ts : List Thread) (printed : List Printed) (stop : Option Stop) (journal : List Entry) (c : Corresponds p world store ts printed stop journal) where
   roots_in : AllZip (HasRootsOf store.heap) ts c.state.threads
-  roots_in = roots_of p world.classes store.heap (length (loaded_objects world)) c.state.shared ts c.state.threads c.threads_agree
+  roots_in = roots_of p world.classes store.heap (length (loaded_objects world)) (owners_after (unit_tree p.unit) world journal) 1 c.state.shared ts c.state.threads c.threads_agree
 
   -- what threads refer to is there
   pub roots_there : ThreadsAreThere store.heap ts
@@ -174,35 +182,39 @@ module _ (p : Lowered) (world : World) (store : Store) (ts : List Thread) (print
   globals_there = names_there store.heap (references_in store.globals) c.store_agrees.globals.names c.store_agrees.globals.agree
 
   -- the state's roots are the objects made at load, the global references and what the threads refer to
-  roots_are : roots world c.state ≡ (from_one (length store.loaded.items) ++ c.state.shared.globals) ++ flat_map (thread_names store.heap) ts
+  roots_are : roots world c.state ≡ from_one (length store.loaded.items) ++ (c.state.shared.globals ++ flat_map thread_roots c.state.threads)
   roots_are =
       let names = flat_map thread_roots c.state.threads in
       let globals = c.state.shared.globals in
       let count : loaded_count world ≡ length store.loaded.items = sym (length-loaded world) ∙ sym c.store_agrees.table.counted in
-      let views_none : views c.state ≡ [] = no_views p world.classes store.heap (length (loaded_objects world)) c.state.shared ts c.state.threads c.threads_agree in
+      let views_none : views c.state ≡ [] = no_views p world.classes store.heap (length (loaded_objects world)) (owners_after (unit_tree p.unit) world journal) 1 c.state.shared ts c.state.threads c.threads_agree in
       ap (λ (ms : List Monitor). (((from_one (loaded_count world) ++ globals) ++ names) ++ map (λ (m : Monitor). m.object) ms) ++ views c.state) c.store_agrees.monitors
       ∙ ap (λ (l : List ℕ). l ++ views c.state) (append-nil ((from_one (loaded_count world) ++ globals) ++ names))
       ∙ ap (λ (l : List ℕ). ((from_one (loaded_count world) ++ globals) ++ names) ++ l) views_none
       ∙ append-nil ((from_one (loaded_count world) ++ globals) ++ names)
       ∙ ap (λ n. (from_one n ++ globals) ++ names) count
-      ∙ ap (λ (l : List ℕ). (from_one (length store.loaded.items) ++ globals) ++ l) (sym (threads_are store.heap ts c.state.threads roots_in))
+      ∙ append_assoc (from_one (length store.loaded.items)) globals names
+
+  -- each is there as often among the names that the tables have
+  roots_same : ThreadsAreStacked ts → (n : ℕ) → times n (map (name_of store.heap) (references_in store.globals) ++ flat_map (thread_names store.heap) ts) ≡ times n (c.state.shared.globals ++ flat_map thread_roots c.state.threads)
+  roots_same stacked n =
+      times_both n (map (name_of store.heap) (references_in store.globals)) c.state.shared.globals (flat_map (thread_names store.heap) ts) (flat_map thread_roots c.state.threads)
+      (ap (times n) globals_are ∙ c.store_agrees.globals.same n) (threads_same store.heap ts c.state.threads roots_in stacked n)
 
   -- the rows of what can be reached from them are the state's
   pub rows_are : (classes : Classes) (objects : Heap) (loaded : ℕ) (names : List ℕ) (rows : List ShownRow)
-      → classes ≡ world.classes → objects ≡ c.state.shared.heap → loaded ≡ length store.loaded.items → names ≡ map (name_of store.heap) (references_in store.globals) ++ flat_map (thread_names store.heap) ts
+      → classes ≡ world.classes → objects ≡ c.state.shared.heap → loaded ≡ length store.loaded.items → names ≡ map (name_of store.heap) (references_in store.globals) ++ flat_map (thread_names store.heap) ts → ThreadsAreStacked ts
       → AreReported classes objects loaded names rows → rows ≡ map (shown_row world.classes c.state.shared.heap) (shown world c.state)
   unfolding report
-  rows_are classes objects loaded names rows k h l n told =
-      let of_threads = flat_map (thread_names store.heap) ts in
-      let source_globals = c.state.shared.globals in
-      let globals = c.store_agrees.globals.names in
-      let given : from_one loaded ++ (globals ++ of_threads) ≡ from_one loaded ++ names = ap (λ (ns : List ℕ). from_one loaded ++ ns) (sym (n ∙ ap (λ (ns : List ℕ). ns ++ of_threads) globals_are)) in
-      let same : roots world c.state ≡ from_one loaded ++ (source_globals ++ of_threads) = roots_are ∙ ap (λ m. (from_one m ++ source_globals) ++ of_threads) (sym l) ∙ append_assoc (from_one loaded) source_globals of_threads in
+  rows_are classes objects loaded names rows k h l n stacked told =
+      let source_names = c.state.shared.globals ++ flat_map thread_roots c.state.threads in
+      let same : roots world c.state ≡ from_one loaded ++ source_names = roots_are ∙ ap (λ m. from_one m ++ source_names) (sym l) in
+      let often : (i : ℕ) → times i names ≡ times i source_names = λ i. ap (times i) n ∙ roots_same stacked i in
       told world c.state (record {
         classes = sym k;
         heap = sym h;
-        sound = λ m there. subst (λ (ns : List ℕ). Contains ns m) given (among_both (from_one loaded) source_globals globals of_threads (λ i. sym (c.store_agrees.globals.same i)) m (subst (λ (ns : List ℕ). Contains ns m) same there));
-        complete = λ m there. subst (λ (ns : List ℕ). Contains ns m) (sym same) (among_both (from_one loaded) globals source_globals of_threads c.store_agrees.globals.same m (subst (λ (ns : List ℕ). Contains ns m) (sym given) there));
+        sound = λ m there. among_last (from_one loaded) source_names names (λ i. sym (often i)) m (subst (λ (ns : List ℕ). Contains ns m) same there);
+        complete = λ m there. subst (λ (ns : List ℕ). Contains ns m) (sym same) (among_last (from_one loaded) names source_names often m there);
       })
 
 -- what is written of these parts is what the run writes

@@ -14,6 +14,7 @@ use Rattle.code.specs.declared.instr.Operand.TheVariants as operand
 use Rattle.code.specs.Depth.{Listing}
 use Rattle.lower.specs.Does.{IsOperand}
 use Rattle.lower.specs.Lowered.{Lowered}
+use Rattle.safety.specs.Owners.{Owners}
 use Rattle.lower.specs.Slots.{visible_to}
 use Rattle.machine.specs.declared.thread.Activation.{Activation}
 use Rattle.machine.specs.Answers.{HoldsObject}
@@ -25,9 +26,9 @@ live_is Empty n x e = absurd (cc)
 live_is Deleted n x e = absurd (cc)
 live_is (Live m) n x e = let same : m ≡ n = cc in ap Live same
 
-module _ (p : Lowered) (classes : Classes) (space : Space) (call : Activation) (code : Listing) (shared : Shared) (s : Thread) (task : Task) (rest : List Task) (r : Ready p classes space call code (visible_to shared s) s.frames task rest) where
+module _ (p : Lowered) (classes : Classes) (space : Space) (call : Activation) (code : Listing) (own : Owners) (shared : Shared) (s : Thread) (task : Task) (rest : List Task) (r : Ready p classes space call code (visible_to own shared s) s.frames task rest) where
   abbrev Gives : Operand → Actual → Type 0
-  Gives o a = IsOperand code r.known call.place call.stack (slots_of call r.references r.fields) (visible_to shared s) o a
+  Gives o a = IsOperand code r.known call.place call.stack (slots_of call r.references r.owners r.fields) (visible_to own shared s) o a
 
   held_by_one : (i n : ℕ) (a : Actual) → Gives (operand.Static i) a → reference_in_actual (Some a) ≡ Some n → HoldsObject shared (variable_given (a ∷ []) 0) i n
   held_by_one i n a (x, is, at) e =

@@ -5,7 +5,7 @@ use Rattle.std.specs.Prelude.{slice_get, slice_set, IsSome}
 use Rattle.heap.specs.Heap.{name_at}
 use Rattle.tables.specs.References.{IsPut, address_at}
 use Rattle.machine.specs.CarriedOut.{IsFresh}
-use Rattle.machine.proofs.GlobalLaws.{address_new, globals_deleted, globals_made, helds_kept, helds_marked, key_fresh, keys_kept, keys_marked, slot_there}
+use Rattle.machine.proofs.GlobalLaws.{address_new, slots_deleted, slots_made, helds_kept, helds_marked, key_fresh, keys_kept, keys_marked, slot_there}
 use Rattle.machine.specs.declared.statics.Held.TheVariants as memory
 use Rattle.source.specs.CallEffects.{without_one}
 use Rattle.tables.specs.Globals.{without}
@@ -28,19 +28,21 @@ use Rattle.code_generator.specs.Layout.{Known}
 use Rattle.lower.specs.Does.{IsStoredIn}
 use Rattle.lower.specs.Lowered.{Lowered}
 use Rattle.lower.specs.Slots as lower
+use Rattle.safety.specs.Owners.{Owners}
 use Rattle.lower.specs.Slots.{Slots, static_index, visible_to}
 use Rattle.machine.specs.declared.statics.Held.{Held}
 use Rattle.machine.specs.declared.statics.StaticReference.{StaticReference as InMemory}
 use Rattle.machine.specs.declared.statics.StaticReference.TheVariants as static
 use Rattle.machine.specs.declared.store.Store.{Store}
-use Rattle.machine.specs.Agrees.{AreNamed, GlobalsAgree, HeldAgrees, Keeps, MayChange, StaticsAgree, StoreAgrees}
+use Rattle.machine.specs.HeapAgrees.{SlotsAgree}
+use Rattle.machine.specs.Agrees.{AreNamed, HeldAgrees, Keeps, MayChange, StaticsAgree, StoreAgrees}
 use Rattle.machine.specs.Statics.{HaveKeys, all_held, held, held_at, held_or_null}
 use Rattle.machine.specs.Variables.{nulled_statics}
 use Rattle.machine.proofs.HeldStatics.{held_set, keys_left, same_names, static_put, static_there, statics_count}
 
 module _ (p : Lowered) (w : World) (store : Store) (shared : Shared) (h : StoreAgrees p w store shared) where
   -- other statics and other global references
-  pub with_references : (statics : Vec InMemory) (globals : List (Option ℕ)) (names : Statics) (source_globals : List ℕ) → StaticsAgree store.heap (all_held globals statics.items) names → AreNamed p (record shared { statics = names }) → HaveKeys globals statics.items → GlobalsAgree store.heap globals source_globals
+  pub with_references : (statics : Vec InMemory) (globals : List (Option ℕ)) (names : Statics) (source_globals : List ℕ) → StaticsAgree store.heap (all_held globals statics.items) names → AreNamed p (record shared { statics = names }) → HaveKeys globals statics.items → SlotsAgree store.heap globals source_globals
       → StoreAgrees p w (record store { statics = statics; globals = globals }) (record shared { statics = names; globals = source_globals })
   with_references statics globals names source_globals agree named keys same = record {
     heap = h.heap;
@@ -88,7 +90,7 @@ module _ (p : Lowered) (w : World) (store : Store) (shared : Shared) (h : StoreA
       (subst (λ (l : List Held). StaticsAgree store.heap l shared.statics) (sym (helds_kept store.globals globals key a store.statics.items put h.keys)) h.statics)
       h.named
       (keys_kept store.globals globals key a store.statics.items put h.keys)
-      (globals_made store.heap store.globals globals shared.globals key a n h.globals put named)
+      (slots_made store.heap store.globals globals shared.globals key a n h.globals put named)
 
   -- its key is one that no static holds
   pub fresh_global : (globals : List (Option ℕ)) (key a : ℕ) → IsPut 0 store.globals key a globals → IsFresh (record store { globals = globals }) (static.Live key)
@@ -133,11 +135,11 @@ module _ (p : Lowered) (w : World) (store : Store) (shared : Shared) (h : StoreA
       (static_put store.heap x (all_held store.globals store.statics.items) shared.statics i memory.Deleted Deleted h.statics place tt))
       (same_names x Deleted shared.statics i place ∙ h.named)
       (subst (HaveKeys (without store.globals key)) (sym is) (keys_marked store.globals key store.statics.items i at h.keys))
-      (globals_deleted store.heap store.globals shared.globals key a n h.globals (slot_there store.globals key a address) named)
+      (slots_deleted store.heap store.globals shared.globals key a n h.globals (slot_there store.globals key a address) named)
 
-  module _ (code : Listing) (known : Known) (place : ℕ) (stack : List ℕ) (slots : Slots) (s : _) (statics : Vec InMemory) (x : Identifier) where
+  module _ (own : Owners) (code : Listing) (known : Known) (place : ℕ) (stack : List ℕ) (slots : Slots) (s : _) (statics : Vec InMemory) (x : Identifier) where
     -- NULL was stored
-    pub store_nulled : (variable : NullableVariable) (kind : Option VariableKind) → IsStoredIn code known place stack slots (visible_to shared s) variable kind x → statics.items ≡ nulled_statics variable store.statics.items
+    pub store_nulled : (variable : NullableVariable) (kind : Option VariableKind) → IsStoredIn code known place stack slots (visible_to own shared s) variable kind x → statics.items ≡ nulled_statics variable store.statics.items
         → StoreAgrees p w (record store { statics = statics }) (record shared { statics = lower.nulled_statics kind x shared.statics })
     store_nulled (nullable.Local i) kind stored is = subst (λ (k : Option VariableKind). StoreAgrees p w (record store { statics = statics }) (record shared { statics = lower.nulled_statics k x shared.statics })) (sym stored) (with_same statics is)
     store_nulled (nullable.FieldId i) kind stored is = subst (λ (k : Option VariableKind). StoreAgrees p w (record store { statics = statics }) (record shared { statics = lower.nulled_statics k x shared.statics })) (sym stored) (with_same statics is)

@@ -1,5 +1,5 @@
 -- A step of the machine is a step of the state that its journal leads to.
-use Rattle.std.proofs.Common.{◌≡◌, ℕ, zero, suc, ◌*◌, ◌≤◌, Bool, true, false, List, [], ◌∷◌, ◌++◌, length, take, drop, arith, Option, Some, None, refl, sym, ap, ◌∙◌, subst}
+use Rattle.std.proofs.Common.{◌≡◌, ℕ, suc, ◌*◌, ◌≤◌, Bool, true, false, List, [], ◌∷◌, ◌++◌, ◌+◌, length, take, drop, arith, Option, Some, None, refl, sym, ap, ◌∙◌, subst}
 use Rattle.std.specs.Prelude.{slice_get, slice_set}
 use Rattle.std.specs.Option.{option_map}
 use Rattle.std.proofs.Math.ListN.{length-set}
@@ -19,7 +19,7 @@ use Rattle.source.specs.Object.{sizes}
 use Rattle.source.proofs.LiveSizes.{live_within, sizes_split}
 use Rattle.source.specs.Start.{start}
 use Rattle.source.proofs.StepLaws.{Steps, steps, step-thread}
-use Rattle.heap.specs.Heap.{Space, end_of}
+use Rattle.heap.specs.Heap.{end_of}
 use Rattle.heap.proofs.Layouts.{ends_within}
 use Rattle.world.proofs.LoadedWorlds.{few_objects}
 use Rattle.lower.specs.Lowered.{Lowered}
@@ -34,28 +34,9 @@ use Rattle.machine.specs.declared.store.Store.{Store}
 use Rattle.machine.specs.Agrees.{IsSteady, StoreAgrees, ThreadAgrees, ThreadsAgree, Advances, ending_view, event_view}
 use Rattle.machine.specs.Run.{Corresponds, printed_after, entry_of, HasEnded}
 use Rattle.machine.proofs.Keeping.{threads_stay}
+use Rattle.machine.proofs.OwnerSteps.{Found, changed, found, owner_elsewhere, owner_here, owners_stepped}
 use Rattle.machine.proofs.Threads.{unblocked}
-
--- one thread of several
-pub record Found (p : Lowered) (classes : Classes) (space : Space) (made : ℕ) (shared : Shared) (t : Thread) (ss : List source.Thread) (i : ℕ) : Type 0 where
-  pub source : source.Thread
-  pub is : slice_get ss i ≡ Some source
-  pub agrees : ThreadAgrees p classes space made shared t source
-
-module _ (p : Lowered) (classes : Classes) (space : Space) (made : ℕ) (shared : Shared) where
-  pub found : (ts : List Thread) (ss : List source.Thread) (i : ℕ) (t : Thread) → ThreadsAgree p classes space made shared ts ss → slice_get ts i ≡ Some t → Found p classes space made shared t ss i
-  found [] [] i t h e = absurd (cc)
-  found [] (s ∷ ss) i t h e = absurd h
-  found (x ∷ ts) [] i t h e = absurd h
-  found (x ∷ ts) (s ∷ ss) zero t h e = record { source = s; is = refl; agrees = let same : x ≡ t = cc in subst (λ y. ThreadAgrees p classes space made shared y s) same h.0 }
-  found (x ∷ ts) (s ∷ ss) (suc i) t h e = let f = found ts ss i t h.1 e in record { source = f.source; is = f.is; agrees = f.agrees }
-
-  changed : (ts : List Thread) (ss : List source.Thread) (i : ℕ) (t : Thread) (s : source.Thread) → ThreadsAgree p classes space made shared ts ss → ThreadAgrees p classes space made shared t s → ThreadsAgree p classes space made shared (slice_set ts i t) (slice_set ss i s)
-  changed [] [] i t s h a = tt
-  changed [] (y ∷ ss) i t s h a = absurd h
-  changed (x ∷ ts) [] i t s h a = absurd h
-  changed (x ∷ ts) (y ∷ ss) zero t s h a = (a, h.1)
-  changed (x ∷ ts) (y ∷ ss) (suc i) t s h a = (h.0, changed ts ss i t s h.1 a)
+use Rattle.safety.specs.Owners.{AllOwners, Owners, after_advance, owners_after, with_owners}
 
 -- ---- what a step changes
 
@@ -86,8 +67,8 @@ threads_next s k shared t (event.Trapped trap line) = refl
 -- the thread took the step that the source's thread takes, whatever state it stands for
 abbrev pub AdvancesAlways : Lowered → World → (store store' : Store) → Thread → Thread → (refused : Bool) → Event → Type 0
 AdvancesAlways p w store store' t after refused e =
-    (lent : BuffersInUse) (k : ℕ) (shared : Shared) (s : source.Thread) → StoreAgrees p w store shared → ThreadAgrees p w.classes store.heap (length (loaded_objects w)) shared t s → IsSteady shared s
-    → Advances p w store.heap store' lent k shared s after refused e
+    (lent : BuffersInUse) (k : ℕ) (own : Owners) (shared : Shared) (s : source.Thread) → StoreAgrees p w store shared → ThreadAgrees p w.classes store.heap (length (loaded_objects w)) own shared t s → IsSteady own shared s
+    → Advances p w store.heap store' lent k own shared s after refused e
 
 -- ---- room
 
@@ -119,24 +100,30 @@ module _ (p : Lowered) (world : World) (store : Store) (ts : List Thread) (print
   abbrev count_made : ℕ
   count_made = length (loaded_objects world)
 
-  pub the_thread : Found p classes store.heap count_made c.state.shared t c.state.threads i
-  the_thread = found p classes store.heap count_made c.state.shared ts c.state.threads i t c.threads_agree at
+  abbrev owners : AllOwners
+  owners = owners_after (unit_tree p.unit) world journal
+
+  placed : k ≡ 1 + i
+  placed = omega (arith, counted)
+
+  pub the_thread : Found p classes store.heap count_made c.state.shared (owners k) t c.state.threads i
+  the_thread = found p classes store.heap count_made c.state.shared owners 1 k ts c.state.threads i t placed c.threads_agree at
 
   there : thread_at c.state k ≡ Some the_thread.source
   there = ap (thread_at c.state) counted ∙ the_thread.is
 
   -- no step of it breaks what no accepted unit does
-  pub steady : IsSteady c.state.shared the_thread.source
+  pub steady : IsSteady (owners k) c.state.shared the_thread.source
   steady =
       let safe = c.safe journal c.state k the_thread.source c.replays there in
-      record { declared = safe.declared; deleted = safe.deleted }
+      record { declared = safe.declared; owned = safe.owned }
 
   -- the machine hasn't stopped
   running : stop ≡ None → c.state.stop ≡ None
   running goes = c.same_stop ∙ ap (option_map stop_view) goes
 
   steps_here : stop ≡ None → t.ending ≡ Unfinished → Steps classes c.state k the_thread.source
-  steps_here goes live = steps classes c.state k the_thread.source (running goes) there (the_thread.agrees.ending ∙ ap ending_view live) (unblocked p classes store.heap count_made k c.state.shared t the_thread.source c.lowered the_thread.agrees)
+  steps_here goes live = steps classes c.state k the_thread.source (running goes) there (the_thread.agrees.ending ∙ ap ending_view live) (unblocked p classes store.heap count_made k (owners k) c.state.shared t the_thread.source c.lowered the_thread.agrees)
 
   pub can_turn_here : stop ≡ None → t.ending ≡ Unfinished → can_step classes c.state k ≡ true
   can_turn_here goes live = (steps_here goes live).can
@@ -161,12 +148,12 @@ module _ (p : Lowered) (world : World) (store : Store) (ts : List Thread) (print
   steps_on store' after refused e goes live advances =
       let f = the_thread in
       let entry : Entry = Step k refused in
-      let a = advances (lent c.state) k c.state.shared f.source c.store_agrees f.agrees steady in
+      let a = advances (lent c.state) k (owners k) c.state.shared f.source c.store_agrees f.agrees steady in
       let next = next_state c.state k a.next_shared a.next e in
       let step : world_step (unit_tree p.unit) classes c.state entry ≡ Some next =
       step-thread (unit_tree p.unit) classes c.state k f.source refused (steps_here goes live) ∙ ap (advanced c.state k) a.steps in
       let shared_is : next.shared ≡ a.next_shared = shared_next c.state k a.next_shared a.next e in
-      let others = threads_stay p classes count_made store.heap store'.heap c.state.shared a.next_shared a.keeps ts c.state.threads c.threads_agree in
+      let others = threads_stay p classes count_made store.heap store'.heap c.state.shared a.next_shared a.keeps owners 1 ts c.state.threads c.threads_agree in
       let shares : StoreAgrees p world store' next.shared = subst (StoreAgrees p world store') (sym shared_is) a.store_agrees in
       let kept : sizes (take (length c.state.shared.heap) next.shared.heap) ≡ sizes c.state.shared.heap = ap (λ (x : Shared). sizes (take (length c.state.shared.heap) x.heap)) shared_is ∙ a.keeps.sizes in
       record {
@@ -175,9 +162,15 @@ module _ (p : Lowered) (world : World) (store : Store) (ts : List Thread) (print
         state = next;
         replays = replay_more (unit_tree p.unit) world journal entry c.state next c.replays step;
         store_agrees = shares;
-        threads_agree = subst (λ (x : Shared). ThreadsAgree p classes store'.heap count_made x (slice_set ts i after) next.threads) (sym shared_is)
-            (subst (ThreadsAgree p classes store'.heap count_made a.next_shared (slice_set ts i after)) (sym (threads_next c.state k a.next_shared a.next e ∙ ap (λ n. set_thread c.state.threads n a.next) counted))
-            (changed p classes store'.heap count_made a.next_shared ts c.state.threads i after a.next others a.agrees));
+        threads_agree =
+            let own = after_advance c.state.shared f.source (owners k) (source.Advances a.next_shared a.next (event_view e)) in
+            let now : AllOwners = with_owners owners k own in
+            subst (λ (o : AllOwners). ThreadsAgree p classes store'.heap count_made o 1 next.shared (slice_set ts i after) next.threads)
+            (sym (owners_stepped (unit_tree p.unit) world journal c.state k refused f.source (source.Advances a.next_shared a.next (event_view e)) c.replays there a.steps))
+            (subst (λ (x : Shared). ThreadsAgree p classes store'.heap count_made now 1 x (slice_set ts i after) next.threads) (sym shared_is)
+            (subst (ThreadsAgree p classes store'.heap count_made now 1 a.next_shared (slice_set ts i after)) (sym (threads_next c.state k a.next_shared a.next e ∙ ap (λ n. set_thread c.state.threads n a.next) counted))
+            (changed p classes store'.heap count_made a.next_shared owners now k (owner_elsewhere owners k own) 1 ts c.state.threads i after a.next placed others
+            (subst (λ (o : Owners). ThreadAgrees p classes store'.heap count_made o a.next_shared after a.next) (sym (owner_here owners k own)) a.agrees))));
         same_printed = printed_next c.state k a.next_shared a.next e ∙ ap (λ l. printed_after l k e) c.same_printed;
         same_stop = stop_next c.state k a.next_shared a.next e stop c.same_stop;
         fits = each-more (unit_tree p.unit) world (FitsUnmarked (unit_tree p.unit) world) (Some (start (unit_tree p.unit) world)) journal entry c.fits

@@ -11,6 +11,7 @@ use Rattle.source.specs.World.{Invocation}
 use Rattle.source.specs.Start.{waiting_thread}
 use Rattle.source.specs.Thread as source
 use Rattle.source.specs.Thread.{Shared}
+use Rattle.safety.specs.Owners.{Owners, AllOwners}
 use Rattle.lower.specs.Lowered.{Lowered}
 use Rattle.machine.specs.declared.fault.LoadFault.{LoadFault}
 use Rattle.machine.specs.declared.fault.LoadFault.TheVariants.{DoesNotFit, Memory}
@@ -25,19 +26,23 @@ called ts = map (λ (t : Vec Invocation). t.items) ts
 
 -- ---- threads that agree
 
+-- with whatever owners, and from whatever number on
+abbrev pub AllAgree : Lowered → Classes → Space → (made : ℕ) → Shared → List Thread → List source.Thread → Type 0
+AllAgree p classes space made shared ts ss = (owners : AllOwners) (k : ℕ) → ThreadsAgree p classes space made owners k shared ts ss
+
 module _ (p : Lowered) (classes : Classes) (space : Space) (made : ℕ) (shared : Shared) where
   abbrev pub AgreeSoFar : List (Vec Invocation) → (i : ℕ) → List Thread → Type 0
-  AgreeSoFar ts i threads = (rest : List Thread) → ThreadsAgree p classes space made shared rest (map waiting_thread (called (drop i ts))) → ThreadsAgree p classes space made shared (threads ++ rest) (map waiting_thread (called ts))
+  AgreeSoFar ts i threads = (rest : List Thread) → AllAgree p classes space made shared rest (map waiting_thread (called (drop i ts))) → AllAgree p classes space made shared (threads ++ rest) (map waiting_thread (called ts))
 
-  pub one_more : (ts : List (Vec Invocation)) (i : ℕ) (x : Vec Invocation) (t : Thread) (threads : List Thread) → slice_get ts i ≡ Some x → ThreadAgrees p classes space made shared t (waiting_thread x.items) → AgreeSoFar ts i threads → AgreeSoFar ts (i + 1) (threads ++ t ∷ [])
+  pub one_more : (ts : List (Vec Invocation)) (i : ℕ) (x : Vec Invocation) (t : Thread) (threads : List Thread) → slice_get ts i ≡ Some x → ((own : Owners) → ThreadAgrees p classes space made own shared t (waiting_thread x.items)) → AgreeSoFar ts i threads → AgreeSoFar ts (i + 1) (threads ++ t ∷ [])
   one_more ts i x t threads at a so_far rest h =
-      subst (λ (l : List Thread). ThreadsAgree p classes space made shared l (map waiting_thread (called ts))) (sym (append_assoc threads (t ∷ []) rest))
-      (so_far (t ∷ rest) (subst (λ (us : List (Vec Invocation)). ThreadsAgree p classes space made shared (t ∷ rest) (map waiting_thread (called us))) (sym (drop_next ts i x at)) (a, h)))
+      subst (λ (l : List Thread). AllAgree p classes space made shared l (map waiting_thread (called ts))) (sym (append_assoc threads (t ∷ []) rest))
+      (so_far (t ∷ rest) (subst (λ (us : List (Vec Invocation)). AllAgree p classes space made shared (t ∷ rest) (map waiting_thread (called us))) (sym (drop_next ts i x at)) (λ owners k. (a (owners k), h owners (suc k)))))
 
-  pub all_agree : (ts : List (Vec Invocation)) (i : ℕ) (threads : List Thread) → length ts ≤ i → AgreeSoFar ts i threads → ThreadsAgree p classes space made shared threads (map waiting_thread (called ts))
+  pub all_agree : (ts : List (Vec Invocation)) (i : ℕ) (threads : List Thread) → length ts ≤ i → AgreeSoFar ts i threads → AllAgree p classes space made shared threads (map waiting_thread (called ts))
   all_agree ts i threads past so_far =
-      let none : ThreadsAgree p classes space made shared [] (map waiting_thread (called (drop i ts))) = rw (drop_of_length-le ts past) tt in
-      subst (λ (n : List Thread). ThreadsAgree p classes space made shared n (map waiting_thread (called ts))) (append-nil threads) (so_far [] none)
+      let none : AllAgree p classes space made shared [] (map waiting_thread (called (drop i ts))) = λ owners k. rw (drop_of_length-le ts past) tt in
+      subst (λ (n : List Thread). AllAgree p classes space made shared n (map waiting_thread (called ts))) (append-nil threads) (so_far [] none)
 
 -- ---- calls that don't load
 
@@ -64,11 +69,11 @@ pub none_refused : (unit : SourceUnit) (classes : Classes) (ts : List (Vec Invoc
 none_refused unit classes ts i past = ap (refused_of unit classes) (drop_of_length-le ts past)
 
 -- as many threads as agree
-pub agree_length : (p : Lowered) (classes : Classes) (space : Space) (made : ℕ) (shared : Shared) (ts : List Thread) (ss : List source.Thread) → ThreadsAgree p classes space made shared ts ss → length ts ≡ length ss
-agree_length p classes space made shared [] [] h = refl
-agree_length p classes space made shared [] (s ∷ ss) h = absurd h
-agree_length p classes space made shared (t ∷ ts) [] h = absurd h
-agree_length p classes space made shared (t ∷ ts) (s ∷ ss) h = ap suc (agree_length p classes space made shared ts ss h.1)
+pub agree_length : (p : Lowered) (classes : Classes) (space : Space) (made : ℕ) (owners : AllOwners) (k : ℕ) (shared : Shared) (ts : List Thread) (ss : List source.Thread) → ThreadsAgree p classes space made owners k shared ts ss → length ts ≡ length ss
+agree_length p classes space made owners k shared [] [] h = refl
+agree_length p classes space made owners k shared [] (s ∷ ss) h = absurd h
+agree_length p classes space made owners k shared (t ∷ ts) [] h = absurd h
+agree_length p classes space made owners k shared (t ∷ ts) (s ∷ ss) h = ap suc (agree_length p classes space made owners (suc k) shared ts ss h.1)
 
 pub items_length : (ts : List (Vec Invocation)) → length (map (λ t. t.items) ts) ≡ length ts
 items_length [] = refl

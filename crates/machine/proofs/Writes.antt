@@ -26,7 +26,7 @@ use Rattle.machine.specs.HeapAgrees.{BlockAgrees, BlocksAgree, ValueAgrees, Valu
 use Rattle.machine.proofs.BlockObjects.{Named, named}
 use Rattle.machine.proofs.Changes.{get_set_same, get_set_other}
 use Rattle.machine.proofs.Classed.{classed_written}
-use Rattle.machine.proofs.Keeping.{globals_stay, reference_stays, sizes_written, statics_stay}
+use Rattle.machine.proofs.Keeping.{slots_stay, reference_stays, sizes_written, statics_stay}
 
 -- ---- each block is found at its address
 
@@ -202,7 +202,7 @@ module _ (p : Lowered) (w : World) (store : Store) (shared after : Shared) (a pl
     statics = statics_stay store.heap store_after.heap stays (all_held store.globals store.statics.items) shared.statics h.statics;
     named = h.named;
     keys = h.keys;
-    globals = globals_stay store.heap store_after.heap stays store.globals shared.globals h.globals;
+    globals = slots_stay store.heap store_after.heap stays store.globals shared.globals h.globals;
     monitors = h.monitors;
   }
 

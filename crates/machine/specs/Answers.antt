@@ -15,6 +15,7 @@ use Rattle.source.specs.Thread.{Shared, Thread}
 use Rattle.source.specs.Value.{Int, Flag}
 use Rattle.source.specs.Variable.{Live}
 use Rattle.source.specs.World.{fresh_object}
+use Rattle.tables.specs.Locals.{LocalTable}
 use Rattle.lower.specs.Slots.{word_of, static_index}
 use Rattle.machine.specs.declared.answer.Given.{Given}
 use Rattle.machine.specs.declared.answer.Given.TheVariants as given
@@ -22,6 +23,7 @@ use Rattle.machine.specs.declared.answer.Answer.{Answer}
 use Rattle.machine.specs.declared.answer.Answer.TheVariants as answer
 use Rattle.machine.specs.Agrees.{FieldAgrees}
 use Rattle.machine.specs.HeapAgrees.{ReferenceAgrees, ValueAgrees}
+use Rattle.machine.specs.Locals.{IsKeyOf}
 
 -- what a function of this kind of result gives; NULL where it failed
 abbrev pub GivenAgrees : Classes → Space → ResultKind → Given → CallResult → Type 0
@@ -55,19 +57,19 @@ pub record HoldsObject (s : Shared) (x : Identifier) (i n : ℕ) : Type 0 where
   pub there : lookup x s.statics ≡ Some (Live n)
 
 -- The answer is what the call does to this state, all checks being passed.
-abbrev pub IsAnswer : Classes → Space → ResultKind → Shared → Thread → Answer → CallEffect → Type 0
-IsAnswer classes space kind s t (answer.Throws c) (Throws class) = (c ≡ class) × IsMakeable classes c
-IsAnswer classes space kind s t (answer.Gives given) (Leaves [] s' t' c) = (s' ≡ s) × (t' ≡ t) × GivenAgrees classes space kind given c
-IsAnswer classes space kind s t (answer.Writes a place v) (Leaves [] s' t' NoResult) = (t' ≡ t) × (kind ≡ GivesNothing) × WritesAt space s s' a place v
-IsAnswer classes space kind s t (answer.Makes c) (Leaves (o ∷ []) s' t' (ReferenceResult r)) =
+abbrev pub IsAnswer : Classes → Space → LocalTable → ResultKind → Shared → Thread → Answer → CallEffect → Type 0
+IsAnswer classes space locals kind s t (answer.Throws c) (Throws class) = (c ≡ class) × IsMakeable classes c
+IsAnswer classes space locals kind s t (answer.Gives given) (Leaves [] s' t' c) = (s' ≡ s) × (t' ≡ t) × GivenAgrees classes space kind given c
+IsAnswer classes space locals kind s t (answer.Writes a place v) (Leaves [] s' t' NoResult) = (t' ≡ t) × (kind ≡ GivesNothing) × WritesAt space s s' a place v
+IsAnswer classes space locals kind s t (answer.Makes c) (Leaves (o ∷ []) s' t' (ReferenceResult r)) =
     (s' ≡ s) × (t' ≡ t) × (kind ≡ NewLocal) × (r ≡ Some (next_name s.heap)) × (o ≡ fresh_object classes c) × IsMakeable classes c
-IsAnswer classes space kind s t (answer.Ensures more) effect = (kind ≡ GivesInt) × (effect ≡ frames_effect classes s t (with_capacity more t.frames))
-IsAnswer classes space kind s t (answer.Pushes capacity) effect = (kind ≡ GivesInt) × (effect ≡ frames_effect classes s t (record { capacity = capacity; references = [] } ∷ t.frames))
-IsAnswer classes space kind s t (answer.Pops a) effect = (kind ≡ NewLocal) × ((r : Reference) × ReferenceAgrees space a r × (effect ≡ Leaves [] s (record t { frames = drop 1 t.frames }) (ReferenceResult r)))
-IsAnswer classes space kind s t (answer.Deletes level a) effect =
-    (kind ≡ GivesNothing) × (0 < level) × (level ≤ length t.frames) × ((n : ℕ) × (name_at space a ≡ Some n) × (effect ≡ Leaves [] s (record t { frames = without_local level n t.frames }) NoResult))
-IsAnswer classes space kind s t (answer.MakesGlobal a) effect =
+IsAnswer classes space locals kind s t (answer.Ensures more) effect = (kind ≡ GivesInt) × (effect ≡ frames_effect classes s t (with_capacity more t.frames))
+IsAnswer classes space locals kind s t (answer.Pushes capacity) effect = (kind ≡ GivesInt) × (effect ≡ frames_effect classes s t (record { capacity = capacity; references = [] } ∷ t.frames))
+IsAnswer classes space locals kind s t (answer.Pops a) effect = (kind ≡ NewLocal) × ((r : Reference) × ReferenceAgrees space a r × (effect ≡ Leaves [] s (record t { frames = drop 1 t.frames }) (ReferenceResult r)))
+IsAnswer classes space locals kind s t (answer.Deletes key) effect =
+    (kind ≡ GivesNothing) × ((n level : ℕ) × IsKeyOf space locals key n level × (effect ≡ Leaves [] s (record t { frames = without_local level n t.frames }) NoResult))
+IsAnswer classes space locals kind s t (answer.MakesGlobal a) effect =
     (kind ≡ NewGlobal) × ((r : Reference) × ReferenceAgrees space a r × (effect ≡ Leaves [] (record s { globals = option_to_list r ++ s.globals }) t (ReferenceResult r)))
-IsAnswer classes space kind s t (answer.DeletesGlobal i) effect = (kind ≡ GivesNothing) × ((x : Identifier) × (n : ℕ) × HoldsObject s x i n × (effect ≡ delete_global_effect s t x (Some n)))
-IsAnswer classes space kind s t answer.RefusesFrames effect = (kind ≡ GivesInt) × (effect ≡ refuses_frames classes s t)
-IsAnswer classes space kind s t answer effect = ⊥
+IsAnswer classes space locals kind s t (answer.DeletesGlobal i) effect = (kind ≡ GivesNothing) × ((x : Identifier) × (n : ℕ) × HoldsObject s x i n × (effect ≡ delete_global_effect s t x (Some n)))
+IsAnswer classes space locals kind s t answer.RefusesFrames effect = (kind ≡ GivesInt) × (effect ≡ refuses_frames classes s t)
+IsAnswer classes space locals kind s t answer effect = ⊥

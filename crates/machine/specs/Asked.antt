@@ -11,7 +11,8 @@ use Rattle.lower.specs.Does.{OperandFits, ActualFits, words_given, texts_given}
 use Rattle.lower.specs.Lowered.{Lowered}
 use Rattle.machine.specs.declared.store.Store.{Store}
 use Rattle.machine.specs.declared.thread.Activation.{Activation}
-use Rattle.machine.specs.Agrees.{StoreAgrees, FramesAgree}
+use Rattle.machine.specs.Agrees.{StoreAgrees}
+use Rattle.machine.specs.Locals.{FramesAgree}
 use Rattle.machine.specs.Checked.{is_answered}
 use Rattle.machine.specs.Given.{IsGiven}
 use Rattle.machine.specs.HeapAgrees.{ReferenceAgrees}
@@ -19,13 +20,13 @@ use Rattle.machine.specs.Statics.{References, all_held}
 
 -- the references that the operands of a call name
 abbrev pub references_of : Store → Activation → References
-references_of store call = record { locals = call.references.items; statics = all_held store.globals store.statics.items }
+references_of store call = record { keys = call.references.items; locals = call.locals; statics = all_held store.globals store.statics.items }
 
 -- Store, frames and pending exception agree with the source's, and each operand gives what the argument at its place is.
 pub record IsAsked (p : Lowered) (w : World) (store : Store) (pending : Option ℕ) (call : Activation) (function : Call) (shared : Shared) (s : Thread) (f : JniFunction) (args : List Actual) : Type 0 where
   pub store_agrees : StoreAgrees p w store shared
   pub pending_agrees : ReferenceAgrees store.heap pending s.pending
-  pub frames_agree : FramesAgree store.heap call.frames s.frames
+  pub frames_agree : FramesAgree store.heap call.locals s.frames
   pub same_function : function.function ≡ f
   pub answered : is_answered f ≡ true
   pub count : length args ≡ length (prototype f).parameters

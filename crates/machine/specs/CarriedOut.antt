@@ -1,5 +1,5 @@
 -- What carrying out an answer leaves, by the effect of the source's call.
-use Rattle.std.specs.Prelude.{◌≡◌, ℕ, ◌-◌, ◌^◌, Bool, true, false, List, [], ◌∷◌, ◌++◌, slice_get, ◌⊎◌, IsSome, Option, Some, None}
+use Rattle.std.specs.Prelude.{◌≡◌, ◌≢◌, ℕ, ◌-◌, ◌^◌, Bool, true, false, List, [], ◌∷◌, ◌++◌, length, slice_get, ◌⊎◌, IsSome, Option, Some, None}
 use Rattle.classes.specs.Class.{Classes}
 use Rattle.heap.specs.Heap.{Space}
 use Rattle.jni.specs.Prototype.{ResultKind, NewLocal, NewGlobal, GivesFlag, GivesInt, GivesField, GivesNothing}
@@ -19,9 +19,12 @@ use Rattle.tables.specs.References.{address_at}
 use Rattle.machine.specs.Statics.{held}
 use Rattle.machine.specs.declared.statics.StaticReference.{StaticReference}
 use Rattle.machine.specs.declared.statics.StaticReference.TheVariants as static
-use Rattle.machine.specs.Agrees.{HeldAgrees, StoreAgrees, FramesAgree, Keeps}
+use Rattle.machine.specs.Agrees.{HeldAgrees, StoreAgrees, Keeps}
 use Rattle.machine.specs.Answers.{GivenAgrees}
-use Rattle.machine.specs.Frames.{Frame}
+use Rattle.machine.specs.declared.answer.Answer.{Answer}
+use Rattle.machine.specs.declared.answer.Answer.TheVariants as answer
+use Rattle.machine.specs.Locals.{FramesAgree, IsKeyOf}
+use Rattle.tables.specs.Locals.{LocalTable}
 use Rattle.machine.specs.HeapAgrees.{ReferenceAgrees}
 
 -- the shared state after a call of this effect, or after the same with its allocation refused
@@ -61,13 +64,20 @@ abbrev pub ResultAgrees : Classes → Store → Given → ResultKind → CallRes
 ResultAgrees classes store (given.Global s) kind c = (kind ≡ NewGlobal) × ((r : Reference) × ((c ≡ ReferenceResult r) ⊎ ((c ≡ NullResult) × (r ≡ None))) × HeldAgrees store.heap (held store.globals s) (as_static r) × IsFresh store s)
 ResultAgrees classes store g kind c = GivenAgrees classes store.heap kind g c
 
+-- an answer leaves a key of this level as it is, where there were this number of frames
+abbrev pub IsLeft : Answer → (frames : ℕ) → (key level : ℕ) → Type 0
+IsLeft (answer.Deletes deleted) frames key level = key ≢ deleted
+IsLeft (answer.Pops a) frames key level = level ≢ frames
+IsLeft a frames key level = Unit {0}
+
 -- The store, the frames and the exception that is pending are those that the effect leaves, and what is given is what the call
--- gives. Only what makes objects can be refused.
-pub record CarriesOut (p : Lowered) (w : World) (old : Space) (kind : ResultKind) (shared : Shared) (s : Thread) (effect : CallEffect) (refused : Bool) (store : Store) (pending : Option ℕ) (frames : List Frame) (given : Given) : Type 0 where
+-- gives. Keys that the answer leaves are those of the same references. Only what makes objects can be refused.
+pub record CarriesOut (p : Lowered) (w : World) (old : Space) (before : LocalTable) (answer : Answer) (kind : ResultKind) (shared : Shared) (s : Thread) (effect : CallEffect) (refused : Bool) (store : Store) (pending : Option ℕ) (locals : LocalTable) (given : Given) : Type 0 where
   pub store_agrees : StoreAgrees p w store (shared_after w.classes refused shared effect)
   pub keeps : Keeps old shared store.heap (shared_after w.classes refused shared effect)
   pub pending_agrees : ReferenceAgrees store.heap pending (pending_after w.classes refused shared s effect)
-  pub frames_agree : FramesAgree store.heap frames (frames_left refused s effect)
+  pub frames_agree : FramesAgree store.heap locals (frames_left refused s effect)
+  pub left : (key n level : ℕ) → IsKeyOf old before key n level → IsLeft answer (length before.frames) key level → IsKeyOf store.heap locals key n level
   pub given_agrees : ResultAgrees w.classes store given kind (result_after kind refused effect)
   pub still : kind ≡ NewGlobal → (shared_after w.classes refused shared effect).statics ≡ shared.statics
   pub could_refuse : refused ≡ true → makes_objects effect ≡ true
@@ -93,8 +103,8 @@ can_fail kind = false
 
 -- A call of a function of this kind of result can be carried out: the store, the exception that is pending and the frames agree with
 -- the source's.
-pub record IsPossible (p : Lowered) (w : World) (store : Store) (pending : Option ℕ) (frames : List Frame) (kind : ResultKind) (shared : Shared) (s : Thread) : Type 0 where
+pub record IsPossible (p : Lowered) (w : World) (store : Store) (pending : Option ℕ) (locals : LocalTable) (kind : ResultKind) (shared : Shared) (s : Thread) : Type 0 where
   pub store_agrees : StoreAgrees p w store shared
   pub pending_agrees : ReferenceAgrees store.heap pending s.pending
-  pub frames_agree : FramesAgree store.heap frames s.frames
+  pub frames_agree : FramesAgree store.heap locals s.frames
   pub fails : can_fail kind ≡ true

@@ -16,6 +16,7 @@ use Rattle.source.specs.Object.{Reference}
 use Rattle.source.specs.Variable.{StaticReference, as_static}
 use Rattle.machine.specs.Agrees.{FieldAgrees, HeldAgrees}
 use Rattle.machine.specs.HeapAgrees.{ReferenceAgrees}
+use Rattle.machine.specs.Locals.{address_of}
 use Rattle.machine.specs.Statics.{References, held_address, static_at}
 
 -- what a slot holds; NULL where there is none
@@ -25,14 +26,14 @@ held_in (Some a) = a
 
 -- the address that an operand gives
 abbrev pub operand_at : References → Operand → Option ℕ
-operand_at references (operand.Local i) = held_in (slice_get references.locals i)
+operand_at references (operand.Local i) = address_of references.locals (held_in (slice_get references.keys i))
 operand_at references (operand.Static i) = held_address (static_at references i)
 operand_at references o = None
 
--- the level of the local reference that an operand gives
-abbrev pub level_at : List ℕ → Operand → ℕ
-level_at levels (operand.Local i) = unwrap_or (slice_get levels i) 0
-level_at levels o = 0
+-- the key of the local reference that an operand gives; none of NULL, and of what is no local reference
+abbrev pub key_at : References → Operand → Option ℕ
+key_at references (operand.Local i) = held_in (slice_get references.keys i)
+key_at references o = None
 
 -- the field ID that an operand gives
 abbrev pub field_at : List (Option FieldHandle) → Operand → Option FieldHandle

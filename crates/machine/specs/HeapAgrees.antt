@@ -1,5 +1,5 @@
 -- How a heap of blocks stands for a heap of the source. A block's birth number is the name of its object, wherever it lies.
-use Rattle.std.specs.Prelude.{◌≡◌, ℕ, ◌+◌, List, [], ◌∷◌, length, slice_get, Option, Some, None, FitsSigned}
+use Rattle.std.specs.Prelude.{◌≡◌, ℕ, suc, ◌+◌, ◌==◌, if◌then◌else◌, List, [], ◌∷◌, length, slice_get, Option, Some, None, FitsSigned}
 use Rattle.std.specs.Int.{w32, cast_unsigned}
 use Rattle.heap.specs.declared.value.Value.{Value}
 use Rattle.heap.specs.declared.value.Value.TheVariants.{Number as Word, Null, Block as Address}
@@ -8,6 +8,7 @@ use Rattle.source.specs.Object.{Object, ObjectValue, Number, Refers, Reference, 
 use Rattle.source.specs.World.{World, loaded_objects}
 use Rattle.source.specs.Heap.{Heap, object_at}
 use Rattle.source.specs.Reachable.{IsName}
+use Rattle.tables.specs.References.{references_in}
 
 -- ---- references and values
 
@@ -40,6 +41,17 @@ NamesAgree space [] [] = Unit {0}
 NamesAgree space [] (n ∷ names) = ⊥
 NamesAgree space (a ∷ addresses) [] = ⊥
 NamesAgree space (a ∷ addresses) (n ∷ names) = (name_at space a ≡ Some n) × NamesAgree space addresses names
+
+-- how often a name is among these
+abbrev pub times : ℕ → List ℕ → ℕ
+times n [] = 0
+times n (m ∷ names) = let further = times n names in if n == m then suc further else further
+
+-- the references in slots are those of the source, which have no order there
+pub record SlotsAgree (space : Space) (slots : List (Option ℕ)) (source_names : List ℕ) : Type 0 where
+  pub names : List ℕ
+  pub agree : NamesAgree space (references_in slots) names
+  pub same : (n : ℕ) → times n names ≡ times n source_names
 
 -- ---- blocks
 

@@ -7,6 +7,7 @@ use Rattle.code.specs.declared.instr.Instr.TheVariants as instr
 use Rattle.source.specs.Task.{Task}
 use Rattle.source.specs.Thread.{Shared, Thread, viewed_by}
 use Rattle.source.specs.World.{World}
+use Rattle.safety.specs.Owners.{Owners}
 use Rattle.lower.specs.Lowered.{Lowered, IsLowered}
 use Rattle.lower.specs.Slots.{visible_to}
 use Rattle.machine.specs.declared.store.Store.{Store}
@@ -16,14 +17,14 @@ use Rattle.machine.specs.HeapAgrees.{ReferenceAgrees}
 
 -- A thread of the source has a call as its first task, the machine is at the instruction that stands for it, and all that the
 -- call can change agrees.
-pub record AtCall (p : Lowered) (w : World) (store : Store) (pending : Option ℕ) (call : Activation) (function : InMemory) (shared : Shared) (s : Thread) (task : Task) (rest : List Task) : Type 0 where
+pub record AtCall (p : Lowered) (w : World) (store : Store) (pending : Option ℕ) (call : Activation) (function : InMemory) (own : Owners) (shared : Shared) (s : Thread) (task : Task) (rest : List Task) : Type 0 where
   pub lowered : IsLowered p
   pub tasks : s.tasks ≡ Some (task ∷ rest)
   pub shares : StoreAgrees p w store shared
   pub pending_agrees : ReferenceAgrees store.heap pending s.pending
-  pub stands : CallStands p w.classes store.heap call (visible_to shared s) s.frames (task ∷ rest)
+  pub stands : CallStands p w.classes store.heap call (visible_to own shared s) s.frames (task ∷ rest)
   pub viewless : viewed_by s ≡ []
-  pub steady : IsSteady shared s
+  pub steady : IsSteady own shared s
   pub code : Listing
   pub of_function : slice_get p.codes call.function ≡ Some code
   pub at : slice_get code.instrs call.place ≡ Some (instr.Call (call_view function))

@@ -1,7 +1,7 @@
 pub mod HeapAgrees
 pub mod Held
 pub mod Classed
-pub mod Frames
+pub mod Locals
 pub mod Entry
 pub mod Statics
 pub mod Agrees

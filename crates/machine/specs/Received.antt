@@ -1,5 +1,5 @@
 -- What a call in progress is after what a function gives is put where it belongs.
-use Rattle.std.specs.Prelude.{◌≡◌, ℕ, ◌+◌, ◌<◌, ◌==◌, true, List, [], ◌∷◌, length, slice_set, Option, Some}
+use Rattle.std.specs.Prelude.{◌≡◌, ℕ, ◌+◌, ◌<◌, ◌==◌, true, List, [], ◌∷◌, length, slice_set, Option, Some, None}
 use Rattle.code.specs.Effect.{truth_word}
 use Rattle.class_table.specs.declared.class.FieldHandle.{FieldHandle}
 use Rattle.code.specs.declared.instr.Target.{Target}
@@ -8,7 +8,7 @@ use Rattle.jni.specs.Prototype.{ResultKind, NewLocal}
 use Rattle.machine.specs.declared.answer.Given.{Given}
 use Rattle.machine.specs.declared.answer.Given.TheVariants as given
 use Rattle.machine.specs.declared.thread.Activation.{Activation}
-use Rattle.machine.specs.Frames.{Frame, has_room, with_local}
+use Rattle.tables.specs.Locals.{LocalTable, IsMade, has_room}
 use Rattle.machine.specs.declared.statics.StaticReference.{StaticReference}
 
 -- the stack, on which the test of an `if` finds the truth whether a number is 0
@@ -21,25 +21,20 @@ abbrev pub numbers_with : Target → Given → List ℕ → List ℕ
 numbers_with (Number i) (given.Number word) numbers = slice_set numbers i word
 numbers_with target g numbers = numbers
 
--- the slots of references with it
-abbrev pub references_with : Target → Given → List (Option ℕ) → List (Option ℕ)
-references_with (Local i) (given.Reference a) references = slice_set references i a
-references_with target g references = references
+-- a function of this kind of result makes a local reference of what is given, if it isn't NULL, and this is its key
+abbrev pub MakesLocal : ResultKind → Given → (before : LocalTable) → (key : Option ℕ) → (after : LocalTable) → Type 0
+MakesLocal NewLocal (given.Reference (Some a)) before key after = (place : ℕ) × (key ≡ Some place) × IsMade before place a after
+MakesLocal kind g before key after = (key ≡ None) × (after ≡ before)
 
--- the levels of references, with that of a reference that goes into the target
-abbrev pub levels_with : Target → (level : ℕ) → List ℕ → List ℕ
-levels_with (Local i) level levels = slice_set levels i level
-levels_with target level levels = levels
+-- the slots of references with a key in the target
+abbrev pub references_with : Target → (key : Option ℕ) → List (Option ℕ) → List (Option ℕ)
+references_with (Local i) key references = slice_set references i key
+references_with target key references = references
 
 -- the slots of field IDs with it
 abbrev pub fields_with : Target → Given → List (Option FieldHandle) → List (Option FieldHandle)
 fields_with (FieldId i) (given.FieldId h) fields = slice_set fields i h
 fields_with target g fields = fields
-
--- the frames with it, where a function of this kind of result puts a local reference
-abbrev pub frames_with : ResultKind → Given → List Frame → List Frame
-frames_with NewLocal (given.Reference (Some a)) frames = with_local frames a
-frames_with kind g frames = frames
 
 -- the statics with it
 abbrev pub statics_with : Target → Given → List StaticReference → List StaticReference
@@ -68,16 +63,12 @@ HasStatic target count = Unit {0}
 
 -- the target's slot is there
 abbrev pub HasTarget : Target → Activation → Type 0
-HasTarget target call = HasNumber target (length call.numbers.items) × HasReference target (length call.references.items) × HasReference target (length call.levels.items) × HasField target (length call.fields.items)
+HasTarget target call = HasNumber target (length call.numbers.items) × HasReference target (length call.references.items) × HasField target (length call.fields.items)
 
 -- a local reference, where a function of this kind of result puts one, has room in the current frame
-abbrev pub HasRoom : ResultKind → List Frame → Type 0
-HasRoom NewLocal frames = has_room frames ≡ true
-HasRoom kind frames = Unit {0}
-
--- the same in the frames of a call
-abbrev pub HasFrame : ResultKind → Activation → Type 0
-HasFrame kind call = HasRoom kind call.frames
+abbrev pub HasRoom : ResultKind → LocalTable → Type 0
+HasRoom NewLocal locals = has_room locals ≡ true
+HasRoom kind locals = Unit {0}
 
 -- the call goes on after the instruction, with what is given where it belongs
 pub record Receives (target : Target) (kind : ResultKind) (g : Given) (call after : Activation) : Type 0 where
@@ -85,7 +76,7 @@ pub record Receives (target : Target) (kind : ResultKind) (g : Given) (call afte
   pub place : after.place ≡ call.place + 1
   pub stack : after.stack ≡ stack_with target g
   pub numbers : after.numbers.items ≡ numbers_with target g call.numbers.items
-  pub references : after.references.items ≡ references_with target g call.references.items
-  pub levels : after.levels.items ≡ levels_with target (length call.frames) call.levels.items
+  pub key : Option ℕ
+  pub makes : MakesLocal kind g call.locals key after.locals
+  pub references : after.references.items ≡ references_with target key call.references.items
   pub fields : after.fields.items ≡ fields_with target g call.fields.items
-  pub frames : after.frames ≡ frames_with kind g call.frames

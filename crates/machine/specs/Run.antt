@@ -21,6 +21,7 @@ use Rattle.source.specs.Run.{replay, Follows, UnmarkedFit}
 use Rattle.source.specs.State.{State, thread_at}
 use Rattle.source.specs.Step.{can_step, is_blocked, is_unfinished}
 use Rattle.source.specs.Thread.{Thread as SourceThread}
+use Rattle.safety.specs.Owners.{owners_after}
 use Rattle.safety.specs.StepSafe.{IsSafe}
 use Rattle.lower.specs.Lowered.{Lowered, IsLowered}
 use Rattle.machine.specs.declared.thread.Thread.{Thread}
@@ -62,7 +63,7 @@ pub record Corresponds (p : Lowered) (world : World) (store : Store) (threads : 
   pub state : State
   pub replays : replay (unit_tree p.unit) world journal ≡ Some state
   pub store_agrees : StoreAgrees p world store state.shared
-  pub threads_agree : ThreadsAgree p world.classes store.heap (length (loaded_objects world)) state.shared threads state.threads
+  pub threads_agree : ThreadsAgree p world.classes store.heap (length (loaded_objects world)) (owners_after (unit_tree p.unit) world journal) 1 state.shared threads state.threads
   pub same_printed : state.printed ≡ printed
   pub same_stop : state.stop ≡ option_map stop_view stop
   -- the steps that made objects had room

@@ -1,14 +1,16 @@
 -- Statics, which hold global references, and what operands can name.
 use Rattle.std.specs.Prelude.{◌≡◌, ℕ, Bool, true, false, List, map, slice_get, Option, Some, None, IsSome}
+use Rattle.tables.specs.Locals.{LocalTable}
 use Rattle.tables.specs.References.{address_at}
 use Rattle.machine.specs.declared.statics.StaticReference.{StaticReference}
 use Rattle.machine.specs.declared.statics.StaticReference.TheVariants as static
 use Rattle.machine.specs.declared.statics.Held.{Held}
 use Rattle.machine.specs.declared.statics.Held.TheVariants.{Empty, At, Deleted}
 
--- the references that operands can name: what the slots of local references hold, and what the statics do
+-- the references that operands can name: the keys in the slots of local references, with their table, and what the statics hold
 pub record References : Type 0 where
-  pub locals : List (Option ℕ)
+  pub keys : List (Option ℕ)
+  pub locals : LocalTable
   pub statics : List Held
 
 -- the address of a global reference; each that a static holds has one

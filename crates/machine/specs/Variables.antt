@@ -10,7 +10,7 @@ use Rattle.machine.specs.Statics.{References, holds_null, static_at}
 
 -- whether a variable is NULL; nothing else is stored in buffers yet
 abbrev pub is_null : References → List (Option FieldHandle) → NullableVariable → Bool
-is_null references fields (Local i) = is_none (held_in (slice_get references.locals i))
+is_null references fields (Local i) = is_none (held_in (slice_get references.keys i))
 is_null references fields (Static i) = holds_null (static_at references i)
 is_null references fields (FieldId i) = is_none (held_in (slice_get fields i))
 is_null references fields v = true

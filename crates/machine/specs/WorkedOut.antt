@@ -21,7 +21,7 @@ use Rattle.machine.specs.declared.answer.Given.TheVariants as given
 use Rattle.machine.specs.declared.answer.Answer.{Answer}
 use Rattle.machine.specs.declared.answer.Answer.TheVariants.{Gives, Writes, Makes, Throws, Ensures, Pushes, RefusesFrames, Pops, Deletes, MakesGlobal, DeletesGlobal}
 use Rattle.machine.specs.Statics.{References}
-use Rattle.machine.specs.Given.{operand_at, level_at, operand_of, field_at, class_of_given, name_there, fits_there, field_there}
+use Rattle.machine.specs.Given.{operand_at, key_at, operand_of, field_at, class_of_given, name_there, fits_there, field_there}
 
 -- the number of values of the object at an address, and 0 for NULL
 abbrev pub count_there : Space → Option ℕ → ℕ
@@ -53,10 +53,10 @@ abbrev pub frame_for : ℤ → Answer
 frame_for (pos capacity) = Pushes capacity
 frame_for (negsuc n) = RefusesFrames
 
--- a local reference less, for one that isn't NULL, in the frame of this level; a static has none
-abbrev pub deletes : Option ℕ → (level : ℕ) → Answer
-deletes None level = Gives Nothing
-deletes (Some a) level = if nat_lt 0 level then Deletes level a else Gives Nothing
+-- the local reference of this key ends; nothing does for NULL
+abbrev pub deletes : (key : Option ℕ) → Answer
+deletes None = Gives Nothing
+deletes (Some key) = Deletes key
 
 -- the global reference of a static ends, for one that isn't NULL
 abbrev pub deletes_global : Option ℕ → Operand → Answer
@@ -104,7 +104,7 @@ place_there classes (Some h) fields = place_among (field_there classes (Some h))
 -- ---- what a function does
 
 -- A call with these words on the stack.
-module _ (classes : Classes) (space : Space) (loaded : List ℕ) (references : References) (levels : List ℕ) (fields : List (Option FieldHandle)) (stack : List ℕ) (call : Call) where
+module _ (classes : Classes) (space : Space) (loaded : List ℕ) (references : References) (fields : List (Option FieldHandle)) (stack : List ℕ) (call : Call) where
   -- the reference of an operand
   abbrev pub reference : ℕ → Option ℕ
   reference i = operand_at references (operand_of call.operands i)
@@ -148,7 +148,7 @@ module _ (classes : Classes) (space : Space) (loaded : List ℕ) (references : R
   worked_out NewLocalRef = Gives (Reference (reference 0))
   worked_out NewGlobalRef = MakesGlobal (reference 0)
   worked_out DeleteGlobalRef = deletes_global (reference 0) (operand_of call.operands 0)
-  worked_out DeleteLocalRef = deletes (reference 0) (level_at levels (operand_of call.operands 0))
+  worked_out DeleteLocalRef = deletes (key_at references (operand_of call.operands 0))
   worked_out IsSameObject = Gives (Number (truth_word (name_there space (reference 0) == name_there space (reference 1))))
   worked_out EnsureLocalCapacity = room_for (cast_signed w32 (top_word stack))
   worked_out PushLocalFrame = frame_for (cast_signed w32 (top_word stack))

@@ -16,8 +16,7 @@ ghost use Rattle.machine.specs.WorkedOut.{address_in, class_object, count_there,
 ghost use Rattle.syntax.specs.Views.{element_tree};
 
 use crate::operands::{
-    class_of_given, declaring, fits_there, handle_at, level_in, name_there, operand_of,
-    reference_at,
+    class_of_given, declaring, fits_there, handle_at, key_in, name_there, operand_of, reference_at,
 };
 use crate::statics::{References, StaticReference};
 use class_table::built_ins::{NO_CLASS_DEF_FOUND_ERROR, NO_SUCH_FIELD_ERROR};
@@ -28,6 +27,7 @@ use code::plain::element_word;
 use code::stack::Stack;
 use heap::{Addr, Heap, Value};
 use jni::JniFunction;
+use tables::Local;
 
 /// What a call gives.
 #[derive(Clone, Copy)]
@@ -62,8 +62,8 @@ pub enum Answer {
     RefusesFrames,
     /// The current frame ends, and this reference is given.
     Pops(Option<Addr>),
-    /// There is one reference less to the object at this address in the frame of this level, counted from 1.
-    Deletes(usize, Addr),
+    /// The local reference of this key ends.
+    Deletes(Local),
     /// A global reference to the object at this address is made and given, and none for NULL.
     MakesGlobal(Option<Addr>),
     /// The global reference of the static of this number ends, and the static is marked.
@@ -77,7 +77,6 @@ pub fn work_out(
     heap: &Heap,
     loaded: &[Addr],
     references: &References<'_>,
-    levels: &[usize],
     fields: &[Option<FieldHandle>],
     stack: &Stack,
     function: &Call,
@@ -88,7 +87,7 @@ pub fn work_out(
     requires handles { AreHandles classes.now fields.now function.now.operands.items }
     requires answered { is_answered (function_value function.now.function) ≡ true }
     requires passed { fit_together classes.now heap.now references.now fields.now function.now.operands.items (function_value function.now.function) ≡ true }
-    ensures { IsWorkedOut classes.now heap.now loaded.now references.now levels.now fields.now stack.now (call_view function.now) (function_value function.now.function) result }
+    ensures { IsWorkedOut classes.now heap.now loaded.now references.now fields.now stack.now (call_view function.now) (function_value function.now.function) result }
 {
     let first = reference_at(heap, references, &function.operands, 0);
     let second = reference_at(heap, references, &function.operands, 1);
@@ -120,7 +119,7 @@ pub fn work_out(
             Answer::Gives(Given::Number(word_of_truth(same)))
         }
         JniFunction::DeleteLocalRef => {
-            deletes(first, level_in(levels, operand_of(&function.operands, 0)))
+            deletes(key_in(references, operand_of(&function.operands, 0)))
         }
         JniFunction::EnsureLocalCapacity => room_for(top_word(stack).cast_signed()),
         JniFunction::PushLocalFrame => frame_for(top_word(stack).cast_signed()),
@@ -214,13 +213,13 @@ fn frame_for(capacity: i32) -> Answer
     }
 }
 
-/// A local reference less, for one that isn't NULL, in the frame of its variable's level; a static has none.
-fn deletes(reference: Option<Addr>, level: usize) -> Answer
-    ensures { result ≡ deletes reference level }
+/// The local reference of this key ends; nothing does for NULL.
+fn deletes(key: Option<Local>) -> Answer
+    ensures { result ≡ deletes key }
 {
-    match reference {
-        Some(addr) if level > 0 => Answer::Deletes(level, addr),
-        _ => Answer::Gives(Given::Nothing),
+    match key {
+        Some(key) => Answer::Deletes(key),
+        None => Answer::Gives(Given::Nothing),
     }
 }
 

@@ -1,22 +1,24 @@
 //! What a call does to the store, and which exception is pending then.
 
-ghost use Rattle.std.specs.Prelude.{◌≡◌, ◌-◌, ◌^◌, ℕ, length, slice_get, true, false, IfOk, OnErr};
+ghost use Rattle.std.specs.Prelude.{◌≡◌, ◌-◌, ◌<◌, ◌≤◌, ◌^◌, ℕ, length, slice_get, true, false, IfOk, OnErr};
 ghost use Rattle.jni.specs.Table.{result_value};
 ghost use Rattle.source.specs.CallEffects.{CallEffect};
 ghost use Rattle.source.specs.Thread.{Shared, Thread as SourceThread};
 ghost use Rattle.lower.specs.Lowered.{Lowered};
+ghost use Rattle.tables.specs.declared.locals.TheConstants.{MOST_LOCALS};
+ghost use Rattle.tables.specs.Locals.{capacities, ensured, popped};
 ghost use Rattle.machine.specs.Answers.{IsAnswer};
 ghost use Rattle.machine.specs.CarriedOut.{CarriesOut, IsPossible, failed};
 ghost use Rattle.machine.specs.declared.answer.Given.TheVariants.{Number};
 
 use crate::answer::{Answer, Given};
-use crate::frame::Frames;
 use crate::make::make;
 use crate::statics::{StaticReference, delete_global, make_global};
 use crate::store::Store;
 use heap::Addr;
 use jni::ResultKind;
 use std::alloc::AllocError;
+use tables::{Locals, TableFault};
 use world::World;
 
 /// What a call gives, and whether its allocation was refused.
@@ -34,18 +36,18 @@ pub fn carry_out(
     world: &World,
     store: &mut Store,
     pending: &mut Option<Addr>,
-    frames: &mut Frames,
+    locals: &mut Locals,
     kind: ResultKind,
     answer: Answer,
 ) -> Result<Carried, AllocError>
-    requires possible { (p : Lowered) × (shared : Shared) × (s : SourceThread) × (effect : CallEffect) × IsPossible p world.now store.old pending.old frames.old (result_value kind) shared s
-        × IsAnswer world.now.classes store.old.heap (result_value kind) shared s answer effect }
-    ensures carried { IfOk result (λ carried. (p : Lowered) (shared : Shared) (s : SourceThread) (effect : CallEffect) → IsPossible p world.now store.old pending.old frames.old (result_value kind) shared s
-        → IsAnswer world.now.classes store.old.heap (result_value kind) shared s answer effect
-        → CarriesOut p world.now store.old.heap (result_value kind) shared s effect carried.refused store.new pending.new frames.new carried.given) }
+    requires possible { (p : Lowered) × (shared : Shared) × (s : SourceThread) × (effect : CallEffect) × IsPossible p world.now store.old pending.old locals.old (result_value kind) shared s
+        × IsAnswer world.now.classes store.old.heap locals.old (result_value kind) shared s answer effect }
+    ensures carried { IfOk result (λ carried. (p : Lowered) (shared : Shared) (s : SourceThread) (effect : CallEffect) → IsPossible p world.now store.old pending.old locals.old (result_value kind) shared s
+        → IsAnswer world.now.classes store.old.heap locals.old (result_value kind) shared s answer effect
+        → CarriesOut p world.now store.old.heap locals.old answer (result_value kind) shared s effect carried.refused store.new pending.new locals.new carried.given) }
     ensures store { OnErr result (store.new ≡ store.old) }
     ensures pending { OnErr result (pending.new ≡ pending.old) }
-    ensures frames { OnErr result (frames.new ≡ frames.old) }
+    ensures locals { OnErr result (locals.new ≡ locals.old) }
 {
     // Here the proof takes up what is known of a world.
     let _ = world.threads();
@@ -79,7 +81,7 @@ pub fn carry_out(
             None => Ok(refuse(world, store, pending, kind)),
         },
         Answer::Ensures(more) => {
-            if frames.ensure(more) {
+            if ensure_room(locals, more) {
                 Ok(Carried {
                     given: Given::Number(0),
                     refused: false,
@@ -89,26 +91,25 @@ pub fn carry_out(
             }
         }
         Answer::Pushes(capacity) => {
-            let made = frames.push(capacity)?;
-            if made {
-                Ok(Carried {
+            match locals.push(capacity) {
+                Ok(()) => Ok(Carried {
                     given: Given::Number(0),
                     refused: false,
-                })
-            } else {
-                Ok(refuse_frames(world, store, pending))
+                }),
+                Err(TableFault::Full) => Ok(refuse_frames(world, store, pending)),
+                Err(_) => Err(AllocError),
             }
         }
         Answer::RefusesFrames => Ok(refuse_frames(world, store, pending)),
         Answer::Pops(reference) => {
-            frames.pop();
+            pop_frame(locals);
             Ok(Carried {
                 given: Given::Reference(reference),
                 refused: false,
             })
         }
-        Answer::Deletes(level, addr) => {
-            frames.delete(level, addr);
+        Answer::Deletes(key) => {
+            locals.delete(key).unwrap();
             Ok(Carried {
                 given: Given::Nothing,
                 refused: false,
@@ -128,6 +129,31 @@ pub fn carry_out(
                 refused: false,
             })
         }
+    }
+}
+
+/// Gives the current frame, if there is one, room for this many further references. Says whether it has it.
+fn ensure_room(locals: &mut Locals, more: u32) -> bool
+    ensures none { length locals.old.frames ≡ 0 → (result ≡ true) × (locals.new ≡ locals.old) }
+    ensures had { 0 < length locals.old.frames → result ≡ true → (locals.new ≡ ensured locals.old more) × (capacities (ensured locals.old more) ≤ MOST_LOCALS) }
+    ensures refused { result ≡ false → (0 < length locals.old.frames) × (locals.new ≡ locals.old) × (MOST_LOCALS < capacities (ensured locals.old more)) }
+{
+    if locals.frames() == 0 {
+        return true;
+    }
+    match locals.ensure(more) {
+        Ok(()) => true,
+        Err(_) => false,
+    }
+}
+
+/// Ends the current frame, if there is one.
+fn pop_frame(locals: &mut Locals)
+    ensures none { length locals.old.frames ≡ 0 → locals.new ≡ locals.old }
+    ensures some { 0 < length locals.old.frames → locals.new ≡ popped locals.old }
+{
+    if locals.frames() > 0 {
+        locals.pop();
     }
 }
 

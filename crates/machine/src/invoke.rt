@@ -4,7 +4,11 @@ ghost use Rattle.std.specs.Prelude.{◌≡◌, ◌+◌, ◌<◌, ◌^◌, ℕ, L
 ghost use Rattle.source.specs.Effect.{effect_of};
 ghost use Rattle.source.specs.Task.{Task};
 ghost use Rattle.source.specs.Thread.{BuffersInUse, Shared, Thread as SourceThread, sight_of};
+ghost use Rattle.safety.specs.Owners.{Owners};
 ghost use Rattle.lower.specs.Lowered.{Lowered};
+ghost use Rattle.jni.specs.Table.{function_value};
+ghost use Rattle.machine.specs.Locals.{locals_after};
+ghost use Rattle.tables.specs.Locals.{has_room};
 ghost use Rattle.machine.specs.Agrees.{Executes};
 ghost use Rattle.machine.specs.Invoked.{AtCall};
 
@@ -17,10 +21,13 @@ use crate::store::Store;
 use crate::thread::{Activation, Event, Executed};
 use code::instr::Call;
 use heap::Addr;
+use jni::JniFunction;
 use std::alloc::AllocError;
+use tables::Locals;
 use world::World;
 
 /// The instruction that calls a function. Only a new frame and a new global reference take host memory.
+#[inline(never)]
 pub fn invoke(
     world: &World,
     store: &mut Store,
@@ -28,20 +35,25 @@ pub fn invoke(
     call: &mut Activation,
     function: &Call,
 ) -> Result<Executed, AllocError>
-    requires at_call { (p : Lowered) × (shared : Shared) × (s : SourceThread) × (task : Task) × (rest : List Task) × AtCall p world.now store.old pending.old call.old function.now shared s task rest }
+    requires at_call { (p : Lowered) × (own : Owners) × (shared : Shared) × (s : SourceThread) × (task : Task) × (rest : List Task) × AtCall p world.now store.old pending.old call.old function.now own shared s task rest }
     requires place { call.old.place + 1 < 2 ^ 64 }
-    ensures done { IfOk result (λ done. (p : Lowered) (lent : BuffersInUse) (k : ℕ) (shared : Shared) (s : SourceThread) (task : Task) (rest : List Task) → AtCall p world.now store.old pending.old call.old function.now shared s task rest
-        → Executes p world.now store.old.heap store.new lent k shared s rest call.new pending.new (effect_of (sight_of shared s) task) done) }
+    ensures done { IfOk result (λ done. (p : Lowered) (lent : BuffersInUse) (k : ℕ) (own : Owners) (shared : Shared) (s : SourceThread) (task : Task) (rest : List Task) → AtCall p world.now store.old pending.old call.old function.now own shared s task rest
+        → Executes p world.now store.old.heap store.new lent k own shared s rest call.new pending.new (effect_of (sight_of shared s) task) done) }
     ensures store { OnErr result (store.new ≡ store.old) }
     ensures pending { OnErr result (pending.new ≡ pending.old) }
     ensures call { OnErr result (call.new ≡ call.old) }
 {
-    let references = References::new(&call.references, &store.statics, &store.globals);
+    let references = References::new(
+        &call.references,
+        &call.locals,
+        &store.statics,
+        &store.globals,
+    );
     let trap = check(
         world.classes(),
         &store.heap,
         pending.is_some(),
-        call.frames.room_after(function.function),
+        has_room(&call.locals, function.function),
         &references,
         &call.fields,
         function,
@@ -54,13 +66,14 @@ pub fn invoke(
         &store.heap,
         &store.loaded,
         &references,
-        &call.levels,
         &call.fields,
         &call.stack,
         function,
     );
     let kind = function.function.prototype().result;
-    let carried = carry_out(world, store, pending, &mut call.frames, kind, answer)?;
+    let carried = carry_out(world, store, pending, &mut call.locals, kind, answer)?;
+    // Here the proof takes up what is known of a table.
+    let _ = call.locals.frames();
     receive(
         call,
         &mut store.statics,
@@ -72,5 +85,15 @@ pub fn invoke(
         Ok(Executed::Refused)
     } else {
         Ok(Executed::Did(Event::Quiet))
+    }
+}
+
+/// Whether there is room for a local reference that a function gives: `PopLocalFrame` puts it into the frame below.
+fn has_room(locals: &Locals, function: JniFunction) -> bool
+    ensures { result ≡ has_room (locals_after (function_value function) locals.now) }
+{
+    match function {
+        JniFunction::PopLocalFrame => locals.has_room_below(),
+        _ => locals.has_room(),
     }
 }

@@ -6,7 +6,6 @@ mod carry_out;
 mod check;
 mod entry;
 mod fault;
-mod frame;
 mod invoke;
 mod load;
 mod machine;

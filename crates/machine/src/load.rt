@@ -1,8 +1,9 @@
 //! The threads of a machine before its first step.
 
-ghost use Rattle.std.specs.Prelude.{◌≡◌, IfOk, IfErr, OnOk, IfSome, IfNone, IsTrue, [], None, map, length, flat_map};
+ghost use Rattle.std.specs.Prelude.{◌≡◌, ℕ, IfOk, IfErr, OnOk, IfSome, IfNone, IsTrue, [], None, map, length, flat_map};
 ghost use Rattle.std.specs.List.{list_all};
 ghost use Rattle.std.specs.Option.{option_and_then};
+ghost use Rattle.syntax.specs.Limits.{IsTree};
 ghost use Rattle.syntax.specs.Views.{unit_tree, parameter_tree, parameter_type_tree};
 ghost use Rattle.classes.specs.Class.{class_named};
 ghost use Rattle.classes.specs.Mangling.{native_class};
@@ -15,6 +16,7 @@ ghost use Rattle.source.specs.Activation.{function_at};
 ghost use Rattle.source.specs.Load.{fits_parameter, fit_parameters};
 ghost use Rattle.source.specs.Start.{waiting_thread};
 ghost use Rattle.source.specs.Thread.{Shared};
+ghost use Rattle.safety.specs.Owners.{Owners, AllOwners};
 ghost use Rattle.machine.specs.Agrees.{ThreadAgrees, ThreadsAgree};
 ghost use Rattle.machine.specs.Loading.{IsNumberOf, IsCallOf, IsFirstOf, refused_calls};
 
@@ -33,7 +35,7 @@ pub fn load_threads(
     program: &Program<'_>,
     world: &World,
 ) -> Result<Vec<Thread>, LoadFault>
-    ensures agree { IfOk result (λ threads. (space : Space) (shared : Shared) → ThreadsAgree program.now world.now.classes space (length (loaded_objects world.now)) shared threads.items
+    ensures agree { IfOk result (λ threads. (space : Space) (owners : AllOwners) (k : ℕ) (shared : Shared) → ThreadsAgree program.now world.now.classes space (length (loaded_objects world.now)) owners k shared threads.items
         (map waiting_thread world.now.threads)) }
     ensures all { OnOk result (flat_map (refused_calls (unit_tree program.now.unit) world.now.classes) world.now.threads ≡ []) }
     ensures refused { IfErr result (IsFirstOf (flat_map (refused_calls (unit_tree program.now.unit) world.now.classes) world.now.threads)) }
@@ -57,7 +59,7 @@ fn load_thread(
 ) -> Result<Thread, LoadFault>
     requires some { IsTrue (has_call calls.now) }
     requires given { IsTrue (list_all (are_arguments (length (loaded_objects world.now))) calls.now) }
-    ensures agrees { IfOk result (λ thread. (space : Space) (shared : Shared) → ThreadAgrees program.now world.now.classes space (length (loaded_objects world.now)) shared thread
+    ensures agrees { IfOk result (λ thread. (space : Space) (own : Owners) (shared : Shared) → ThreadAgrees program.now world.now.classes space (length (loaded_objects world.now)) own shared thread
         (waiting_thread calls.now)) }
     ensures all { OnOk result (refused_calls (unit_tree program.now.unit) world.now.classes calls.now ≡ []) }
     ensures refused { IfErr result (IsFirstOf (refused_calls (unit_tree program.now.unit) world.now.classes calls.now)) }
@@ -154,6 +156,7 @@ struct NumberedFunction<'a> {
 fn function_named<'a>(program: &'a Program<'_>, name: &[u8]) -> Option<NumberedFunction<'a>>
     ensures found { IfSome result (λ found. IsNumberOf program.now name.now found.number found.function.now) }
     ensures unknown { IfNone result (function_at (unit_tree program.now.unit) name.now ≡ None) }
+    ensures tree { IsTree (unit_tree program.now.unit) }
 {
     let mut number = 0;
     for item in program.items() {

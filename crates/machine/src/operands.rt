@@ -4,7 +4,7 @@ ghost use Rattle.std.specs.Prelude.{◌≡◌, ℕ, Some, IsSome};
 ghost use Rattle.class_table.specs.FieldViews.{field_of};
 ghost use Rattle.class_table.specs.Views.{element_view, field_type_view};
 ghost use Rattle.heap.specs.Heap.{IsAddress};
-ghost use Rattle.machine.specs.Given.{operand_at, level_at, field_at, operand_of, class_of_given, name_there, fits_there, field_there, AreAddresses, AreHandles};
+ghost use Rattle.machine.specs.Given.{operand_at, key_at, field_at, operand_of, class_of_given, name_there, fits_there, field_there, AreAddresses, AreHandles};
 ghost use Rattle.syntax.specs.Views.{element_tree};
 
 use crate::statics::{Held, References};
@@ -12,6 +12,7 @@ use class_table::class::{ElementType, FieldHandle, FieldType};
 use class_table::table::ClassTable;
 use code::instr::Operand;
 use heap::{Addr, Heap};
+use tables::Local;
 
 /// The operand at a place, and NULL where there is none.
 pub fn operand_of(operands: &[Operand], place: usize) -> Operand
@@ -34,13 +35,13 @@ pub fn reference_in(references: &References<'_>, operand: Operand) -> Option<Add
     }
 }
 
-/// The level of the local reference that an operand gives.
-pub fn level_in(levels: &[usize], operand: Operand) -> usize
-    ensures { result ≡ level_at levels.now operand }
+/// The key of the local reference that an operand gives; none for NULL, and for what is no local reference.
+pub fn key_in(references: &References<'_>, operand: Operand) -> Option<Local>
+    ensures { result ≡ key_at references.now operand }
 {
     match operand {
-        Operand::Local(slot) => levels.get(slot as usize).copied().unwrap_or(0),
-        _ => 0,
+        Operand::Local(slot) => references.key(slot),
+        _ => None,
     }
 }
 

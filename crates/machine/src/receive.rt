@@ -2,17 +2,16 @@
 
 ghost use Rattle.std.specs.Prelude.{◌≡◌, ◌<◌, ◌^◌, ◌+◌, [], length};
 ghost use Rattle.jni.specs.Table.{result_value};
-ghost use Rattle.machine.specs.Received.{HasTarget, HasFrame, Receives, stack_with, numbers_with, references_with, levels_with, fields_with, frames_with, statics_with, HasNumber, HasReference, HasField, HasStatic, HasRoom};
+ghost use Rattle.machine.specs.Received.{HasTarget, HasRoom, MakesLocal, Receives, stack_with, numbers_with, references_with, fields_with, statics_with, HasNumber, HasReference, HasField, HasStatic};
 
 use crate::answer::Given;
-use crate::frame::Frames;
 use crate::statics::StaticReference;
 use crate::thread::Activation;
 use class_table::class::FieldHandle;
 use code::instr::Target;
 use code::stack::Stack;
-use heap::Addr;
 use jni::ResultKind;
+use tables::{Local, Locals};
 
 /// Puts what a function of this kind of result gives into its target, a new local reference also into the current frame, and
 /// goes on after the instruction. It takes no host memory.
@@ -26,7 +25,7 @@ pub fn receive(
     requires place { call.old.place + 1 < 2 ^ 64 }
     requires target { HasTarget target call.old }
     requires static_target { HasStatic target (length statics.old) }
-    requires frame { HasFrame (result_value kind) call.old }
+    requires room { HasRoom (result_value kind) call.old.locals }
     ensures call { Receives target (result_value kind) given.now call.old call.new }
     ensures statics { statics.new ≡ statics_with target given.now statics.old }
 {
@@ -34,10 +33,9 @@ pub fn receive(
     call.place += 1;
     put_test(&mut call.stack, target, given);
     put_number(&mut call.numbers, target, given);
-    put_reference(&mut call.references, target, given);
-    put_level(&mut call.levels, target, call.frames.len());
+    let key = make_local(&mut call.locals, kind, given);
+    put_reference(&mut call.references, target, key);
     put_field(&mut call.fields, target, given);
-    put_frame(&mut call.frames, kind, given);
     put_static(statics, target, given);
 }
 
@@ -48,17 +46,6 @@ fn put_test(stack: &mut Stack, target: Target, given: &Given)
 {
     match (target, *given) {
         (Target::Test, Given::Number(word)) => stack.push(u32::from(word == 0)),
-        _ => {}
-    }
-}
-
-/// Puts the level of a reference, the number of frames, beside its slot.
-fn put_level(levels: &mut [usize], target: Target, level: usize)
-    requires { HasReference target (length levels.old) }
-    ensures { levels.new ≡ levels_with target level levels.old }
-{
-    match target {
-        Target::Local(slot) => levels[slot as usize] = level,
         _ => {}
     }
 }
@@ -74,15 +61,24 @@ fn put_number(numbers: &mut [u32], target: Target, given: &Given)
     }
 }
 
-/// Puts a reference into its slot.
-fn put_reference(references: &mut [Option<Addr>], target: Target, given: &Given)
-    requires { HasReference target (length references.old) }
-    ensures { references.new ≡ references_with target given.now references.old }
+/// Makes a local reference in the current frame of what is given, where a function of this kind of result does and it isn't NULL.
+fn make_local(locals: &mut Locals, kind: ResultKind, given: &Given) -> Option<Local>
+    requires { HasRoom (result_value kind) locals.old }
+    ensures { MakesLocal (result_value kind) given.now locals.old result locals.new }
 {
-    match (target, *given) {
-        (Target::Local(slot), Given::Reference(reference)) => {
-            references[slot as usize] = reference;
-        }
+    match (kind, *given) {
+        (ResultKind::NewLocal, Given::Reference(Some(addr))) => Some(locals.make(addr).unwrap()),
+        _ => None,
+    }
+}
+
+/// Puts the key of a reference into its slot.
+fn put_reference(references: &mut [Option<Local>], target: Target, key: Option<Local>)
+    requires { HasReference target (length references.old) }
+    ensures { references.new ≡ references_with target key references.old }
+{
+    match target {
+        Target::Local(slot) => references[slot as usize] = key,
         _ => {}
     }
 }
@@ -105,17 +101,6 @@ fn put_static(statics: &mut [StaticReference], target: Target, given: &Given)
 {
     match (target, *given) {
         (Target::Static(slot), Given::Global(reference)) => statics[slot as usize] = reference,
-        _ => {}
-    }
-}
-
-/// Puts a new local reference into the current frame.
-fn put_frame(frames: &mut Frames, kind: ResultKind, given: &Given)
-    requires { HasRoom (result_value kind) frames.old }
-    ensures { frames.new ≡ frames_with (result_value kind) given.now frames.old }
-{
-    match (kind, *given) {
-        (ResultKind::NewLocal, Given::Reference(Some(addr))) => frames.put(addr),
         _ => {}
     }
 }

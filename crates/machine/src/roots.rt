@@ -1,17 +1,17 @@
 //! What global references and threads refer to, by name: the roots of a report beside the objects made at load.
 
 ghost use Rattle.std.specs.Prelude.{◌≡◌, ◌++◌, IfOk, flat_map, map};
-ghost use Rattle.machine.specs.Roots.{AreAddresses, FramesAreThere, CallIsThere, ReferenceIsThere, ThreadsAreThere, frame_names, name_of, frames_names, call_names, reference_names, thread_names};
+ghost use Rattle.machine.specs.Roots.{AreAddresses, CallIsStacked, CallIsThere, ReferenceIsThere, ThreadsAreStacked, ThreadsAreThere, name_of, slot_names, call_names, reference_names, thread_names};
+ghost use Rattle.tables.specs.Locals.{AreStacked};
 ghost use Rattle.tables.specs.References.{references_in};
 
-use crate::frame::Frame;
 use crate::thread::{Activation, Thread};
 use heap::{Addr, Heap};
 use std::alloc::{AllocError, Global};
-use tables::Globals;
+use tables::{Globals, Locals};
 
-/// The names of the objects of global references, by the places in their table, of those in the frames of threads, and of
-/// their pending exceptions.
+/// The names of the objects of global references, by the places in their table, of the local references of
+/// threads, by the places in their tables, and of their pending exceptions.
 pub fn root_names(
     alloc: Global,
     heap: &Heap,
@@ -20,7 +20,8 @@ pub fn root_names(
 ) -> Result<Vec<usize>, AllocError>
     requires globals { AreAddresses heap.now (references_in globals.now) }
     requires threads { ThreadsAreThere heap.now threads.now }
-    ensures { IfOk result (λ names. names.items ≡ map (name_of heap.now) (references_in globals.now) ++ flat_map (thread_names heap.now) threads.now) }
+    ensures names { IfOk result (λ names. names.items ≡ map (name_of heap.now) (references_in globals.now) ++ flat_map (thread_names heap.now) threads.now) }
+    ensures stacked { IfOk result (λ _. ThreadsAreStacked threads.now) }
 {
     let mut names = global_names(alloc, heap, globals)?;
     for thread in threads {
@@ -42,18 +43,19 @@ fn global_names(alloc: Global, heap: &Heap, globals: &Globals) -> Result<Vec<usi
     Ok(names)
 }
 
-/// Adds the names in the frames of a call in progress.
+/// Adds the names of the objects of a call in progress.
 fn push_call(
     names: &mut Vec<usize>,
     heap: &Heap,
     call: &Option<Activation>,
 ) -> Result<(), AllocError>
     requires { CallIsThere heap.now call.now }
-    ensures { IfOk result (λ _. names.new.items ≡ names.old.items ++ call_names heap.now call.now) }
+    ensures names { IfOk result (λ _. names.new.items ≡ names.old.items ++ call_names heap.now call.now) }
+    ensures stacked { IfOk result (λ _. CallIsStacked call.now) }
 {
     match call {
         None => Ok(()),
-        Some(call) => push_frames(names, heap, call.frames.as_slice()),
+        Some(call) => push_locals(names, heap, &call.locals),
     }
 }
 
@@ -75,30 +77,15 @@ fn push_reference(
     }
 }
 
-/// Adds the names in frames, those of the last frame first.
-fn push_frames(names: &mut Vec<usize>, heap: &Heap, frames: &[Frame]) -> Result<(), AllocError>
-    requires { FramesAreThere heap.now frames.now }
-    ensures { IfOk result (λ _. names.new.items ≡ names.old.items ++ frames_names heap.now frames.now) }
+/// Adds the names of the objects of local references.
+fn push_locals(names: &mut Vec<usize>, heap: &Heap, locals: &Locals) -> Result<(), AllocError>
+    requires { AreStacked locals.now → AreAddresses heap.now (references_in locals.now.slots) }
+    ensures names { IfOk result (λ _. names.new.items ≡ names.old.items ++ slot_names heap.now locals.now.slots) }
+    ensures stacked { IfOk result (λ _. AreStacked locals.now) }
 {
-    for done in 0..frames.len() {
-        let frame = &frames[frames.len() - 1 - done];
-        push_references(names, heap, frame.references())?;
-    }
-    Ok(())
-}
-
-/// Adds the names at addresses, that at the last one first.
-fn push_references(
-    names: &mut Vec<usize>,
-    heap: &Heap,
-    references: &[Addr],
-) -> Result<(), AllocError>
-    requires { AreAddresses heap.now references.now }
-    ensures { IfOk result (λ _. names.new.items ≡ names.old.items ++ frame_names heap.now references.now) }
-{
-    for done in 0..references.len() {
-        let addr = references[references.len() - 1 - done];
-        names.push(heap.birth_of(addr) as usize)?;
+    let _frames = locals.frames();
+    for place in 0..locals.len() {
+        push_reference(names, heap, locals.root(place))?;
     }
     Ok(())
 }

@@ -2,6 +2,7 @@
 
 ghost use Rattle.std.specs.Prelude.{◌≡◌, ℕ, Some, IsSome, slice_get, slice_set, IfOk, OnErr};
 ghost use Rattle.machine.specs.Given.{held_in};
+ghost use Rattle.machine.specs.Locals.{address_of};
 ghost use Rattle.machine.specs.Made.{MakesGlobal};
 ghost use Rattle.machine.specs.Statics.{all_held, static_at};
 ghost use Rattle.machine.specs.declared.statics.StaticReference.TheVariants.{Live, Deleted};
@@ -11,7 +12,7 @@ ghost use Rattle.tables.specs.References.{address_at};
 use heap::Addr;
 use std::alloc::AllocError;
 use std::marker::Model;
-use tables::{Global, Globals};
+use tables::{Global, Globals, Local, Locals};
 
 /// What a static holds.
 #[derive(Clone, Copy)]
@@ -31,10 +32,11 @@ pub enum Held {
     Deleted,
 }
 
-/// The references that operands can name: the local ones of a call, and the statics.
+/// The references that operands can name: the local ones of a call, by their keys, and the statics.
 #[derive(Drop)]
 pub struct References<'a> {
-    locals: &'a [Option<Addr>],
+    keys: &'a [Option<Local>],
+    locals: &'a Locals,
     statics: &'a [StaticReference],
     globals: &'a Globals,
 }
@@ -44,30 +46,42 @@ impl<'a> Model for References<'a> {
 
     ghost Value = { References };
 
-    ghost view = { λ r. record { locals = r.locals.now; statics = all_held r.globals.now r.statics.now } };
+    ghost view = { λ r. record { keys = r.keys.now; locals = r.locals.now; statics = all_held r.globals.now r.statics.now } };
 }
 
 impl<'a> References<'a> {
     /// These references.
     pub fn new(
-        locals: &'a [Option<Addr>],
+        keys: &'a [Option<Local>],
+        locals: &'a Locals,
         statics: &'a [StaticReference],
         globals: &'a Globals,
     ) -> References<'a>
-        ensures { result ≡ record { locals = locals.now; statics = all_held globals.now statics.now } }
+        ensures { result ≡ record { keys = keys.now; locals = locals.now; statics = all_held globals.now statics.now } }
     {
         References {
+            keys,
             locals,
             statics,
             globals,
         }
     }
 
-    /// What the slot of a local reference holds; NULL where there is none.
-    pub fn local(&self, slot: u32) -> Option<Addr>
-        ensures { result ≡ held_in (slice_get self.now.locals slot) }
+    /// The key in the slot of a local reference; none for NULL, and where there is no slot.
+    pub fn key(&self, slot: u32) -> Option<Local>
+        ensures { result ≡ held_in (slice_get self.now.keys slot) }
     {
-        self.locals.get(slot as usize).copied().unwrap_or(None)
+        self.keys.get(slot as usize).copied().unwrap_or(None)
+    }
+
+    /// The address that the slot of a local reference gives; none for NULL, and for a reference that is dead.
+    pub fn local(&self, slot: u32) -> Option<Addr>
+        ensures { result ≡ address_of self.now.locals (held_in (slice_get self.now.keys slot)) }
+    {
+        match self.key(slot) {
+            Some(key) => self.locals.get(key).ok(),
+            None => None,
+        }
     }
 
     /// What the static of a slot holds; NULL where there is none.

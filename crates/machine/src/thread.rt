@@ -8,12 +8,12 @@ ghost use Rattle.source.specs.Effect.{effect_of};
 ghost use Rattle.source.specs.Task.{Task};
 ghost use Rattle.source.specs.Thread.{BuffersInUse, Shared, Thread as SourceThread, sight_of};
 ghost use Rattle.source.specs.World.{loaded_objects};
+ghost use Rattle.safety.specs.Owners.{Owners};
 ghost use Rattle.lower.specs.Lowered.{IsLowered};
 ghost use Rattle.machine.specs.Agrees.{StoreAgrees, ThreadAgrees, IsSteady, IsExecuting, Executes, AdvancesBy, ending_after, calls_after};
 ghost use Rattle.machine.specs.Entry.{IsReady, Begins};
 
 use crate::entry::begin;
-use crate::frame::Frames;
 use crate::invoke::invoke;
 use crate::statics::References;
 use crate::stop::{Trap, trap_of};
@@ -27,6 +27,7 @@ use heap::{Addr, Heap};
 use lower::Program;
 use std::alloc::AllocError;
 use std::collections::VecDeque;
+use tables::{Local, Locals};
 use world::{ObjectValue, World};
 
 /// Whether a thread has ended.
@@ -67,18 +68,17 @@ pub struct PendingCall {
     pub arguments: Vec<ObjectValue>,
 }
 
-/// A call in progress: its place in its function's code, its operands, the slots of its variables, and its frames. A
-/// reference is NULL or the address of an object, and has a level: the number of frames where its variable was declared.
+/// A call in progress: its place in its function's code, its operands, the slots of its variables, and its local references. A
+/// variable's reference is NULL or a key of these, which may be dead.
 #[derive(Drop)]
 pub struct Activation {
     pub function: usize,
     pub place: usize,
     pub stack: Stack,
     pub numbers: Vec<u32>,
-    pub references: Vec<Option<Addr>>,
-    pub levels: Vec<usize>,
+    pub references: Vec<Option<Local>>,
     pub fields: Vec<Option<FieldHandle>>,
-    pub frames: Frames,
+    pub locals: Locals,
 }
 
 /// What an instruction did.
@@ -107,12 +107,12 @@ pub fn advance(
     thread: &mut Thread,
 ) -> Result<Advanced, AllocError>
     requires lowered { IsLowered program.now }
-    requires agrees { (shared : Shared) × (s : SourceThread) × StoreAgrees program.now world.now store.old shared
-        × ThreadAgrees program.now world.now.classes store.old.heap (length (loaded_objects world.now)) shared thread.old s × (thread.old.ending ≡ Ending.Unfinished) × IsSteady shared s }
-    ensures advances { IfOk result (λ advanced. (lent : BuffersInUse) (k : ℕ) (shared : Shared) (s : SourceThread) → StoreAgrees program.now world.now store.old shared
-        → ThreadAgrees program.now world.now.classes store.old.heap (length (loaded_objects world.now)) shared thread.old s
-        → IsSteady shared s
-        → AdvancesBy program.now world.now store.old.heap store.new lent k shared s thread.new advanced) }
+    requires agrees { (own : Owners) × (shared : Shared) × (s : SourceThread) × StoreAgrees program.now world.now store.old shared
+        × ThreadAgrees program.now world.now.classes store.old.heap (length (loaded_objects world.now)) own shared thread.old s × (thread.old.ending ≡ Ending.Unfinished) × IsSteady own shared s }
+    ensures advances { IfOk result (λ advanced. (lent : BuffersInUse) (k : ℕ) (own : Owners) (shared : Shared) (s : SourceThread) → StoreAgrees program.now world.now store.old shared
+        → ThreadAgrees program.now world.now.classes store.old.heap (length (loaded_objects world.now)) own shared thread.old s
+        → IsSteady own shared s
+        → AdvancesBy program.now world.now store.old.heap store.new lent k own shared s thread.new advanced) }
     ensures store { OnErr result (store.new ≡ store.old) }
     ensures thread { OnErr result (thread.new ≡ thread.old) }
 {
@@ -133,6 +133,7 @@ pub fn advance(
 }
 
 /// The entry into the next call.
+#[inline(never)]
 fn enter(program: &Program<'_>, loaded: &[Addr], thread: &mut Thread) -> Result<(), AllocError>
     requires lowered { IsLowered program.now }
     requires some { 0 < deque_len thread.old.calls }
@@ -152,6 +153,7 @@ fn enter(program: &Program<'_>, loaded: &[Addr], thread: &mut Thread) -> Result<
 }
 
 /// The end of a call. An exception that is pending ends the thread, which drops its other calls.
+#[inline(never)]
 fn leave(heap: &Heap, thread: &mut Thread)
     requires { (a : ℕ) → thread.old.pending ≡ Some a → IsAddress heap.now a }
     ensures call { thread.new.call ≡ None }
@@ -183,9 +185,9 @@ fn execute(
     call: &mut Activation,
 ) -> Result<Executed, AllocError>
     requires lowered { IsLowered program.now }
-    requires stands { (shared : Shared) × (s : SourceThread) × (task : Task) × (rest : List Task) × IsExecuting program.now world.now store.old call.old pending.old shared s task rest }
-    ensures done { IfOk result (λ done. (lent : BuffersInUse) (k : ℕ) (shared : Shared) (s : SourceThread) (task : Task) (rest : List Task) → IsExecuting program.now world.now store.old call.old pending.old shared s task rest
-        → Executes program.now world.now store.old.heap store.new lent k shared s rest call.new pending.new (effect_of (sight_of shared s) task) done) }
+    requires stands { (own : Owners) × (shared : Shared) × (s : SourceThread) × (task : Task) × (rest : List Task) × IsExecuting program.now world.now store.old call.old pending.old own shared s task rest }
+    ensures done { IfOk result (λ done. (lent : BuffersInUse) (k : ℕ) (own : Owners) (shared : Shared) (s : SourceThread) (task : Task) (rest : List Task) → IsExecuting program.now world.now store.old call.old pending.old own shared s task rest
+        → Executes program.now world.now store.old.heap store.new lent k own shared s rest call.new pending.new (effect_of (sight_of shared s) task) done) }
     ensures store { OnErr result (store.new ≡ store.old) }
     ensures pending { OnErr result (pending.new ≡ pending.old) }
     ensures call { OnErr result (call.new ≡ call.old) }
@@ -194,7 +196,12 @@ fn execute(
     let instr = code.get(call.place).unwrap();
     match instr {
         Instr::TestNull { variable, equal } => {
-            let references = References::new(&call.references, &store.statics, &store.globals);
+            let references = References::new(
+                &call.references,
+                &call.locals,
+                &store.statics,
+                &store.globals,
+            );
             let null = is_null(&references, &call.fields, *variable);
             call.stack.push(u32::from(null == *equal));
             call.place += 1;

@@ -6,7 +6,7 @@ ghost use Rattle.machine.specs.Variables.{is_null, HasSlot, nulled_references, n
 use crate::statics::{Held, References, StaticReference};
 use class_table::class::FieldHandle;
 use code::instr::NullableVariable;
-use heap::Addr;
+use tables::Local;
 
 /// Whether a variable is NULL.
 pub fn is_null(
@@ -17,7 +17,7 @@ pub fn is_null(
     ensures { result ≡ is_null references.now fields.now variable }
 {
     match variable {
-        NullableVariable::Local(slot) => references.local(slot).is_none(),
+        NullableVariable::Local(slot) => references.key(slot).is_none(),
         NullableVariable::Static(slot) => matches!(references.held(slot), Held::Empty),
         NullableVariable::FieldId(slot) => {
             fields.get(slot as usize).copied().unwrap_or(None).is_none()
@@ -28,7 +28,7 @@ pub fn is_null(
 
 /// Makes a variable NULL. A global reference that a static held stays.
 pub fn set_null(
-    references: &mut [Option<Addr>],
+    references: &mut [Option<Local>],
     fields: &mut [Option<FieldHandle>],
     statics: &mut [StaticReference],
     variable: NullableVariable,

@@ -17,7 +17,7 @@ ghost use Rattle.terms.specs.Views.{content_view, variables_view};
 use classes::mangling::unmangle;
 use std::alloc::{AllocError, Global};
 use syntax::{Function, Item, Parameter};
-use tasks::{Activation, Frames, Names, Outcome, Shared, Store, advance};
+use tasks::{Activation, Frames, Names, Outcome, Shared, Store, advance, class_named};
 use terms::{Content, Trap, Value, Variable};
 use world::{Call, ObjectValue, World};
 
@@ -82,8 +82,7 @@ fn content_of<'a>(argument: ObjectValue) -> Content<'a>
 {
     match argument {
         ObjectValue::Number(z) => Content::Number(Value::Int(z)),
-        ObjectValue::Reference(None) => Content::Reference(1, None),
-        ObjectValue::Reference(Some(object)) => Content::Reference(1, Some(object as usize)),
+        ObjectValue::Reference(reference) => Content::Reference(1, reference),
     }
 }
 
@@ -117,11 +116,11 @@ pub(crate) fn class_of(
     alloc: Global,
     world: &World,
     function: &Function,
-) -> Result<Option<usize>, AllocError>
+) -> Result<Option<u32>, AllocError>
     ensures { IfOk result (λ class. class ≡ class_of_function world.now.classes (function_tree function.now)) }
 {
     match unmangle(alloc, function.name.as_bytes())? {
-        Some(native) => Ok(world.classes().find(&native.class)),
+        Some(native) => Ok(class_named(world.classes(), &native.class)),
         None => Ok(None),
     }
 }
@@ -130,7 +129,7 @@ pub(crate) fn class_of(
 fn entry_variables<'a>(
     alloc: Global,
     function: &'a Function,
-    class: usize,
+    class: u32,
     arguments: &[ObjectValue],
 ) -> Result<Vec<Variable<'a>>, AllocError>
     ensures { IfOk result (λ variables. variables_view variables.items
@@ -154,7 +153,7 @@ fn add_references(references: &mut Names, arguments: &[ObjectValue]) -> Result<(
         [argument, arguments @ ..] => {
             add_references(references, arguments)?;
             if let ObjectValue::Reference(Some(object)) = argument {
-                references.push(*object as usize)?;
+                references.push(*object)?;
             }
             Ok(())
         }
@@ -163,18 +162,14 @@ fn add_references(references: &mut Names, arguments: &[ObjectValue]) -> Result<(
 
 /// The frame with which a call begins: the class and the arguments that are objects, and room for 16 more (JNI Specification,
 /// chapter 4, "EnsureLocalCapacity").
-fn entry_frames(
-    alloc: Global,
-    class: usize,
-    arguments: &[ObjectValue],
-) -> Result<Frames, AllocError>
+fn entry_frames(alloc: Global, class: u32, arguments: &[ObjectValue]) -> Result<Frames, AllocError>
     ensures { IfOk result (λ frames. frames ≡ entry_frame (class ∷ filter_map named_object (map object_value_view arguments.now)) ∷ []) }
 {
     let mut references = Names::new(alloc);
     add_references(&mut references, arguments)?;
     references.push(class)?;
     let capacity = references.len() + 16;
-    Ok(Frames::new(alloc, capacity, references))
+    Frames::new(alloc, capacity, references)
 }
 
 /// Puts a call, or none, in the place of the one in progress.
@@ -243,11 +238,11 @@ fn step_of(outcome: Outcome<'_>) -> Step
 }
 
 /// How a thread stands after its call, with this exception pending and these calls to come.
-fn ending_after(store: &Store, pending: Option<usize>, calls: &[Call]) -> Ending
+fn ending_after(store: &Store, pending: Option<u32>, calls: &[Call]) -> Ending
     ensures { ending_view result ≡ ending_after store.now pending calls.now }
 {
     match pending {
-        Some(exception) => Ending::Uncaught(store.class_of(exception)),
+        Some(exception) => Ending::Uncaught(store.class_of(exception as usize)),
         None => match calls {
             [] => Ending::Ended,
             [_, ..] => Ending::Unfinished,
@@ -256,7 +251,7 @@ fn ending_after(store: &Store, pending: Option<usize>, calls: &[Call]) -> Ending
 }
 
 /// Ends the call in progress. With an exception pending, or no call to come, the thread has ended.
-fn leave(store: &Store, thread: &mut Thread<'_>, pending: Option<usize>)
+fn leave(store: &Store, thread: &mut Thread<'_>, pending: Option<u32>)
     ensures activation { thread.new.activation ≡ None }
     ensures ending { ending_view thread.new.ending ≡ ending_after store.now pending thread.old.calls.now }
     ensures calls { thread.new.calls.now ≡ calls_after (ending_view thread.new.ending) thread.old.calls.now }

@@ -8,21 +8,20 @@ use Rattle.std.proofs.lemmas.Slice.Eq.{bytes_eq-Decides}
 use Rattle.base.specs.Bytes.{Identifier, ByName, lookup}
 use Rattle.syntax.specs.Tree as tree
 use Rattle.syntax.specs.Tree.{Argument}
-use Rattle.jni.specs.JniFunction.{Access, JniFunction, DeleteLocalRef, is_critical}
+use Rattle.jni.specs.JniFunction.{Access, JniFunction, is_critical}
 use Rattle.jni.specs.Prototype.{ParameterKind, FieldID, IntNumber, TextBytes, LocalVariable, StaticVariable, ArrayVariable, BufferVariable, Mode, IsCopy, prototype}
 use Rattle.types.specs.Sorts.{Sort, sort_in}
 use Rattle.types.specs.Sorts as sort
-use Rattle.source.specs.Arguments.{actuals, variable_given}
 use Rattle.source.specs.Object.{Reference}
 use Rattle.regions.specs.RegionRules.{is_critical_call}
 use Rattle.regions.specs.RegionStates.{VariableState, Untested, Usable, ReferenceAt, BufferIn, state_of}
-use Rattle.source.specs.Sight.{Sight}
 use Rattle.source.specs.Task as task
 use Rattle.source.specs.Task.{Task, SetScalar, SetElement, SetNull, MakeArray, Invoke, Print, Branch, EndIf, Loop, EndTurn, Target, Declared, Assigned, Tested, Dropped, Operand, NumberOperand, Given}
 use Rattle.source.specs.Term as term
 use Rattle.source.specs.Term.{Term, Done, Read, IsNull, Prefix, And, Or, Binary}
 use Rattle.source.specs.Thread.{Frame}
 use Rattle.source.specs.Variable.{Variable, LocalRef, Elements, Buffer, NoBuffer, Copy, View, StaticReference, Variables, Statics, viewed}
+use Rattle.safety.specs.Owners.{Owners, IsOwn}
 use Rattle.safety.specs.Points.{Point, AreOnce, IsLive, IsUsable, NullTestFits, ElementsFit, ReferenceFits, HasSort, IsNumberSort, ReferenceArgumentFits, NameFits, FieldArgumentFits, ModeFits, CopyFits, TextFits, GivenFits, OperandFits, OperandsFit, is_copy, owns, owners}
 use Rattle.safety.specs.StepSafe.{MayMeetView, is_lent, references_at, IsAlive}
 use Rattle.safety.specs.Stands.{VariableFits, IsOf, Shows, Stands}
@@ -49,7 +48,7 @@ none_lent_in : (vs : Variables) → AllByRecursion (λ (e : Identifier × Variab
 none_lent_in [] h = refl
 none_lent_in (e ∷ rest) h = ap (λ (b : Bool). b || list_any (λ (v : Identifier × Variable). is_lent v.1) rest) h.0 ∙ none_lent_in rest h.1
 
-module _ (ss : Statics) (vs : Variables) (frames : List Frame) (p : Point) (stands : Stands ss vs frames p) where
+module _ (ss : Statics) (vs : Variables) (frames : List Frame) (p : Point) {own : Owners} (stands : Stands own ss vs frames p) where
   -- ---- views
 
   view_of : (critical : Bool) (m n : ℕ) (b : Buffer) → IsOf critical m b → b ≡ View n → critical ≡ true
@@ -171,41 +170,49 @@ module _ (ss : Statics) (vs : Variables) (frames : List Frame) (p : Point) (stan
       let enough = stands.backed level n in
       some_copy n (references_at level frames) (omega (arith, there, enough))
 
+  -- and is its variable's own
+  own_at : (x : Identifier) (level : ℕ) (r : Reference) → state_of p.regions x ≡ Some (ReferenceAt level true) → lookup x vs ≡ Some (LocalRef level r) → IsOwn own x (Some (LocalRef level r))
+  own_at x level None e f = tt
+  own_at x level (Some n) e f = stands.owned x level level n e f
+
+  abbrev Serves : Identifier → Option Variable → Type 0
+  Serves x o = IsAlive frames o × IsOwn own x o
+
   abbrev Alive : Identifier → Type 0
-  Alive x = IsAlive frames (lookup x vs)
+  Alive x = Serves x (lookup x vs)
 
   live_alive : (x : Identifier) → IsLive p x → Alive x
-  live_alive x (level, e) = let shown = stands.shows x _ e in subst (IsAlive frames) (sym shown.1) (alive_at x level shown.0 e shown.1)
+  live_alive x (level, e) = let shown = stands.shows x _ e in subst (Serves x) (sym shown.1) (alive_at x level shown.0 e shown.1, own_at x level shown.0 e shown.1)
 
-  other_alive : (s : Sort) (o : Option Variable) (g : Option StaticReference) → (s ≡ sort.Ref → ⊥) → VariableFits s o g → IsAlive frames o
-  other_alive sort.Ref o g away h = absurd (away refl)
-  other_alive sort.Global o g away (none, h) = subst (IsAlive frames) (sym none) tt
-  other_alive sort.FieldId o g away (f, h) = subst (IsAlive frames) (sym h) tt
-  other_alive (sort.Buffer t w) o g away (u, b, h) = subst (IsAlive frames) (sym h) tt
-  other_alive (sort.Array t size) o g away (zs, h) = subst (IsAlive frames) (sym h) tt
-  other_alive sort.Truth o g away h = absurd h
-  other_alive sort.Word o g away (v, h, f) = subst (IsAlive frames) (sym h) tt
-  other_alive sort.Jint o g away (v, h, f) = subst (IsAlive frames) (sym h) tt
-  other_alive sort.Flag o g away (v, h, f) = subst (IsAlive frames) (sym h) tt
+  other_alive : (x : Identifier) (s : Sort) (o : Option Variable) (g : Option StaticReference) → (s ≡ sort.Ref → ⊥) → VariableFits s o g → Serves x o
+  other_alive x sort.Ref o g away h = absurd (away refl)
+  other_alive x sort.Global o g away (none, h) = subst (Serves x) (sym none) (tt, tt)
+  other_alive x sort.FieldId o g away (f, h) = subst (Serves x) (sym h) (tt, tt)
+  other_alive x (sort.Buffer t w) o g away (u, b, h) = subst (Serves x) (sym h) (tt, tt)
+  other_alive x (sort.Array t size) o g away (zs, h) = subst (Serves x) (sym h) (tt, tt)
+  other_alive x sort.Truth o g away h = absurd h
+  other_alive x sort.Word o g away (v, h, f) = subst (Serves x) (sym h) (tt, tt)
+  other_alive x sort.Jint o g away (v, h, f) = subst (Serves x) (sym h) (tt, tt)
+  other_alive x sort.Flag o g away (v, h, f) = subst (Serves x) (sym h) (tt, tt)
 
   no_ref : (s : Sort) → IsNumberSort s → s ≡ sort.Ref → ⊥
   no_ref s h e = subst IsNumberSort e h
 
   null_alive : (x : Identifier) (o : Option Sort) → sort_in p.names x ≡ o → NullTestFits p x o → Alive x
   null_alive x (Some sort.Ref) e h = live_alive x h
-  null_alive x (Some sort.Global) e h = other_alive sort.Global (lookup x vs) (lookup x ss) (λ c. cc) (stands.sorts x sort.Global e)
-  null_alive x (Some sort.FieldId) e h = other_alive sort.FieldId (lookup x vs) (lookup x ss) (λ c. cc) (stands.sorts x sort.FieldId e)
-  null_alive x (Some (sort.Buffer t w)) e h = other_alive (sort.Buffer t w) (lookup x vs) (lookup x ss) (λ c. cc) (stands.sorts x (sort.Buffer t w) e)
+  null_alive x (Some sort.Global) e h = other_alive x sort.Global (lookup x vs) (lookup x ss) (λ c. cc) (stands.sorts x sort.Global e)
+  null_alive x (Some sort.FieldId) e h = other_alive x sort.FieldId (lookup x vs) (lookup x ss) (λ c. cc) (stands.sorts x sort.FieldId e)
+  null_alive x (Some (sort.Buffer t w)) e h = other_alive x (sort.Buffer t w) (lookup x vs) (lookup x ss) (λ c. cc) (stands.sorts x (sort.Buffer t w) e)
   null_alive x o e h = absurd h
 
   element_alive : (x : Identifier) (o : Option Sort) → sort_in p.names x ≡ o → ElementsFit p x o → Alive x
-  element_alive x (Some (sort.Buffer t w)) e h = other_alive (sort.Buffer t w) (lookup x vs) (lookup x ss) (λ c. cc) (stands.sorts x (sort.Buffer t w) e)
-  element_alive x (Some (sort.Array t n)) e h = other_alive (sort.Array t n) (lookup x vs) (lookup x ss) (λ c. cc) (stands.sorts x (sort.Array t n) e)
+  element_alive x (Some (sort.Buffer t w)) e h = other_alive x (sort.Buffer t w) (lookup x vs) (lookup x ss) (λ c. cc) (stands.sorts x (sort.Buffer t w) e)
+  element_alive x (Some (sort.Array t n)) e h = other_alive x (sort.Array t n) (lookup x vs) (lookup x ss) (λ c. cc) (stands.sorts x (sort.Array t n) e)
   element_alive x o e h = absurd h
 
   reference_alive : (x : Identifier) (o : Option Sort) → sort_in p.names x ≡ o → ReferenceFits p x o → Alive x
   reference_alive x (Some sort.Ref) e h = live_alive x h
-  reference_alive x (Some sort.Global) e h = other_alive sort.Global (lookup x vs) (lookup x ss) (λ c. cc) (stands.sorts x sort.Global e)
+  reference_alive x (Some sort.Global) e h = other_alive x sort.Global (lookup x vs) (lookup x ss) (λ c. cc) (stands.sorts x sort.Global e)
   reference_alive x o e h = absurd h
 
   both_alive : (xs ys : List Identifier) → AllByRecursion Alive xs → AllByRecursion Alive ys → AllByRecursion Alive (xs ++ ys)
@@ -216,7 +223,7 @@ module _ (ss : Statics) (vs : Variables) (frames : List Frame) (p : Point) (stan
   term_alive (Done v) s h = tt
   term_alive (term.Number n unsigned) s h = tt
   term_alive (term.Named c) s h = tt
-  term_alive (Read x) s h = (other_alive s (lookup x vs) (lookup x ss) (no_ref s h.1) (stands.sorts x s h.0), tt)
+  term_alive (Read x) s h = (other_alive x s (lookup x vs) (lookup x ss) (no_ref s h.1) (stands.sorts x s h.0), tt)
   term_alive (term.Element x t) s h = (element_alive x (sort_in p.names x) refl h.0, term_alive t h.1.0 h.1.2)
   term_alive (IsNull equal x) s h = (null_alive x (sort_in p.names x) refl h.0, tt)
   term_alive (Prefix op t) s h = term_alive t h.0 h.2
@@ -236,10 +243,10 @@ module _ (ss : Statics) (vs : Variables) (frames : List Frame) (p : Point) (stan
   reference_argument_alive a h = absurd h
 
   sort_alive : (x : Identifier) (s : Sort) → (s ≡ sort.Ref → ⊥) → sort_in p.names x ≡ Some s → Alive x
-  sort_alive x s away e = other_alive s (lookup x vs) (lookup x ss) away (stands.sorts x s e)
+  sort_alive x s away e = other_alive x s (lookup x vs) (lookup x ss) away (stands.sorts x s e)
 
   usable_alive : (x : Identifier) → IsUsable p x → Alive x
-  usable_alive x (access, a, e) = let shown = stands.shows x _ e in subst (IsAlive frames) (sym shown.2) tt
+  usable_alive x (access, a, e) = let shown = stands.shows x _ e in subst (Serves x) (sym shown.2) (tt, tt)
 
   field_argument_alive : (a : Argument) → FieldArgumentFits p a → AllByRecursion Alive (argument_names a)
   field_argument_alive (tree.Value (tree.Named c)) h = tt
@@ -310,19 +317,29 @@ module _ (ss : Statics) (vs : Variables) (frames : List Frame) (p : Point) (stan
   call_alive line (Assigned x) f operands k r = operands_alive (prototype f).parameters operands (r.0).sorts
   call_alive line Dropped f operands k r = operands_alive (prototype f).parameters operands (r.0).sorts
 
-  -- a step uses no dead reference
-  pub reference_clause : (t : Task) (k : Point → Type 0) → Runs t k p → AllByRecursion Alive (task_names t)
-  reference_clause (SetScalar line x t) k (s, n, f, g) = term_alive t s f
-  reference_clause (SetElement line x i t) k (fit, (r, n, f), g, h) = (element_alive x (sort_in p.names x) refl fit, both_alive (term_names i) (term_names t) (term_alive i r f) (term_alive t sort.Jint g))
-  reference_clause (Invoke line target f operands) k r = call_alive line target f operands k r
-  reference_clause (Print line t) k r = term_alive t sort.Jint r.0
-  reference_clause (Branch line t a b) k r = term_alive t sort.Truth r.0
-  reference_clause (Loop line e t body) k r = term_alive t sort.Truth r.0
-  reference_clause (task.ReturnValue line t) k r = return_alive t r.0
-  reference_clause t k r = tt
+  -- each name that a step uses
+  each_used : (t : Task) (k : Point → Type 0) → Runs t k p → AllByRecursion Alive (task_names t)
+  each_used (SetScalar line x t) k (s, n, f, g) = term_alive t s f
+  each_used (SetElement line x i t) k (fit, (r, n, f), g, h) = (element_alive x (sort_in p.names x) refl fit, both_alive (term_names i) (term_names t) (term_alive i r f) (term_alive t sort.Jint g))
+  each_used (Invoke line target f operands) k r = call_alive line target f operands k r
+  each_used (Print line t) k r = term_alive t sort.Jint r.0
+  each_used (Branch line t a b) k r = term_alive t sort.Truth r.0
+  each_used (Loop line e t body) k r = term_alive t sort.Truth r.0
+  each_used (task.ReturnValue line t) k r = return_alive t r.0
+  each_used t k r = tt
 
-  -- DeleteLocalRef is given no dead reference
-  pub deleted_clause : (sight : Sight) (operands : List Operand) → OperandsFit p (prototype DeleteLocalRef).parameters operands → IsAlive frames (lookup (variable_given (actuals sight DeleteLocalRef operands) 0) vs)
-  deleted_clause sight (Given (tree.Value (tree.Variable x)) ∷ operands) h = live_alive x h.0
-  deleted_clause sight [] h = absurd h
-  deleted_clause sight (o ∷ operands) h = absurd h.0
+  firsts : (xs : List Identifier) → AllByRecursion Alive xs → AllByRecursion (λ x. IsAlive frames (lookup x vs)) xs
+  firsts [] h = tt
+  firsts (x ∷ xs) h = (h.0.0, firsts xs h.1)
+
+  seconds : (xs : List Identifier) → AllByRecursion Alive xs → AllByRecursion (λ x. IsOwn own x (lookup x vs)) xs
+  seconds [] h = tt
+  seconds (x ∷ xs) h = (h.0.1, seconds xs h.1)
+
+  -- a step uses no dead reference
+  pub reference_clause : (t : Task) (k : Point → Type 0) → Runs t k p → AllByRecursion (λ x. IsAlive frames (lookup x vs)) (task_names t)
+  reference_clause t k r = firsts (task_names t) (each_used t k r)
+
+  -- nor one that isn't its variable's own
+  pub owned_clause : (t : Task) (k : Point → Type 0) → Runs t k p → AllByRecursion (λ x. IsOwn own x (lookup x vs)) (task_names t)
+  owned_clause t k r = seconds (task_names t) (each_used t k r)

@@ -22,6 +22,7 @@ use Rattle.source.specs.Term.{Term, Done, Read, IsNull, Prefix, And, Or, Binary,
 use Rattle.source.specs.Thread.{Frame}
 use Rattle.source.specs.Value.{Value, Int, Truth, Outcome, Gives, Traps, Stuck, outcome_map}
 use Rattle.source.specs.Variable.{Variable, LocalRef, Variables, Statics}
+use Rattle.safety.specs.Owners.{Owners}
 use Rattle.safety.specs.Points.{Point, value_sort, IsNumberSort, IsIndexSort, ElementsFit, HasSort, OperandFits, OperandsFit}
 use Rattle.safety.specs.Stands.{Stands}
 use Rattle.safety.specs.Wanted.{at, Teaches, Nothing, ForNull, ForOther, IsTrueNow, IsFalseNow, Closes, Outside, MayReturnFrom, ReturnedFits, ReturnFits, SetsNumber, ResultGoes, CallFits, CallKeeps, operand_argument, call_seen, RunsTest, RunsBlock, Turns, Runs, GoesOn}
@@ -32,12 +33,12 @@ use Rattle.safety.proofs.BlockLaws.{block_goes}
 use Rattle.safety.proofs.SightLaws.{sees}
 use Rattle.safety.proofs.PointLaws.{stands_after, stands_null, stands_usable}
 
-module _ (heap : Heap) (ss : Statics) (vs : Variables) (frames : List Frame) (p : Point) (stands : Stands ss vs frames p) (rest : List Task) where
+module _ (heap : Heap) (ss : Statics) (vs : Variables) (frames : List Frame) (p : Point) {own : Owners} (stands : Stands own ss vs frames p) (rest : List Task) where
   abbrev sight : Sight
   sight = seen vs ss heap
 
   abbrev Goes : Effect → Type 0
-  Goes e = Follows sight ss vs frames p rest e
+  Goes e = Follows own sight ss vs frames p rest e
 
   -- ---- tasks with an expression
 
@@ -95,7 +96,7 @@ module _ (heap : Heap) (ss : Statics) (vs : Variables) (frames : List Frame) (p 
 
   -- what a test that was worked out has taught
   abbrev Learns : (on_true on_false : Point → Type 0) → Term → Type 0
-  Learns on_true on_false u = (q : Point) × Stands ss vs frames q × RunsTest u on_true on_false q
+  Learns on_true on_false u = (q : Point) × Stands own ss vs frames q × RunsTest u on_true on_false q
 
   null_found : (x : Identifier) (on_true on_false : Point → Type 0) (b : Bool) → sight.is_null x ≡ Gives b → on_true (at p (with_changed p.regions x made_free)) → on_false (at p (with_changed p.regions x made_usable)) → Learns on_true on_false (Done (Truth b))
   null_found x on_true on_false true e h g = (at p (with_changed p.regions x made_free), stands_null ss vs frames p stands x (lookup x ss) e, (refl, (at p (with_changed p.regions x made_free), at p (with_changed p.regions x made_usable), IsTrueNow (at p (with_changed p.regions x made_usable)), h, g)))

@@ -18,6 +18,7 @@ use Rattle.source.specs.Object.{ObjectValue, Number, Refers, Reference}
 use Rattle.source.specs.Thread.{Frame}
 use Rattle.source.specs.Value.{Int}
 use Rattle.source.specs.Variable.{Variable, Scalar, LocalRef, FieldHandle, Elements, LocalArray, Buffer, StaticReference, Variables, Statics}
+use Rattle.safety.specs.Owners.{holders, level_held}
 use Rattle.safety.specs.Points.{Point, AreOnce, is_copy, owns}
 use Rattle.safety.specs.Stands.{VariableFits, Shows, copies, Stands}
 use Rattle.safety.specs.StepSafe.{references_at}
@@ -309,7 +310,7 @@ module _ (ss : Statics) (scope : Scope) (f : Function) (class : ℕ) (arguments 
       (count_more (is_copy 1 n (lookup f.class_name entry_variables)) (n == class) (f.class_name, ReferenceAt 1 true) (filter (owns entry_variables 1 n) (known f.parameters)) class (filter (λ j. n == j) (filter_map named_object arguments))
       (ap (is_copy 1 n) each.0 ∙ turned class n) (known_backed entry_variables n f.parameters arguments fits each.1))
 
-  stands_so : Stands ss entry_variables entry_frames (record { names = entry_scope f scope; regions = record { variables = entry_known; frames = 1 } })
+  stands_so : Stands (holders entry_variables) ss entry_variables entry_frames (record { names = entry_scope f scope; regions = record { variables = entry_known; frames = 1 } })
   stands_so = record {
     sorts = λ x s e.
         first_fits (bytes_eq x f.class_name) s Ref (LocalRef 1 (Some class)) (sort_in (map {B = Identifier × Sort} (λ p. (p.name, parameter_sort p.type)) f.parameters ++ scope) x) (lookup x (listed f.parameters arguments)) (lookup x ss) e
@@ -322,10 +323,11 @@ module _ (ss : Statics) (scope : Scope) (f : Function) (class : ℕ) (arguments 
     known_once = (absent_known f.class_name f.parameters (map (λ s. s.0) scope) names_apart.0, once_known f.parameters (map (λ s. s.0) scope) names_apart.1);
     depth = refl;
     backed = λ level n. backed_at level n (1 == level) refl;
+    owned = λ x level l n e h. ap level_held h;
   }
 
   -- the thread stands at the first statement with what is known there
-  pub stands_at_entry : Stands ss ((f.class_name, LocalRef 1 (Some class)) ∷ parameter_variables (zip f.parameters arguments)) entry_frames (entry_point f scope)
+  pub stands_at_entry : Stands (holders ((f.class_name, LocalRef 1 (Some class)) ∷ parameter_variables (zip f.parameters arguments))) ss ((f.class_name, LocalRef 1 (Some class)) ∷ parameter_variables (zip f.parameters arguments)) entry_frames (entry_point f scope)
   stands_at_entry =
-      subst (λ (vs : Variables). Stands ss ((f.class_name, LocalRef 1 (Some class)) ∷ vs) entry_frames (entry_point f scope)) (sym (listed_is f.parameters arguments))
-      (subst (λ (states : ByName VariableState). Stands ss entry_variables entry_frames (record { names = entry_scope f scope; regions = record { variables = (f.class_name, ReferenceAt 1 true) ∷ states; frames = 1 } })) (sym (known_is f.parameters)) stands_so)
+      subst (λ (vs : Variables). Stands (holders ((f.class_name, LocalRef 1 (Some class)) ∷ vs)) ss ((f.class_name, LocalRef 1 (Some class)) ∷ vs) entry_frames (entry_point f scope)) (sym (listed_is f.parameters arguments))
+      (subst (λ (states : ByName VariableState). Stands (holders entry_variables) ss entry_variables entry_frames (record { names = entry_scope f scope; regions = record { variables = (f.class_name, ReferenceAt 1 true) ∷ states; frames = 1 } })) (sym (known_is f.parameters)) stands_so)

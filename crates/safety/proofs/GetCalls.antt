@@ -19,7 +19,7 @@ use Rattle.source.specs.CallEffects.{CallEffect, Leaves, BufferResult}
 use Rattle.source.specs.CallStep.{put, put_assigned, tell_copy, trap_of_call, target_element, checked, after_call, call_step}
 use Rattle.source.specs.CallTable.{call_effect}
 use Rattle.source.specs.Checks.{call_trap, first_trap, is_deleted, is_missing, is_misfit, go_together, lacks_room, frames_after}
-use Rattle.source.specs.Effect.{tasks_after}
+use Rattle.source.specs.Effect.{tasks_after, Calls}
 use Rattle.source.specs.Heap.{Heap, numbers_of}
 use Rattle.source.specs.Sight.{held_reference}
 use Rattle.source.specs.Task.{Task, Target, Declared, Assigned, Tested, Dropped, VariableKind, ScalarKind, ReferenceKind, FieldKind, BufferKind, Operand, Given, Invoke}
@@ -27,6 +27,8 @@ use Rattle.source.specs.Thread.{Thread, Shared, BuffersInUse, Frame, sight_of}
 use Rattle.source.specs.ThreadStep.{with_tasks}
 use Rattle.source.specs.Value.{Flag, Value, Trap, ExceptionPending, DeletedReference, NullReference, WrongObject, NoCapacity}
 use Rattle.source.specs.Variable.{Variable, Scalar, LocalRef, Elements, Buffer, NoBuffer, Copy, View, Variables, Statics, assign}
+use Rattle.safety.proofs.OwnerLaws.{LandsBy, put_by}
+use Rattle.safety.specs.Owners.{Owners}
 use Rattle.safety.specs.Points.{Point, OperandFits, OperandsFit, is_copy, owns}
 use Rattle.safety.specs.Stands.{VariableFits, IsOf, Lends, Shows, Goes, Stands}
 use Rattle.safety.specs.Wanted.{Holds, IsNew, DeclaresResult, AssignsResult, ResultGoes, Runs, GoesOn, CallKeeps, call_seen, operand_argument, at, named}
@@ -60,10 +62,10 @@ fewer_owners vs x b l m ((y, v) ∷ known) = by_test (bytes_eq x y) (fewer_owner
         let old = counted_here (owns vs l m (y, v)) (y, v) (filter (owns vs l m) known) in
         omega (arith, new, old, later)
 
-module _ (classes : Classes) (lent : BuffersInUse) (k : ℕ) (s : Shared) (t : Thread) (rest : List Task) (p : Point) (stands : Stands s.statics t.variables t.frames p) (access : Access) (a : Identifier) (level : ℕ) (here_a : state_of p.regions a ≡ Some (ReferenceAt level true)) (b : Buffer) (is_lent : IsLentBy t.variables access a b) where
+module _ (classes : Classes) (lent : BuffersInUse) (k : ℕ) (s : Shared) (t : Thread) (rest : List Task) (p : Point) {own : Owners} (stands : Stands own s.statics t.variables t.frames p) (access : Access) (a : Identifier) (level : ℕ) (here_a : state_of p.regions a ≡ Some (ReferenceAt level true)) (b : Buffer) (is_lent : IsLentBy t.variables access a b) where
   -- a new variable holds the buffer
   got_declared : (x : Identifier) (u : ElementType) (w : Bool) → IsNew p x
-      → Stands s.statics (assign x (Elements u b) t.variables) t.frames (at (named p x (sort.Buffer u w)) (with_new p.regions x (BufferIn (Untested access a))))
+      → Stands own s.statics (assign x (Elements u b) t.variables) t.frames (at (named p x (sort.Buffer u w)) (with_new p.regions x (BufferIn (Untested access a))))
   got_declared x u w new = stands_at s.statics t.variables t.frames p stands x (Elements u b) t.frames (at (named p x (sort.Buffer u w)) (with_new p.regions x (BufferIn (Untested access a)))) (record {
     elsewhere = λ y other. front_other x y (BufferIn (Untested access a)) p.regions.variables other;
     apart = λ y c access' m l h at_c same. new.unused y access' (subst (Holds p y access') same h);
@@ -81,11 +83,13 @@ module _ (classes : Classes) (lent : BuffersInUse) (k : ℕ) (s : Shared) (t : T
         let same = owners_elsewhere t.variables x (Elements u b) l m p.regions.variables new.unknown in
         let enough = stands.backed l m in
         omega (arith, same, enough);
+    keeps = λ y other. refl;
+    owned_here = λ l m n known h. absurd (let c : Elements u b ≡ LocalRef m (Some n) = h in cc);
   })
 
   -- a buffer that is there and free holds it
   got_assigned : (x : Identifier) (u : ElementType) (old : Buffer) → state_of p.regions x ≡ Some (BufferIn Free) → lookup x t.variables ≡ Some (Elements u old)
-      → Stands s.statics (assign x (Elements u b) t.variables) t.frames (at p (with_changed p.regions x (λ v. BufferIn (Untested access a))))
+      → Stands own s.statics (assign x (Elements u b) t.variables) t.frames (at p (with_changed p.regions x (λ v. BufferIn (Untested access a))))
   got_assigned x u old e at_x = stands_at s.statics t.variables t.frames p stands x (Elements u b) t.frames (at p (with_changed p.regions x (λ v. BufferIn (Untested access a)))) (record {
     elsewhere = λ y other. known_other p.regions x y (λ v. BufferIn (Untested access a)) other;
     apart = λ y c access' m l h at_c. apart_buffer classes lent k s t rest p stands x u old at_x c m l at_c;
@@ -115,26 +119,28 @@ module _ (classes : Classes) (lent : BuffersInUse) (k : ℕ) (s : Shared) (t : T
         ]) in
         let enough = stands.backed l m in
         omega (arith, less, same, enough);
+    keeps = λ y other. refl;
+    owned_here = λ l m n known h. absurd (let c : Elements u b ≡ LocalRef m (Some n) = h in cc);
   })
     where
       known_there : (x : Identifier) → state_of p.regions x ≡ Some (BufferIn Free) → state_of (with_changed p.regions x (λ v. BufferIn (Untested access a))) x ≡ Some (BufferIn (Untested access a))
       known_there x e = known_same p.regions x (λ v. BufferIn (Untested access a)) ∙ ap (option_map (λ (v : VariableState). BufferIn (Untested access a))) e
 
-  declared : (kind : VariableKind) (x : Identifier) → DeclaresResult p kind x (GivesBuffer access) (Some (access, Some a)) (GoesOn rest) → Lands s.statics (put (Declared kind x) (BufferResult b) s (with_tasks t rest))
+  declared : (kind : VariableKind) (x : Identifier) → DeclaresResult p kind x (GivesBuffer access) (Some (access, Some a)) (GoesOn rest) → Lands own s.statics (put (Declared kind x) (BufferResult b) s (with_tasks t rest))
   declared (BufferKind u) x (new, (w, g)) = ((at (named p x (sort.Buffer u w)) (with_new p.regions x (BufferIn (Untested access a))), got_declared x u w new, g), same_statics s.statics)
   declared ScalarKind x h = absurd h
   declared ReferenceKind x h = absurd h
   declared FieldKind x h = absurd h
 
-  assigned : (x : Identifier) (o : Option Sort) → AssignsResult p o x (GivesBuffer access) (Some (access, Some a)) (GoesOn rest) → Lands s.statics (put_assigned x (BufferResult b) s (with_tasks t rest) (lookup x t.variables))
+  assigned : (x : Identifier) (o : Option Sort) → AssignsResult p o x (GivesBuffer access) (Some (access, Some a)) (GoesOn rest) → Lands own s.statics (put_assigned x (BufferResult b) s (with_tasks t rest) (lookup x t.variables))
   assigned x (Some (sort.Buffer u w)) (e, g) =
       let shown = stands.shows x (BufferIn Free) e in
-      subst (λ (v : Option Variable). Lands s.statics (put_assigned x (BufferResult b) s (with_tasks t rest) v)) (sym shown.2)
+      subst (λ (v : Option Variable). Lands own s.statics (put_assigned x (BufferResult b) s (with_tasks t rest) v)) (sym shown.2)
       ((at p (with_changed p.regions x (λ v. BufferIn (Untested access a))), got_assigned x shown.0 shown.1 e shown.2, g), same_statics s.statics)
   assigned x o h = absurd h
 
   -- the buffer goes where it may
-  pub buffer_lands : (target : Target) → ResultGoes target (GivesBuffer access) (Some (access, Some a)) (GoesOn rest) p → Lands s.statics (put target (BufferResult b) s (with_tasks t rest))
+  pub buffer_lands : (target : Target) → ResultGoes target (GivesBuffer access) (Some (access, Some a)) (GoesOn rest) p → Lands own s.statics (put target (BufferResult b) s (with_tasks t rest))
   buffer_lands (Declared kind x) h = declared kind x h
   buffer_lands (Assigned x) h = assigned x (sort_in p.names x) h
   buffer_lands (Tested c d) h = absurd h
@@ -142,8 +148,8 @@ module _ (classes : Classes) (lent : BuffersInUse) (k : ℕ) (s : Shared) (t : T
 
 -- ---- whether it is a copy
 
-module _ (ss : Statics) (vs : Variables) (frames : List Frame) (p : Point) (stands : Stands ss vs frames p) (y : Identifier) (flag : sort_in p.names y ≡ Some sort.Flag) where
-  flag_set : (v : Bool) → Stands ss (assign y (Scalar (Flag v)) vs) frames p
+module _ (ss : Statics) (vs : Variables) (frames : List Frame) (p : Point) {own : Owners} (stands : Stands own ss vs frames p) (y : Identifier) (flag : sort_in p.names y ≡ Some sort.Flag) where
+  flag_set : (v : Bool) → Stands own ss (assign y (Scalar (Flag v)) vs) frames p
   flag_set v =
       let old = stands.sorts y sort.Flag flag in
       stands_kept ss vs frames p stands y (Scalar (Flag v)) sort.Flag (Scalar old.0) flag old.1 (λ level r e. no_ref old.0 level r e) (λ u b e. no_buffer old.0 u b e) (Flag v, refl, refl) (λ u b e. absurd (no_buffer (Flag v) u b e))
@@ -162,14 +168,14 @@ module _ (ss : Statics) (vs : Variables) (frames : List Frame) (p : Point) (stan
       cc
 
   -- the flag tells it
-  pub stands_told : (b : Buffer) → Stands ss (tell_copy y (BufferResult b) vs) frames p
+  pub stands_told : (b : Buffer) → Stands own ss (tell_copy y (BufferResult b) vs) frames p
   stands_told b = by_name y refl b
     where
-      by_name : (z : Identifier) → z ≡ y → (b : Buffer) → Stands ss (tell_copy z (BufferResult b) vs) frames p
+      by_name : (z : Identifier) → z ≡ y → (b : Buffer) → Stands own ss (tell_copy z (BufferResult b) vs) frames p
       by_name [] same b = stands
       by_name (c ∷ z) same NoBuffer = stands
-      by_name (c ∷ z) same (Copy n zs) = subst (λ (i : Identifier). Stands ss (assign i (Scalar (Flag true)) vs) frames p) (sym same) (flag_set true)
-      by_name (c ∷ z) same (View n) = subst (λ (i : Identifier). Stands ss (assign i (Scalar (Flag false)) vs) frames p) (sym same) (flag_set false)
+      by_name (c ∷ z) same (Copy n zs) = subst (λ (i : Identifier). Stands own ss (assign i (Scalar (Flag true)) vs) frames p) (sym same) (flag_set true)
+      by_name (c ∷ z) same (View n) = subst (λ (i : Identifier). Stands own ss (assign i (Scalar (Flag false)) vs) frames p) (sym same) (flag_set false)
 
   -- and references are as they were
   pub told_apart : (a : Identifier) (level : ℕ) (r : Reference) (b : Buffer) → lookup a vs ≡ Some (LocalRef level r) → lookup a (tell_copy y (BufferResult b) vs) ≡ lookup a vs
@@ -200,7 +206,7 @@ none_missing classes heap t buffer f args none =
     (list_any (is_misfit classes heap) (zip (prototype f).parameters args) || not (go_together classes heap buffer args f))
     (lacks_room (prototype f).result (slice_get (frames_after f t.frames) 0)) ExceptionPending DeletedReference NullReference WrongObject NoCapacity none
 
-module _ (classes : Classes) (lent : BuffersInUse) (k : ℕ) (s : Shared) (t : Thread) (line : ℕ) (rest : List Task) (p : Point) (stands : Stands s.statics t.variables t.frames p) (whole : Goes s.statics t t.tasks) where
+module _ (classes : Classes) (lent : BuffersInUse) (k : ℕ) (s : Shared) (t : Thread) (line : ℕ) (rest : List Task) (p : Point) {own : Owners} (stands : Stands own s.statics t.variables t.frames p) (whole : Goes own s.statics t t.tasks) where
   -- the object of the first argument
   abbrev object_of : Identifier → Option Variable → ℕ
   object_of a o = name_or_zero (reference_in_actual (Some (ReferenceActual a (held_reference o (lookup a s.statics)))))
@@ -218,16 +224,16 @@ module _ (classes : Classes) (lent : BuffersInUse) (k : ℕ) (s : Shared) (t : T
 
   module _ (access : Access) (a : Identifier) (level : ℕ) (here_a : state_of p.regions a ≡ Some (ReferenceAt level true)) (r : Reference) (at_a : lookup a t.variables ≡ Some (LocalRef level r)) (target : Target) (away : IsNoTest target) (goes : ResultGoes target (GivesBuffer access) (Some (access, Some a)) (GoesOn rest) p) where
     got : (shared : Shared) → shared.statics ≡ s.statics → (b : Buffer) → IsLentBy t.variables access a b → (y : Identifier) → (y ≡ []) ⊎ (sort_in p.names y ≡ Some sort.Flag)
-        → Lands shared.statics (put target (BufferResult b) shared (record t { tasks = Some (tasks_after line target false ++ rest); variables = tell_copy y (BufferResult b) t.variables }))
+        → Lands own shared.statics (put target (BufferResult b) shared (record t { tasks = Some (tasks_after line target false ++ rest); variables = tell_copy y (BufferResult b) t.variables }))
     got shared same b is y told =
-        subst (λ (tasks : List Task). Lands shared.statics (put target (BufferResult b) shared (record t { tasks = Some tasks; variables = tell_copy y (BufferResult b) t.variables }))) (sym (nothing_after t line rest target false away)) (by_copy told)
+        subst (λ (tasks : List Task). Lands own shared.statics (put target (BufferResult b) shared (record t { tasks = Some tasks; variables = tell_copy y (BufferResult b) t.variables }))) (sym (nothing_after t line rest target false away)) (by_copy told)
       where
-        there : Stands shared.statics t.variables t.frames p
-        there = subst (λ (ss : Statics). Stands ss t.variables t.frames p) (sym same) stands
+        there : Stands own shared.statics t.variables t.frames p
+        there = subst (λ (ss : Statics). Stands own ss t.variables t.frames p) (sym same) stands
 
-        by_copy : (y ≡ []) ⊎ (sort_in p.names y ≡ Some sort.Flag) → Lands shared.statics (put target (BufferResult b) shared (record t { tasks = Some rest; variables = tell_copy y (BufferResult b) t.variables }))
+        by_copy : (y ≡ []) ⊎ (sort_in p.names y ≡ Some sort.Flag) → Lands own shared.statics (put target (BufferResult b) shared (record t { tasks = Some rest; variables = tell_copy y (BufferResult b) t.variables }))
         by_copy (inl none) =
-            subst (λ (z : Identifier). Lands shared.statics (put target (BufferResult b) shared (record t { tasks = Some rest; variables = tell_copy z (BufferResult b) t.variables }))) (sym none)
+            subst (λ (z : Identifier). Lands own shared.statics (put target (BufferResult b) shared (record t { tasks = Some rest; variables = tell_copy z (BufferResult b) t.variables }))) (sym none)
             (buffer_lands classes lent k shared t rest p there access a level here_a b is target goes)
         by_copy (inr flag) =
             buffer_lands classes lent k shared (record t { variables = tell_copy y (BufferResult b) t.variables }) rest p (stands_told shared.statics t.variables t.frames p there y flag b) access a level here_a b
@@ -281,18 +287,19 @@ module _ (classes : Classes) (lent : BuffersInUse) (k : ℕ) (s : Shared) (t : T
 
   got_at : (access : Access) (a : Identifier) (c : Operand) (level : ℕ) (r : Reference) (target : Target) → IsNoTest target → state_of p.regions a ≡ Some (ReferenceAt level true) → lookup a t.variables ≡ Some (LocalRef level r) → OperandFits p IsCopy c
       → ResultGoes target (GivesBuffer access) (Some (access, Some a)) (GoesOn rest) p → (o : Option Trap) → trap_of_call classes s t target (GetBuffer access) (got_with access a c) ≡ o
-      → Lands s.statics (after_call classes lent k s t line target (GetBuffer access) (got_with access a c) rest (checked o (call_effect classes lent k s t (got_with access a c) (GetBuffer access))))
+      → LandsBy (Calls line target (GetBuffer access) (got_with access a c)) (length t.frames) own s.statics (after_call classes lent k s t line target (GetBuffer access) (got_with access a c) rest (checked o (call_effect classes lent k s t (got_with access a c) (GetBuffer access))))
   got_at access a c level r target away here_a at_a fit goes (Some trap) e = (whole, λ x q g. (q, g))
   got_at access a c level None target away here_a at_a fit goes None e =
       absurd (let missing = null_missing access a c level at_a in let none = none_missing classes s.heap t (target_element t.variables target) (GetBuffer access) (got_with access a c) e in let both : true ≡ false = sym missing ∙ none in cc)
   got_at access a c level (Some n) target away here_a at_a fit goes None e =
-      subst (λ (e : CallEffect). Lands s.statics (after_call classes lent k s t line target (GetBuffer access) (got_with access a c) rest e)) (sym (got_is access a c))
-      (subst (λ (y : Identifier). Lands s.statics (put target (BufferResult (buffer_got access a)) (record s { heap = s.heap ++ [] }) (record t { tasks = Some (tasks_after line target false ++ rest); variables = tell_copy y (BufferResult (buffer_got access a)) t.variables }))) (sym (told_is access a c))
-      (got access a level here_a (Some n) at_a target away goes (record s { heap = s.heap ++ [] }) refl (buffer_got access a) (got_lent access a level n at_a) (told_in c) (told_fits c fit)))
+      subst (λ (e : CallEffect). LandsBy (Calls line target (GetBuffer access) (got_with access a c)) (length t.frames) own s.statics (after_call classes lent k s t line target (GetBuffer access) (got_with access a c) rest e)) (sym (got_is access a c))
+      (put_by line (GetBuffer access) (got_with access a c) (length t.frames) own own target (λ y other. refl) (BufferResult (buffer_got access a)) s.statics _ _
+      (subst (λ (y : Identifier). Lands own s.statics (put target (BufferResult (buffer_got access a)) (record s { heap = s.heap ++ [] }) (record t { tasks = Some (tasks_after line target false ++ rest); variables = tell_copy y (BufferResult (buffer_got access a)) t.variables }))) (sym (told_is access a c))
+      (got access a level here_a (Some n) at_a target away goes (record s { heap = s.heap ++ [] }) refl (buffer_got access a) (got_lent access a level n at_a) (told_in c) (told_fits c fit))))
 
   get_operands : (access : Access) (target : Target) (operands : List Operand) → IsNoTest target → CallKeeps p (GetBuffer access) (map operand_argument operands) → OperandsFit p (owner access ∷ IsCopy ∷ []) operands
       → ResultGoes target (GivesBuffer access) (get_of (call_seen (GetBuffer access) operands)) (GoesOn rest) p
-      → Lands s.statics (call_step classes lent k s t line target (GetBuffer access) (actuals (sight_of s t) (GetBuffer access) operands) rest false)
+      → LandsBy (Calls line target (GetBuffer access) (actuals (sight_of s t) (GetBuffer access) operands)) (length t.frames) own s.statics (call_step classes lent k s t line target (GetBuffer access) (actuals (sight_of s t) (GetBuffer access) operands) rest false)
   get_operands access target (Given (tree.Value (tree.Variable a)) ∷ c ∷ []) away (level, e) fit goes =
       let shown = stands.shows a (ReferenceAt level true) e in
       got_at access a c level shown.0 target away e shown.1 fit.1.0 goes (trap_of_call classes s t target (GetBuffer access) (got_with access a c)) refl
@@ -305,7 +312,7 @@ module _ (classes : Classes) (lent : BuffersInUse) (k : ℕ) (s : Shared) (t : T
 
   -- the calls that get a buffer
   pub get_lands : (access : Access) (target : Target) (operands : List Operand) → Runs (Invoke line target (GetBuffer access) operands) (GoesOn rest) p
-      → Lands s.statics (call_step classes lent k s t line target (GetBuffer access) (actuals (sight_of s t) (GetBuffer access) operands) rest false)
+      → LandsBy (Calls line target (GetBuffer access) (actuals (sight_of s t) (GetBuffer access) operands)) (length t.frames) own s.statics (call_step classes lent k s t line target (GetBuffer access) (actuals (sight_of s t) (GetBuffer access) operands) rest false)
   get_lands access (Tested a b) operands r = absurd (get_no_push access r.1)
   get_lands access (Declared kind x) operands r = get_operands access (Declared kind x) operands tt r.0.rules r.0.sorts r.2
   get_lands access (Assigned x) operands r = get_operands access (Assigned x) operands tt r.0.rules r.0.sorts r.2

@@ -6,16 +6,17 @@ use Rattle.std.specs.Str.{bytes_eq}
 use Rattle.std.proofs.lemmas.Slice.Eq.{bytes_eq-Decides}
 use Rattle.base.specs.Bytes.{Identifier, ByName, lookup}
 use Rattle.jni.specs.JniFunction.{Access}
-use Rattle.regions.specs.RegionStates.{VariableState, ReferenceAt, BufferIn, with_changed, killed}
+use Rattle.regions.specs.RegionStates.{VariableState, ReferenceAt, BufferIn, with_changed, killed, state_of}
 use Rattle.source.specs.Thread.{Frame}
 use Rattle.source.specs.Variable.{Variable, LocalRef, Variables, Statics}
+use Rattle.safety.specs.Owners.{Owners}
 use Rattle.safety.specs.Points.{Point, is_copy, owns, owners}
 use Rattle.safety.specs.StepSafe.{references_at}
-use Rattle.safety.specs.Stands.{Shows, copies, Stands}
+use Rattle.safety.specs.Stands.{IsOwned, Shows, copies, Stands}
 use Rattle.safety.specs.Wanted.{Holds, at}
 use Rattle.safety.proofs.FrameLaws.{one_if, counted_here}
 use Rattle.safety.proofs.NameLaws.{one_or_other, known_same}
-use Rattle.safety.proofs.PointLaws.{shows_changed, other_held}
+use Rattle.safety.proofs.PointLaws.{owned_changed, shows_changed, mapped_some, other_held}
 use Rattle.safety.proofs.SetLaws.{once_changed}
 
 -- the values with one of them dead
@@ -78,18 +79,37 @@ module _ (vs : Variables) (x : Identifier) (l m : ℕ) where
           let old = counted_here (owns vs l m (y, v)) (y, v) (filter (owns vs l m) known) in
           omega (arith, new, old, later)
 
+killed_never : (w : VariableState) (level : ℕ) → killed w ≡ ReferenceAt level true → ⊥
+killed_never (ReferenceAt l live) level e = cc
+killed_never (BufferIn b) level e = cc
+
+pub killed_live : (w : VariableState) (level : ℕ) → killed w ≡ ReferenceAt level true → w ≡ ReferenceAt level true
+killed_live (ReferenceAt l live) level e = absurd (cc)
+killed_live (BufferIn b) level e = absurd (cc)
+
 -- what a dead reference shows
 pub killed_shows : (vs : Variables) (w : VariableState) (o : Option Variable) → Shows vs w o → Shows vs (killed w) o
 killed_shows vs (ReferenceAt level live) o h = h
 killed_shows vs (BufferIn b) o h = h
 
-module _ (ss : Statics) (vs : Variables) (frames : List Frame) (p : Point) (stands : Stands ss vs frames p) (x : Identifier) where
+module _ (ss : Statics) (vs : Variables) (frames : List Frame) (p : Point) {own : Owners} (stands : Stands own ss vs frames p) (x : Identifier) where
+  -- its own reference may go
+  pub killed_owned : IsOwned (λ y. if bytes_eq y x then None else own y) vs (at p (with_changed p.regions x killed))
+  killed_owned y level l n e h = by_test (bytes_eq y x) refl
+    where
+      by_test : (b : Bool) → bytes_eq y x ≡ b → (if b then None else own y) ≡ Some l
+      by_test true is =
+          let there : state_of (with_changed p.regions x killed) x ≡ Some (ReferenceAt level true) = subst (λ (z : Identifier). state_of (with_changed p.regions x killed) z ≡ Some (ReferenceAt level true)) ((bytes_eq-Decides y x).0 is) e in
+          let was = mapped_some killed (state_of p.regions x) (ReferenceAt level true) (sym (known_same p.regions x killed) ∙ there) in
+          absurd (killed_never was.0 level was.2)
+      by_test false is = owned_changed ss vs frames p stands x None killed killed_live y level l n e h
+
   here_held : (access : Access) (a : Identifier) → Holds p x access a → Holds (at p (with_changed p.regions x killed)) x access a
   here_held access a (inl e) = inl (known_same p.regions x killed ∙ ap (option_map killed) e)
   here_held access a (inr e) = inr (known_same p.regions x killed ∙ ap (option_map killed) e)
 
   -- in frames that have enough
-  pub stands_killed : (after : List Frame) → length after ≡ length frames → ((level m : ℕ) → owners (with_changed p.regions x killed) vs level m ≤ copies (references_at level after) m) → Stands ss vs after (at p (with_changed p.regions x killed))
+  pub stands_killed : (after : List Frame) → length after ≡ length frames → ((level m : ℕ) → owners (with_changed p.regions x killed) vs level m ≤ copies (references_at level after) m) → Stands own ss vs after (at p (with_changed p.regions x killed))
   stands_killed after depth backed = record {
     sorts = stands.sorts;
     shows = shows_changed ss vs frames p stands x None killed (λ w h. killed_shows vs w (lookup x vs) h);
@@ -104,4 +124,5 @@ module _ (ss : Statics) (vs : Variables) (frames : List Frame) (p : Point) (stan
     known_once = once_changed (λ (y : Identifier) (old : VariableState). if bytes_eq x y then killed old else old) p.regions.variables stands.known_once;
     depth = depth ∙ stands.depth;
     backed = backed;
+    owned = owned_changed ss vs frames p stands x None killed killed_live;
   }

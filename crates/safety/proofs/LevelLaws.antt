@@ -12,6 +12,7 @@ use Rattle.source.specs.Object.{Reference}
 use Rattle.source.specs.Task.{Assigned, Operand, Invoke}
 use Rattle.source.specs.Thread.{Frame}
 use Rattle.source.specs.Variable.{LocalRef, Variables, Statics}
+use Rattle.safety.specs.Owners.{Owners}
 use Rattle.safety.specs.Points.{Point}
 use Rattle.safety.specs.Stands.{Stands}
 use Rattle.safety.specs.Wanted.{AssignsResult, Runs, call_seen, at}
@@ -27,9 +28,9 @@ frames_stay f frames h = refl
 no_local : GivesNothing ≡ NewLocal → ⊥
 no_local e = cc
 
-module _ (ss : Statics) (vs : Variables) (frames : List Frame) (p : Point) (stands : Stands ss vs frames p) (k : Point → Type 0) (x : Identifier) (level : ℕ) (r : Reference) (there : lookup x vs ≡ Some (LocalRef level r)) where
+module _ (ss : Statics) (vs : Variables) (frames : List Frame) (p : Point) {own : Owners} (stands : Stands own ss vs frames p) (k : Point → Type 0) (x : Identifier) (level : ℕ) (r : Reference) (there : lookup x vs ≡ Some (LocalRef level r)) where
   -- the variable that is set at a point is of the frame that is current there
-  set_level : (q : Point) (fs : List Frame) → Stands ss vs fs q → (s : Option Sort) (get : Option (Access × Option Identifier)) → AssignsResult q s x NewLocal get k → level ≡ length fs
+  set_level : (q : Point) (fs : List Frame) → Stands own ss vs fs q → (s : Option Sort) (get : Option (Access × Option Identifier)) → AssignsResult q s x NewLocal get k → level ≡ length fs
   set_level q fs now (Some sort.Ref) get (may, goes) =
       let shown = now.shows x _ may.known in
       let same : level ≡ q.regions.frames = cc in

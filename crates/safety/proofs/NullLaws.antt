@@ -16,6 +16,7 @@ use Rattle.source.specs.Task.{Task, Target, Declared, Assigned, VariableKind, Sc
 use Rattle.source.specs.Thread.{Thread, Shared, BuffersInUse}
 use Rattle.source.specs.ThreadStep.{with_tasks}
 use Rattle.source.specs.Variable.{Variable, LocalRef, FieldHandle, Elements, Buffer, NoBuffer, StaticReference, Empty, assign}
+use Rattle.safety.specs.Owners.{Owners}
 use Rattle.safety.specs.Points.{Point, is_copy, owns}
 use Rattle.safety.specs.Stands.{VariableFits, Shows, Stands}
 use Rattle.safety.specs.Wanted.{Holds, IsNew, MaySet, revived, DeclaresNull, AssignsNull, SetsNullThere, GoesOn, at, named}
@@ -23,7 +24,7 @@ use Rattle.safety.proofs.NameLaws.{one_or_other, lookup_same, lookup_other, fron
 use Rattle.safety.proofs.SetLaws.{once_changed, stands_new, stands_kept, stands_at, owners_elsewhere, sorts_named, sorts_kept}
 use Rattle.safety.proofs.StepLaws.{Lands, null_declared}
 
-module _ (classes : Classes) (lent : BuffersInUse) (k : ℕ) (s : Shared) (t : Thread) (rest : List Task) (p : Point) (stands : Stands s.statics t.variables t.frames p) where
+module _ (classes : Classes) (lent : BuffersInUse) (k : ℕ) (s : Shared) (t : Thread) (rest : List Task) (p : Point) {own : Owners} (stands : Stands own s.statics t.variables t.frames p) where
   field_no_buffer : (f : _) (u : ElementType) (b : Buffer) → FieldHandle f ≡ Elements u b → ⊥
   field_no_buffer f u b e = cc
 
@@ -34,7 +35,7 @@ module _ (classes : Classes) (lent : BuffersInUse) (k : ℕ) (s : Shared) (t : T
   null_buffer v u b e = cc
 
   -- a new buffer that is NULL
-  buffer_declared : (x : Identifier) (u : ElementType) (w : Bool) → IsNew p x → Stands s.statics (assign x (Elements u NoBuffer) t.variables) t.frames (at (named p x (sort.Buffer u w)) (with_new p.regions x (BufferIn Free)))
+  buffer_declared : (x : Identifier) (u : ElementType) (w : Bool) → IsNew p x → Stands own s.statics (assign x (Elements u NoBuffer) t.variables) t.frames (at (named p x (sort.Buffer u w)) (with_new p.regions x (BufferIn Free)))
   buffer_declared x u w new = stands_at s.statics t.variables t.frames p stands x (Elements u NoBuffer) t.frames _ (record {
     elsewhere = λ y other. front_other x y (BufferIn Free) p.regions.variables other;
     apart = λ y a access m level h at_a same. new.unused y access (subst (Holds p y access) same h);
@@ -50,9 +51,11 @@ module _ (classes : Classes) (lent : BuffersInUse) (k : ℕ) (s : Shared) (t : T
         let same = owners_elsewhere t.variables x (Elements u NoBuffer) level n p.regions.variables new.unknown in
         let enough = stands.backed level n in
         omega (arith, same, enough);
+    keeps = λ y other. refl;
+    owned_here = λ level l n known h. absurd (let c : Elements u NoBuffer ≡ LocalRef l (Some n) = h in cc);
   })
 
-  declared_lands : (kind : VariableKind) (x : Identifier) → DeclaresNull p kind x (GoesOn rest) → Lands s.statics (put (Declared kind x) NullResult s (with_tasks t rest))
+  declared_lands : (kind : VariableKind) (x : Identifier) → DeclaresNull p kind x (GoesOn rest) → Lands own s.statics (put (Declared kind x) NullResult s (with_tasks t rest))
   declared_lands ScalarKind x h = absurd h
   declared_lands ReferenceKind x (new, g) = ((at (named p x sort.Ref) (with_new p.regions x (ReferenceAt p.regions.frames true)), null_declared classes lent k s t rest p stands x new, g), λ y r e. (r, e))
   declared_lands FieldKind x (new, g) =
@@ -60,7 +63,7 @@ module _ (classes : Classes) (lent : BuffersInUse) (k : ℕ) (s : Shared) (t : T
   declared_lands (BufferKind u) x (new, (w, g)) = ((at (named p x (sort.Buffer u w)) (with_new p.regions x (BufferIn Free)), buffer_declared x u w new, g), λ y r e. (r, e))
 
   -- a static that is set
-  pub stands_static : (x : Identifier) (g : StaticReference) → Stands (assign x g s.statics) t.variables t.frames p
+  pub stands_static : (x : Identifier) (g : StaticReference) → Stands own (assign x g s.statics) t.variables t.frames p
   stands_static x g = record {
     sorts = λ y r e. static_fits r y (stands.sorts y r e);
     shows = stands.shows;
@@ -69,6 +72,7 @@ module _ (classes : Classes) (lent : BuffersInUse) (k : ℕ) (s : Shared) (t : T
     known_once = stands.known_once;
     depth = stands.depth;
     backed = stands.backed;
+    owned = stands.owned;
   }
     where
       there : (y : Identifier) (r : StaticReference) → lookup y s.statics ≡ Some r → (q : StaticReference) × (lookup y (assign x g s.statics) ≡ Some q)
@@ -129,7 +133,7 @@ module _ (classes : Classes) (lent : BuffersInUse) (k : ℕ) (s : Shared) (t : T
   ref_no_buffer : (level : ℕ) (r : _) (u : ElementType) (b : Buffer) → LocalRef level r ≡ Elements u b → ⊥
   ref_no_buffer level r u b e = cc
 
-  pub nulled : (x : Identifier) → MaySet p x → sort_in p.names x ≡ Some sort.Ref → Stands s.statics (assign x (LocalRef p.regions.frames None) t.variables) t.frames (at p (with_changed p.regions x revived))
+  pub nulled : (x : Identifier) → MaySet p x → sort_in p.names x ≡ Some sort.Ref → Stands own s.statics (assign x (LocalRef p.regions.frames None) t.variables) t.frames (at p (with_changed p.regions x revived))
   nulled x may e = stands_at s.statics t.variables t.frames p stands x (LocalRef p.regions.frames None) t.frames (at p (with_changed p.regions x revived)) (record {
     elsewhere = λ y other. known_other p.regions x y revived other;
     apart = λ y a access m level h at_a same. may.unused y access (subst (Holds p y access) same h);
@@ -142,23 +146,25 @@ module _ (classes : Classes) (lent : BuffersInUse) (k : ℕ) (s : Shared) (t : T
     known_once = once_changed (λ (y : Identifier) (old : VariableState). if bytes_eq x y then revived old else old) p.regions.variables stands.known_once;
     depth = stands.depth;
     backed = λ level n. let fewer = fewer_owners x p.regions.frames level n p.regions.variables in let enough = stands.backed level n in omega (arith, fewer, enough);
+    keeps = λ y other. refl;
+    owned_here = λ level l n known h. absurd (let c : LocalRef p.regions.frames None ≡ LocalRef l (Some n) = h in cc);
   })
 
-  pub assigned_lands : (x : Identifier) (o : Option Sort) → sort_in p.names x ≡ o → AssignsNull p o x (GoesOn rest) → Lands s.statics (put_assigned x NullResult s (with_tasks t rest) (lookup x t.variables))
+  pub assigned_lands : (x : Identifier) (o : Option Sort) → sort_in p.names x ≡ o → AssignsNull p o x (GoesOn rest) → Lands own s.statics (put_assigned x NullResult s (with_tasks t rest) (lookup x t.variables))
   assigned_lands x (Some sort.Ref) e (may, g) =
       let shown = stands.shows x _ may.known in
-      subst (λ (v : Option Variable). Lands s.statics (put_assigned x NullResult s (with_tasks t rest) v)) (sym shown.1) ((at p (with_changed p.regions x revived), nulled x may e, g), λ y r h. (r, h))
+      subst (λ (v : Option Variable). Lands own s.statics (put_assigned x NullResult s (with_tasks t rest) v)) (sym shown.1) ((at p (with_changed p.regions x revived), nulled x may e, g), λ y r h. (r, h))
   assigned_lands x (Some sort.Global) e g =
       let fits = stands.sorts x sort.Global e in
-      subst (λ (v : Option Variable). Lands s.statics (put_assigned x NullResult s (with_tasks t rest) v)) (sym fits.0) ((p, stands_static x Empty, g), statics_stay x Empty)
+      subst (λ (v : Option Variable). Lands own s.statics (put_assigned x NullResult s (with_tasks t rest) v)) (sym fits.0) ((p, stands_static x Empty, g), statics_stay x Empty)
   assigned_lands x (Some sort.FieldId) e g =
       let fits = stands.sorts x sort.FieldId e in
-      subst (λ (v : Option Variable). Lands s.statics (put_assigned x NullResult s (with_tasks t rest) v)) (sym fits.1)
+      subst (λ (v : Option Variable). Lands own s.statics (put_assigned x NullResult s (with_tasks t rest) v)) (sym fits.1)
       ((p, stands_kept s.statics t.variables t.frames p stands x (FieldHandle None) sort.FieldId (FieldHandle fits.0) e fits.1 (field_no_ref fits.0) (field_no_buffer fits.0) (None, refl) (λ u b c. absurd (field_no_buffer None u b c)), g), λ y r h. (r, h))
   assigned_lands x o e h = absurd h
 
   -- NULL goes where it may
-  pub null_lands : (target : Target) → SetsNullThere p target (GoesOn rest) → Lands s.statics (put target NullResult s (with_tasks t rest))
+  pub null_lands : (target : Target) → SetsNullThere p target (GoesOn rest) → Lands own s.statics (put target NullResult s (with_tasks t rest))
   null_lands (Declared kind x) h = declared_lands kind x h
   null_lands (Assigned x) h = assigned_lands x (sort_in p.names x) refl h
   null_lands target h = absurd h

@@ -10,13 +10,14 @@ use Rattle.source.specs.Sight.{variable_is_null, holds_null}
 use Rattle.source.specs.Thread.{Frame}
 use Rattle.source.specs.Value.{Gives}
 use Rattle.source.specs.Variable.{Variable, Elements, Buffer, NoBuffer, Copy, View, StaticReference, Variables, Statics}
+use Rattle.safety.specs.Owners.{Owners}
 use Rattle.safety.specs.Points.{Point, owns, owners}
-use Rattle.safety.specs.Stands.{Shows, BufferShows, Stands}
+use Rattle.safety.specs.Stands.{IsOwned, Shows, BufferShows, Stands}
 use Rattle.safety.specs.Wanted.{Closes, Holds, at}
 use Rattle.safety.proofs.NameLaws.{one_or_other, known_same, known_other}
 use Rattle.safety.proofs.SetLaws.{once_changed}
 
-pub stands_after : (ss : Statics) (vs : Variables) (frames : List Frame) (p q : Point) → Stands ss vs frames p → Closes p q → Stands ss vs frames q
+pub stands_after : {own : Owners} (ss : Statics) (vs : Variables) (frames : List Frame) (p q : Point) → Stands own ss vs frames p → Closes p q → Stands own ss vs frames q
 stands_after ss vs frames p q stands closes = record {
   sorts = λ x s e. stands.sorts x s (closes.names x s e);
   shows = λ x v e. stands.shows x v (closes.known x v e);
@@ -25,6 +26,7 @@ stands_after ss vs frames p q stands closes = record {
   known_once = closes.once;
   depth = stands.depth ∙ closes.frames;
   backed = λ level n. let fewer = closes.owners vs level n in let enough = stands.backed level n in omega (arith, fewer, enough);
+  owned = λ x level l n e h. stands.owned x level l n (closes.known x _ e) h;
 }
 
 -- ---- owners
@@ -65,6 +67,16 @@ usable_owns vs level n y (BufferIn Free) = refl
 usable_owns vs level n y (BufferIn (Untested access a)) = refl
 usable_owns vs level n y (BufferIn (Usable access a)) = refl
 
+pub free_live : (w : VariableState) (level : ℕ) → made_free w ≡ ReferenceAt level true → w ≡ ReferenceAt level true
+free_live (ReferenceAt l live) level e = e
+free_live (BufferIn b) level e = absurd (cc)
+
+usable_live : (w : VariableState) (level : ℕ) → made_usable w ≡ ReferenceAt level true → w ≡ ReferenceAt level true
+usable_live (ReferenceAt l live) level e = e
+usable_live (BufferIn Free) level e = absurd (cc)
+usable_live (BufferIn (Untested access a)) level e = absurd (cc)
+usable_live (BufferIn (Usable access a)) level e = absurd (cc)
+
 -- ---- null tests
 
 -- whether a buffer is there
@@ -98,7 +110,7 @@ usable_shows vs g o (BufferIn known) e h =
     subst (Shows vs (made_usable (BufferIn known))) (sym h.2)
     (usable_buffer vs h.0 h.1 known (is_buffer h.1 h.0 (subst (λ (v : Option Variable). holds_null v g ≡ Gives false) h.2 e)) h.3)
 
-module _ (ss : Statics) (vs : Variables) (frames : List Frame) (p : Point) (stands : Stands ss vs frames p) (x : Identifier) (g : Option StaticReference) where
+module _ (ss : Statics) (vs : Variables) (frames : List Frame) (p : Point) {own : Owners} (stands : Stands own ss vs frames p) (x : Identifier) (g : Option StaticReference) where
   pub shows_changed : (f : VariableState → VariableState) → ((w : VariableState) → Shows vs w (lookup x vs) → Shows vs (f w) (lookup x vs)) → (y : Identifier) (v : VariableState) → state_of (with_changed p.regions x f) y ≡ Some v → Shows vs v (lookup y vs)
   shows_changed f own y v e = elim (one_or_other y x) [
     | inl same ↦
@@ -106,6 +118,17 @@ module _ (ss : Statics) (vs : Variables) (frames : List Frame) (p : Point) (stan
         let was = mapped_some f (state_of p.regions x) v (sym (known_same p.regions x f) ∙ there) in
         subst (λ (z : Identifier). Shows vs v (lookup z vs)) (sym same) (subst (λ (w : VariableState). Shows vs w (lookup x vs)) was.2 (own was.0 (stands.shows x was.0 was.1)))
     | inr other ↦ stands.shows y v (sym (known_other p.regions x y f other) ∙ e)
+  ]
+
+  -- what a change leaves live was live
+  pub owned_changed : (f : VariableState → VariableState) → ((w : VariableState) (level : ℕ) → f w ≡ ReferenceAt level true → w ≡ ReferenceAt level true) → IsOwned own vs (at p (with_changed p.regions x f))
+  owned_changed f was_live y level l n e h = elim (one_or_other y x) [
+    | inl same ↦
+        let there : state_of (with_changed p.regions x f) x ≡ Some (ReferenceAt level true) = subst (λ (z : Identifier). state_of (with_changed p.regions x f) z ≡ Some (ReferenceAt level true)) same e in
+        let was = mapped_some f (state_of p.regions x) (ReferenceAt level true) (sym (known_same p.regions x f) ∙ there) in
+        let known : state_of p.regions x ≡ Some (ReferenceAt level true) = was.1 ∙ ap (λ (w : VariableState). Some w) (was_live was.0 level was.2) in
+        stands.owned y level l n (subst (λ (z : Identifier). state_of p.regions z ≡ Some (ReferenceAt level true)) (sym same) known) h
+    | inr other ↦ stands.owned y level l n (sym (known_other p.regions x y f other) ∙ e) h
   ]
 
   pub other_held : (f : VariableState → VariableState) (y : Identifier) (access : Access) (a : Identifier) → y ≢ x → Holds p y access a → Holds (at p (with_changed p.regions x f)) y access a
@@ -117,7 +140,7 @@ module _ (ss : Statics) (vs : Variables) (frames : List Frame) (p : Point) (stan
   usable_held access a (inr e) = inr (known_same p.regions x made_usable ∙ ap (option_map made_usable) e)
 
   -- NULL was found
-  pub stands_null : holds_null (lookup x vs) g ≡ Gives true → Stands ss vs frames (at p (with_changed p.regions x made_free))
+  pub stands_null : holds_null (lookup x vs) g ≡ Gives true → Stands own ss vs frames (at p (with_changed p.regions x made_free))
   stands_null e = record {
     sorts = stands.sorts;
     shows = shows_changed made_free (λ w h. free_shows vs g (lookup x vs) w e h);
@@ -129,10 +152,11 @@ module _ (ss : Statics) (vs : Variables) (frames : List Frame) (p : Point) (stan
     known_once = once_changed (λ (y : Identifier) (old : VariableState). if bytes_eq x y then made_free old else old) p.regions.variables stands.known_once;
     depth = stands.depth;
     backed = λ level n. let same = owners_kept vs level n x made_free p.regions (free_owns vs level n) in let enough = stands.backed level n in omega (arith, same, enough);
+    owned = owned_changed made_free free_live;
   }
 
   -- a buffer was found
-  pub stands_usable : holds_null (lookup x vs) g ≡ Gives false → Stands ss vs frames (at p (with_changed p.regions x made_usable))
+  pub stands_usable : holds_null (lookup x vs) g ≡ Gives false → Stands own ss vs frames (at p (with_changed p.regions x made_usable))
   stands_usable e = record {
     sorts = stands.sorts;
     shows = shows_changed made_usable (λ w h. usable_shows vs g (lookup x vs) w e h);
@@ -147,4 +171,5 @@ module _ (ss : Statics) (vs : Variables) (frames : List Frame) (p : Point) (stan
     known_once = once_changed (λ (y : Identifier) (old : VariableState). if bytes_eq x y then made_usable old else old) p.regions.variables stands.known_once;
     depth = stands.depth;
     backed = λ level n. let same = owners_kept vs level n x made_usable p.regions (usable_owns vs level n) in let enough = stands.backed level n in omega (arith, same, enough);
+    owned = owned_changed made_usable usable_live;
   }

@@ -10,11 +10,12 @@ use Rattle.regions.specs.RegionStates.{VariableState, ReferenceAt, BufferIn, sta
 use Rattle.source.specs.Object.{Reference}
 use Rattle.source.specs.Thread.{Frame}
 use Rattle.source.specs.Variable.{Variable, LocalRef, Variables, Statics}
+use Rattle.safety.specs.Owners.{Owners, other_than}
 use Rattle.safety.specs.Points.{Point, AreOnce, is_copy, owns, owners}
 use Rattle.safety.specs.StepSafe.{references_at}
-use Rattle.safety.specs.Stands.{Shows, copies, Stands}
+use Rattle.safety.specs.Stands.{IsOwned, Shows, copies, Stands}
 use Rattle.safety.specs.Wanted.{Holds, at}
-use Rattle.safety.proofs.FrameLaws.{one_if, counted_here, level_there, pushed_references, copies_pushed}
+use Rattle.safety.proofs.FrameLaws.{one_if, counted_here, level_there, pushed_references, copies_pushed, both_true}
 use Rattle.safety.proofs.NameLaws.{front_same, front_other}
 use Rattle.safety.proofs.PointLaws.{mapped_some}
 use Rattle.safety.proofs.SetLaws.{none_some, once_changed}
@@ -92,7 +93,7 @@ module _ (vs : Variables) (top level m : ℕ) where
 
 -- ---- the points
 
-module _ (ss : Statics) (vs : Variables) (frames : List Frame) (p : Point) (stands : Stands ss vs frames p) where
+module _ (ss : Statics) (vs : Variables) (frames : List Frame) (p : Point) {own : Owners} (stands : Stands own ss vs frames p) where
   shows_left : (y : Identifier) (v : VariableState) → lookup y (left_below p.regions.frames p.regions.variables) ≡ Some v → Shows vs v (lookup y vs)
   shows_left y v e =
       let was = mapped_some (killed_from p.regions.frames) (state_of p.regions y) v (sym (each_known p.regions.frames y p.regions.variables) ∙ e) in
@@ -119,8 +120,35 @@ module _ (ss : Statics) (vs : Variables) (frames : List Frame) (p : Point) (stan
         omega (arith, none)
   ]
 
+  -- what is live after the frame was live, and of a level below
+  live_value : (w : VariableState) (level : ℕ) → killed_from p.regions.frames w ≡ ReferenceAt level true → (w ≡ ReferenceAt level true) × (nat_lt level p.regions.frames ≡ true)
+  live_value (ReferenceAt l live) level e =
+      let same : l ≡ level = cc in
+      let both : (live && nat_lt l p.regions.frames) ≡ true = cc in
+      let each = both_true live (nat_lt l p.regions.frames) both in
+      (ap (λ (b : Bool). ReferenceAt l b) each.0 ∙ ap (λ (m : ℕ). ReferenceAt m true) same, sym (ap (λ (m : ℕ). nat_lt m p.regions.frames) same) ∙ each.1)
+  live_value (BufferIn b) level e = absurd (cc)
+
+  left_live : (y : Identifier) (level : ℕ) → state_of (after_pop p.regions) y ≡ Some (ReferenceAt level true) → (state_of p.regions y ≡ Some (ReferenceAt level true)) × (nat_lt level p.regions.frames ≡ true)
+  left_live y level e =
+      let was = mapped_some (killed_from p.regions.frames) (state_of p.regions y) (ReferenceAt level true) (sym (each_known p.regions.frames y p.regions.variables) ∙ e) in
+      let is = live_value was.0 level was.2 in
+      (was.1 ∙ ap (λ (w : VariableState). Some w) is.0, is.1)
+
+  -- the owners of its level may go
+  pub popped_owned : IsOwned (λ y. other_than (length frames) (own y)) vs (at p (after_pop p.regions))
+  popped_owned y level l n e h =
+      let left = left_live y level e in
+      let shown = stands.shows y _ left.0 in
+      let both : Some (LocalRef level shown.0) ≡ Some (LocalRef l (Some n)) = sym shown.1 ∙ h in
+      let same : level ≡ l = cc in
+      let below : nat_lt level p.regions.frames ≡ true = left.1 in
+      let depth = stands.depth in
+      let other : (l == length frames) ≡ false = grind (arith, nat_tests, same, below, depth) in
+      ap (other_than (length frames)) (stands.owned y level l n left.0 h) ∙ ap (λ (b : Bool). if b then None else Some l) other
+
   -- after the current frame
-  pub stands_popped : Stands ss vs (drop 1 frames) (at p (after_pop p.regions))
+  pub stands_popped : Stands own ss vs (drop 1 frames) (at p (after_pop p.regions))
   stands_popped = record {
     sorts = stands.sorts;
     shows = shows_left;
@@ -129,10 +157,11 @@ module _ (ss : Statics) (vs : Variables) (frames : List Frame) (p : Point) (stan
     known_once = once_changed (λ (y : Identifier) (old : VariableState). killed_from p.regions.frames old) p.regions.variables stands.known_once;
     depth = depth_left frames stands.depth;
     backed = λ level m. backed_left frames level m stands.depth (stands.backed level m);
+    owned = λ y level l n e h. stands.owned y level l n ((left_live y level e).0) h;
   }
 
   -- in a new frame
-  pub stands_pushed : (new : Frame) → Stands ss vs (new ∷ frames) (at p (record p.regions { frames = p.regions.frames + 1 }))
+  pub stands_pushed : (new : Frame) → Stands own ss vs (new ∷ frames) (at p (record p.regions { frames = p.regions.frames + 1 }))
   stands_pushed new = record {
     sorts = stands.sorts;
     shows = stands.shows;
@@ -141,4 +170,5 @@ module _ (ss : Statics) (vs : Variables) (frames : List Frame) (p : Point) (stan
     known_once = stands.known_once;
     depth = let here = stands.depth in omega (arith, here);
     backed = λ level m. let more = copies_pushed level m new frames in let enough = stands.backed level m in omega (arith, more, enough);
+    owned = stands.owned;
   }

@@ -1,5 +1,5 @@
 -- Calls that change no variable, no static and no reference of a frame, and give no buffer.
-use Rattle.std.proofs.Common.{◌≡◌, ℕ, ◌≤◌, Bool, true, false, List, [], ◌∷◌, ◌++◌, Some, refl, sym, ap, ◌∙◌, subst}
+use Rattle.std.proofs.Common.{◌≡◌, ℕ, ◌≤◌, Bool, true, false, List, [], ◌∷◌, ◌++◌, Some, refl, sym, ap, ◌∙◌, subst, length, if◌then◌else◌}
 use Rattle.base.specs.Bytes.{Identifier}
 use Rattle.classes.specs.Class.{Classes}
 use Rattle.syntax.specs.Tree.{Argument}
@@ -12,18 +12,20 @@ use Rattle.source.specs.CallEffects.{CallResult, ReferenceResult, CallEffect, Th
 use Rattle.source.specs.CallStep.{put, received, tell_copy, failure, is_zero, completed, after_call, after_refusal}
 use Rattle.regions.specs.RegionStates as states
 use Rattle.regions.specs.RegionStates.{RegionState, get_of}
-use Rattle.source.specs.Effect.{tasks_after}
+use Rattle.source.specs.Effect.{Calls, tasks_after}
 use Rattle.source.specs.Heap.{next_name}
 use Rattle.source.specs.Task.{Task, Target, Declared, Assigned, Tested, Dropped}
-use Rattle.source.specs.Thread.{Thread, Shared, BuffersInUse, Frame, Advance, Advances, NoAdvance}
+use Rattle.source.specs.Thread.{Thread, Shared, BuffersInUse, Frame}
 use Rattle.source.specs.ThreadStep.{with_tasks}
 use Rattle.source.specs.Variable.{Variables, Statics}
+use Rattle.safety.specs.Owners.{Owners, left_by}
 use Rattle.safety.specs.Points.{Point, owners}
 use Rattle.safety.specs.Stands.{copies, Goes, Stands}
 use Rattle.safety.specs.Wanted.{ResultGoes, GoesOn}
 use Rattle.safety.proofs.ResultLaws.{Simple, AnInt, AFlag, AField, NoField, AGlobal, NoGlobal, NoLocal, NullLocal, NoResultThere, result_lands}
 use Rattle.safety.proofs.FrameLaws.{references_of, same_references, same_length, HasFrame, frame_again}
-use Rattle.safety.proofs.ReferenceLaws.{local_lands}
+use Rattle.safety.proofs.ReferenceLaws.{with_target, local_lands}
+use Rattle.safety.proofs.OwnerLaws.{LandsBy, LandsByIfPossible, by_if_possible, put_by}
 use Rattle.safety.proofs.StepLaws.{Lands}
 
 -- a function that the region rules don't know apart, but for what it fills
@@ -38,6 +40,13 @@ free_call (ReleaseBuffer access) regions args h = absurd h
 free_call DeleteLocalRef regions args h = absurd h
 free_call PopLocalFrame regions args h = absurd h
 free_call f regions args h = refl
+
+-- such a call ends no reference
+pub free_owners : (f : JniFunction) (args : List Actual) (frames : ℕ) (own : Owners) → IsFree f → (y : Identifier) → own y ≡ left_by f args frames own y
+free_owners (ReleaseBuffer access) args frames own h y = absurd h
+free_owners DeleteLocalRef args frames own h y = absurd h
+free_owners PopLocalFrame args frames own h y = absurd h
+free_owners f args frames own h y = refl
 
 -- a target that isn't a test
 abbrev pub IsNoTest : Target → Type 0
@@ -54,15 +63,6 @@ abbrev pub IsQuiet : Shared → Thread → ResultKind → CallEffect → Type 0
 IsQuiet s t kind (Throws c) = Simple kind (failure kind)
 IsQuiet s t kind (Halts trap) = Unit {0}
 IsQuiet s t kind (Leaves made s' t' given) = (t'.variables ≡ t.variables) × (references_of t'.frames ≡ references_of t.frames) × (s'.statics ≡ s.statics) × Gives kind given
-
--- a step that leads to a point again, if it is possible
-abbrev pub LandsIfPossible : Statics → Advance → Type 0
-LandsIfPossible ss NoAdvance = Unit {0}
-LandsIfPossible ss (Advances s t event) = Lands ss (Advances s t event)
-
-pub if_possible : (ss : Statics) (e : Advance) → Lands ss e → LandsIfPossible ss e
-if_possible ss NoAdvance h = tt
-if_possible ss (Advances s t event) h = h
 
 module _ (t : Thread) (line : ℕ) (rest : List Task) where
   received_is : (kind : ResultKind) (given : CallResult) → Simple kind given → received kind given t ≡ t
@@ -113,34 +113,40 @@ module _ (t : Thread) (line : ℕ) (rest : List Task) where
       ap (λ (tasks : List Task). record t { frames = with_local n t.frames; tasks = Some tasks; variables = tell_copy x (ReferenceResult (Some n)) t.variables }) (nothing_after target false h)
       ∙ ap (λ (vs : Variables). record t { frames = with_local n t.frames; tasks = Some rest; variables = vs }) (local_told x n t.variables)
 
-module _ (classes : Classes) (lent : BuffersInUse) (k : ℕ) (s : Shared) (t : Thread) (line : ℕ) (target : Target) (f : JniFunction) (args : List Actual) (rest : List Task) (p : Point) where
+module _ (classes : Classes) (lent : BuffersInUse) (k : ℕ) (s : Shared) (t : Thread) (line : ℕ) (target : Target) (f : JniFunction) (args : List Actual) (rest : List Task) (p : Point) (own : Owners) where
   -- a local reference goes into a frame that is there
-  local_completed : (shared : Shared) (t' : Thread) (n : ℕ) (get : _) (frames : List Frame) → t'.frames ≡ frames → HasFrame frames → Stands shared.statics t'.variables t'.frames p → ResultGoes target NewLocal get (GoesOn rest) p
-      → Lands shared.statics (put target (ReferenceResult (Some n)) shared (record t' { frames = with_local n t'.frames; tasks = Some rest }))
-  local_completed shared t' n get [] e room there h = absurd room
-  local_completed shared t' n get (frame ∷ below) e room there h =
-      subst (λ (frames : List Frame). Lands shared.statics (put target (ReferenceResult (Some n)) shared (record t' { frames = with_local n frames; tasks = Some rest }))) (sym e)
-      (local_lands shared t' rest frame below p (subst (λ (frames : List Frame). Stands shared.statics t'.variables frames p) e there) n target get h)
+  local_completed : {now : Owners} (shared : Shared) (t' : Thread) (n : ℕ) (get : _) (frames : List Frame) → t'.frames ≡ frames → HasFrame frames → Stands now shared.statics t'.variables t'.frames p → ResultGoes target NewLocal get (GoesOn rest) p
+      → Lands (with_target target p.regions.frames now) shared.statics (put target (ReferenceResult (Some n)) shared (record t' { frames = with_local n t'.frames; tasks = Some rest }))
+  local_completed {now} shared t' n get [] e room there h = absurd room
+  local_completed {now} shared t' n get (frame ∷ below) e room there h =
+      subst (λ (frames : List Frame). Lands (with_target target p.regions.frames now) shared.statics (put target (ReferenceResult (Some n)) shared (record t' { frames = with_local n frames; tasks = Some rest }))) (sym e)
+      (local_lands shared t' rest frame below p (subst (λ (frames : List Frame). Stands now shared.statics t'.variables frames p) e there) n target get h)
 
   -- the same for any result
-  pub given_lands : (kind : ResultKind) (made : List Object) (s' : Shared) (t' : Thread) (given : CallResult) (get : _) → (prototype f).result ≡ kind → IsNoTest target → (kind ≡ NewLocal → HasFrame t'.frames) → Stands s'.statics t'.variables t'.frames p → Gives kind given
-      → ResultGoes target kind get (GoesOn rest) p → Lands s'.statics (completed classes lent k s t line target f args rest made s' t' given)
-  given_lands kind made s' t' given get is away room there (Plainly simple) h =
+  pub given_lands : {now : Owners} → ((y : Identifier) → now y ≡ left_by f args (length t.frames) own y) → (kind : ResultKind) (made : List Object) (s' : Shared) (t' : Thread) (given : CallResult) (get : _) → (prototype f).result ≡ kind → IsNoTest target → (kind ≡ NewLocal → HasFrame t'.frames) → Stands now s'.statics t'.variables t'.frames p → Gives kind given
+      → ResultGoes target kind get (GoesOn rest) p → LandsBy (Calls line target f args) (length t.frames) own s'.statics (completed classes lent k s t line target f args rest made s' t' given)
+  given_lands {now} left kind made s' t' given get is away room there (Plainly simple) h =
       let shared : Shared = record s' { heap = s'.heap ++ made } in
-      subst (λ (result : ResultKind). Lands s'.statics (put target given shared (record (received result given t') { tasks = Some (tasks_after line target (is_zero given) ++ rest); variables = tell_copy (variable_given args 1) given t'.variables }))) (sym is)
-      (subst (λ (r : Thread). Lands s'.statics (put target given shared r)) (sym (resumed_is t' line rest target (variable_given args 1) kind given away simple))
-      (result_lands classes lent k shared t' rest p there target kind given get simple h))
-  given_lands kind made s' t' given get is away room there (ALocal n) h =
+      put_by line f args (length t.frames) own now target (λ y other. left y) given s'.statics shared _ (
+      subst (λ (result : ResultKind). Lands now s'.statics (put target given shared (record (received result given t') { tasks = Some (tasks_after line target (is_zero given) ++ rest); variables = tell_copy (variable_given args 1) given t'.variables }))) (sym is)
+      (subst (λ (r : Thread). Lands now s'.statics (put target given shared r)) (sym (resumed_is t' line rest target (variable_given args 1) kind given away simple))
+      (result_lands classes lent k shared t' rest p there target kind given get simple h)))
+  given_lands {now} left kind made s' t' given get is away room there (ALocal n) h =
       let shared : Shared = record s' { heap = s'.heap ++ made } in
-      subst (λ (result : ResultKind). Lands s'.statics (put target (ReferenceResult (Some n)) shared (record (received result (ReferenceResult (Some n)) t') { tasks = Some (tasks_after line target false ++ rest); variables = tell_copy (variable_given args 1) (ReferenceResult (Some n)) t'.variables }))) (sym is)
-      (subst (λ (r : Thread). Lands s'.statics (put target (ReferenceResult (Some n)) shared r)) (sym (resumed_local t' line rest target (variable_given args 1) n away))
-      (local_completed shared t' n get t'.frames refl (room refl) there h))
+      put_by line f args (length t.frames) own (with_target target p.regions.frames now) target (λ y other. ap (λ (b : Bool). if b then Some p.regions.frames else now y) other ∙ left y) given s'.statics shared _ (
+      subst (λ (result : ResultKind). Lands (with_target target p.regions.frames now) s'.statics (put target (ReferenceResult (Some n)) shared (record (received result (ReferenceResult (Some n)) t') { tasks = Some (tasks_after line target false ++ rest); variables = tell_copy (variable_given args 1) (ReferenceResult (Some n)) t'.variables }))) (sym is)
+      (subst (λ (r : Thread). Lands (with_target target p.regions.frames now) s'.statics (put target (ReferenceResult (Some n)) shared r)) (sym (resumed_local t' line rest target (variable_given args 1) n away))
+      (local_completed shared t' n get t'.frames refl (room refl) there h)))
 
-module _ (classes : Classes) (lent : BuffersInUse) (k : ℕ) (s : Shared) (t : Thread) (line : ℕ) (target : Target) (f : JniFunction) (args : List Actual) (rest : List Task) (p : Point) (stands : Stands s.statics t.variables t.frames p) where
+module _ (classes : Classes) (lent : BuffersInUse) (k : ℕ) (s : Shared) (t : Thread) (line : ℕ) (target : Target) (f : JniFunction) (args : List Actual) (rest : List Task) (p : Point) {own : Owners} (stands : Stands own s.statics t.variables t.frames p) where
+  -- the call ends no reference
+  abbrev IsKept : Type 0
+  IsKept = (y : Identifier) → own y ≡ left_by f args (length t.frames) own y
+
   -- the thread at its point, where a call has left its variables, its references and the statics as they were
-  stands_again : (s' : Shared) (t' : Thread) → t'.variables ≡ t.variables → references_of t'.frames ≡ references_of t.frames → s'.statics ≡ s.statics → Stands s'.statics t'.variables t'.frames p
+  stands_again : (s' : Shared) (t' : Thread) → t'.variables ≡ t.variables → references_of t'.frames ≡ references_of t.frames → s'.statics ≡ s.statics → Stands own s'.statics t'.variables t'.frames p
   stands_again s' t' vs fs ss =
-      subst (λ (statics : Statics). Stands statics t'.variables t'.frames p) (sym ss) (subst (λ (variables : Variables). Stands s.statics variables t'.frames p) (sym vs) (record {
+      subst (λ (statics : Statics). Stands own statics t'.variables t'.frames p) (sym ss) (subst (λ (variables : Variables). Stands own s.statics variables t'.frames p) (sym vs) (record {
         sorts = stands.sorts;
         shows = stands.shows;
         held = stands.held;
@@ -148,28 +154,30 @@ module _ (classes : Classes) (lent : BuffersInUse) (k : ℕ) (s : Shared) (t : T
         known_once = stands.known_once;
         depth = same_length t'.frames t.frames fs ∙ stands.depth;
         backed = λ level n. subst (λ (l : List ℕ). owners p.regions t.variables level n ≤ copies l n) (sym (same_references level t'.frames t.frames fs)) (stands.backed level n);
+        owned = stands.owned;
       }))
 
-  pub completed_lands : (made : List Object) (s' : Shared) (t' : Thread) (given : CallResult) (get : _) → IsNoTest target → t'.variables ≡ t.variables → references_of t'.frames ≡ references_of t.frames → s'.statics ≡ s.statics → Simple (prototype f).result given → ResultGoes target (prototype f).result get (GoesOn rest) p
-      → Lands s'.statics (completed classes lent k s t line target f args rest made s' t' given)
-  completed_lands made s' t' given get away vs fs ss simple h =
+  pub completed_lands : IsKept → (made : List Object) (s' : Shared) (t' : Thread) (given : CallResult) (get : _) → IsNoTest target → t'.variables ≡ t.variables → references_of t'.frames ≡ references_of t.frames → s'.statics ≡ s.statics → Simple (prototype f).result given → ResultGoes target (prototype f).result get (GoesOn rest) p
+      → LandsBy (Calls line target f args) (length t.frames) own s'.statics (completed classes lent k s t line target f args rest made s' t' given)
+  completed_lands left made s' t' given get away vs fs ss simple h =
       let shared : Shared = record s' { heap = s'.heap ++ made } in
-      subst (λ (r : Thread). Lands s'.statics (put target given shared r)) (sym (resumed_is t' line rest target (variable_given args 1) (prototype f).result given away simple))
-      (result_lands classes lent k shared t' rest p (stands_again s' t' vs fs ss) target (prototype f).result given get simple h)
+      put_by line f args (length t.frames) own own target (λ y other. left y) given s'.statics shared _
+      (subst (λ (r : Thread). Lands own s'.statics (put target given shared r)) (sym (resumed_is t' line rest target (variable_given args 1) (prototype f).result given away simple))
+      (result_lands classes lent k shared t' rest p (stands_again s' t' vs fs ss) target (prototype f).result given get simple h))
 
   -- such a call leads to a point again
-  pub quiet_lands : (get : _) (e : CallEffect) → IsNoTest target → Goes s.statics t t.tasks → ((prototype f).result ≡ NewLocal → HasFrame t.frames) → IsQuiet s t (prototype f).result e → ResultGoes target (prototype f).result get (GoesOn rest) p
-      → Lands s.statics (after_call classes lent k s t line target f args rest e)
-  quiet_lands get (Throws c) away whole room quiet h = completed_lands (fresh_object classes c ∷ []) s (record t { pending = Some (next_name s.heap) }) (failure (prototype f).result) get away refl refl refl quiet h
-  quiet_lands get (Halts trap) away whole room quiet h = (whole, λ x r e. (r, e))
-  quiet_lands get (Leaves made s' t' given) away whole room quiet h =
-      subst (λ (ss : Statics). Lands ss (completed classes lent k s t line target f args rest made s' t' given)) quiet.2
-      (given_lands classes lent k s t line target f args rest p (prototype f).result made s' t' given get refl away (λ e. frame_again t'.frames t.frames quiet.1 (room e)) (stands_again s' t' quiet.0 quiet.1 quiet.2) quiet.3 h)
+  pub quiet_lands : IsKept → (get : _) (e : CallEffect) → IsNoTest target → Goes own s.statics t t.tasks → ((prototype f).result ≡ NewLocal → HasFrame t.frames) → IsQuiet s t (prototype f).result e → ResultGoes target (prototype f).result get (GoesOn rest) p
+      → LandsBy (Calls line target f args) (length t.frames) own s.statics (after_call classes lent k s t line target f args rest e)
+  quiet_lands left get (Throws c) away whole room quiet h = completed_lands left (fresh_object classes c ∷ []) s (record t { pending = Some (next_name s.heap) }) (failure (prototype f).result) get away refl refl refl quiet h
+  quiet_lands left get (Halts trap) away whole room quiet h = (whole, λ x r e. (r, e))
+  quiet_lands left get (Leaves made s' t' given) away whole room quiet h =
+      subst (λ (ss : Statics). LandsBy (Calls line target f args) (length t.frames) own ss (completed classes lent k s t line target f args rest made s' t' given)) quiet.2
+      (given_lands classes lent k s t line target f args rest p own left (prototype f).result made s' t' given get refl away (λ e. frame_again t'.frames t.frames quiet.1 (room e)) (stands_again s' t' quiet.0 quiet.1 quiet.2) quiet.3 h)
 
   -- and so does one whose allocation is refused, if it has one
-  pub refused_lands : (get : _) (makes : Bool) → IsNoTest target → Simple (prototype f).result (failure (prototype f).result) → ResultGoes target (prototype f).result get (GoesOn rest) p
-      → LandsIfPossible s.statics (after_refusal classes lent k s t line target f args rest makes)
-  refused_lands get true away simple h =
-      if_possible s.statics (completed classes lent k s t line target f args rest [] s (record t { pending = Some (out_of_memory classes) }) (failure (prototype f).result))
-      (completed_lands [] s (record t { pending = Some (out_of_memory classes) }) (failure (prototype f).result) get away refl refl refl simple h)
-  refused_lands get false away simple h = tt
+  pub refused_lands : IsKept → (get : _) (makes : Bool) → IsNoTest target → Simple (prototype f).result (failure (prototype f).result) → ResultGoes target (prototype f).result get (GoesOn rest) p
+      → LandsByIfPossible (Calls line target f args) (length t.frames) own s.statics (after_refusal classes lent k s t line target f args rest makes)
+  refused_lands left get true away simple h =
+      by_if_possible (Calls line target f args) (length t.frames) own s.statics (completed classes lent k s t line target f args rest [] s (record t { pending = Some (out_of_memory classes) }) (failure (prototype f).result))
+      (completed_lands left [] s (record t { pending = Some (out_of_memory classes) }) (failure (prototype f).result) get away refl refl refl simple h)
+  refused_lands left get false away simple h = tt

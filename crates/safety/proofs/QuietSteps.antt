@@ -1,5 +1,5 @@
 -- The step of a quiet call keeps what holds of its thread, and is possible.
-use Rattle.std.proofs.Common.{◌≡◌, ℕ, Bool, true, false, List, [], ◌∷◌, map, Option, Some, None, refl, subst}
+use Rattle.std.proofs.Common.{◌≡◌, ℕ, Bool, true, false, List, [], ◌∷◌, map, Option, Some, None, refl, subst, length}
 use Rattle.std.specs.Prelude.{◌&&◌, ◌||◌, not, is_some, zip, slice_get}
 use Rattle.std.specs.List.{list_any}
 use Rattle.base.specs.Element.{ElementType}
@@ -17,13 +17,16 @@ use Rattle.regions.specs.RegionStates as states
 use Rattle.regions.specs.RegionStates.{RegionState, get_of}
 use Rattle.source.specs.Task.{Task, Target, Declared, Assigned, Tested, Dropped, Operand, Invoke}
 use Rattle.source.specs.Thread.{Frame, Thread, Shared, BuffersInUse}
+use Rattle.source.specs.Effect.{Calls}
+use Rattle.base.specs.Bytes.{Identifier}
+use Rattle.safety.proofs.OwnerLaws.{LandsBy, LandsByIfPossible}
+use Rattle.safety.specs.Owners.{Owners, left_by}
 use Rattle.safety.specs.Points.{Point}
 use Rattle.safety.specs.Stands.{Goes, Stands}
 use Rattle.safety.specs.Wanted.{Runs, ResultGoes, GoesOn, call_seen, operand_argument, at}
 use Rattle.safety.proofs.QuietCalls.{IsQuietFunction, effect_quiet, fails_simply}
 use Rattle.safety.proofs.FrameLaws.{HasFrame}
-use Rattle.safety.proofs.QuietLaws.{IsFree, IsNoTest, LandsIfPossible, free_call, quiet_lands, refused_lands}
-use Rattle.safety.proofs.StepLaws.{Lands}
+use Rattle.safety.proofs.QuietLaws.{IsFree, IsNoTest, free_call, quiet_lands, refused_lands, free_owners}
 
 quiet_free : (f : JniFunction) → IsQuietFunction f → IsFree f
 quiet_free (jni.ReleaseBuffer access) h = absurd h
@@ -66,37 +69,40 @@ has_room classes heap t buffer f args none is =
     (lacks_room (prototype f).result (slice_get (frames_after f t.frames) 0))
     ExceptionPending DeletedReference NullReference WrongObject NoCapacity none)
 
-module _ (classes : Classes) (lent : BuffersInUse) (k : ℕ) (s : Shared) (t : Thread) (line : ℕ) (f : JniFunction) (args : List Actual) (rest : List Task) (p : Point) (stands : Stands s.statics t.variables t.frames p) (quiet : IsQuietFunction f) (whole : Goes s.statics t t.tasks) where
+module _ (classes : Classes) (lent : BuffersInUse) (k : ℕ) (s : Shared) (t : Thread) (line : ℕ) (f : JniFunction) (args : List Actual) (rest : List Task) (p : Point) {own : Owners} (stands : Stands own s.statics t.variables t.frames p) (quiet : IsQuietFunction f) (whole : Goes own s.statics t t.tasks) where
   goes_at : (target : Target) (operands : List Operand) → ResultGoes target (prototype f).result (get_of (call_seen f operands)) (GoesOn rest) (at p (states.after_call p.regions (call_seen f operands)))
       → ResultGoes target (prototype f).result (get_of (call_seen f operands)) (GoesOn rest) p
   goes_at target operands h = subst (λ (regions : RegionState). ResultGoes target (prototype f).result (get_of (call_seen f operands)) (GoesOn rest) (at p regions)) (free_call f p.regions (map operand_argument operands) (quiet_free f quiet)) h
+
+  left : (y : Identifier) → own y ≡ left_by f args (length t.frames) own y
+  left y = free_owners f args (length t.frames) own (quiet_free f quiet) y
 
   room : (target : Target) → trap_of_call classes s t target f args ≡ None → (prototype f).result ≡ NewLocal → HasFrame t.frames
   room target none is = has_frame t.frames (subst (λ (frames : List Frame). is_full (slice_get frames 0) ≡ false) (frames_stay f t.frames (quiet_free f quiet)) (has_room classes s.heap t (target_element t.variables target) f args none is))
 
   lands_at : (target : Target) (operands : List Operand) → IsNoTest target → ResultGoes target (prototype f).result (get_of (call_seen f operands)) (GoesOn rest) p
-      → Lands s.statics (call_step classes lent k s t line target f args rest false)
+      → LandsBy (Calls line target f args) (length t.frames) own s.statics (call_step classes lent k s t line target f args rest false)
   lands_at target operands away h = by_trap (trap_of_call classes s t target f args) refl
     where
-      by_trap : (o : Option Trap) → trap_of_call classes s t target f args ≡ o → Lands s.statics (after_call classes lent k s t line target f args rest (checked o (call_effect classes lent k s t args f)))
+      by_trap : (o : Option Trap) → trap_of_call classes s t target f args ≡ o → LandsBy (Calls line target f args) (length t.frames) own s.statics (after_call classes lent k s t line target f args rest (checked o (call_effect classes lent k s t args f)))
       by_trap None e =
-          quiet_lands classes lent k s t line target f args rest p stands (get_of (call_seen f operands)) (call_effect classes lent k s t args f) away whole (room target e)
+          quiet_lands classes lent k s t line target f args rest p stands left (get_of (call_seen f operands)) (call_effect classes lent k s t args f) away whole (room target e)
           (effect_quiet classes lent k s t args f quiet) h
       by_trap (Some trap) e = (whole, λ x r g. (r, g))
 
   refused_at : (target : Target) (operands : List Operand) → IsNoTest target → ResultGoes target (prototype f).result (get_of (call_seen f operands)) (GoesOn rest) p
-      → LandsIfPossible s.statics (call_step classes lent k s t line target f args rest true)
-  refused_at target operands away h = refused_lands classes lent k s t line target f args rest p stands (get_of (call_seen f operands)) _ away (fails_simply f quiet) h
+      → LandsByIfPossible (Calls line target f args) (length t.frames) own s.statics (call_step classes lent k s t line target f args rest true)
+  refused_at target operands away h = refused_lands classes lent k s t line target f args rest p stands left (get_of (call_seen f operands)) _ away (fails_simply f quiet) h
 
   -- the call's step, unmarked
-  pub call_lands : (target : Target) (operands : List Operand) → Runs (Invoke line target f operands) (GoesOn rest) p → Lands s.statics (call_step classes lent k s t line target f args rest false)
+  pub call_lands : (target : Target) (operands : List Operand) → Runs (Invoke line target f operands) (GoesOn rest) p → LandsBy (Calls line target f args) (length t.frames) own s.statics (call_step classes lent k s t line target f args rest false)
   call_lands (Tested a b) operands r = absurd (quiet_no_push f quiet r.1)
   call_lands (Declared kind x) operands r = lands_at (Declared kind x) operands tt (goes_at (Declared kind x) operands r.2)
   call_lands (Assigned x) operands r = lands_at (Assigned x) operands tt (goes_at (Assigned x) operands r.2)
   call_lands Dropped operands r = lands_at Dropped operands tt (goes_at Dropped operands r.2)
 
   -- and marked as refused
-  pub refused_call_lands : (target : Target) (operands : List Operand) → Runs (Invoke line target f operands) (GoesOn rest) p → LandsIfPossible s.statics (call_step classes lent k s t line target f args rest true)
+  pub refused_call_lands : (target : Target) (operands : List Operand) → Runs (Invoke line target f operands) (GoesOn rest) p → LandsByIfPossible (Calls line target f args) (length t.frames) own s.statics (call_step classes lent k s t line target f args rest true)
   refused_call_lands (Tested a b) operands r = absurd (quiet_no_push f quiet r.1)
   refused_call_lands (Declared kind x) operands r = refused_at (Declared kind x) operands tt (goes_at (Declared kind x) operands r.2)
   refused_call_lands (Assigned x) operands r = refused_at (Assigned x) operands tt (goes_at (Assigned x) operands r.2)

@@ -15,12 +15,14 @@ use Rattle.regions.specs.RegionStates.{VariableState, ReferenceAt, BufferIn, wit
 use Rattle.source.specs.Task.{Task, Target, Declared, Assigned, Tested, Dropped, VariableKind, ScalarKind, ReferenceKind, FieldKind, BufferKind}
 use Rattle.source.specs.Thread.{Thread, Shared, Frame}
 use Rattle.source.specs.Variable.{Variable, LocalRef, Elements, Buffer, Variables, Statics, assign}
+use Rattle.safety.specs.Owners.{Owners, is_target}
 use Rattle.safety.specs.Points.{Point, AreOnce, is_copy, owns}
 use Rattle.safety.specs.Stands.{Shows, Stands}
 use Rattle.safety.specs.Wanted.{Holds, IsNew, MaySet, revived, DeclaresResult, AssignsResult, ResultGoes, GoesOn, at, named}
 use Rattle.safety.proofs.FrameLaws.{one_if, counted_here, more_copies, copies_grow}
 use Rattle.safety.proofs.NameLaws.{lookup_same, lookup_other, front_same, front_other, known_same, known_other}
 use Rattle.safety.proofs.SetLaws.{once_changed, stands_at, owners_elsewhere, sorts_named, sorts_kept, not_first, one_owns}
+use Rattle.safety.proofs.OwnerLaws.{stands_with}
 use Rattle.safety.proofs.StepLaws.{Lands, same_statics}
 
 ref_no_buffer : (level : ℕ) (r : _) (u : _) (b : Buffer) → LocalRef level r ≡ Elements u b → ⊥
@@ -89,9 +91,9 @@ module _ (vs : Variables) (x : Identifier) (top n level m : ℕ) where
 
 -- ---- the points
 
-module _ (ss : Statics) (vs : Variables) (frame : Frame) (below : List Frame) (p : Point) (stands : Stands ss vs (frame ∷ below) p) (n : ℕ) where
+module _ (ss : Statics) (vs : Variables) (frame : Frame) (below : List Frame) (p : Point) {own : Owners} (stands : Stands own ss vs (frame ∷ below) p) (n : ℕ) where
   -- one reference more, which no variable holds
-  pub stands_more : Stands ss vs (with_local n (frame ∷ below)) p
+  pub stands_more : Stands own ss vs (with_local n (frame ∷ below)) p
   stands_more = record {
     sorts = stands.sorts;
     shows = stands.shows;
@@ -100,12 +102,13 @@ module _ (ss : Statics) (vs : Variables) (frame : Frame) (below : List Frame) (p
     known_once = stands.known_once;
     depth = stands.depth;
     backed = λ level m. let more = more_copies level n m (frame ∷ below) in let enough = stands.backed level m in omega (arith, more, enough);
+    owned = stands.owned;
   }
 
   -- a new variable holds it
-  pub stands_declared : (x : Identifier) → IsNew p x
-      → Stands ss (assign x (LocalRef (suc (length below)) (Some n)) vs) (with_local n (frame ∷ below)) (at (named p x sort.Ref) (with_new p.regions x (ReferenceAt p.regions.frames true)))
-  stands_declared x new = stands_at ss vs (frame ∷ below) p stands x (LocalRef (suc (length below)) (Some n)) (with_local n (frame ∷ below)) (at (named p x sort.Ref) (with_new p.regions x (ReferenceAt p.regions.frames true))) (record {
+  pub stands_declared : {new : Owners} (x : Identifier) → ((y : Identifier) → y ≢ x → new y ≡ own y) → new x ≡ Some p.regions.frames → IsNew p x
+      → Stands new ss (assign x (LocalRef (suc (length below)) (Some n)) vs) (with_local n (frame ∷ below)) (at (named p x sort.Ref) (with_new p.regions x (ReferenceAt p.regions.frames true)))
+  stands_declared x keeps here_own new = stands_at ss vs (frame ∷ below) p stands x (LocalRef (suc (length below)) (Some n)) (with_local n (frame ∷ below)) (at (named p x sort.Ref) (with_new p.regions x (ReferenceAt p.regions.frames true))) (record {
     elsewhere = λ y other. front_other x y (ReferenceAt p.regions.frames true) p.regions.variables other;
     apart = λ y a access m level h at_a same. new.unused y access (subst (Holds p y access) same h);
     here = λ v e.
@@ -122,12 +125,14 @@ module _ (ss : Statics) (vs : Variables) (frame : Frame) (below : List Frame) (p
         let grown = copies_grow (suc (length below)) n level m frame below refl in
         let enough = stands.backed level m in
         omega (arith, owned, grown, enough);
+    keeps = keeps;
+    owned_here = λ level l m known h. here_own ∙ ap (λ (i : ℕ). Some i) (let c : LocalRef (length (frame ∷ below)) (Some n) ≡ LocalRef l (Some m) = h in let d : length (frame ∷ below) ≡ l = cc in sym stands.depth ∙ d);
   })
 
   -- a variable that is there holds it
-  pub stands_assigned : (x : Identifier) → MaySet p x → sort_in p.names x ≡ Some sort.Ref
-      → Stands ss (assign x (LocalRef p.regions.frames (Some n)) vs) (with_local n (frame ∷ below)) (at p (with_changed p.regions x revived))
-  stands_assigned x may e = stands_at ss vs (frame ∷ below) p stands x (LocalRef p.regions.frames (Some n)) (with_local n (frame ∷ below)) (at p (with_changed p.regions x revived)) (record {
+  pub stands_assigned : {new : Owners} (x : Identifier) → ((y : Identifier) → y ≢ x → new y ≡ own y) → new x ≡ Some p.regions.frames → MaySet p x → sort_in p.names x ≡ Some sort.Ref
+      → Stands new ss (assign x (LocalRef p.regions.frames (Some n)) vs) (with_local n (frame ∷ below)) (at p (with_changed p.regions x revived))
+  stands_assigned x keeps here_own may e = stands_at ss vs (frame ∷ below) p stands x (LocalRef p.regions.frames (Some n)) (with_local n (frame ∷ below)) (at p (with_changed p.regions x revived)) (record {
     elsewhere = λ y other. known_other p.regions x y revived other;
     apart = λ y a access m level h at_a same. may.unused y access (subst (Holds p y access) same h);
     here = λ v h.
@@ -143,32 +148,49 @@ module _ (ss : Statics) (vs : Variables) (frame : Frame) (below : List Frame) (p
         let grown = copies_grow p.regions.frames n level m frame below (sym stands.depth) in
         let enough = stands.backed level m in
         omega (arith, owned, grown, enough);
+    keeps = keeps;
+    owned_here = λ level l m known h. here_own ∙ ap (λ (i : ℕ). Some i) (let c : LocalRef p.regions.frames (Some n) ≡ LocalRef l (Some m) = h in cc);
   })
 
 -- ---- the targets
 
-module _ (s : Shared) (t : Thread) (rest : List Task) (frame : Frame) (below : List Frame) (p : Point) (stands : Stands s.statics t.variables (frame ∷ below) p) (n : ℕ) where
+-- the owners with this one at a level
+abbrev pub with_target : Target → ℕ → Owners → Owners
+with_target target level own y = if is_target target y then Some level else own y
+
+-- a name is itself, and no other
+name_same : (x : Identifier) → bytes_eq x x ≡ true
+name_same x = (bytes_eq-Decides x x).1 refl
+
+name_other : (x y : Identifier) → y ≢ x → bytes_eq y x ≡ false
+name_other x y other = by_test (bytes_eq y x) refl
+  where
+    by_test : (b : Bool) → bytes_eq y x ≡ b → b ≡ false
+    by_test true e = absurd (other ((bytes_eq-Decides y x).0 e))
+    by_test false e = refl
+
+module _ (s : Shared) (t : Thread) (rest : List Task) (frame : Frame) (below : List Frame) (p : Point) {own : Owners} (stands : Stands own s.statics t.variables (frame ∷ below) p) (n : ℕ) where
   -- the thread with the reference in its frame
   abbrev with_it : Thread
   with_it = record t { frames = with_local n (frame ∷ below); tasks = Some rest }
 
-  declared : (kind : VariableKind) (x : Identifier) (get : Option (Access × Option Identifier)) → DeclaresResult p kind x NewLocal get (GoesOn rest) → Lands s.statics (put (Declared kind x) (ReferenceResult (Some n)) s with_it)
+  declared : (kind : VariableKind) (x : Identifier) (get : Option (Access × Option Identifier)) → DeclaresResult p kind x NewLocal get (GoesOn rest) → Lands (with_target (Declared kind x) p.regions.frames own) s.statics (put (Declared kind x) (ReferenceResult (Some n)) s with_it)
   declared ReferenceKind x get (new, g) =
-      ((at (named p x sort.Ref) (with_new p.regions x (ReferenceAt p.regions.frames true)), stands_declared s.statics t.variables frame below p stands n x new, g), same_statics s.statics)
+      ((at (named p x sort.Ref) (with_new p.regions x (ReferenceAt p.regions.frames true)), stands_declared s.statics t.variables frame below p stands n x (λ y other. ap (λ (b : Bool). if b then Some p.regions.frames else own y) (name_other x y other)) (ap (λ (b : Bool). if b then Some p.regions.frames else own x) (name_same x)) new, g), same_statics s.statics)
   declared ScalarKind x get h = absurd h
   declared FieldKind x get h = absurd h
   declared (BufferKind u) x get h = absurd h
 
-  assigned : (x : Identifier) (o : Option Sort) (get : Option (Access × Option Identifier)) → sort_in p.names x ≡ o → AssignsResult p o x NewLocal get (GoesOn rest) → Lands s.statics (put_assigned x (ReferenceResult (Some n)) s with_it (lookup x t.variables))
+  assigned : (x : Identifier) (o : Option Sort) (get : Option (Access × Option Identifier)) → sort_in p.names x ≡ o → AssignsResult p o x NewLocal get (GoesOn rest) → Lands (with_target (Assigned x) p.regions.frames own) s.statics (put_assigned x (ReferenceResult (Some n)) s with_it (lookup x t.variables))
   assigned x (Some sort.Ref) get e (may, g) =
       let shown = stands.shows x _ may.known in
-      subst (λ (v : Option Variable). Lands s.statics (put_assigned x (ReferenceResult (Some n)) s with_it v)) (sym shown.1)
-      ((at p (with_changed p.regions x revived), stands_assigned s.statics t.variables frame below p stands n x may e, g), same_statics s.statics)
+      subst (λ (v : Option Variable). Lands (with_target (Assigned x) p.regions.frames own) s.statics (put_assigned x (ReferenceResult (Some n)) s with_it v)) (sym shown.1)
+      ((at p (with_changed p.regions x revived), stands_assigned s.statics t.variables frame below p stands n x (λ y other. ap (λ (b : Bool). if b then Some p.regions.frames else own y) (name_other x y other)) (ap (λ (b : Bool). if b then Some p.regions.frames else own x) (name_same x)) may e, g), same_statics s.statics)
   assigned x o get e h = absurd h
 
   -- the reference goes where it may
-  pub local_lands : (target : Target) (get : Option (Access × Option Identifier)) → ResultGoes target NewLocal get (GoesOn rest) p → Lands s.statics (put target (ReferenceResult (Some n)) s with_it)
+  pub local_lands : (target : Target) (get : Option (Access × Option Identifier)) → ResultGoes target NewLocal get (GoesOn rest) p → Lands (with_target target p.regions.frames own) s.statics (put target (ReferenceResult (Some n)) s with_it)
   local_lands (Declared kind x) get h = declared kind x get h
   local_lands (Assigned x) get h = assigned x (sort_in p.names x) get refl h
   local_lands (Tested a b) get h = absurd h
-  local_lands Dropped get h = ((p, stands_more s.statics t.variables frame below p stands n, h.1), same_statics s.statics)
+  local_lands Dropped get h = ((p, stands_with (with_target Dropped p.regions.frames own) s.statics t.variables (with_local n (frame ∷ below)) p (stands_more s.statics t.variables frame below p stands n) stands.owned, h.1), same_statics s.statics)

@@ -1,5 +1,5 @@
 -- A step within a call whose allocation is refused keeps what holds of its thread, where it is possible.
-use Rattle.std.proofs.Common.{◌≡◌, ℕ, Bool, true, false, List, [], ◌∷◌, Option, Some, None, refl}
+use Rattle.std.proofs.Common.{◌≡◌, ℕ, Bool, true, false, List, [], ◌∷◌, Option, Some, None, refl, length}
 use Rattle.std.specs.Prelude.{ℤ, pos, negsuc, nat_le}
 use Rattle.std.proofs.lemmas.Bool.{cond_both}
 use Rattle.base.specs.Bytes.{Identifier, lookup}
@@ -17,12 +17,14 @@ use Rattle.source.specs.Thread.{Thread, Shared, BuffersInUse, capacities, sight_
 use Rattle.source.specs.ThreadStep.{after_refused_effect, step_within}
 use Rattle.source.specs.Value.{Trap}
 use Rattle.source.specs.Variable.{Variable}
+use Rattle.safety.proofs.OwnerLaws.{LandsByIfPossible}
+use Rattle.safety.specs.Owners.{Owners}
 use Rattle.safety.specs.Points.{Point}
 use Rattle.safety.specs.Stands.{Goes, Stands}
 use Rattle.safety.specs.Wanted.{Runs, GoesOn}
 use Rattle.safety.specs.Follows.{Follows}
 use Rattle.safety.proofs.EffectLaws.{effect_follows}
-use Rattle.safety.proofs.QuietLaws.{LandsIfPossible, refused_lands}
+use Rattle.safety.proofs.QuietLaws.{refused_lands}
 use Rattle.safety.proofs.QuietSteps.{refused_call_lands}
 use Rattle.safety.proofs.ResultLaws.{NoResultThere}
 
@@ -36,13 +38,13 @@ checked_none : (o : Option Trap) (e : CallEffect) → makes_objects e ≡ false 
 checked_none None e h = h
 checked_none (Some trap) e h = refl
 
-module _ (classes : Classes) (lent : BuffersInUse) (k : ℕ) (s : Shared) (t : Thread) (line : ℕ) (rest : List Task) where
+module _ (classes : Classes) (lent : BuffersInUse) (k : ℕ) (s : Shared) (t : Thread) (line : ℕ) (rest : List Task) (own : Owners) where
   -- a call that makes no object has nothing to refuse
-  nothing_refused : (f : JniFunction) (target : Target) (args : List Actual) (b : Bool) → b ≡ false → LandsIfPossible s.statics (after_refusal classes lent k s t line target f args rest b)
+  nothing_refused : (f : JniFunction) (target : Target) (args : List Actual) (b : Bool) → b ≡ false → LandsByIfPossible (Calls line target f args) (length t.frames) own s.statics (after_refusal classes lent k s t line target f args rest b)
   nothing_refused f target args false e = tt
   nothing_refused f target args true e = absurd (cc)
 
-  none_refused : (f : JniFunction) (target : Target) (args : List Actual) → makes_objects (call_effect classes lent k s t args f) ≡ false → LandsIfPossible s.statics (call_step classes lent k s t line target f args rest true)
+  none_refused : (f : JniFunction) (target : Target) (args : List Actual) → makes_objects (call_effect classes lent k s t args f) ≡ false → LandsByIfPossible (Calls line target f args) (length t.frames) own s.statics (call_step classes lent k s t line target f args rest true)
   none_refused f target args h = nothing_refused f target args _ (checked_none (trap_of_call classes s t target f args) (call_effect classes lent k s t args f) h)
 
   delete_none : (o : Option Variable) (r : Reference) → makes_objects (delete_local_effect s t o r) ≡ false
@@ -92,9 +94,9 @@ module _ (classes : Classes) (lent : BuffersInUse) (k : ℕ) (s : Shared) (t : T
   release_made CharsCopy args = refl
   release_made CharsView args = refl
 
-  module _ (p : Point) (stands : Stands s.statics t.variables t.frames p) (whole : Goes s.statics t t.tasks) where
+  module _ (p : Point) (stands : Stands own s.statics t.variables t.frames p) (whole : Goes own s.statics t t.tasks) where
     -- the marked step of a call, by its function
-    pub each_refused_lands : (f : JniFunction) (target : Target) (operands : List Operand) (args : List Actual) → Runs (Invoke line target f operands) (GoesOn rest) p → LandsIfPossible s.statics (call_step classes lent k s t line target f args rest true)
+    pub each_refused_lands : (f : JniFunction) (target : Target) (operands : List Operand) (args : List Actual) → Runs (Invoke line target f operands) (GoesOn rest) p → LandsByIfPossible (Calls line target f args) (length t.frames) own s.statics (call_step classes lent k s t line target f args rest true)
     each_refused_lands DeleteLocalRef target operands args runs = none_refused DeleteLocalRef target args (delete_local_made args)
     each_refused_lands PushLocalFrame target operands args runs = none_refused PushLocalFrame target args (push_made args)
     each_refused_lands PopLocalFrame target operands args runs = none_refused PopLocalFrame target args (pop_made args)
@@ -102,20 +104,20 @@ module _ (classes : Classes) (lent : BuffersInUse) (k : ℕ) (s : Shared) (t : T
     each_refused_lands (GetBuffer access) target operands args runs = none_refused (GetBuffer access) target args (get_made access args)
     each_refused_lands (ReleaseBuffer access) target operands args runs = none_refused (ReleaseBuffer access) target args (release_made access args)
     each_refused_lands (GetArrayRegion u) (Tested a b) operands args runs = absurd (array_no_push u runs.1)
-    each_refused_lands (GetArrayRegion u) (Declared kind x) operands args runs = refused_lands classes lent k s t line (Declared kind x) (GetArrayRegion u) args rest p stands None _ tt NoResultThere runs.2
-    each_refused_lands (GetArrayRegion u) (Assigned x) operands args runs = refused_lands classes lent k s t line (Assigned x) (GetArrayRegion u) args rest p stands None _ tt NoResultThere runs.2
-    each_refused_lands (GetArrayRegion u) Dropped operands args runs = refused_lands classes lent k s t line Dropped (GetArrayRegion u) args rest p stands None _ tt NoResultThere runs.2
+    each_refused_lands (GetArrayRegion u) (Declared kind x) operands args runs = refused_lands classes lent k s t line (Declared kind x) (GetArrayRegion u) args rest p stands (λ y. refl) None _ tt NoResultThere runs.2
+    each_refused_lands (GetArrayRegion u) (Assigned x) operands args runs = refused_lands classes lent k s t line (Assigned x) (GetArrayRegion u) args rest p stands (λ y. refl) None _ tt NoResultThere runs.2
+    each_refused_lands (GetArrayRegion u) Dropped operands args runs = refused_lands classes lent k s t line Dropped (GetArrayRegion u) args rest p stands (λ y. refl) None _ tt NoResultThere runs.2
     each_refused_lands GetStringRegion (Tested a b) operands args runs = absurd (string_no_push runs.1)
-    each_refused_lands GetStringRegion (Declared kind x) operands args runs = refused_lands classes lent k s t line (Declared kind x) GetStringRegion args rest p stands None _ tt NoResultThere runs.2
-    each_refused_lands GetStringRegion (Assigned x) operands args runs = refused_lands classes lent k s t line (Assigned x) GetStringRegion args rest p stands None _ tt NoResultThere runs.2
-    each_refused_lands GetStringRegion Dropped operands args runs = refused_lands classes lent k s t line Dropped GetStringRegion args rest p stands None _ tt NoResultThere runs.2
+    each_refused_lands GetStringRegion (Declared kind x) operands args runs = refused_lands classes lent k s t line (Declared kind x) GetStringRegion args rest p stands (λ y. refl) None _ tt NoResultThere runs.2
+    each_refused_lands GetStringRegion (Assigned x) operands args runs = refused_lands classes lent k s t line (Assigned x) GetStringRegion args rest p stands (λ y. refl) None _ tt NoResultThere runs.2
+    each_refused_lands GetStringRegion Dropped operands args runs = refused_lands classes lent k s t line Dropped GetStringRegion args rest p stands (λ y. refl) None _ tt NoResultThere runs.2
     each_refused_lands f target operands args runs = refused_call_lands classes lent k s t line f args rest p stands tt whole target operands runs
 
-module _ (unit : SourceUnit) (classes : Classes) (lent : BuffersInUse) (k : ℕ) (s : Shared) (t : Thread) (task : Task) (rest : List Task) (p : Point) (stands : Stands s.statics t.variables t.frames p) (runs : Runs task (GoesOn rest) p) (whole : Goes s.statics t t.tasks) where
-  marked_lands : (e : Effect) → Follows (sight_of s t) s.statics t.variables t.frames p rest e → LandsIfPossible s.statics (after_refused_effect classes lent k s t rest e)
-  marked_lands (Calls line target f args) (operands, is, ready, r) = each_refused_lands classes lent k s t line rest p stands whole f target operands args r
+module _ (unit : SourceUnit) (classes : Classes) (lent : BuffersInUse) (k : ℕ) (s : Shared) (t : Thread) (task : Task) (rest : List Task) (p : Point) {own : Owners} (stands : Stands own s.statics t.variables t.frames p) (runs : Runs task (GoesOn rest) p) (whole : Goes own s.statics t t.tasks) where
+  marked_lands : (e : Effect) → Follows own (sight_of s t) s.statics t.variables t.frames p rest e → LandsByIfPossible e (length t.frames) own s.statics (after_refused_effect classes lent k s t rest e)
+  marked_lands (Calls line target f args) (operands, is, ready, r) = each_refused_lands classes lent k s t line rest own p stands whole f target operands args r
   marked_lands e h = tt
 
   -- each marked step within a call leads to a point again, where it is possible
-  pub marked_step_lands : LandsIfPossible s.statics (step_within unit classes lent k s t true (Some (task ∷ rest)))
+  pub marked_step_lands : LandsByIfPossible (effect_of (sight_of s t) task) (length t.frames) own s.statics (step_within unit classes lent k s t true (Some (task ∷ rest)))
   marked_step_lands = marked_lands (effect_of (sight_of s t) task) (effect_follows s.heap s.statics t.variables t.frames p stands rest task runs)

@@ -10,6 +10,7 @@ use Rattle.source.specs.Sight.{Sight, seen, held_reference}
 use Rattle.source.specs.Task.{Operand, Given}
 use Rattle.source.specs.Thread.{Frame}
 use Rattle.source.specs.Variable.{Variable, Elements, Buffer, Variables, Statics}
+use Rattle.safety.specs.Owners.{Owners}
 use Rattle.safety.specs.Points.{Point}
 use Rattle.safety.specs.StepSafe.{came_from}
 use Rattle.safety.specs.Stands.{IsOf, Stands}
@@ -29,7 +30,7 @@ came u false n b (zs, e) = ap (λ (c : Buffer). came_from (Some (Elements u c)))
 abbrev name_in : Actual → ℕ
 name_in a = name_or_zero (reference_in_actual (Some a))
 
-module _ (heap : Heap) (ss : Statics) (vs : Variables) (frames : List Frame) (p : Point) (stands : Stands ss vs frames p) (access : Access) where
+module _ (heap : Heap) (ss : Statics) (vs : Variables) (frames : List Frame) (p : Point) {own : Owners} (stands : Stands own ss vs frames p) (access : Access) where
   abbrev sight : Sight
   sight = seen vs ss heap
 

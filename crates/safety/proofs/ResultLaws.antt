@@ -17,6 +17,7 @@ use Rattle.source.specs.Thread.{Thread, Shared, BuffersInUse}
 use Rattle.source.specs.ThreadStep.{with_tasks}
 use Rattle.source.specs.Value.{Value, Int, Flag}
 use Rattle.source.specs.Variable.{Variable, Scalar, LocalRef, FieldHandle, Elements, Buffer, StaticReference}
+use Rattle.safety.specs.Owners.{Owners}
 use Rattle.safety.specs.Points.{Point}
 use Rattle.safety.specs.Stands.{VariableFits, Stands}
 use Rattle.regions.specs.RegionStates.{with_changed}
@@ -37,7 +38,7 @@ pub data Simple : ResultKind → CallResult → Type 0 where
   NullLocal : Simple NewLocal (ReferenceResult None)
   NoResultThere : Simple GivesNothing NoResult
 
-module _ (classes : Classes) (lent : BuffersInUse) (k : ℕ) (s : Shared) (t : Thread) (rest : List Task) (p : Point) (stands : Stands s.statics t.variables t.frames p) where
+module _ (classes : Classes) (lent : BuffersInUse) (k : ℕ) (s : Shared) (t : Thread) (rest : List Task) (p : Point) {own : Owners} (stands : Stands own s.statics t.variables t.frames p) where
   scalar_no_buffer : (v : Value) (u : ElementType) (b : Buffer) → Scalar v ≡ Elements u b → ⊥
   scalar_no_buffer v u b e = cc
 
@@ -53,7 +54,7 @@ module _ (classes : Classes) (lent : BuffersInUse) (k : ℕ) (s : Shared) (t : T
   stay : (x : Identifier) (r : StaticReference) → lookup x s.statics ≡ Some r → (q : StaticReference) × (lookup x s.statics ≡ Some q)
   stay x r e = (r, e)
 
-  declared : (kind : VariableKind) (x : Identifier) (result : ResultKind) (given : CallResult) (get : Option (Access × Option Identifier)) → Simple result given → DeclaresResult p kind x result get (GoesOn rest) → Lands s.statics (put (Declared kind x) given s (with_tasks t rest))
+  declared : (kind : VariableKind) (x : Identifier) (result : ResultKind) (given : CallResult) (get : Option (Access × Option Identifier)) → Simple result given → DeclaresResult p kind x result get (GoesOn rest) → Lands own s.statics (put (Declared kind x) given s (with_tasks t rest))
   declared ScalarKind x result given get (AnInt z) (new, g) =
       ((named p x sort.Jint, stands_new s.statics t.variables t.frames p stands x (Scalar (Int z)) sort.Jint new (Int z, refl, refl) (λ u b c. absurd (scalar_no_buffer (Int z) u b c)), g), stay)
   declared ScalarKind x result given get (AFlag b) (new, g) =
@@ -74,22 +75,22 @@ module _ (classes : Classes) (lent : BuffersInUse) (k : ℕ) (s : Shared) (t : T
   declared (BufferKind u) x result given get NoResultThere h = absurd h
   declared kind x result given get simple h = absurd h
 
-  number_put : (x : Identifier) (r : Sort) (v : Value) (o : Option Variable) → sort_in p.names x ≡ Some r → lookup x t.variables ≡ o → (old : Value) × (o ≡ Some (Scalar old)) → VariableFits r (Some (Scalar v)) (lookup x s.statics) → GoesOn rest p → Lands s.statics (put_assigned x (ScalarResult v) s (with_tasks t rest) o)
+  number_put : (x : Identifier) (r : Sort) (v : Value) (o : Option Variable) → sort_in p.names x ≡ Some r → lookup x t.variables ≡ o → (old : Value) × (o ≡ Some (Scalar old)) → VariableFits r (Some (Scalar v)) (lookup x s.statics) → GoesOn rest p → Lands own s.statics (put_assigned x (ScalarResult v) s (with_tasks t rest) o)
   number_put x r v o e at_x (old, is) fits g =
-      subst (λ (w : Option Variable). Lands s.statics (put_assigned x (ScalarResult v) s (with_tasks t rest) w)) (sym is)
+      subst (λ (w : Option Variable). Lands own s.statics (put_assigned x (ScalarResult v) s (with_tasks t rest) w)) (sym is)
       ((p, stands_kept s.statics t.variables t.frames p stands x (Scalar v) r (Scalar old) e (at_x ∙ is) (scalar_no_ref old) (scalar_no_buffer old) fits (λ u b c. absurd (scalar_no_buffer v u b c)), g), stay)
 
-  field_put : (x : Identifier) (f : Option FieldId) (o : Option Variable) → sort_in p.names x ≡ Some sort.FieldId → lookup x t.variables ≡ o → (old : Option FieldId) × (o ≡ Some (FieldHandle old)) → GoesOn rest p → Lands s.statics (put_assigned x (FieldResult f) s (with_tasks t rest) o)
+  field_put : (x : Identifier) (f : Option FieldId) (o : Option Variable) → sort_in p.names x ≡ Some sort.FieldId → lookup x t.variables ≡ o → (old : Option FieldId) × (o ≡ Some (FieldHandle old)) → GoesOn rest p → Lands own s.statics (put_assigned x (FieldResult f) s (with_tasks t rest) o)
   field_put x f o e at_x (old, is) g =
-      subst (λ (w : Option Variable). Lands s.statics (put_assigned x (FieldResult f) s (with_tasks t rest) w)) (sym is)
+      subst (λ (w : Option Variable). Lands own s.statics (put_assigned x (FieldResult f) s (with_tasks t rest) w)) (sym is)
       ((p, stands_kept s.statics t.variables t.frames p stands x (FieldHandle f) sort.FieldId (FieldHandle old) e (at_x ∙ is) (field_no_ref old) (field_no_buffer old) (f, refl) (λ u b c. absurd (field_no_buffer f u b c)), g), stay)
 
-  static_put : (x : Identifier) (given : CallResult) (o : Option Variable) → o ≡ None → GoesOn rest p → Lands s.statics (put_assigned x given s (with_tasks t rest) o)
+  static_put : (x : Identifier) (given : CallResult) (o : Option Variable) → o ≡ None → GoesOn rest p → Lands own s.statics (put_assigned x given s (with_tasks t rest) o)
   static_put x given o none g =
-      subst (λ (w : Option Variable). Lands s.statics (put_assigned x given s (with_tasks t rest) w)) (sym none)
+      subst (λ (w : Option Variable). Lands own s.statics (put_assigned x given s (with_tasks t rest) w)) (sym none)
       ((p, stands_static classes lent k s t rest p stands x (static_result given), g), statics_stay classes lent k s t rest p stands x (static_result given))
 
-  assigned : (x : Identifier) (o : Option Sort) (result : ResultKind) (given : CallResult) (get : Option (Access × Option Identifier)) → sort_in p.names x ≡ o → Simple result given → AssignsResult p o x result get (GoesOn rest) → Lands s.statics (put_assigned x given s (with_tasks t rest) (lookup x t.variables))
+  assigned : (x : Identifier) (o : Option Sort) (result : ResultKind) (given : CallResult) (get : Option (Access × Option Identifier)) → sort_in p.names x ≡ o → Simple result given → AssignsResult p o x result get (GoesOn rest) → Lands own s.statics (put_assigned x given s (with_tasks t rest) (lookup x t.variables))
   assigned x (Some sort.Jint) result given get e (AnInt z) g = let old = stands.sorts x sort.Jint e in number_put x sort.Jint (Int z) (lookup x t.variables) e refl (old.0, old.1) (Int z, refl, refl) g
   assigned x (Some sort.Flag) result given get e (AFlag b) g = let old = stands.sorts x sort.Flag e in number_put x sort.Flag (Flag b) (lookup x t.variables) e refl (old.0, old.1) (Flag b, refl, refl) g
   assigned x (Some sort.FieldId) result given get e (AField f) g = field_put x f (lookup x t.variables) e refl (stands.sorts x sort.FieldId e) g
@@ -97,7 +98,7 @@ module _ (classes : Classes) (lent : BuffersInUse) (k : ℕ) (s : Shared) (t : T
   assigned x (Some sort.Ref) result given get e NoLocal h = assigned_lands classes lent k s t rest p stands x (Some sort.Ref) e h
   assigned x (Some sort.Ref) result given get e NullLocal (may, g) =
       let shown = stands.shows x _ may.known in
-      subst (λ (v : Option Variable). Lands s.statics (put_assigned x (ReferenceResult None) s (with_tasks t rest) v)) (sym shown.1) ((at p (with_changed p.regions x revived), nulled classes lent k s t rest p stands x may e, g), stay)
+      subst (λ (v : Option Variable). Lands own s.statics (put_assigned x (ReferenceResult None) s (with_tasks t rest) v)) (sym shown.1) ((at p (with_changed p.regions x revived), nulled classes lent k s t rest p stands x may e, g), stay)
   assigned x (Some sort.Global) result given get e (AGlobal r) g = static_put x (ReferenceResult r) (lookup x t.variables) ((stands.sorts x sort.Global e).0) g
   assigned x (Some sort.Global) result given get e NoGlobal g = static_put x NullResult (lookup x t.variables) ((stands.sorts x sort.Global e).0) g
   assigned x (Some (sort.Buffer u w)) result given get e (AnInt z) h = absurd h
@@ -112,7 +113,7 @@ module _ (classes : Classes) (lent : BuffersInUse) (k : ℕ) (s : Shared) (t : T
   assigned x o result given get e simple g = absurd g
 
   -- such a result goes where it may
-  pub result_lands : (target : Target) (result : ResultKind) (given : CallResult) (get : Option (Access × Option Identifier)) → Simple result given → ResultGoes target result get (GoesOn rest) p → Lands s.statics (put target given s (with_tasks t rest))
+  pub result_lands : (target : Target) (result : ResultKind) (given : CallResult) (get : Option (Access × Option Identifier)) → Simple result given → ResultGoes target result get (GoesOn rest) p → Lands own s.statics (put target given s (with_tasks t rest))
   result_lands (Declared kind x) result given get simple h = declared kind x result given get simple h
   result_lands (Assigned x) result given get simple h = assigned x (sort_in p.names x) result given get refl simple h
   result_lands (Tested a b) result given get simple h = absurd h

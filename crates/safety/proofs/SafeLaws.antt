@@ -6,6 +6,7 @@ use Rattle.source.specs.Effect.{Effect, Becomes, Sets, SetsNull, SetsElement, Ma
 use Rattle.source.specs.Task.{Task}
 use Rattle.source.specs.Thread.{Thread, Shared, BuffersInUse, sight_of}
 use Rattle.source.specs.ThreadStep.{after_effect, step_within}
+use Rattle.safety.specs.Owners.{Owners}
 use Rattle.safety.specs.Points.{Point}
 use Rattle.safety.specs.Stands.{Goes, Stands}
 use Rattle.safety.specs.Wanted.{Runs, GoesOn}
@@ -20,8 +21,8 @@ IsNoCall (Calls line target f args) = ⊥
 IsNoCall e = Unit {0}
 
 module _ (unit : SourceUnit) (classes : Classes) (lent : BuffersInUse) (k : ℕ) (s : Shared) (t : Thread) where
-  module _ (task : Task) (rest : List Task) (p : Point) (stands : Stands s.statics t.variables t.frames p) (runs : Runs task (GoesOn rest) p) (whole : Goes s.statics t t.tasks) where
-    lands : (e : Effect) → IsNoCall e → Follows (sight_of s t) s.statics t.variables t.frames p rest e → Lands s.statics (after_effect classes lent k s t rest e)
+  module _ (task : Task) (rest : List Task) (p : Point) {own : Owners} (stands : Stands own s.statics t.variables t.frames p) (runs : Runs task (GoesOn rest) p) (whole : Goes own s.statics t t.tasks) where
+    lands : (e : Effect) → IsNoCall e → Follows own (sight_of s t) s.statics t.variables t.frames p rest e → Lands own s.statics (after_effect classes lent k s t rest e)
     lands (Calls line target f args) away h = absurd away
     lands (SetsNull target) away h = null_lands classes lent k s t rest p stands target h
     lands (Becomes tasks) away h = plain_lands classes lent k s t rest p stands (sight_of s t) (Becomes tasks) tt whole h
@@ -34,5 +35,5 @@ module _ (unit : SourceUnit) (classes : Classes) (lent : BuffersInUse) (k : ℕ)
     lands NoEffect away h = absurd h
 
     -- a step that is no call of the JNI leads to a point again, and is possible
-    pub step_lands : IsNoCall (effect_of (sight_of s t) task) → Lands s.statics (step_within unit classes lent k s t false (Some (task ∷ rest)))
+    pub step_lands : IsNoCall (effect_of (sight_of s t) task) → Lands own s.statics (step_within unit classes lent k s t false (Some (task ∷ rest)))
     step_lands away = lands (effect_of (sight_of s t) task) away (effect_follows s.heap s.statics t.variables t.frames p stands rest task runs)

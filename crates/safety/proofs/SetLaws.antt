@@ -8,6 +8,7 @@ use Rattle.types.specs.Sorts.{Sort, sort_in, Scope}
 use Rattle.regions.specs.RegionStates.{VariableState, Free, Untested, Usable, ReferenceAt, BufferIn, state_of}
 use Rattle.source.specs.Thread.{Frame}
 use Rattle.source.specs.Variable.{Variable, Elements, LocalRef, Buffer, NoBuffer, Variables, Statics, assign}
+use Rattle.safety.specs.Owners.{Owners}
 use Rattle.safety.specs.Points.{Point, AreOnce, is_copy, owns, owners}
 use Rattle.safety.specs.StepSafe.{references_at}
 use Rattle.safety.specs.Stands.{VariableFits, Shows, Lends, copies, Stands}
@@ -89,10 +90,10 @@ known_held p y v access a e (inr h) = inr (e ∙ ap (λ (w : VariableState). Som
 abbrev pub IsApart : Point → Variables → Identifier → Type 0
 IsApart p vs x = (y a : Identifier) (access : Access) (n level : ℕ) → Holds p y access a → lookup a vs ≡ Some (LocalRef level (Some n)) → a ≢ x
 
-module _ (ss : Statics) (vs : Variables) (frames : List Frame) (p : Point) (stands : Stands ss vs frames p) (x : Identifier) (w : Variable) where
+module _ (ss : Statics) (vs : Variables) (frames : List Frame) (p : Point) {own : Owners} (stands : Stands own ss vs frames p) (x : Identifier) (w : Variable) where
   -- a variable of which nothing is known, and which no buffer is of, is no held buffer
   pub stands_set : (names : Scope) → state_of p.regions x ≡ None → IsApart p vs x → ((u : _) (b : Buffer) → w ≡ Elements u b → b ≡ NoBuffer) → ((y : Identifier) (s : Sort) → sort_in names y ≡ Some s → VariableFits s (lookup y (assign x w vs)) (lookup y ss))
-      → Stands ss (assign x w vs) frames (record p { names = names })
+      → Stands own ss (assign x w vs) frames (record p { names = names })
   stands_set names none apart plain sorts = record {
     sorts = sorts;
     shows = λ y v e.
@@ -110,6 +111,9 @@ module _ (ss : Statics) (vs : Variables) (frames : List Frame) (p : Point) (stan
     known_once = stands.known_once;
     depth = stands.depth;
     backed = λ level n. let same = owners_elsewhere vs x w level n p.regions.variables none in let enough = stands.backed level n in omega (arith, same, enough);
+    owned = λ y level l n e h.
+        let other : y ≢ x = λ same. none_some (state_of p.regions x) (ReferenceAt level true) none (subst (λ (z : Identifier). state_of p.regions z ≡ Some (ReferenceAt level true)) same e) in
+        stands.owned y level l n e (sym (lookup_other x y w vs other) ∙ h);
   }
 
   -- the sorts, where the variable keeps its own
@@ -137,7 +141,7 @@ module _ (ss : Statics) (vs : Variables) (frames : List Frame) (p : Point) (stan
   ]
 
   -- a new variable
-  pub stands_new : (s : Sort) → IsNew p x → VariableFits s (Some w) (lookup x ss) → ((u : _) (b : Buffer) → w ≡ Elements u b → b ≡ NoBuffer) → Stands ss (assign x w vs) frames (named p x s)
+  pub stands_new : (s : Sort) → IsNew p x → VariableFits s (Some w) (lookup x ss) → ((u : _) (b : Buffer) → w ≡ Elements u b → b ≡ NoBuffer) → Stands own ss (assign x w vs) frames (named p x s)
   stands_new s new fits plain =
       stands_set ((x, s) ∷ p.names) new.unknown
       (λ y a access n level h e same. new.unused y access (subst (Holds p y access) same h))
@@ -145,7 +149,7 @@ module _ (ss : Statics) (vs : Variables) (frames : List Frame) (p : Point) (stan
 
   -- a variable that is neither reference nor buffer
   pub stands_kept : (s : Sort) (old : Variable) → sort_in p.names x ≡ Some s → lookup x vs ≡ Some old → ((level : ℕ) (r : _) → old ≡ LocalRef level r → ⊥) → ((u : _) (b : Buffer) → old ≡ Elements u b → ⊥) → VariableFits s (Some w) (lookup x ss) → ((u : _) (b : Buffer) → w ≡ Elements u b → b ≡ NoBuffer)
-      → Stands ss (assign x w vs) frames p
+      → Stands own ss (assign x w vs) frames p
   stands_kept s old e was no_ref no_buffer fits plain =
       stands_set p.names (unknown (state_of p.regions x) refl)
       (λ y a access n level h g same. no_ref level (Some n) (let there : lookup x vs ≡ Some (LocalRef level (Some n)) = subst (λ (z : Identifier). lookup z vs ≡ Some (LocalRef level (Some n))) same g in let both : Some old ≡ Some (LocalRef level (Some n)) = sym was ∙ there in cc))
@@ -171,7 +175,7 @@ owners_same vs us level n ((y, v) ∷ rest) same = counted (Identifier × Variab
     own (BufferIn b) = refl
 
 -- the point after a step that sets one variable
-pub record SetsOne (ss : Statics) (vs : Variables) (p : Point) (x : Identifier) (w : Variable) (frames : List Frame) (q : Point) : Type 0 where
+pub record SetsOne (own new : Owners) (ss : Statics) (vs : Variables) (p : Point) (x : Identifier) (w : Variable) (frames : List Frame) (q : Point) : Type 0 where
   pub elsewhere : (y : Identifier) → y ≢ x → state_of q.regions y ≡ state_of p.regions y
   pub apart : IsApart p vs x
   pub here : (v : VariableState) → state_of q.regions x ≡ Some v → Shows (assign x w vs) v (Some w)
@@ -180,14 +184,17 @@ pub record SetsOne (ss : Statics) (vs : Variables) (p : Point) (x : Identifier) 
   pub known_once : AreOnce q.regions.variables
   pub depth : length frames ≡ q.regions.frames
   pub backed : (level n : ℕ) → owners q.regions (assign x w vs) level n ≤ copies (references_at level frames) n
+  -- the owners but this one are as they were
+  pub keeps : (y : Identifier) → y ≢ x → new y ≡ own y
+  pub owned_here : (level l n : ℕ) → state_of q.regions x ≡ Some (ReferenceAt level true) → w ≡ LocalRef l (Some n) → new x ≡ Some l
 
-module _ (ss : Statics) (vs : Variables) (frames : List Frame) (p : Point) (stands : Stands ss vs frames p) (x : Identifier) (w : Variable) where
+module _ (ss : Statics) (vs : Variables) (frames : List Frame) (p : Point) {own : Owners} (stands : Stands own ss vs frames p) (x : Identifier) (w : Variable) where
   held_there : (q : Point) (y : Identifier) (access : Access) (a : Identifier) → state_of q.regions y ≡ state_of p.regions y → Holds p y access a → Holds q y access a
   held_there q y access a e (inl h) = inl (e ∙ h)
   held_there q y access a e (inr h) = inr (e ∙ h)
 
-  pub stands_at : (after : List Frame) (q : Point) → SetsOne ss vs p x w after q → Stands ss (assign x w vs) after q
-  stands_at after q one = record {
+  pub stands_at : {new : Owners} (after : List Frame) (q : Point) → SetsOne own new ss vs p x w after q → Stands new ss (assign x w vs) after q
+  stands_at {new} after q one = record {
     sorts = one.sorts;
     shows = λ y v e. elim (one_or_other y x) [
       | inl same ↦
@@ -209,4 +216,12 @@ module _ (ss : Statics) (vs : Variables) (frames : List Frame) (p : Point) (stan
     known_once = one.known_once;
     depth = one.depth;
     backed = one.backed;
+    owned = λ y level l n e h. elim (one_or_other y x) [
+      | inl same ↦
+          let there : lookup x (assign x w vs) ≡ Some (LocalRef l (Some n)) = subst (λ (z : Identifier). lookup z (assign x w vs) ≡ Some (LocalRef l (Some n))) same h in
+          let both : Some w ≡ Some (LocalRef l (Some n)) = sym (lookup_same x w vs) ∙ there in
+          let known : state_of q.regions x ≡ Some (ReferenceAt level true) = subst (λ (z : Identifier). state_of q.regions z ≡ Some (ReferenceAt level true)) same e in
+          subst (λ (z : Identifier). new z ≡ Some l) (sym same) (one.owned_here level l n known (cc))
+      | inr other ↦ one.keeps y other ∙ stands.owned y level l n (sym (one.elsewhere y other) ∙ e) (sym (lookup_other x y w vs other) ∙ h)
+    ];
   }

@@ -10,6 +10,7 @@ use Rattle.source.specs.Sight.{seen, scalar, variable_is_null, static_is_null, h
 use Rattle.source.specs.Thread.{Frame}
 use Rattle.source.specs.Value.{Outcome, Gives, outcome_then}
 use Rattle.source.specs.Variable.{Variable, Elements, Buffer, NoBuffer, Copy, View, StaticReference, Empty, Live, Deleted, Variables, Statics}
+use Rattle.safety.specs.Owners.{Owners}
 use Rattle.safety.specs.Points.{Point, IsNumberSort, IsUsable, NullTestFits, ElementsFit}
 use Rattle.safety.specs.Stands.{VariableFits, IsOf, Stands}
 use Rattle.safety.proofs.Values.{ValueFits}
@@ -53,7 +54,7 @@ lent_elements : (heap : Heap) (u : _) (critical : Bool) (n : ℕ) (b : Buffer) �
 lent_elements heap u true n b e = subst (λ (c : Buffer). HasElements heap (Some (Elements u c))) (sym e) (numbers_of heap n, refl)
 lent_elements heap u false n b (zs, e) = subst (λ (c : Buffer). HasElements heap (Some (Elements u c))) (sym e) (zs, refl)
 
-module _ (ss : Statics) (vs : Variables) (frames : List Frame) (p : Point) (heap : Heap) (stands : Stands ss vs frames p) where
+module _ (ss : Statics) (vs : Variables) (frames : List Frame) (p : Point) (heap : Heap) {own : Owners} (stands : Stands own ss vs frames p) where
   usable_elements : (x : Identifier) → IsUsable p x → HasElements heap (lookup x vs)
   usable_elements x (access, a, known) =
       let shown = stands.shows x _ known in

@@ -2,7 +2,7 @@
 use Rattle.std.proofs.Common.{◌≡◌, ◌≢◌, ℕ, List, [], ◌∷◌, length, Option, Some, None, sym, subst}
 use Rattle.std.specs.List.{AllByRecursion}
 use Rattle.base.specs.Bytes.{Identifier, lookup}
-use Rattle.jni.specs.JniFunction.{Access, JniFunction, ReleaseBuffer, DeleteLocalRef}
+use Rattle.jni.specs.JniFunction.{Access, JniFunction, ReleaseBuffer}
 use Rattle.jni.specs.Prototype.{NewLocal, prototype}
 use Rattle.source.specs.Arguments.{Actual, object_given, variable_given}
 use Rattle.source.specs.Checks.{frames_after}
@@ -12,12 +12,13 @@ use Rattle.source.specs.Task.{Task, Target, Assigned}
 use Rattle.source.specs.Thread.{Thread, Shared, sight_of, viewed_by}
 use Rattle.source.specs.ThreadStep.{next_effect}
 use Rattle.source.specs.Variable.{LocalRef}
+use Rattle.safety.specs.Owners.{Owners, IsOwn}
 use Rattle.safety.specs.Follows.{Follows}
 use Rattle.safety.specs.Stands.{Goes}
 use Rattle.safety.specs.StepSafe.{MayMeetView, MayReturn, IsAlive, came_from}
 use Rattle.safety.specs.Used.{task_names}
 use Rattle.safety.specs.Wanted.{GoesOn}
-use Rattle.safety.proofs.ClauseLaws.{view_clause, return_clause, reference_clause, deleted_clause}
+use Rattle.safety.proofs.ClauseLaws.{view_clause, return_clause, reference_clause, owned_clause}
 use Rattle.safety.proofs.EffectLaws.{effect_follows, call_fits}
 use Rattle.safety.proofs.LevelLaws.{level_clause}
 use Rattle.safety.proofs.ReleaseLaws.{release_clause}
@@ -28,50 +29,44 @@ no_call line target f args e = cc
 no_return : NoEffect ≡ Returns → ⊥
 no_return e = cc
 
-module _ (s : Shared) (t : Thread) where
-  at_return : (o : Option (List Task)) → Goes s.statics t o → next_effect s t o ≡ Returns → MayReturn t
+module _ (own : Owners) (s : Shared) (t : Thread) where
+  at_return : (o : Option (List Task)) → Goes own s.statics t o → next_effect s t o ≡ Returns → MayReturn t
   at_return None g e = absurd (no_return e)
   at_return (Some []) g e = absurd (g.2)
   at_return (Some (task ∷ rest)) (p, stands, runs) e =
       return_clause s.statics t.variables t.frames p stands
-      (subst (Follows (sight_of s t) s.statics t.variables t.frames p rest) e (effect_follows s.heap s.statics t.variables t.frames p stands rest task runs))
+      (subst (Follows own (sight_of s t) s.statics t.variables t.frames p rest) e (effect_follows s.heap s.statics t.variables t.frames p stands rest task runs))
 
-  at_release : (o : Option (List Task)) → Goes s.statics t o → (line : ℕ) (target : Target) (access : Access) (args : List Actual) → next_effect s t o ≡ Calls line target (ReleaseBuffer access) args
+  at_release : (o : Option (List Task)) → Goes own s.statics t o → (line : ℕ) (target : Target) (access : Access) (args : List Actual) → next_effect s t o ≡ Calls line target (ReleaseBuffer access) args
       → came_from (lookup (variable_given args 1) t.variables) ≡ Some (object_given args 0)
   at_release None g line target access args e = absurd (no_call line target (ReleaseBuffer access) args e)
   at_release (Some []) g line target access args e = absurd (g.2)
   at_release (Some (task ∷ rest)) (p, stands, runs) line target access args e =
-      let called = subst (Follows (sight_of s t) s.statics t.variables t.frames p rest) e (effect_follows s.heap s.statics t.variables t.frames p stands rest task runs) in
+      let called = subst (Follows own (sight_of s t) s.statics t.variables t.frames p rest) e (effect_follows s.heap s.statics t.variables t.frames p stands rest task runs) in
       subst (λ (l : List Actual). came_from (lookup (variable_given l 1) t.variables) ≡ Some (object_given l 0)) (sym called.1)
       (release_clause s.heap s.statics t.variables t.frames p stands access called.0
       ((call_fits s.heap s.statics t.variables t.frames p stands rest line target (ReleaseBuffer access) called.0 called.3).rules))
 
-  at_level : (o : Option (List Task)) → Goes s.statics t o → (line : ℕ) (x : Identifier) (f : JniFunction) (args : List Actual) (level : ℕ) (r : Reference)
+  at_level : (o : Option (List Task)) → Goes own s.statics t o → (line : ℕ) (x : Identifier) (f : JniFunction) (args : List Actual) (level : ℕ) (r : Reference)
       → next_effect s t o ≡ Calls line (Assigned x) f args → (prototype f).result ≡ NewLocal → lookup x t.variables ≡ Some (LocalRef level r) → level ≡ length (frames_after f t.frames)
   at_level None g line x f args level r e gives there = absurd (no_call line (Assigned x) f args e)
   at_level (Some []) g line x f args level r e gives there = absurd (g.2)
   at_level (Some (task ∷ rest)) (p, stands, runs) line x f args level r e gives there =
-      let called = subst (Follows (sight_of s t) s.statics t.variables t.frames p rest) e (effect_follows s.heap s.statics t.variables t.frames p stands rest task runs) in
+      let called = subst (Follows own (sight_of s t) s.statics t.variables t.frames p rest) e (effect_follows s.heap s.statics t.variables t.frames p stands rest task runs) in
       level_clause s.statics t.variables t.frames p stands (GoesOn rest) x level r there line f called.0 called.3 gives
 
-  at_deleted : (o : Option (List Task)) → Goes s.statics t o → (line : ℕ) (target : Target) (args : List Actual) → next_effect s t o ≡ Calls line target DeleteLocalRef args → IsAlive t.frames (lookup (variable_given args 0) t.variables)
-  at_deleted None g line target args e = absurd (no_call line target DeleteLocalRef args e)
-  at_deleted (Some []) g line target args e = absurd (g.2)
-  at_deleted (Some (task ∷ rest)) (p, stands, runs) line target args e =
-      let called = subst (Follows (sight_of s t) s.statics t.variables t.frames p rest) e (effect_follows s.heap s.statics t.variables t.frames p stands rest task runs) in
-      subst (λ (l : List Actual). IsAlive t.frames (lookup (variable_given l 0) t.variables)) (sym called.1)
-      (deleted_clause s.statics t.variables t.frames p stands (sight_of s t) called.0
-      ((call_fits s.heap s.statics t.variables t.frames p stands rest line target DeleteLocalRef called.0 called.3).sorts))
-
-  module _ (goes : Goes s.statics t t.tasks) where
+  module _ (goes : Goes own s.statics t t.tasks) where
     pub view : (task : Task) (rest : List Task) → t.tasks ≡ Some (task ∷ rest) → viewed_by t ≢ [] → MayMeetView task
-    view task rest e held = let g : Goes s.statics t (Some (task ∷ rest)) = subst (Goes s.statics t) e goes in view_clause s.statics t.variables t.frames g.0 g.1 task (GoesOn rest) g.2 held
+    view task rest e held = let g : Goes own s.statics t (Some (task ∷ rest)) = subst (Goes own s.statics t) e goes in view_clause s.statics t.variables t.frames g.0 g.1 task (GoesOn rest) g.2 held
 
     pub return : next_effect s t t.tasks ≡ Returns → MayReturn t
     return e = at_return t.tasks goes e
 
     pub references : (task : Task) (rest : List Task) → t.tasks ≡ Some (task ∷ rest) → AllByRecursion (λ x. IsAlive t.frames (lookup x t.variables)) (task_names task)
-    references task rest e = let g : Goes s.statics t (Some (task ∷ rest)) = subst (Goes s.statics t) e goes in reference_clause s.statics t.variables t.frames g.0 g.1 task (GoesOn rest) g.2
+    references task rest e = let g : Goes own s.statics t (Some (task ∷ rest)) = subst (Goes own s.statics t) e goes in reference_clause s.statics t.variables t.frames g.0 g.1 task (GoesOn rest) g.2
+
+    pub owned : (task : Task) (rest : List Task) → t.tasks ≡ Some (task ∷ rest) → AllByRecursion (λ x. IsOwn own x (lookup x t.variables)) (task_names task)
+    owned task rest e = let g : Goes own s.statics t (Some (task ∷ rest)) = subst (Goes own s.statics t) e goes in owned_clause s.statics t.variables t.frames g.0 g.1 task (GoesOn rest) g.2
 
     pub release : (line : ℕ) (target : Target) (access : Access) (args : List Actual) → next_effect s t t.tasks ≡ Calls line target (ReleaseBuffer access) args → came_from (lookup (variable_given args 1) t.variables) ≡ Some (object_given args 0)
     release line target access args e = at_release t.tasks goes line target access args e
@@ -79,6 +74,3 @@ module _ (s : Shared) (t : Thread) where
     pub declared : (line : ℕ) (x : Identifier) (f : JniFunction) (args : List Actual) (level : ℕ) (r : Reference)
         → next_effect s t t.tasks ≡ Calls line (Assigned x) f args → (prototype f).result ≡ NewLocal → lookup x t.variables ≡ Some (LocalRef level r) → level ≡ length (frames_after f t.frames)
     declared line x f args level r e gives there = at_level t.tasks goes line x f args level r e gives there
-
-    pub deleted : (line : ℕ) (target : Target) (args : List Actual) → next_effect s t t.tasks ≡ Calls line target DeleteLocalRef args → IsAlive t.frames (lookup (variable_given args 0) t.variables)
-    deleted line target args e = at_deleted t.tasks goes line target args e

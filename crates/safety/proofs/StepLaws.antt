@@ -13,6 +13,7 @@ use Rattle.source.specs.Thread.{Thread, Shared, BuffersInUse, Frame, Advance, Ad
 use Rattle.source.specs.ThreadStep.{set_element, with_tasks, after_effect}
 use Rattle.source.specs.Value.{Value, Word, Int, Flag, Truth, convert}
 use Rattle.source.specs.Variable.{Variable, Scalar, LocalRef, FieldHandle, Elements, LocalArray, Buffer, NoBuffer, Copy, View, StaticReference, Variables, Statics, assign}
+use Rattle.safety.specs.Owners.{Owners}
 use Rattle.safety.specs.Points.{Point, IsNumberSort, value_sort, ElementsFit, is_copy, owns}
 use Rattle.safety.specs.Stands.{VariableFits, IsOf, Shows, Goes, Stands}
 use Rattle.regions.specs.RegionStates.{VariableState, Free, Untested, Usable, ReferenceAt, BufferIn, with_new}
@@ -30,18 +31,18 @@ use Rattle.std.specs.Prelude.{IsTrue, length, filter, ◌&&◌}
 use Rattle.safety.proofs.SetLaws.{stands_new, stands_kept, none_some, stands_at, owners_same, owners_elsewhere, sorts_named}
 
 -- the thread is at a point from which its tasks go on
-abbrev pub GoesFrom : Statics → Variables → List Frame → List Task → Type 0
-GoesFrom ss vs frames tasks = (q : Point) × Stands ss vs frames q × GoesOn tasks q
+abbrev pub GoesFrom : Owners → Statics → Variables → List Frame → List Task → Type 0
+GoesFrom own ss vs frames tasks = (q : Point) × Stands own ss vs frames q × GoesOn tasks q
 
 -- a step that leaves the thread so, and the names of the statics as they were
-abbrev pub Lands : Statics → Advance → Type 0
-Lands ss (Advances s t event) = Goes s.statics t t.tasks × ((x : Identifier) (r : StaticReference) → lookup x ss ≡ Some r → (q : StaticReference) × (lookup x s.statics ≡ Some q))
-Lands ss NoAdvance = ⊥
+abbrev pub Lands : Owners → Statics → Advance → Type 0
+Lands own ss (Advances s t event) = Goes own s.statics t t.tasks × ((x : Identifier) (r : StaticReference) → lookup x ss ≡ Some r → (q : StaticReference) × (lookup x s.statics ≡ Some q))
+Lands own ss NoAdvance = ⊥
 
 pub same_statics : (ss : Statics) (x : Identifier) (r : StaticReference) → lookup x ss ≡ Some r → (q : StaticReference) × (lookup x ss ≡ Some q)
 same_statics ss x r e = (r, e)
 
-module _ (classes : Classes) (lent : BuffersInUse) (k : ℕ) (s : Shared) (t : Thread) (rest : List Task) (p : Point) (stands : Stands s.statics t.variables t.frames p) where
+module _ (classes : Classes) (lent : BuffersInUse) (k : ℕ) (s : Shared) (t : Thread) (rest : List Task) (p : Point) {own : Owners} (stands : Stands own s.statics t.variables t.frames p) where
   -- ---- numbers
 
   number_old : (sort : Sort) (o : Option Variable) (g : Option StaticReference) → IsNumberSort sort → VariableFits sort o g → (v : Value) × (o ≡ Some (Scalar v))
@@ -62,7 +63,7 @@ module _ (classes : Classes) (lent : BuffersInUse) (k : ℕ) (s : Shared) (t : T
   scalar_no_buffer : (v : Value) (u : ElementType) (b : Buffer) → Scalar v ≡ Elements u b → ⊥
   scalar_no_buffer v u b e = cc
 
-  sets_lands : (x : Identifier) (v : Value) → SetsNumber x (value_sort v) (GoesOn rest) p → IsNumberSort (value_sort v) → GoesFrom s.statics (assign x (Scalar v) t.variables) t.frames rest
+  sets_lands : (x : Identifier) (v : Value) → SetsNumber x (value_sort v) (GoesOn rest) p → IsNumberSort (value_sort v) → GoesFrom own s.statics (assign x (Scalar v) t.variables) t.frames rest
   sets_lands x v (inl (e, g)) n =
       let old = number_old (value_sort v) (lookup x t.variables) (lookup x s.statics) n (stands.sorts x (value_sort v) e) in (
         p,
@@ -80,7 +81,7 @@ module _ (classes : Classes) (lent : BuffersInUse) (k : ℕ) (s : Shared) (t : T
   array_no_buffer : (v : ElementType) (zs : List ℤ) (u : ElementType) (b : Buffer) → LocalArray v zs ≡ Elements u b → ⊥
   array_no_buffer v zs u b e = cc
 
-  makes_lands : (u : ElementType) (x : Identifier) (size : ℕ) → IsNew p x → GoesOn rest (named p x (sort.Array u size)) → GoesFrom s.statics (assign x (LocalArray u (replicate size (pos 0))) t.variables) t.frames rest
+  makes_lands : (u : ElementType) (x : Identifier) (size : ℕ) → IsNew p x → GoesOn rest (named p x (sort.Array u size)) → GoesFrom own s.statics (assign x (LocalArray u (replicate size (pos 0))) t.variables) t.frames rest
   makes_lands u x size new g = (
     named p x (sort.Array u size),
     stands_new s.statics t.variables t.frames p stands x (LocalArray u (replicate size (pos 0))) (sort.Array u size) new (replicate size (pos 0), refl) (λ v b c. absurd (array_no_buffer u (replicate size (pos 0)) v b c)),
@@ -130,7 +131,7 @@ module _ (classes : Classes) (lent : BuffersInUse) (k : ℕ) (s : Shared) (t : T
   pub buffer_no_copy : (level n : ℕ) (u : ElementType) (b c : Buffer) (o : Option Variable) → o ≡ Some (Elements u b) → is_copy level n (Some (Elements u c)) ≡ is_copy level n o
   buffer_no_copy level n u b c o e = subst (λ (v : Option Variable). false ≡ is_copy level n v) (sym e) refl
 
-  copy_set : (x : Identifier) (u : ElementType) (n : ℕ) (zs ys : List ℤ) → lookup x t.variables ≡ Some (Elements u (Copy n zs)) → Stands s.statics (assign x (Elements u (Copy n ys)) t.variables) t.frames p
+  copy_set : (x : Identifier) (u : ElementType) (n : ℕ) (zs ys : List ℤ) → lookup x t.variables ≡ Some (Elements u (Copy n zs)) → Stands own s.statics (assign x (Elements u (Copy n ys)) t.variables) t.frames p
   copy_set x u n zs ys e = stands_at s.statics t.variables t.frames p stands x (Elements u (Copy n ys)) t.frames p (record {
     elsewhere = λ y other. refl;
     apart = λ y a access m level h at_a. apart_buffer x u (Copy n zs) e a m level at_a;
@@ -154,6 +155,8 @@ module _ (classes : Classes) (lent : BuffersInUse) (k : ℕ) (s : Shared) (t : T
         ]) in
         let enough = stands.backed level m in
         omega (arith, same, enough);
+    keeps = λ y other. refl;
+    owned_here = λ level l m known h. absurd (let c : Elements u (Copy n ys) ≡ LocalRef l (Some m) = h in cc);
   })
     where
       copy_is : (n : ℕ) (zs : List ℤ) → Copy n zs ≡ NoBuffer → ⊥
@@ -186,13 +189,13 @@ module _ (classes : Classes) (lent : BuffersInUse) (k : ℕ) (s : Shared) (t : T
   array_sort x (sort.Buffer v w) o g u zs ys fit e (a, b, h) = absurd (let c : Some (Elements a b) ≡ Some (LocalArray u zs) = sym h ∙ e in cc)
   array_sort x r o g u zs ys fit e h = absurd fit
 
-  array_set : (x : Identifier) (u : ElementType) (zs ys : List ℤ) (r : Option Sort) → sort_in p.names x ≡ r → ElementsFit p x r → lookup x t.variables ≡ Some (LocalArray u zs) → Stands s.statics (assign x (LocalArray u ys) t.variables) t.frames p
+  array_set : (x : Identifier) (u : ElementType) (zs ys : List ℤ) (r : Option Sort) → sort_in p.names x ≡ r → ElementsFit p x r → lookup x t.variables ≡ Some (LocalArray u zs) → Stands own s.statics (assign x (LocalArray u ys) t.variables) t.frames p
   array_set x u zs ys None e fit at_x = absurd fit
   array_set x u zs ys (Some r) e fit at_x =
       stands_kept s.statics t.variables t.frames p stands x (LocalArray u ys) r (LocalArray u zs) e at_x (array_no_ref u zs) (array_no_buffer u zs)
       (array_sort x r (lookup x t.variables) (lookup x s.statics) u zs ys fit at_x (stands.sorts x r e)) (λ v b c. absurd (array_no_buffer u ys v b c))
 
-  element_lands : (x : Identifier) (i : ℕ) (z : ℤ) (o : Option Variable) → lookup x t.variables ≡ o → Store o → ElementsFit p x (sort_in p.names x) → GoesOn rest p → Lands s.statics (set_element s (with_tasks t rest) x i z o)
+  element_lands : (x : Identifier) (i : ℕ) (z : ℤ) (o : Option Variable) → lookup x t.variables ≡ o → Store o → ElementsFit p x (sort_in p.names x) → GoesOn rest p → Lands own s.statics (set_element s (with_tasks t rest) x i z o)
   element_lands x i z o e (InArray u zs) fit g = ((p, array_set x u zs (slice_set zs i (convert u z)) (sort_in p.names x) refl fit e, g), same_statics s.statics)
   element_lands x i z o e (InCopy u n zs) fit g = ((p, copy_set x u n zs (slice_set zs i (convert u z)) e, g), same_statics s.statics)
   element_lands x i z o e (InView u n) fit g = ((p, stands, g), same_statics s.statics)
@@ -217,7 +220,7 @@ module _ (classes : Classes) (lent : BuffersInUse) (k : ℕ) (s : Shared) (t : T
   null_owns x level l n (BufferIn b) = refl
 
   -- a new reference that is NULL
-  pub null_declared : (x : Identifier) → IsNew p x → Stands s.statics (assign x (LocalRef (length t.frames) None) t.variables) t.frames (at (named p x sort.Ref) (with_new p.regions x (ReferenceAt p.regions.frames true)))
+  pub null_declared : (x : Identifier) → IsNew p x → Stands own s.statics (assign x (LocalRef (length t.frames) None) t.variables) t.frames (at (named p x sort.Ref) (with_new p.regions x (ReferenceAt p.regions.frames true)))
   null_declared x new = stands_at s.statics t.variables t.frames p stands x (LocalRef (length t.frames) None) t.frames _ (record {
     elsewhere = λ y other. front_other x y (ReferenceAt p.regions.frames true) p.regions.variables other;
     apart = λ y a access m level h at_a same. new.unused y access (subst (Holds p y access) same h);
@@ -238,6 +241,8 @@ module _ (classes : Classes) (lent : BuffersInUse) (k : ℕ) (s : Shared) (t : T
         = ap (λ (b : Bool). length (if b then (x, ReferenceAt p.regions.frames true) ∷ filter (owns us level n) p.regions.variables else filter (owns us level n) p.regions.variables)) none in
         let enough = stands.backed level n in
         omega (arith, drop_first, same, enough);
+    keeps = λ y other. refl;
+    owned_here = λ level l n e h. absurd (let c : LocalRef (length t.frames) None ≡ LocalRef l (Some n) = h in cc);
   })
 
   -- ---- a return
@@ -255,7 +260,7 @@ module _ (classes : Classes) (lent : BuffersInUse) (k : ℕ) (s : Shared) (t : T
   IsPlain (SetsNull target) = ⊥
   IsPlain e = Unit {0}
 
-  pub plain_lands : (sight : Sight) (e : Effect) → IsPlain e → Goes s.statics t t.tasks → Follows sight s.statics t.variables t.frames p rest e → Lands s.statics (after_effect classes lent k s t rest e)
+  pub plain_lands : (sight : Sight) (e : Effect) → IsPlain e → Goes own s.statics t t.tasks → Follows own sight s.statics t.variables t.frames p rest e → Lands own s.statics (after_effect classes lent k s t rest e)
   plain_lands sight (Becomes tasks) plain whole (q, there, g) = ((q, there, g), same_statics s.statics)
   plain_lands sight (Sets x v) plain whole h = (sets_lands x v h.0 h.1, same_statics s.statics)
   plain_lands sight (SetsNull target) plain whole h = absurd plain

@@ -7,20 +7,21 @@ use Rattle.source.specs.Sight.{Sight}
 use Rattle.source.specs.Task.{Task, Operand, Invoke}
 use Rattle.source.specs.Thread.{Frame}
 use Rattle.source.specs.Variable.{Variables, Statics}
+use Rattle.safety.specs.Owners.{Owners}
 use Rattle.safety.specs.Points.{Point, value_sort, IsNumberSort, ElementsFit}
 use Rattle.safety.specs.Wanted.{IsNew, named, SetsNumber, SetsNullThere, HasNoView, MayReturnFrom, GoesOn, Runs}
 use Rattle.safety.specs.Stands.{Stands}
 
 -- an effect at a point where the thread stands, with these tasks left after it
-abbrev pub Follows : Sight → Statics → Variables → List Frame → Point → List Task → Effect → Type 0
-Follows sight ss vs frames p rest (Becomes tasks) = (q : Point) × Stands ss vs frames q × GoesOn (tasks ++ rest) q
-Follows sight ss vs frames p rest (Sets x v) = SetsNumber x (value_sort v) (GoesOn rest) p × IsNumberSort (value_sort v)
-Follows sight ss vs frames p rest (SetsNull target) = SetsNullThere p target (GoesOn rest)
-Follows sight ss vs frames p rest (SetsElement x i z) = ElementsFit p x (sort_in p.names x) × GoesOn rest p
-Follows sight ss vs frames p rest (MakesArray t x size) = IsNew p x × GoesOn rest (named p x (Array t size))
-Follows sight ss vs frames p rest (Prints z) = HasNoView p × GoesOn rest p
-Follows sight ss vs frames p rest (Calls line target f args) =
+abbrev pub Follows : Owners → Sight → Statics → Variables → List Frame → Point → List Task → Effect → Type 0
+Follows own sight ss vs frames p rest (Becomes tasks) = (q : Point) × Stands own ss vs frames q × GoesOn (tasks ++ rest) q
+Follows own sight ss vs frames p rest (Sets x v) = SetsNumber x (value_sort v) (GoesOn rest) p × IsNumberSort (value_sort v)
+Follows own sight ss vs frames p rest (SetsNull target) = SetsNullThere p target (GoesOn rest)
+Follows own sight ss vs frames p rest (SetsElement x i z) = ElementsFit p x (sort_in p.names x) × GoesOn rest p
+Follows own sight ss vs frames p rest (MakesArray t x size) = IsNew p x × GoesOn rest (named p x (Array t size))
+Follows own sight ss vs frames p rest (Prints z) = HasNoView p × GoesOn rest p
+Follows own sight ss vs frames p rest (Calls line target f args) =
     (operands : List Operand) × (args ≡ actuals sight f operands) × IsTrue (is_ready operands) × Runs (Invoke line target f operands) (GoesOn rest) p
-Follows sight ss vs frames p rest Returns = MayReturnFrom p
-Follows sight ss vs frames p rest (TrapsAt trap line) = Unit {0}
-Follows sight ss vs frames p rest NoEffect = ⊥
+Follows own sight ss vs frames p rest Returns = MayReturnFrom p
+Follows own sight ss vs frames p rest (TrapsAt trap line) = Unit {0}
+Follows own sight ss vs frames p rest NoEffect = ⊥

@@ -1,6 +1,6 @@
 -- How a thread stands at a point: its variables are of their sorts, and hold what is known of them.
-use Rattle.std.specs.Prelude.{◌≡◌, ℕ, ◌≤◌, ◌==◌, Bool, true, false, ◌⊎◌, ℤ, List, [], length, Option, Some, None, IsTrue, filter}
-use Rattle.std.specs.List.{list_all, AllByRecursion}
+use Rattle.std.specs.Prelude.{◌≡◌, ℕ, ◌+◌, ◌≤◌, ◌==◌, Bool, true, false, ◌⊎◌, ℤ, List, [], ◌∷◌, length, Option, Some, None, IsTrue, filter}
+use Rattle.std.specs.List.{list_all}
 use Rattle.base.specs.Bytes.{Identifier, lookup}
 use Rattle.base.specs.Element.{ElementType}
 use Rattle.syntax.specs.Tree.{SourceUnit}
@@ -18,6 +18,7 @@ use Rattle.source.specs.Task.{Task}
 use Rattle.source.specs.Thread.{Thread, Frame}
 use Rattle.source.specs.Value.{Value}
 use Rattle.source.specs.Variable.{Variable, Scalar, LocalRef, FieldHandle, Elements, LocalArray, Buffer as Buffer_, NoBuffer, Copy, View, StaticReference, Variables, Statics}
+use Rattle.safety.specs.Owners.{Owners, AllOwners}
 use Rattle.safety.specs.Points.{Point, AreOnce, value_sort, owners}
 use Rattle.safety.specs.StepSafe.{references_at, has_calls}
 use Rattle.safety.specs.Wanted.{Holds, GoesOn}
@@ -64,8 +65,12 @@ copies names n = length (filter (λ m. n == m) names)
 
 -- ---- a thread
 
+-- the level of each live reference is that of its variable's own
+abbrev pub IsOwned : Owners → Variables → Point → Type 0
+IsOwned own vs p = (x : Identifier) (level l n : ℕ) → state_of p.regions x ≡ Some (ReferenceAt level true) → lookup x vs ≡ Some (LocalRef l (Some n)) → own x ≡ Some l
+
 -- the thread is at this point
-pub record Stands (statics : Statics) (vs : Variables) (frames : List Frame) (p : Point) : Type 0 where
+pub record Stands (own : Owners) (statics : Statics) (vs : Variables) (frames : List Frame) (p : Point) : Type 0 where
   pub sorts : (x : Identifier) (s : Sort) → sort_in p.names x ≡ Some s → VariableFits s (lookup x vs) (lookup x statics)
   pub shows : (x : Identifier) (v : VariableState) → state_of p.regions x ≡ Some v → Shows vs v (lookup x vs)
   -- no other buffer is held
@@ -75,17 +80,24 @@ pub record Stands (statics : Statics) (vs : Variables) (frames : List Frame) (p 
   pub depth : length frames ≡ p.regions.frames
   -- each live reference has a copy of its own in the frame of its level
   pub backed : (level n : ℕ) → owners p.regions vs level n ≤ copies (references_at level frames) n
+  -- and is its variable's own
+  pub owned : IsOwned own vs p
 
 -- how the thread goes on: from its entry, or from a point that it stands at
-abbrev pub Goes : Statics → Thread → Option (List Task) → Type 0
-Goes statics t None = (t.variables ≡ []) × (is_unfinished t.ending ≡ true → IsTrue (has_calls t.calls))
-Goes statics t (Some tasks) = (p : Point) × Stands statics t.variables t.frames p × GoesOn tasks p
+abbrev pub Goes : Owners → Statics → Thread → Option (List Task) → Type 0
+Goes own statics t None = (t.variables ≡ []) × (is_unfinished t.ending ≡ true → IsTrue (has_calls t.calls))
+Goes own statics t (Some tasks) = (p : Point) × Stands own statics t.variables t.frames p × GoesOn tasks p
 
 -- what holds of a thread before each step
-pub record IsSound (unit : SourceUnit) (classes : Classes) (statics : Statics) (t : Thread) : Type 0 where
-  pub goes : Goes statics t t.tasks
+pub record IsSound (unit : SourceUnit) (classes : Classes) (own : Owners) (statics : Statics) (t : Thread) : Type 0 where
+  pub goes : Goes own statics t t.tasks
   pub loads : IsTrue (list_all (call_loads unit classes) t.calls)
 
+-- what holds of threads, where the first of them has this number
+abbrev pub AllSound : SourceUnit → Classes → AllOwners → Statics → ℕ → List Thread → Type 0
+AllSound unit classes owners statics k [] = Unit {0}
+AllSound unit classes owners statics k (t ∷ ts) = IsSound unit classes (owners k) statics t × AllSound unit classes owners statics (k + 1) ts
+
 -- what holds of a state
-abbrev pub AreSound : SourceUnit → Classes → State → Type 0
-AreSound unit classes s = AllByRecursion (IsSound unit classes s.shared.statics) s.threads
+abbrev pub AreSound : SourceUnit → Classes → AllOwners → State → Type 0
+AreSound unit classes owners s = AllSound unit classes owners s.shared.statics 1 s.threads

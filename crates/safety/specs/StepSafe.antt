@@ -3,7 +3,7 @@ use Rattle.std.specs.Prelude.{◌≡◌, ◌≢◌, ℕ, ◌-◌, ◌==◌, nat_
 use Rattle.std.specs.List.{list_any, list_all, AllByRecursion}
 use Rattle.base.specs.Bytes.{Identifier, lookup}
 use Rattle.syntax.specs.Tree.{SourceUnit}
-use Rattle.jni.specs.JniFunction.{JniFunction, ReleaseBuffer, DeleteLocalRef}
+use Rattle.jni.specs.JniFunction.{JniFunction, ReleaseBuffer}
 use Rattle.jni.specs.Prototype.{NewLocal, prototype}
 use Rattle.types.specs.SortRules.{IsSorted}
 use Rattle.source.specs.declared.journal.Entry.TheVariants.{Step}
@@ -23,6 +23,7 @@ use Rattle.source.specs.Task.{Task, Assigned, Invoke, Print}
 use Rattle.source.specs.Thread.{Thread, Frame, viewed_by}
 use Rattle.source.specs.ThreadStep.{next_effect}
 use Rattle.source.specs.Variable.{Variable, LocalRef, Elements, NoBuffer, Copy, View}
+use Rattle.safety.specs.Owners.{Owners, IsOwn, owners_after}
 use Rattle.safety.specs.Used.{task_names}
 
 -- ---- a view
@@ -71,21 +72,22 @@ came_from v = None
 
 -- ---- each step
 
--- thread k, which is t, does none of what JNI leaves undefined, and can go on
-pub record StepSafe (unit : SourceUnit) (w : World) (s : State) (k : ℕ) (t : Thread) : Type 0 where
+-- thread k, which is t, and of which these variables have references of their own, does none of what JNI leaves undefined, and
+-- can go on
+pub record StepSafe (unit : SourceUnit) (w : World) (s : State) (own : Owners) (k : ℕ) (t : Thread) : Type 0 where
   -- with a view it begins no call but the critical ones, and prints nothing
   pub view : (task : Task) (rest : List Task) → t.tasks ≡ Some (task ∷ rest) → viewed_by t ≢ [] → MayMeetView task
   -- a return finds no copied list, no view and one frame
   pub return : next_effect s.shared t t.tasks ≡ Returns → MayReturn t
   -- a step uses no dead reference
   pub references : (task : Task) (rest : List Task) → t.tasks ≡ Some (task ∷ rest) → AllByRecursion (λ x. IsAlive t.frames (lookup x t.variables)) (task_names task)
+  -- nor one that isn't the variable's own
+  pub owned : (task : Task) (rest : List Task) → t.tasks ≡ Some (task ∷ rest) → AllByRecursion (λ x. IsOwn own x (lookup x t.variables)) (task_names task)
   -- a release names the array that its buffer came from
   pub release : (line : ℕ) (target : _) (access : _) (args : List Actual) → next_effect s.shared t t.tasks ≡ Calls line target (ReleaseBuffer access) args → came_from (lookup (variable_given args 1) t.variables) ≡ Some (object_given args 0)
   -- a call that gives a new local reference to a variable that is there already finds it declared at the frame that is then current
   pub declared : (line : ℕ) (x : Identifier) (f : JniFunction) (args : List Actual) (level : ℕ) (r : Reference)
       → next_effect s.shared t t.tasks ≡ Calls line (Assigned x) f args → (prototype f).result ≡ NewLocal → lookup x t.variables ≡ Some (LocalRef level r) → level ≡ length (frames_after f t.frames)
-  -- DeleteLocalRef is given NULL or a reference that its frame has yet
-  pub deleted : (line : ℕ) (target : _) (args : List Actual) → next_effect s.shared t t.tasks ≡ Calls line target DeleteLocalRef args → IsAlive t.frames (lookup (variable_given args 0) t.variables)
   -- if it isn't ended, blocked or stopped, it can step
   pub progress : can_step w.classes s k ≡ true → (next : State) × (world_step unit w.classes s (Step k false) ≡ Some next)
 
@@ -100,7 +102,7 @@ HasCalls w = IsTrue (list_all has_calls w.threads)
 
 -- after each journal that can be replayed, each thread's next step is safe
 abbrev pub IsSafe : SourceUnit → World → Type 0
-IsSafe unit w = (journal : Journal) (s : State) (k : ℕ) (t : Thread) → replay unit w journal ≡ Some s → thread_at s k ≡ Some t → StepSafe unit w s k t
+IsSafe unit w = (journal : Journal) (s : State) (k : ℕ) (t : Thread) → replay unit w journal ≡ Some s → thread_at s k ≡ Some t → StepSafe unit w s (owners_after unit w journal k) k t
 
 -- an accepted unit is safe in each world that goes with it
 abbrev pub AcceptedIsSafe : Type 0

@@ -38,8 +38,12 @@ level_set ss k l l' x s h within same first capacity free =
       room = λ p b e. omega (arith, h.room p (omega arith) (sym (group_set ss x s p within same) ∙ e));
     }
 
+-- there may be more host memory
+pub more_memory : (ls : List Level) (ss : List Slot) (total few many : ℕ) → AreLevels ls ss total few → few ≤ many → AreLevels ls ss total many
+more_memory ls ss total few many h more = record { each = h.each; grouped = h.grouped; counted = h.counted; limit = h.limit; memory = omega (arith, h.memory, more) }
+
 -- an object was moved: no list of free slots changes
-pub levels_moved : (ls : List Level) (ss : List Slot) (total x a : ℕ) (r : Slot) → AreLevels ls ss total → Held ss x → r ≡ slot_at ss x → AreLevels ls (set ss x (record { address = Some a; group = r.group; next = r.next })) total
+pub levels_moved : {reserved : ℕ} (ls : List Level) (ss : List Slot) (total x a : ℕ) (r : Slot) → AreLevels ls ss total reserved → Held ss x → r ≡ slot_at ss x → AreLevels ls (set ss x (record { address = Some a; group = r.group; next = r.next })) total reserved
 levels_moved ls ss total x a r h there read =
     let same : r.group ≡ (slot_at ss x).group = ap (λ (s : Slot). s.group) read in
     record {
@@ -47,10 +51,11 @@ levels_moved ls ss total x a r h there read =
       grouped = λ p l. subst (λ g. g < length ls) (sym (group_set ss x (record { address = Some a; group = r.group; next = r.next }) p there.within same)) (h.grouped p (omega (arith, length-set ss x (record { address = Some a; group = r.group; next = r.next }))));
       counted = h.counted;
       limit = h.limit;
+      memory = h.memory;
     }
 
 -- a slot of a level changes, and the level's list of free slots
-levels_set : (ls : List Level) (ss : List Slot) (total k : ℕ) (l' : Level) (x : ℕ) (s : Slot) → AreLevels ls ss total → k < length ls → x < length ss → (slot_at ss x).group ≡ k → s.group ≡ k → l'.first ≡ (level_at ls k).first → l'.capacity ≡ (level_at ls k).capacity → AreFree (set ss x s) k l'.free → AreLevels (set ls k l') (set ss x s) total
+levels_set : {reserved : ℕ} (ls : List Level) (ss : List Slot) (total k : ℕ) (l' : Level) (x : ℕ) (s : Slot) → AreLevels ls ss total reserved → k < length ls → x < length ss → (slot_at ss x).group ≡ k → s.group ≡ k → l'.first ≡ (level_at ls k).first → l'.capacity ≡ (level_at ls k).capacity → AreFree (set ss x s) k l'.free → AreLevels (set ls k l') (set ss x s) total reserved
 levels_set ls ss total k l' x s h known within was is first capacity free =
     let same : s.group ≡ (slot_at ss x).group = is ∙ sym was in
     let count = length-set ls k l' in
@@ -76,24 +81,25 @@ levels_set ls ss total k l' x s h known within was is first capacity free =
       grouped = λ p l. subst (λ g. g < length (set ls k l')) (sym (group_set ss x s p within same)) (omega (arith, h.grouped p (omega arith)));
       counted = omega arith;
       limit = h.limit;
+      memory = h.memory;
     }
 
 -- the first free slot of a level is taken
-pub levels_taken : (ls : List Level) (ss : List Slot) (total k a : ℕ) (l : Level) → AreLevels ls ss total → k < length ls → l ≡ level_at ls k → 0 < l.free.count → AreLevels (set ls k (record l { free = rest_of ss l.free })) (set ss l.free.first (taken_slot k a)) total
+pub levels_taken : {reserved : ℕ} (ls : List Level) (ss : List Slot) (total k a : ℕ) (l : Level) → AreLevels ls ss total reserved → k < length ls → l ≡ level_at ls k → 0 < l.free.count → AreLevels (set ls k (record l { free = rest_of ss l.free })) (set ss l.free.first (taken_slot k a)) total reserved
 levels_taken ls ss total k a l h known read some =
     let here : IsLevel ss k l = subst (λ (m : Level). IsLevel ss k m) (sym read) (h.each k known) in
     let free = first_free ss k l.free some here.free in
     levels_set ls ss total k (record l { free = rest_of ss l.free }) l.free.first (taken_slot k a) h known free.within free.of_group refl (ap (λ (m : Level). m.first) read) (ap (λ (m : Level). m.capacity) read) (free_taken ss k a l.free some here.free)
 
 -- a slot of a level is freed
-pub levels_freed : (ls : List Level) (ss : List Slot) (total k x : ℕ) (l : Level) → AreLevels ls ss total → k < length ls → l ≡ level_at ls k → Held ss x → (slot_at ss x).group ≡ k → AreLevels (set ls k (record l { free = with_free l.free x })) (set ss x (free_slot k l.free.first)) total
+pub levels_freed : {reserved : ℕ} (ls : List Level) (ss : List Slot) (total k x : ℕ) (l : Level) → AreLevels ls ss total reserved → k < length ls → l ≡ level_at ls k → Held ss x → (slot_at ss x).group ≡ k → AreLevels (set ls k (record l { free = with_free l.free x })) (set ss x (free_slot k l.free.first)) total reserved
 levels_freed ls ss total k x l h known read there group =
     let here : IsLevel ss k l = subst (λ (m : Level). IsLevel ss k m) (sym read) (h.each k known) in
     levels_set ls ss total k (record l { free = with_free l.free x }) x (free_slot k l.free.first) h known there.within group refl (ap (λ (m : Level). m.first) read) (ap (λ (m : Level). m.capacity) read) (free_freed ss k x l.free there.within (there.counts k) here.free)
 
 -- ---- a slot comes
 
-pub levels_added : (ls : List Level) (ss : List Slot) (total k a : ℕ) → AreLevels ls ss total → length ls ≡ k + 1 → length ss < (level_at ls k).first + (level_at ls k).capacity → AreLevels ls (ss ++ taken_slot k a ∷ []) total
+pub levels_added : {reserved : ℕ} (ls : List Level) (ss : List Slot) (total k a : ℕ) → AreLevels ls ss total reserved → length ls ≡ k + 1 → length ss < (level_at ls k).first + (level_at ls k).capacity → AreLevels ls (ss ++ taken_slot k a ∷ []) total reserved
 levels_added ls ss total k a h last room =
     let count = length-append ss (taken_slot k a ∷ []) in
     record {
@@ -110,12 +116,13 @@ levels_added ls ss total k a h last room =
       grouped = group_added ss (taken_slot k a) (λ q g. g < length ls) h.grouped (omega arith);
       counted = h.counted;
       limit = h.limit;
+      memory = h.memory;
     }
 
 -- ---- a level comes or goes
 
 -- with no slot
-pub levels_pushed : (ls : List Level) (ss : List Slot) (total capacity : ℕ) → AreLevels ls ss total → total + capacity ≤ MOST_LOCALS → AreLevels (ls ++ record { capacity = capacity; first = length ss; free = record { first = 0; count = 0 } } ∷ []) ss (total + capacity)
+pub levels_pushed : {reserved : ℕ} (ls : List Level) (ss : List Slot) (total capacity : ℕ) → AreLevels ls ss total reserved → total + capacity ≤ MOST_LOCALS → AreLevels (ls ++ record { capacity = capacity; first = length ss; free = record { first = 0; count = 0 } } ∷ []) ss (total + capacity) reserved
 levels_pushed ls ss total capacity h room =
     let l : Level = record { capacity = capacity; first = length ss; free = record { first = 0; count = 0 } } in
     let count = length-append ls (record { capacity = capacity; first = length ss; free = record { first = 0; count = 0 } } ∷ []) in
@@ -140,6 +147,7 @@ levels_pushed ls ss total capacity h room =
       grouped = λ p b. omega (arith, h.grouped p b);
       counted = omega arith;
       limit = room;
+      memory = h.memory;
     }
 
 sum_of_last : (ls : List Level) (k : ℕ) → length ls ≡ k + 1 → sum_by capacity_of (drop k ls) ≡ (level_at ls k).capacity
@@ -174,7 +182,7 @@ lower_first ss j k low high h g less =
     omega arith
 
 -- the last one goes, with its slots
-pub levels_popped : (ls : List Level) (ss : List Slot) (total k : ℕ) (l : Level) → AreLevels ls ss total → length ls ≡ k + 1 → l ≡ level_at ls k → AreLevels (take k ls) (take l.first ss) (total - l.capacity)
+pub levels_popped : {reserved : ℕ} (ls : List Level) (ss : List Slot) (total k : ℕ) (l : Level) → AreLevels ls ss total reserved → length ls ≡ k + 1 → l ≡ level_at ls k → AreLevels (take k ls) (take l.first ss) (total - l.capacity) reserved
 levels_popped ls ss total k l h last read =
     let top : IsLevel ss k l = subst (λ (m : Level). IsLevel ss k m) (sym read) (h.each k (omega arith)) in
     let inside : l.first ≤ length ss = top.within in
@@ -201,10 +209,11 @@ levels_popped ls ss total k l h last read =
       grouped = λ p b. subst (λ (s : Slot). s.group < length (take k ls)) (sym (get_or-take l.first ss p no_slot (omega arith))) (omega (arith, top.below p (omega arith)));
       counted = omega arith;
       limit = omega arith;
+      memory = h.memory;
     }
 
 -- its capacity changes
-pub levels_ensured : (ls : List Level) (ss : List Slot) (total k capacity : ℕ) (l : Level) → AreLevels ls ss total → k < length ls → l ≡ level_at ls k → l.capacity ≤ capacity → total + (capacity - l.capacity) ≤ MOST_LOCALS → AreLevels (set ls k (record l { capacity = capacity })) ss (total + (capacity - l.capacity))
+pub levels_ensured : {reserved : ℕ} (ls : List Level) (ss : List Slot) (total k capacity : ℕ) (l : Level) → AreLevels ls ss total reserved → k < length ls → l ≡ level_at ls k → l.capacity ≤ capacity → total + (capacity - l.capacity) ≤ MOST_LOCALS → AreLevels (set ls k (record l { capacity = capacity })) ss (total + (capacity - l.capacity)) reserved
 levels_ensured ls ss total k capacity l h known read more room =
     let count = length-set ls k (record l { capacity = capacity }) in
     let sums = sum_by-set capacity_of ls k (record l { capacity = capacity }) no_level known in
@@ -225,12 +234,13 @@ levels_ensured ls ss total k capacity l h known read more room =
       grouped = λ p b. omega (arith, h.grouped p b);
       counted = omega arith;
       limit = room;
+      memory = h.memory;
     }
 
 -- ---- the current level's references
 
 -- how many there are
-pub live_count : (ls : List Level) (ss : List Slot) (total k : ℕ) (l : Level) → AreLevels ls ss total → length ls ≡ k + 1 → l ≡ level_at ls k → l.free.count + length (references_in (drop l.first (addresses_in ss))) ≡ length ss - l.first
+pub live_count : {reserved : ℕ} (ls : List Level) (ss : List Slot) (total k : ℕ) (l : Level) → AreLevels ls ss total reserved → length ls ≡ k + 1 → l ≡ level_at ls k → l.free.count + length (references_in (drop l.first (addresses_in ss))) ≡ length ss - l.first
 live_count ls ss total k l h last read =
     let top : IsLevel ss k l = subst (λ (m : Level). IsLevel ss k m) (sym read) (h.each k (omega arith)) in
     let inside : l.first ≤ length ss = top.within in
@@ -251,7 +261,7 @@ live_count ls ss total k l h last read =
     omega arith
 
 -- where none of its slots is free
-pub levels_full : (ls : List Level) (ss : List Slot) (total k : ℕ) (l : Level) → AreLevels ls ss total → length ls ≡ k + 1 → l ≡ level_at ls k → l.free.count ≡ 0 → AreTaken (drop l.first (addresses_in ss))
+pub levels_full : {reserved : ℕ} (ls : List Level) (ss : List Slot) (total k : ℕ) (l : Level) → AreLevels ls ss total reserved → length ls ≡ k + 1 → l ≡ level_at ls k → l.free.count ≡ 0 → AreTaken (drop l.first (addresses_in ss))
 levels_full ls ss total k l h last read none =
     let live = live_count ls ss total k l h last read in
     let count = length-drop l.first (addresses_in ss) in
@@ -260,7 +270,7 @@ levels_full ls ss total k l h last read none =
 
 -- ---- how many slots there are
 
-pub lowest_first : (ls : List Level) (ss : List Slot) (total : ℕ) → AreLevels ls ss total → (level_at ls 0).first ≡ 0
+pub lowest_first : {reserved : ℕ} (ls : List Level) (ss : List Slot) (total : ℕ) → AreLevels ls ss total reserved → (level_at ls 0).first ≡ 0
 lowest_first [] ss total h = refl
 lowest_first (l ∷ ls) ss total h =
     let here : IsLevel ss 0 l = h.each 0 (omega arith) in
@@ -270,7 +280,7 @@ lowest_first (l ∷ ls) ss total h =
     let low : l.first < 1 = lt_of_not-le {n = 1} {m = l.first} not_above in
     omega arith
 
-pub no_slots : (ls : List Level) (ss : List Slot) (total : ℕ) → AreLevels ls ss total → length ls ≡ 0 → length ss ≡ 0
+pub no_slots : {reserved : ℕ} (ls : List Level) (ss : List Slot) (total : ℕ) → AreLevels ls ss total reserved → length ls ≡ 0 → length ss ≡ 0
 no_slots ls [] total h none = refl
 no_slots ls (s ∷ ss) total h none =
     let group : (slot_at (s ∷ ss) 0).group < length ls = h.grouped 0 (omega arith) in
@@ -282,7 +292,7 @@ sum_more ls k b =
     let one = sum_by-cons capacity_of (level_at ls k) [] in
     ap (sum_by capacity_of) (take-suc ls k no_level b) ∙ both ∙ omega arith
 
-begins_after : (ls : List Level) (ss : List Slot) (total k : ℕ) → AreLevels ls ss total → k < length ls → (level_at ls k).first ≤ sum_by capacity_of (take k ls)
+begins_after : {reserved : ℕ} (ls : List Level) (ss : List Slot) (total k : ℕ) → AreLevels ls ss total reserved → k < length ls → (level_at ls k).first ≤ sum_by capacity_of (take k ls)
 begins_after ls ss total zero h b =
     let first = lowest_first ls ss total h in
     omega arith
@@ -294,7 +304,7 @@ begins_after ls ss total (suc k) h b =
     let one : sum_by capacity_of (take (suc k) ls) ≡ sum_by capacity_of (take k ls) + (level_at ls k).capacity = sum_more ls k (omega arith) in
     omega arith
 
-pub slots_fit : (ls : List Level) (ss : List Slot) (total : ℕ) → AreLevels ls ss total → length ss ≤ MOST_LOCALS
+pub slots_fit : {reserved : ℕ} (ls : List Level) (ss : List Slot) (total : ℕ) → AreLevels ls ss total reserved → length ss ≤ MOST_LOCALS
 slots_fit ls ss total h =
     ⊎_elim
     (λ (b : 0 < length ls).

@@ -4,3 +4,4 @@ pub mod GlobalSlots
 pub mod Levels
 pub mod TableViews
 pub mod Makes
+pub mod FrameLaws

@@ -1,6 +1,6 @@
 //! Local references.
 
-ghost use Rattle.std.specs.Prelude.{◌≡◌, ◌<◌, ◌≤◌, true, [], None, Some, IsSome, if◌then◌else◌, nat_lt, length, slice_get, ok_or, IfOk, IfErr, OnOk, OnErr};
+ghost use Rattle.std.specs.Prelude.{◌≡◌, ◌<◌, ◌≤◌, true, false, [], None, Some, IsSome, if◌then◌else◌, nat_lt, length, slice_get, ok_or, IfOk, IfErr, OnOk, OnErr};
 ghost use Rattle.tables.specs.declared.fault.TableFault.TheVariants.{Full, Dead, Memory};
 ghost use Rattle.tables.specs.References.{address_at, AreTaken};
 ghost use Rattle.tables.specs.Locals.{AreStacked, IsMade, capacities, current_frame, current_slots, ensured, has_room, live_in, popped, pushed, with_address, without};
@@ -8,7 +8,7 @@ ghost use Rattle.tables.specs.Locals.{AreStacked, IsMade, capacities, current_fr
 use crate::fault::TableFault;
 use crate::slots::{Free, Slot};
 use heap::Addr;
-use std::alloc::Global;
+use std::alloc::{AllocError, Global};
 use std::marker::Model;
 
 /// How many references the frames of a thread have room for at most, all together.
@@ -43,8 +43,8 @@ struct Level {
 /// "Implementing Local References"), seen as the frames and the addresses in their slots. A slot that was freed is used
 /// again, so there are never more slots than the frames have room for.
 ///
-/// None but `push` and `make` takes host memory. Each call takes constant time, but for `pop`, which takes time for the
-/// slots of one frame, and for a vector's growth in `push` and `make`.
+/// None but `new` and `push` takes host memory. Each call takes constant time, but for `pop`, which takes time for the
+/// slots of one frame, and for a vector's growth in `push`.
 #[derive(Drop)]
 pub struct Locals {
     levels: Vec<Level>,
@@ -58,23 +58,26 @@ impl Model for Locals {
 
     ghost Value = { LocalTable };
 
+    ghost use Rattle.std.specs.Prelude.{vec_capacity};
     ghost use Rattle.tables.specs.Levels.{table_in, AreLevels};
 
     ghost view = { λ l. table_in l.levels.items l.slots.items };
 
-    ghost invariant = { λ l. AreLevels l.levels.items l.slots.items l.total };
+    ghost invariant = { λ l. AreLevels l.levels.items l.slots.items l.total (vec_capacity l.slots) };
 }
 
 impl Locals {
-    /// No frame and no slot.
-    pub fn new(alloc: Global) -> Locals
-        ensures { result ≡ record { frames = []; slots = [] } }
+    /// No frame and no slot. The host memory for `MOST_LOCALS` slots is taken.
+    pub fn new(alloc: Global) -> Result<Locals, AllocError>
+        ensures { IfOk result (λ t. t ≡ record { frames = []; slots = [] }) }
     {
-        Locals {
+        let mut slots = Vec::new(alloc);
+        slots.reserve(MOST_LOCALS as usize)?;
+        Ok(Locals {
             levels: Vec::new(alloc),
-            slots: Vec::new(alloc),
+            slots,
             total: 0,
-        }
+        })
     }
 
     /// The number of frames. A frame of no capacity counts too.
@@ -169,14 +172,26 @@ impl Locals {
         self.live() < self.levels[current].capacity as usize
     }
 
+    /// Whether the frame below the current one has room for a further reference. Without such a frame there is none.
+    pub fn has_room_below(&self) -> bool
+        ensures { result ≡ has_room (popped self.now) }
+    {
+        let frames = self.levels.len();
+        if frames < 2 {
+            return false;
+        }
+        let below = self.levels[frames - 2];
+        let slots = self.levels[frames - 1].first - below.first;
+        slots - below.free.count < below.capacity as usize
+    }
+
     /// Makes a reference in the current frame. Its place had no reference.
     ///
-    /// `Full` exactly where `has_room` says no. Memory is asked of the host only where no slot of the frame is free.
+    /// `Full` exactly where `has_room` says no. No memory is asked of the host.
     pub fn make(&mut self, addr: Addr) -> Result<Local, TableFault>
         ensures made { IfOk result (λ key. IsMade self.old key addr self.new) }
         ensures room { OnOk result (has_room self.old ≡ true) }
-        ensures fault { IfErr result (λ e. e ≡ (if has_room self.old then Memory else Full)) }
-        ensures taken { IfErr result (λ e. e ≡ Memory → AreTaken (current_slots self.old)) }
+        ensures full { IfErr result (λ e. (e ≡ Full) × (has_room self.old ≡ false)) }
         ensures err { OnErr result (self.new ≡ self.old) }
     {
         if !self.has_room() {
@@ -191,7 +206,7 @@ impl Locals {
         };
         if free.count == 0 {
             let place = self.slots.len();
-            self.slots.push(slot)?;
+            self.slots.push(slot).unwrap();
             return Ok(Local { place });
         }
         let place = free.first;

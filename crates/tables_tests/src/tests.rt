@@ -5,7 +5,7 @@ use tables::{Globals, Locals, TableFault};
 // A freed slot is used again, and its key then names the new reference.
 #[test]
 fn local_references_come_and_go(rt: HostRuntime) -> Result<(), Fail> {
-    let mut locals = Locals::new(rt.alloc());
+    let mut locals = Locals::new(rt.alloc())?;
     let early = locals.make(Addr::new(1));
     locals.push(2)?;
     let first = locals.make(Addr::new(5))?;
@@ -31,7 +31,7 @@ fn local_references_come_and_go(rt: HostRuntime) -> Result<(), Fail> {
 // All frames together have room for 1,024 references.
 #[test]
 fn frames_share_their_capacity(rt: HostRuntime) -> Result<(), Fail> {
-    let mut locals = Locals::new(rt.alloc());
+    let mut locals = Locals::new(rt.alloc())?;
     locals.push(2)?;
     let kept = locals.make(Addr::new(5))?;
     let too_much = [

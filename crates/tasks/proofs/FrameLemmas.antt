@@ -1,11 +1,10 @@
 -- Names and frames that lie in memory, the last first.
-use Rattle.std.proofs.Common.{◌≡◌, ℕ, zero, suc, ◌+◌, ◌-◌, ◌<◌, ◌≤◌, Bool, true, false, cond, List, [], ◌∷◌, ◌++◌, length, map, drop, take, reverse, slice_get, Some, refl, sym, ap, ◌∙◌, arith, append_assoc, append-nil, get_or}
-use Rattle.std.specs.Prelude.{remove, ◌==◌, slice_set}
-use Rattle.std.proofs.lemmas.List.{reverse-append, map-append, length-reverse, length-append}
+use Rattle.std.proofs.Common.{◌≡◌, ℕ, zero, suc, ◌+◌, ◌-◌, ◌<◌, Bool, true, false, cond, List, [], ◌∷◌, ◌++◌, length, map, drop, take, reverse, slice_get, Some, refl, sym, ap, ◌∙◌, arith, append_assoc, append-nil}
+use Rattle.std.specs.Prelude.{min, max, remove, ◌==◌, slice_set}
+use Rattle.std.proofs.lemmas.List.{reverse-append, map-append, length-reverse}
 use Rattle.std.proofs.lemmas.List.Sums.{sum_by-cons}
-use Rattle.std.proofs.lemmas.Option.{slice_get_read}
 use Rattle.std.proofs.lemmas.Grind.{flat_map-append}
-use Rattle.source.specs.CallEffects.{deleted_in, without_local, without_one}
+use Rattle.source.specs.CallEffects.{deleted_in, with_capacity, with_local, without_local, without_one}
 use Rattle.source.specs.Thread.{Frame, capacities}
 use Rattle.tasks.specs.declared.frame.Frame.{Frame as InMemory}
 use Rattle.tasks.specs.Frames.{frame_view, frames_view, references_in, without_in}
@@ -127,6 +126,21 @@ map_length : {A B : Type 0} (f : A → B) (xs : List A) → length (map f xs) �
 map_length f [] = refl
 map_length f (x ∷ xs) = ap suc (map_length f xs)
 
+first_of : {A : Type 0} (xs : List A) (x : A) → slice_get xs 0 ≡ Some x → xs ≡ x ∷ drop 1 xs
+first_of [] x at = absurd (cc)
+first_of {A} (y ∷ xs) x at = let same : y ≡ x = cc in ap (λ z. z ∷ xs) same
+
+set_first : {A : Type 0} (xs : List A) (x y : A) → xs ≡ x ∷ drop 1 xs → slice_set xs 0 y ≡ y ∷ drop 1 xs
+set_first [] x y is = absurd (cc)
+set_first (z ∷ xs) x y is = refl
+
+second_of : {A : Type 0} (xs : List A) → slice_get (drop 1 xs) 0 ≡ slice_get xs 1
+second_of [] = refl
+second_of (x ∷ xs) = refl
+
+first_capacity : (f : Frame) (fs : List Frame) → capacities (f ∷ fs) ≡ f.capacity + capacities fs
+first_capacity f fs = sum_by-cons (λ (g : Frame). g.capacity) f fs
+
 -- a frame of the same capacity in its place
 same_capacities : (frames : List Frame) (j : ℕ) (old new : Frame) → slice_get frames j ≡ Some old → new.capacity ≡ old.capacity → capacities (slice_set frames j new) ≡ capacities frames
 same_capacities [] j old new at same = absurd (cc)
@@ -140,50 +154,81 @@ same_capacities (f ∷ frames) (suc j) old new at same =
     ∙ ap (λ n. f.capacity + n) (same_capacities frames j old new at same)
     ∙ sym (sum_by-cons (λ (g : Frame). g.capacity) f frames)
 
-module _ (current : InMemory) (below : List InMemory) where
-  -- a new frame, and the one that was current below it
-  pub pushed_view : (items : List InMemory) (new x y : InMemory) (i : ℕ) → items ≡ below ++ new ∷ [] → i + 1 ≡ length items → x ≡ get_or items i x → y ≡ current
-      → frames_view x (slice_set items i y) ≡ frame_view new ∷ frames_view current below
-  pushed_view items new x y i is counted at same =
-      let long : length (below ++ new ∷ []) ≡ length below + 1 = length-append below (new ∷ []) in
-      let last : i ≡ length below = omega (arith, counted, ap (λ (l : List InMemory). length l) is, long) in
-      let there : slice_get items i ≡ Some x = slice_get_read items (length items) i x refl (omega (arith, counted)) at in
-      let both : Some x ≡ Some new = sym there ∙ ap (λ (l : List InMemory). slice_get l i) is ∙ ap (slice_get (below ++ new ∷ [])) last ∙ get_last below new in
-      let first : x ≡ new = cc in
-      let rest : slice_set items i y ≡ below ++ current ∷ [] = ap (λ (l : List InMemory). slice_set l i y) is ∙ ap (λ j. slice_set (below ++ new ∷ []) j y) last ∙ set_last below new y ∙ ap (λ (f : InMemory). below ++ f ∷ []) same in
-      ap (λ (l : List InMemory). frames_view x l) rest
-      ∙ ap (λ (f : InMemory). frames_view f (below ++ current ∷ [])) first
-      ∙ ap (λ (l : List Frame). frame_view new ∷ reverse l) (map-append frame_view below (current ∷ []))
-      ∙ ap (λ (l : List Frame). frame_view new ∷ l) (reverse-append (map frame_view below) (frame_view current ∷ []))
+module _ (xs : List InMemory) where
+  pub length_view : length (frames_view xs) ≡ length xs
+  length_view = length-reverse (map frame_view xs) ∙ map_length frame_view xs
 
-  pub pushed_total : (new : InMemory) (total : ℕ) → total ≡ capacities (frames_view current below) → total + new.capacity ≡ capacities (frame_view new ∷ frames_view current below)
-  pushed_total new total is =
-      let whole = sum_by-cons (λ (g : Frame). g.capacity) (frame_view new) (frames_view current below) in
+  -- the frame at a place, counted from the lowest, and so at its place from the current one
+  pub frame_at : (p j : ℕ) (x : InMemory) → length xs ≡ p + 1 + j → slice_get xs p ≡ Some x → slice_get (frames_view xs) j ≡ Some (frame_view x)
+  frame_at p j x counted at = get_reversed (map frame_view xs) p j (map_length frame_view xs ∙ counted) ∙ map_get frame_view xs p x at
+
+  -- another frame there
+  pub frame_set : (p j : ℕ) (y : InMemory) → length xs ≡ p + 1 + j → frames_view (slice_set xs p y) ≡ slice_set (frames_view xs) j (frame_view y)
+  frame_set p j y counted = ap (λ (l : List Frame). reverse l) (map_set frame_view xs p y) ∙ sym (set_reversed (map frame_view xs) p j (frame_view y) (map_length frame_view xs ∙ counted))
+
+  -- a frame more, which is then the current one
+  pub pushed_view : (x : InMemory) → frames_view (xs ++ x ∷ []) ≡ frame_view x ∷ frames_view xs
+  pushed_view x = ap (λ (l : List Frame). reverse l) (map-append frame_view xs (x ∷ [])) ∙ reverse-append (map frame_view xs) (frame_view x ∷ [])
+
+  pub pushed_total : (x : InMemory) (total : ℕ) → total ≡ capacities (frames_view xs) → total + x.capacity ≡ capacities (frames_view (xs ++ x ∷ []))
+  pushed_total x total is =
+      let whole = ap capacities (pushed_view x) ∙ first_capacity (frame_view x) (frames_view xs) in
       omega (arith, is, whole)
 
-  module _ (level n : ℕ) (old new : InMemory) (above : 0 < level) (within : level ≤ length below) (at : slice_get below (level - 1) ≡ Some old) where
-    abbrev place : ℕ
-    place = length below - level
+  -- the frame right below the current one
+  pub below_at : (p : ℕ) (x : InMemory) → length xs ≡ p + 2 → slice_get xs p ≡ Some x → slice_get (drop 1 (frames_view xs)) 0 ≡ Some (frame_view x)
+  below_at p x counted at = second_of (frames_view xs) ∙ frame_at p 1 x (omega (arith, counted)) at
 
-    counted : length (map frame_view below) ≡ (level - 1) + 1 + place
-    counted = omega (arith, map_length frame_view below, above, within)
+  module _ (p : ℕ) (x : InMemory) (counted : length xs ≡ p + 1) (at : slice_get xs p ≡ Some x) where
+    pub current_first : frames_view xs ≡ frame_view x ∷ drop 1 (frames_view xs)
+    current_first = first_of (frames_view xs) (frame_view x) (frame_at p 0 x (omega (arith, counted)) at)
 
-    from_top : length (frames_view current below) - level ≡ suc place
-    from_top = omega (arith, length-reverse (map frame_view below), map_length frame_view below, above, within)
+    -- another current one
+    pub current_set : (y : InMemory) → frames_view (slice_set xs p y) ≡ frame_view y ∷ drop 1 (frames_view xs)
+    current_set y = frame_set p 0 y (omega (arith, counted)) ∙ set_first (frames_view xs) (frame_view x) (frame_view y) current_first
 
-    there : slice_get (frames_view current below) (suc place) ≡ Some (frame_view old)
-    there = get_reversed (map frame_view below) (level - 1) place counted ∙ map_get frame_view below (level - 1) old at
+    abbrev others : List Frame
+    others = drop 1 (frames_view xs)
 
-    set_there : frames_view current (slice_set below (level - 1) new) ≡ slice_set (frames_view current below) (suc place) (frame_view new)
-    set_there =
-        ap (λ (l : List Frame). frame_view current ∷ reverse l) (map_set frame_view below (level - 1) new)
-        ∙ ap (λ (l : List Frame). frame_view current ∷ l) (sym (set_reversed (map frame_view below) (level - 1) place (frame_view new) counted))
+    set_capacities : (y : InMemory) → capacities (frames_view (slice_set xs p y)) ≡ y.capacity + capacities others
+    set_capacities y = ap capacities (current_set y) ∙ first_capacity (frame_view y) others
 
-    pub removed_view : frame_view new ≡ without_in n (frame_view old) → frames_view current (slice_set below (level - 1) new) ≡ without_local level n (frames_view current below)
-    removed_view is =
-        set_there
-        ∙ ap (slice_set (frames_view current below) (suc place)) (is ∙ ap (deleted_in n) (sym there))
-        ∙ ap (λ i. slice_set (frames_view current below) i (deleted_in n (slice_get (frames_view current below) i))) (sym from_top)
+    capacities_are : capacities (frames_view xs) ≡ x.capacity + capacities others
+    capacities_are = ap capacities current_first ∙ first_capacity (frame_view x) others
 
-    pub removed_total : new.capacity ≡ old.capacity → capacities (frames_view current below) ≡ capacities (frames_view current (slice_set below (level - 1) new))
-    removed_total same = sym (ap capacities set_there ∙ same_capacities (frames_view current below) (suc place) (frame_view old) (frame_view new) there same)
+    -- with room for more
+    pub reserved_total : (y : InMemory) (total : ℕ) → total ≡ capacities (frames_view xs) → total - x.capacity + y.capacity ≡ capacities (frames_view (slice_set xs p y))
+    reserved_total y total is = omega (arith, is, capacities_are, set_capacities y)
+
+    pub reserved_view : (y : InMemory) (more : ℕ) → y.capacity ≡ length x.references + more → x.capacity < y.capacity → y.references ≡ x.references → frames_view (slice_set xs p y) ≡ with_capacity more (frames_view xs)
+    reserved_view y more has above same =
+        let wanted : y.capacity ≡ max x.capacity (length x.references + more) = omega (arith, has, above) in
+        current_set y
+        ∙ ap (λ (n : ℕ). let f : Frame = record { capacity = n; references = y.references } in f ∷ others) wanted
+        ∙ ap (λ (l : List ℕ). let f : Frame = record { capacity = max x.capacity (length x.references + more); references = l } in f ∷ others) same
+        ∙ sym (ap (with_capacity more) current_first)
+
+    -- with one reference more
+    pub received_total : (y : InMemory) → y.capacity ≡ x.capacity → capacities (frames_view xs) ≡ capacities (frames_view (slice_set xs p y))
+    received_total y same = omega (arith, capacities_are, set_capacities y, same)
+
+    pub received_view : (y : InMemory) (n : ℕ) → y.capacity ≡ x.capacity → y.references ≡ n ∷ x.references → frames_view (slice_set xs p y) ≡ with_local n (frames_view xs)
+    received_view y n same has =
+        current_set y
+        ∙ ap (λ (m : ℕ). let f : Frame = record { capacity = m; references = y.references } in f ∷ others) same
+        ∙ ap (λ (l : List ℕ). let f : Frame = record { capacity = x.capacity; references = l } in f ∷ others) has
+        ∙ sym (ap (with_local n) current_first)
+
+  -- the frame of a level has one reference less
+  module _ (level n p : ℕ) (old new : InMemory) (above : 0 < level) (place : p + 1 ≡ min level (length xs)) (at : slice_get xs p ≡ Some old) where
+    abbrev from_top : ℕ
+    from_top = length (frames_view xs) - level
+
+    counted : length xs ≡ p + 1 + from_top
+    counted = omega (arith, length_view, above, place)
+
+    pub removed_view : frame_view new ≡ without_in n (frame_view old) → frames_view (slice_set xs p new) ≡ without_local level n (frames_view xs)
+    removed_view is = frame_set p from_top new counted ∙ ap (slice_set (frames_view xs) from_top) (is ∙ ap (deleted_in n) (sym (frame_at p from_top old counted at)))
+
+    pub removed_total : new.capacity ≡ old.capacity → capacities (frames_view xs) ≡ capacities (frames_view (slice_set xs p new))
+    removed_total same = sym (ap capacities (frame_set p from_top new counted) ∙ same_capacities (frames_view xs) from_top (frame_view old) (frame_view new) (frame_at p from_top old counted at) same)

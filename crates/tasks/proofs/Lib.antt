@@ -1,5 +1,8 @@
 mod PutLemmas
 mod Lists
+mod ClassLemmas
+mod FittingFrames
+mod LoadedLemmas
 mod FieldLemmas
 mod FrameLemmas
 pub mod TaskLemmas

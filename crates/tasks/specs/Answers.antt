@@ -1,5 +1,5 @@
 -- What calls do, as data, and what that leaves.
-use Rattle.std.specs.Prelude.{ℕ, pos, negsuc, Bool, true, false, List, [], ◌∷◌, ◌++◌, drop, Some}
+use Rattle.std.specs.Prelude.{ℕ, pos, negsuc, Bool, true, false, List, [], ◌∷◌, ◌++◌, drop, nat_le, IsTrue, Some}
 use Rattle.std.specs.Option.{option_map}
 use Rattle.base.specs.Bytes.{Identifier}
 use Rattle.class_table.specs.FieldViews.{field_id_view}
@@ -9,7 +9,7 @@ use Rattle.source.specs.CallEffects.{CallResult, NoResult, NullResult, ScalarRes
 use Rattle.source.specs.CallStep.{failure}
 use Rattle.source.specs.Heap.{Heap, next_name, with_value_at}
 use Rattle.source.specs.Object.{ObjectValue, Reference}
-use Rattle.source.specs.Thread.{Frame, Shared, Thread}
+use Rattle.source.specs.Thread.{Frame, Shared, Thread, capacities}
 use Rattle.source.specs.Value.{Int, Flag}
 use Rattle.source.specs.Variable.{Deleted, assign}
 use Rattle.source.specs.World.{fresh_object}
@@ -57,6 +57,12 @@ answer_view (answer.Pops r) = Pops r
 answer_view (answer.DeletesLocal l n) = DeletesLocal l n
 answer_view (answer.MakesGlobal n) = MakesGlobal n
 answer_view (answer.DeletesGlobal x n) = DeletesGlobal x.now n
+
+-- these frames can have what it asks for
+abbrev pub FitsFrames : List Frame → Answer → Type 0
+FitsFrames frames (Ensures n) = IsTrue (nat_le (capacities (with_capacity n frames)) 1024)
+FitsFrames frames (Pushes n) = IsTrue (nat_le (capacities (new_frame n ∷ frames)) 1024)
+FitsFrames frames a = Unit {0}
 
 -- 0
 abbrev pub zero_result : CallResult

@@ -1,5 +1,5 @@
 -- Frames that lie in memory, as those of the language.
-use Rattle.std.specs.Prelude.{ℕ, List, [], ◌∷◌, map, reverse, flat_map, Some}
+use Rattle.std.specs.Prelude.{ℕ, List, [], map, reverse, flat_map, Some}
 use Rattle.source.specs.CallEffects.{deleted_in}
 use Rattle.source.specs.Thread.{Frame}
 use Rattle.tasks.specs.declared.frame.Frame.{Frame as InMemory}
@@ -7,9 +7,9 @@ use Rattle.tasks.specs.declared.frame.Frame.{Frame as InMemory}
 abbrev pub frame_view : InMemory → Frame
 frame_view f = record { capacity = f.capacity; references = f.references }
 
--- the current one, and those below it, of which the last is the next
-abbrev pub frames_view : (current : InMemory) → (below : List InMemory) → List Frame
-frames_view current below = frame_view current ∷ reverse (map frame_view below)
+-- frames of which the last is the current one
+abbrev pub frames_view : List InMemory → List Frame
+frames_view frames = reverse (map frame_view frames)
 
 -- a frame without references
 abbrev pub new_frame : ℕ → Frame

@@ -2,6 +2,7 @@
 
 ghost use Rattle.std.specs.Prelude.{◌≡◌, IfOk, None, []};
 ghost use Rattle.classes.specs.Class.{Classes};
+ghost use Rattle.classes.specs.Grown.{IsGrown};
 ghost use Rattle.source.specs.Thread.{Shared as SharedOfThreads};
 ghost use Rattle.tasks.specs.Activations.{tasks_left, IsInRange, AreSet, Advances, KeepsScene};
 ghost use Rattle.tasks.specs.Shares.{shared_view};
@@ -34,7 +35,7 @@ pub struct Activation<'a> {
     pub outer: Vec<Outer<'a>>,
     pub variables: Vec<Variable<'a>>,
     pub frames: Frames,
-    pub pending: Option<usize>,
+    pub pending: Option<u32>,
 }
 
 /// Puts a task in the place of the one that is begun.
@@ -133,11 +134,12 @@ fn set_tasks<'a>(activation: &mut Activation<'a>, outcome: Outcome<'a>) -> Resul
 pub fn advance<'a>(
     alloc: Global,
     classes: &'a ClassTable,
-    shared: &mut Shared<'_>,
+    shared: &mut Shared<'a>,
     refused: bool,
     activation: &mut Activation<'a>,
 ) -> Result<Outcome<'a>, AllocError>
-    requires { IsInRange activation.old }
+    requires range { IsInRange activation.old }
+    requires grown { IsGrown classes.now }
     ensures step { IfOk result (λ o. Advances classes.now refused (shared_view shared.old) activation.old o (shared_view shared.new) activation.new) }
     ensures range { IfOk result (λ _. IsInRange activation.new) }
 {

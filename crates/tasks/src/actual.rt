@@ -1,6 +1,6 @@
 //! The arguments of a call, looked up in its own step.
 
-ghost use Rattle.std.specs.Prelude.{◌≡◌, ◌++◌, IfOk, IfSome, map, slice_get, zip};
+ghost use Rattle.std.specs.Prelude.{◌≡◌, ◌++◌, IfOk, map, slice_get, zip};
 ghost use Rattle.std.specs.Option.{option_map};
 ghost use Rattle.base.specs.Bytes.{lookup};
 ghost use Rattle.syntax.specs.Views.{argument_tree, expr_tree};
@@ -23,7 +23,7 @@ use class_table::fields::FieldId;
 use jni::{JniFunction, ParameterKind};
 use std::alloc::{AllocError, Global};
 use syntax::{Argument, Constant, Expr, Name};
-use terms::{Content, StaticReference, Term, Value, Variable, content_of};
+use terms::{Content, StaticReference, Term, Value, Variable, content_named, content_of};
 
 /// How a buffer of copied elements is released (JNI Specification, chapter 4, "Release<PrimitiveType>ArrayElements
 /// Routines").
@@ -232,10 +232,10 @@ fn held_by(shared: &Shared<'_>, variables: &[Variable<'_>], name: &Name) -> Stat
 }
 
 /// The level of the local reference of this name; 0 where there is none.
-pub(crate) fn level_of(variables: &[Variable<'_>], name: &Name) -> usize
+pub(crate) fn level_of(variables: &[Variable<'_>], name: &[u8]) -> usize
     ensures { result ≡ level_of (lookup name.now (variables_view variables.now)) }
 {
-    match content_of(variables, name) {
+    match content_named(variables, name) {
         None => 0,
         Some(content) => match content {
             Content::Reference(level, _) => *level,
@@ -255,7 +255,7 @@ fn actual_at<'a>(actuals: &[Actual<'a>], place: usize) -> Option<Actual<'a>>
 }
 
 /// The reference at a place.
-pub(crate) fn reference_given(actuals: &[Actual<'_>], place: usize) -> Option<usize>
+pub(crate) fn reference_given(actuals: &[Actual<'_>], place: usize) -> Option<u32>
     ensures { result ≡ reference_given (map actual_view actuals.now) place }
 {
     match actual_at(actuals, place) {
@@ -264,18 +264,28 @@ pub(crate) fn reference_given(actuals: &[Actual<'_>], place: usize) -> Option<us
     }
 }
 
-/// The variable or static whose reference stands at a place, if it has a name.
-pub(crate) fn variable_given<'a>(actuals: &[Actual<'a>], place: usize) -> Option<&'a Name>
-    ensures { IfSome result (λ x. x.now ≡ variable_given (map actual_view actuals.now) place) }
+/// The bytes of a name, and none where there is none.
+fn bytes_of<'a>(name: Option<&'a Name>) -> &'a [u8]
+    ensures { result.now ≡ name_view name.entry }
+{
+    match name {
+        Some(name) => name.as_bytes(),
+        None => &[],
+    }
+}
+
+/// The name of the variable or static that stands at a place, which is empty where there is none.
+pub(crate) fn variable_given<'a>(actuals: &[Actual<'a>], place: usize) -> &'a [u8]
+    ensures { result.now ≡ variable_given (map actual_view actuals.now) place }
 {
     match actual_at(actuals, place) {
-        Some(Actual::Reference(name, _)) => name,
-        _ => None,
+        Some(Actual::Reference(name, _) | Actual::Variable(name)) => bytes_of(name),
+        _ => &[],
     }
 }
 
 /// The name of the object at a place, and 0 for NULL.
-pub(crate) fn object_given(actuals: &[Actual<'_>], place: usize) -> usize
+pub(crate) fn object_given(actuals: &[Actual<'_>], place: usize) -> u32
     ensures { result ≡ object_given (map actual_view actuals.now) place }
 {
     match reference_given(actuals, place) {

@@ -1,14 +1,14 @@
 //! What a function of the JNI does, as data.
 
-ghost use Rattle.std.specs.Prelude.{◌≡◌, IfOk, IsTrue, map};
+ghost use Rattle.std.specs.Prelude.{◌≡◌, IsTrue, map};
 ghost use Rattle.std.specs.Option.{option_map};
 ghost use Rattle.base.specs.Bytes.{lookup};
 ghost use Rattle.class_table.specs.FieldViews.{field_id_view};
+ghost use Rattle.classes.specs.Grown.{IsGrown};
 ghost use Rattle.jni.specs.BuiltFunctions.{is_built_function};
 ghost use Rattle.jni.specs.Table.{function_value};
 ghost use Rattle.source.specs.CallEffects.{level_of, same_reference};
 ghost use Rattle.source.specs.Heap.{field_place, fits_class, number_in, reference_in, static_place};
-ghost use Rattle.source.specs.Object.{Refers};
 ghost use Rattle.source.specs.Arguments.{field_given, object_given, reference_given, variable_given};
 ghost use Rattle.tasks.specs.Actuals.{actual_view};
 ghost use Rattle.tasks.specs.Answers.{answer_view};
@@ -20,6 +20,7 @@ use crate::actual::{
     Actual, field_given, level_of, number_given, object_given, reference_given, text_given,
     variable_given,
 };
+use crate::class_objects::{class_named, superclass_of};
 use crate::field;
 use crate::frame::Frames;
 use crate::given::Given;
@@ -28,8 +29,6 @@ use class_table::built_ins::{NO_CLASS_DEF_FOUND_ERROR, NO_SUCH_FIELD_ERROR};
 use class_table::fields::FieldId;
 use class_table::table::ClassTable;
 use jni::JniFunction;
-use std::alloc::AllocError;
-use syntax::Name;
 use terms::{Variable, convert};
 use world::ObjectValue;
 
@@ -41,9 +40,9 @@ pub(crate) enum Answer<'a> {
     /// A value of the object of this name changes, by its place, counted from 0.
     Writes(usize, usize, ObjectValue),
     /// An object of the class of this number is made, with zero and null fields, and given.
-    Makes(usize),
+    Makes(u32),
     /// An exception of the class of this number is made and is pending.
-    Raises(usize),
+    Raises(u32),
     /// The current frame gets room for this number of references more, and 0 is given.
     Ensures(usize),
     /// A frame of this capacity is made, and 0 is given.
@@ -51,16 +50,16 @@ pub(crate) enum Answer<'a> {
     /// -4 is given, and the OutOfMemoryError object is pending: the frames can't have so large capacities.
     RefusesFrames,
     /// The current frame is dropped, and this is given.
-    Pops(Option<usize>),
+    Pops(Option<u32>),
     /// A local reference to the object of this name is deleted, in the frame of a level.
-    DeletesLocal(usize, usize),
+    DeletesLocal(usize, u32),
     /// A global reference to the object of this name is made, and given.
-    MakesGlobal(usize),
+    MakesGlobal(u32),
     /// A global reference to the object of this name is deleted, and the static is marked.
-    DeletesGlobal(&'a Name, usize),
+    DeletesGlobal(&'a [u8], u32),
 }
 
-/// What a function does, all checks being passed. A reference whose name is no `u32` is refused, as memory is.
+/// What a function does, all checks being passed.
 pub(crate) fn work_out<'a>(
     classes: &'a ClassTable,
     store: &Store,
@@ -68,98 +67,98 @@ pub(crate) fn work_out<'a>(
     frames: &Frames,
     function: JniFunction,
     actuals: &[Actual<'a>],
-) -> Result<Answer<'a>, AllocError>
-    requires { IsTrue (is_built_function (function_value function)) }
-    ensures { IfOk result (λ a. answer_view a ≡ worked_out classes.now store.now (variables_view variables.now) frames.now (map actual_view actuals.now) (function_value function)) }
+) -> Answer<'a>
+    requires built { IsTrue (is_built_function (function_value function)) }
+    requires grown { IsGrown classes.now }
+    ensures { answer_view result ≡ worked_out classes.now store.now (variables_view variables.now) frames.now (map actual_view actuals.now) (function_value function) }
 {
-    let first = object_given(actuals, 0);
-    let second = object_given(actuals, 1);
+    let object = object_given(actuals, 0);
+    let first = object as usize;
+    let second = object_given(actuals, 1) as usize;
     let third = reference_given(actuals, 2);
     match function {
-        JniFunction::FindClass => Ok(found_class(classes.find(text_given(actuals, 0)))),
+        JniFunction::FindClass => found_class(class_named(classes, text_given(actuals, 0))),
         JniFunction::GetSuperclass => {
-            Ok(Answer::Gives(Given::Reference(classes.superclass(first))))
+            Answer::Gives(Given::Reference(superclass_of(classes, first)))
         }
         JniFunction::GetObjectClass => {
-            Ok(Answer::Gives(Given::Reference(Some(store.class_of(first)))))
+            Answer::Gives(Given::Reference(Some(store.class_of(first) as u32)))
         }
         JniFunction::IsInstanceOf => {
             let reference = reference_given(actuals, 0);
-            Ok(Answer::Gives(Given::Flag(fits_class(classes, store, reference, second))))
+            Answer::Gives(Given::Flag(fits_class(classes, store, reference, second)))
         }
         JniFunction::IsAssignableFrom => {
-            Ok(Answer::Gives(Given::Flag(classes.assignable(first, second))))
+            Answer::Gives(Given::Flag(classes.assignable(first, second)))
         }
-        JniFunction::AllocObject => Ok(Answer::Makes(first)),
-        JniFunction::NewLocalRef => {
-            Ok(Answer::Gives(Given::Reference(reference_given(actuals, 0))))
-        }
-        JniFunction::NewGlobalRef => Ok(made_global(reference_given(actuals, 0))),
+        JniFunction::AllocObject => Answer::Makes(object),
+        JniFunction::NewLocalRef => { Answer::Gives(Given::Reference(reference_given(actuals, 0))) }
+        JniFunction::NewGlobalRef => made_global(reference_given(actuals, 0)),
         JniFunction::DeleteLocalRef => local_deleted(variables, actuals),
         JniFunction::DeleteGlobalRef => global_deleted(actuals),
         JniFunction::IsSameObject => {
             let same = same_reference(reference_given(actuals, 0), reference_given(actuals, 1));
-            Ok(Answer::Gives(Given::Flag(same)))
+            Answer::Gives(Given::Flag(same))
         }
-        JniFunction::EnsureLocalCapacity => Ok(ensured(frames, number_given(actuals, 0))),
-        JniFunction::PushLocalFrame => Ok(pushed(frames, number_given(actuals, 0))),
-        JniFunction::PopLocalFrame => Ok(Answer::Pops(reference_given(actuals, 0))),
+        JniFunction::EnsureLocalCapacity => ensured(frames, number_given(actuals, 0)),
+        JniFunction::PushLocalFrame => pushed(frames, number_given(actuals, 0)),
+        JniFunction::PopLocalFrame => Answer::Pops(reference_given(actuals, 0)),
         JniFunction::GetFieldID => {
             let (name, text) = (text_given(actuals, 1), text_given(actuals, 2));
-            Ok(found_field(classes.field(first, name, text, false)))
+            found_field(classes.field(first, name, text, false))
         }
         JniFunction::GetStaticFieldID => {
             let (name, text) = (text_given(actuals, 1), text_given(actuals, 2));
-            Ok(found_field(classes.field(first, name, text, true)))
+            found_field(classes.field(first, name, text, true))
         }
         JniFunction::GetField(_) => {
             let place = place_of_field(classes, store, actuals);
-            Ok(Answer::Gives(Given::Number(number_in(store.value_at(first, place)))))
+            Answer::Gives(Given::Number(number_in(store.value_at(first, place))))
         }
         JniFunction::SetField(element) => {
             let place = place_of_field(classes, store, actuals);
             let number = convert(element, number_given(actuals, 2));
-            Ok(Answer::Writes(first, place, ObjectValue::Number(number)))
+            Answer::Writes(first, place, ObjectValue::Number(number))
         }
         JniFunction::GetObjectField => {
             let place = place_of_field(classes, store, actuals);
-            Ok(Answer::Gives(Given::Reference(reference_in(store.value_at(first, place)))))
+            Answer::Gives(Given::Reference(reference_in(store.value_at(first, place))))
         }
         JniFunction::SetObjectField => {
             let place = place_of_field(classes, store, actuals);
-            Ok(Answer::Writes(first, place, held(third)?))
+            Answer::Writes(first, place, ObjectValue::Reference(third))
         }
         JniFunction::GetStaticField(_) => {
             let (class, place) = (declarer(actuals), place_of_static(classes, actuals));
-            Ok(Answer::Gives(Given::Number(number_in(store.value_at(class, place)))))
+            Answer::Gives(Given::Number(number_in(store.value_at(class, place))))
         }
         JniFunction::SetStaticField(element) => {
             let (class, place) = (declarer(actuals), place_of_static(classes, actuals));
             let number = convert(element, number_given(actuals, 2));
-            Ok(Answer::Writes(class, place, ObjectValue::Number(number)))
+            Answer::Writes(class, place, ObjectValue::Number(number))
         }
         JniFunction::GetStaticObjectField => {
             let (class, place) = (declarer(actuals), place_of_static(classes, actuals));
-            Ok(Answer::Gives(Given::Reference(reference_in(store.value_at(class, place)))))
+            Answer::Gives(Given::Reference(reference_in(store.value_at(class, place))))
         }
         JniFunction::SetStaticObjectField => {
             let (class, place) = (declarer(actuals), place_of_static(classes, actuals));
-            Ok(Answer::Writes(class, place, held(third)?))
+            Answer::Writes(class, place, ObjectValue::Reference(third))
         }
         JniFunction::GetArrayLength => {
-            Ok(Answer::Gives(Given::Number(store.values_of(first).len() as i32)))
+            Answer::Gives(Given::Number(store.values_of(first).len() as i32))
         }
         _ => unreachable!(),
     }
 }
 
 /// A class that was found, or else an exception.
-fn found_class<'a>(class: Option<usize>) -> Answer<'a>
+fn found_class<'a>(class: Option<u32>) -> Answer<'a>
     ensures { answer_view result ≡ found_class class }
 {
     match class {
         Some(class) => Answer::Gives(Given::Reference(Some(class))),
-        None => Answer::Raises(NO_CLASS_DEF_FOUND_ERROR),
+        None => Answer::Raises(NO_CLASS_DEF_FOUND_ERROR as u32),
     }
 }
 
@@ -169,7 +168,7 @@ fn found_field(field: Option<FieldId<'_>>) -> Answer<'_>
 {
     match field {
         Some(field) => Answer::Gives(Given::Field(Some(field))),
-        None => Answer::Raises(NO_SUCH_FIELD_ERROR),
+        None => Answer::Raises(NO_SUCH_FIELD_ERROR as u32),
     }
 }
 
@@ -204,7 +203,7 @@ fn pushed<'a>(frames: &Frames, capacity: i32) -> Answer<'a>
 }
 
 /// A global reference to the same object; NULL for NULL.
-fn made_global<'a>(reference: Option<usize>) -> Answer<'a>
+fn made_global<'a>(reference: Option<u32>) -> Answer<'a>
     ensures { answer_view result ≡ made_global reference }
 {
     match reference {
@@ -213,37 +212,30 @@ fn made_global<'a>(reference: Option<usize>) -> Answer<'a>
     }
 }
 
-/// The reference of argument 0 is deleted, unless it is NULL. One that no variable holds is refused, as memory is.
-fn local_deleted<'a>(
-    variables: &[Variable<'_>],
-    actuals: &[Actual<'_>],
-) -> Result<Answer<'a>, AllocError>
-    ensures { IfOk result (λ a. answer_view a ≡ local_deleted (level_of (lookup (variable_given (map actual_view actuals.now) 0) (variables_view variables.now))) (reference_given (map actual_view actuals.now) 0)) }
+/// The reference of argument 0 is deleted, unless it is NULL.
+fn local_deleted<'a>(variables: &[Variable<'_>], actuals: &[Actual<'_>]) -> Answer<'a>
+    ensures { answer_view result ≡ local_deleted (level_of (lookup (variable_given (map actual_view actuals.now) 0) (variables_view variables.now))) (reference_given (map actual_view actuals.now) 0) }
 {
-    let Some(name) = reference_given(actuals, 0) else {
-        return Ok(Answer::Gives(Given::Nothing));
-    };
-    let Some(variable) = variable_given(actuals, 0) else {
-        return Err(AllocError);
-    };
-    Ok(Answer::DeletesLocal(level_of(variables, variable), name))
+    match reference_given(actuals, 0) {
+        Some(name) => {
+            Answer::DeletesLocal(level_of(variables, variable_given(actuals, 0)), name)
+        }
+        None => Answer::Gives(Given::Nothing),
+    }
 }
 
-/// The reference of argument 0, a static, is deleted, unless it is NULL. One that no static holds is refused, as memory is.
-fn global_deleted<'a>(actuals: &[Actual<'a>]) -> Result<Answer<'a>, AllocError>
-    ensures { IfOk result (λ a. answer_view a ≡ global_deleted (variable_given (map actual_view actuals.now) 0) (reference_given (map actual_view actuals.now) 0)) }
+/// The reference of argument 0, a static, is deleted, unless it is NULL.
+fn global_deleted<'a>(actuals: &[Actual<'a>]) -> Answer<'a>
+    ensures { answer_view result ≡ global_deleted (variable_given (map actual_view actuals.now) 0) (reference_given (map actual_view actuals.now) 0) }
 {
-    let Some(name) = reference_given(actuals, 0) else {
-        return Ok(Answer::Gives(Given::Nothing));
-    };
-    let Some(variable) = variable_given(actuals, 0) else {
-        return Err(AllocError);
-    };
-    Ok(Answer::DeletesGlobal(variable, name))
+    match reference_given(actuals, 0) {
+        Some(name) => Answer::DeletesGlobal(variable_given(actuals, 0), name),
+        None => Answer::Gives(Given::Nothing),
+    }
 }
 
 /// Whether both are NULL, or one object.
-fn same_reference(first: Option<usize>, second: Option<usize>) -> bool
+fn same_reference(first: Option<u32>, second: Option<u32>) -> bool
     ensures { result ≡ same_reference first second }
 {
     match (first, second) {
@@ -257,13 +249,13 @@ fn same_reference(first: Option<usize>, second: Option<usize>) -> bool
 pub(crate) fn fits_class(
     classes: &ClassTable,
     store: &Store,
-    reference: Option<usize>,
+    reference: Option<u32>,
     class: usize,
 ) -> bool
     ensures { result ≡ fits_class classes.now store.now reference class }
 {
     match reference {
-        Some(name) => classes.assignable(store.class_of(name), class),
+        Some(name) => classes.assignable(store.class_of(name as usize), class),
         None => true,
     }
 }
@@ -274,7 +266,7 @@ pub(crate) fn fits_class(
 fn place_of_field(classes: &ClassTable, store: &Store, actuals: &[Actual<'_>]) -> usize
     ensures { result ≡ field_place classes.now store.now (object_given (map actual_view actuals.now) 0) (field_given (map actual_view actuals.now) 1) }
 {
-    let class = store.class_of(object_given(actuals, 0));
+    let class = store.class_of(object_given(actuals, 0) as usize);
     field::field_place(classes, class, field_given(actuals, 1))
 }
 
@@ -303,26 +295,11 @@ fn number_in(value: ObjectValue) -> i32
 }
 
 /// The reference of a value.
-fn reference_in(value: ObjectValue) -> Option<usize>
+fn reference_in(value: ObjectValue) -> Option<u32>
     ensures { result ≡ reference_in (object_value_view value) }
 {
     match value {
-        ObjectValue::Reference(Some(name)) => Some(name as usize),
-        _ => None,
-    }
-}
-
-/// How an object holds a reference.
-fn held(reference: Option<usize>) -> Result<ObjectValue, AllocError>
-    ensures { IfOk result (λ v. object_value_view v ≡ Refers reference) }
-{
-    match reference {
-        None => Ok(ObjectValue::Reference(None)),
-        Some(name) => {
-            if name > u32::MAX as usize {
-                return Err(AllocError);
-            }
-            Ok(ObjectValue::Reference(Some(name as u32)))
-        }
+        ObjectValue::Number(_) => None,
+        ObjectValue::Reference(reference) => reference,
     }
 }

@@ -6,7 +6,7 @@ ghost use Rattle.source.specs.CallEffects.{out_of_memory};
 ghost use Rattle.source.specs.CallStep.{failure};
 ghost use Rattle.source.specs.Heap.{next_name};
 ghost use Rattle.source.specs.World.{fresh_object};
-ghost use Rattle.tasks.specs.Answers.{answer_view, frames_after, frames_with, given_after, given_view, makes_object, pending_after, shared_after};
+ghost use Rattle.tasks.specs.Answers.{FitsFrames, answer_view, frames_after, frames_with, given_after, given_view, makes_object, pending_after, shared_after};
 ghost use Rattle.tasks.specs.Shares.{shared_view};
 
 use crate::answer::Answer;
@@ -24,12 +24,13 @@ use terms::StaticReference;
 pub(crate) fn carry_out<'a>(
     alloc: Global,
     classes: &ClassTable,
-    shared: &mut Shared<'_>,
+    shared: &mut Shared<'a>,
     frames: &mut Frames,
-    pending: &mut Option<usize>,
+    pending: &mut Option<u32>,
     kind: ResultKind,
     answer: Answer<'a>,
 ) -> Result<Given<'a>, AllocError>
+    requires { FitsFrames frames.old (answer_view answer) }
     ensures shared { IfOk result (λ _. shared_view shared.new ≡ shared_after classes.now (shared_view shared.old) (answer_view answer.entry)) }
     ensures frames { IfOk result (λ _. frames.new ≡ frames_after frames.old (answer_view answer.entry)) }
     ensures pending { IfOk result (λ _. pending.new ≡ pending_after classes.now shared.old.store pending.old (answer_view answer.entry)) }
@@ -38,7 +39,7 @@ pub(crate) fn carry_out<'a>(
     match answer {
         Answer::Gives(given) => Ok(given),
         Answer::Writes(name, place, value) => {
-            shared.store.set(name, place, value)?;
+            shared.store.set(name, place, value);
             Ok(Given::Nothing)
         }
         Answer::Makes(class) => {
@@ -51,7 +52,7 @@ pub(crate) fn carry_out<'a>(
             Ok(failed(kind))
         }
         Answer::Ensures(more) => {
-            frames.reserve(more)?;
+            frames.reserve(more);
             Ok(Given::Number(0))
         }
         Answer::Pushes(capacity) => {
@@ -63,7 +64,7 @@ pub(crate) fn carry_out<'a>(
             Ok(Given::Number(-4))
         }
         Answer::Pops(reference) => {
-            frames.pop()?;
+            frames.pop();
             Ok(Given::Reference(reference))
         }
         Answer::DeletesLocal(level, name) => {
@@ -87,15 +88,14 @@ fn make(
     alloc: Global,
     classes: &ClassTable,
     store: &mut Store,
-    class: usize,
-) -> Result<usize, AllocError>
+    class: u32,
+) -> Result<u32, AllocError>
     ensures store { IfOk result (λ _. store.new ≡ store.old ++ fresh_object classes.now class ∷ []) }
     ensures name { IfOk result (λ name. name ≡ next_name store.old) }
 {
-    let name = store.len() + 1;
-    let values = fresh_values(alloc, classes, class)?;
+    let values = fresh_values(alloc, classes, class as usize)?;
     store.add(class, values)?;
-    Ok(name)
+    Ok(store.len() as u32)
 }
 
 /// Puts what a call of this kind of result gave into the current frame, if it is a new local reference.
@@ -128,7 +128,7 @@ pub(crate) fn makes_object(answer: Answer<'_>) -> bool
 /// The object of a call is refused: the OutOfMemoryError object is pending, and the call fails.
 pub(crate) fn refuse<'a>(
     classes: &ClassTable,
-    pending: &mut Option<usize>,
+    pending: &mut Option<u32>,
     kind: ResultKind,
 ) -> Given<'a>
     ensures pending { pending.new ≡ Some (out_of_memory classes.now) }
@@ -139,8 +139,8 @@ pub(crate) fn refuse<'a>(
 }
 
 /// The OutOfMemoryError object, which is made right after the class objects, is pending.
-fn run_out(classes: &ClassTable, pending: &mut Option<usize>)
+fn run_out(classes: &ClassTable, pending: &mut Option<u32>)
     ensures { pending.new ≡ Some (out_of_memory classes.now) }
 {
-    *pending = Some(classes.len() + 1);
+    *pending = Some((classes.len() + 1) as u32);
 }

@@ -134,7 +134,11 @@ fn is_misfit(
 {
     match actual {
         Actual::Reference(_, held) => match held {
-            StaticReference::Live(name) => misfits(classes, parameter, store.class_of(name)),
+            StaticReference::Live(name) => misfits(
+                classes,
+                parameter,
+                store.class_of(name as usize),
+            ),
             StaticReference::Empty | StaticReference::Deleted => false,
         },
         _ => false,
@@ -179,7 +183,7 @@ fn fit_together(
 {
     let field = field_given(actuals, 1);
     match function {
-        JniFunction::AllocObject => !classes.has_own_making(object_given(actuals, 0)),
+        JniFunction::AllocObject => !classes.has_own_making(object_given(actuals, 0) as usize),
         JniFunction::GetField(element) | JniFunction::SetField(element) => {
             has_field(classes, store, actuals)
                 && holds_number(element_type(element), type_of(field))
@@ -202,7 +206,7 @@ fn fit_together(
                 && fits_type(classes, store, reference_given(actuals, 2), type_of(field))
         }
         JniFunction::GetArrayLength => {
-            classes.is_array(store.class_of(object_given(actuals, 0)))
+            classes.is_array(store.class_of(object_given(actuals, 0) as usize))
         }
         _ => true,
     }
@@ -213,7 +217,7 @@ fn has_field(classes: &ClassTable, store: &Store, actuals: &[Actual<'_>]) -> boo
     ensures { result ≡ has_field classes.now store.now (map actual_view actuals.now) }
 {
     let field = field_given(actuals, 1);
-    let class = store.class_of(object_given(actuals, 0));
+    let class = store.class_of(object_given(actuals, 0) as usize);
     !is_static(field) && classes.assignable(class, declaring(field))
 }
 
@@ -222,7 +226,7 @@ fn has_static(classes: &ClassTable, actuals: &[Actual<'_>]) -> bool
     ensures { result ≡ has_static classes.now (map actual_view actuals.now) }
 {
     let field = field_given(actuals, 1);
-    is_static(field) && classes.assignable(object_given(actuals, 0), declaring(field))
+    is_static(field) && classes.assignable(object_given(actuals, 0) as usize, declaring(field))
 }
 
 /// Whether a type is that of these numbers.
@@ -252,7 +256,7 @@ fn holds_reference(field_type: FieldType) -> bool
 fn fits_type(
     classes: &ClassTable,
     store: &Store,
-    reference: Option<usize>,
+    reference: Option<u32>,
     field_type: FieldType,
 ) -> bool
     ensures { result ≡ fits_type classes.now store.now reference (field_type_view field_type) }

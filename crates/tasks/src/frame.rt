@@ -1,6 +1,6 @@
 //! Frames of local references.
 
-ghost use Rattle.std.specs.Prelude.{◌≡◌, ◌++◌, ◌∷◌, [], IfOk, OnErr, drop, length, map, nat_le, reverse, slice_get};
+ghost use Rattle.std.specs.Prelude.{◌≡◌, ◌++◌, ◌∷◌, [], IfOk, IsTrue, OnErr, drop, length, nat_le, slice_get};
 ghost use Rattle.source.specs.CallEffects.{with_capacity, with_local, without_local};
 ghost use Rattle.source.specs.Checks.{is_full};
 ghost use Rattle.source.specs.Thread.{capacities};
@@ -9,7 +9,6 @@ ghost use Rattle.tasks.specs.Frames.{frame_view, frames_view, new_frame, referen
 use crate::names::Names;
 use std::alloc::{AllocError, Global};
 use std::marker::Model;
-use std::mem;
 
 /// Local references, of which there may be at most `capacity` (JNI Specification, chapter 2, "Local and Global References").
 #[derive(Drop)]
@@ -21,9 +20,8 @@ pub(crate) struct Frame {
 /// The frames of a call in progress, seen as a list that begins with the current one.
 #[derive(Drop)]
 pub struct Frames {
-    current: Frame,
-    /// The last is the one right below the current one.
-    below: Vec<Frame>,
+    /// The current one is the last.
+    frames: Vec<Frame>,
     /// The capacities of all together.
     total: usize,
 }
@@ -35,9 +33,9 @@ impl Model for Frames {
 
     ghost Value = { List Frame };
 
-    ghost view = { λ f. frames_view f.current f.below.items };
+    ghost view = { λ f. frames_view f.frames.items };
 
-    ghost invariant = { λ f. f.total ≡ capacities (frames_view f.current f.below.items) };
+    ghost invariant = { λ f. f.total ≡ capacities (frames_view f.frames.items) };
 }
 
 /// The capacities of all frames of a thread together are at most this.
@@ -45,69 +43,83 @@ const MOST_REFERENCES: usize = 1_024;
 
 impl Frames {
     /// One frame, with these references.
-    pub fn new(alloc: Global, capacity: usize, references: Names) -> Frames
-        ensures { result ≡ record { capacity = capacity; references = references } ∷ [] }
+    pub fn new(alloc: Global, capacity: usize, references: Names) -> Result<Frames, AllocError>
+        ensures { IfOk result (λ frames. frames ≡ record { capacity = capacity; references = references } ∷ []) }
     {
-        Frames {
-            current: Frame {
-                capacity,
-                references,
-            },
-            below: Vec::new(alloc),
+        let mut frames = Vec::new(alloc);
+        frames.push(Frame {
+            capacity,
+            references,
+        })?;
+        Ok(Frames {
+            frames,
             total: capacity,
-        }
+        })
     }
 
     /// How many there are.
     pub fn len(&self) -> usize
         ensures { result ≡ length self.now }
     {
-        self.below.len() + 1
+        self.frames.len()
     }
 
-    /// Whether the current frame holds as many references as it may.
+    /// Whether the current frame holds as many references as it may, or there is none.
     pub(crate) fn is_full(&self) -> bool
         ensures { result ≡ is_full (slice_get self.now 0) }
     {
-        self.current.capacity <= self.current.references.len()
+        match self.frames.last() {
+            Some(frame) => frame.capacity <= frame.references.len(),
+            None => true,
+        }
     }
 
     /// Whether the frame right below the current one holds as many as it may, or there is none.
     pub(crate) fn is_full_below(&self) -> bool
         ensures { result ≡ is_full (slice_get (drop 1 self.now) 0) }
     {
-        match self.below.last() {
-            Some(frame) => frame.capacity <= frame.references.len(),
-            None => true,
+        let count = self.frames.len();
+        if count < 2 {
+            return true;
         }
+        let frame = &self.frames[count - 2];
+        frame.capacity <= frame.references.len()
     }
 
     /// Whether the capacities together stay within the limit with room for this number of references more in the current frame.
     pub(crate) fn has_room(&self, more: usize) -> bool
         ensures { result ≡ nat_le (capacities (with_capacity more self.now)) 1024 }
     {
-        let count = self.current.references.len();
-        if more > MOST_REFERENCES || count > MOST_REFERENCES {
+        let count = self.frames.len();
+        if count == 0 {
+            return true;
+        }
+        let frame = &self.frames[count - 1];
+        let held = frame.references.len();
+        if more > MOST_REFERENCES || held > MOST_REFERENCES {
             return false;
         }
-        let capacity = self.current.capacity.max(count + more);
-        let others = self.total - self.current.capacity;
+        let capacity = frame.capacity.max(held + more);
+        let others = self.total - frame.capacity;
         capacity <= MOST_REFERENCES && others <= MOST_REFERENCES - capacity
     }
 
-    /// Gives the current frame room for this number of references more. More than the limit are refused, as memory is.
-    pub(crate) fn reserve(&mut self, more: usize) -> Result<(), AllocError>
-        ensures { IfOk result (λ _. self.new ≡ with_capacity more self.old) }
+    /// Gives the current frame room for this number of references more.
+    pub(crate) fn reserve(&mut self, more: usize)
+        requires { IsTrue (nat_le (capacities (with_capacity more self.old)) 1024) }
+        ensures { self.new ≡ with_capacity more self.old }
     {
-        if !self.has_room(more) {
-            return Err(AllocError);
+        let count = self.frames.len();
+        if count == 0 {
+            return;
         }
-        let needed = self.current.references.len() + more;
-        if needed > self.current.capacity {
-            self.total = self.total - self.current.capacity + needed;
-            self.current.capacity = needed;
+        let frame = &self.frames[count - 1];
+        let old = frame.capacity;
+        let needed = frame.references.len() + more;
+        if needed > old {
+            self.total = self.total - old + needed;
+            set_capacity(&mut self.frames[count - 1], needed);
         }
-        Ok(())
     }
 
     /// Whether the capacities together stay within the limit with a frame of this capacity more.
@@ -117,53 +129,48 @@ impl Frames {
         capacity <= MOST_REFERENCES && self.total <= MOST_REFERENCES - capacity
     }
 
-    /// Makes a frame, which is then the current one. A capacity past the limit is refused, as memory is.
+    /// Makes a frame, which is then the current one.
     pub(crate) fn push(&mut self, alloc: Global, capacity: usize) -> Result<(), AllocError>
+        requires { IsTrue (nat_le (capacities (new_frame capacity ∷ self.old)) 1024) }
         ensures ok { IfOk result (λ _. self.new ≡ new_frame capacity ∷ self.old) }
         ensures err { OnErr result (self.new ≡ self.old) }
     {
-        if !self.has_room_for(capacity) {
-            return Err(AllocError);
-        }
-        self.below.push(Frame {
+        self.frames.push(Frame {
             capacity,
             references: Names::new(alloc),
         })?;
-        let last = self.below.len() - 1;
-        mem::swap(&mut self.current, &mut self.below[last]);
         self.total += capacity;
         Ok(())
     }
 
-    /// Drops the current frame. The only one is refused, as memory is: no accepted program drops it.
-    pub(crate) fn pop(&mut self) -> Result<(), AllocError>
-        ensures { IfOk result (λ _. self.new ≡ drop 1 self.old) }
+    /// Drops the current frame, if there is one.
+    pub(crate) fn pop(&mut self)
+        ensures { self.new ≡ drop 1 self.old }
     {
-        let Some(frame) = self.below.pop() else {
-            return Err(AllocError);
-        };
-        self.total -= self.current.capacity;
-        self.current = frame;
-        Ok(())
+        if let Some(frame) = self.frames.pop() {
+            self.total -= frame.capacity;
+        }
     }
 
-    /// Puts a reference into the current frame.
-    pub(crate) fn receive(&mut self, name: usize) -> Result<(), AllocError>
+    /// Puts a reference into the current frame, if there is one.
+    pub(crate) fn receive(&mut self, name: u32) -> Result<(), AllocError>
         ensures { IfOk result (λ _. self.new ≡ with_local name self.old) }
     {
-        self.current.references.push(name)
+        let count = self.frames.len();
+        if count == 0 {
+            return Ok(());
+        }
+        receive_in(&mut self.frames[count - 1], name)
     }
 
     /// Takes a reference away once from the frame of a level, counted from the lowest, which is 1; past the last it is the
     /// current one.
-    pub(crate) fn remove(&mut self, level: usize, name: usize)
+    pub(crate) fn remove(&mut self, level: usize, name: u32)
         ensures { self.new ≡ without_local level name self.old }
     {
-        let count = self.below.len();
-        if level > count {
-            self.current.references.remove(name);
-        } else if level > 0 {
-            remove_from(&mut self.below[level - 1], name);
+        let place = level.min(self.frames.len());
+        if place > 0 {
+            remove_from(&mut self.frames[place - 1], name);
         }
     }
 
@@ -172,13 +179,28 @@ impl Frames {
     pub fn add_to(&self, names: &mut Vec<usize>) -> Result<(), AllocError>
         ensures { IfOk result (λ _. names.new.items ≡ names.old.items ++ references_in self.now) }
     {
-        self.current.references.add_to(names)?;
-        add_below(names, &self.below)
+        add_references(names, &self.frames)
     }
 }
 
+/// Lets a frame hold this number of references.
+fn set_capacity(frame: &mut Frame, capacity: usize)
+    ensures capacity { frame.new.capacity ≡ capacity }
+    ensures references { frame.new.references ≡ frame.old.references }
+{
+    frame.capacity = capacity;
+}
+
+/// Puts a reference into a frame.
+fn receive_in(frame: &mut Frame, name: u32) -> Result<(), AllocError>
+    ensures references { IfOk result (λ _. frame.new.references ≡ name ∷ frame.old.references) }
+    ensures capacity { frame.new.capacity ≡ frame.old.capacity }
+{
+    frame.references.push(name)
+}
+
 /// Takes a reference away from a frame.
-fn remove_from(frame: &mut Frame, name: usize)
+fn remove_from(frame: &mut Frame, name: u32)
     ensures view { frame_view frame.new ≡ without_in name (frame_view frame.old) }
     ensures capacity { frame.new.capacity ≡ frame.old.capacity }
 {
@@ -186,11 +208,11 @@ fn remove_from(frame: &mut Frame, name: usize)
 }
 
 /// Adds the names in frames to others, those in the last frame first.
-fn add_below(names: &mut Vec<usize>, below: &[Frame]) -> Result<(), AllocError>
-    ensures { IfOk result (λ _. names.new.items ≡ names.old.items ++ references_in (reverse (map frame_view below.now))) }
+fn add_references(names: &mut Vec<usize>, frames: &[Frame]) -> Result<(), AllocError>
+    ensures { IfOk result (λ _. names.new.items ≡ names.old.items ++ references_in (frames_view frames.now)) }
 {
-    for done in 0..below.len() {
-        below[below.len() - 1 - done].references.add_to(names)?;
+    for done in 0..frames.len() {
+        frames[frames.len() - 1 - done].references.add_to(names)?;
     }
     Ok(())
 }

@@ -18,7 +18,7 @@ pub enum Given<'a> {
     Number(i32),
     Flag(bool),
     /// NULL or an object, by its name.
-    Reference(Option<usize>),
+    Reference(Option<u32>),
     Field(Option<FieldId<'a>>),
 }
 

@@ -1,6 +1,7 @@
 //! Calls of functions of the JNI (JNI Specification, chapter 4).
 
 ghost use Rattle.std.specs.Prelude.{◌≡◌, IfOk, IfSome, IsTrue, None, map};
+ghost use Rattle.classes.specs.Grown.{IsGrown};
 ghost use Rattle.jni.specs.BuiltFunctions.{is_built_function};
 ghost use Rattle.jni.specs.Table.{function_value};
 ghost use Rattle.tasks.specs.declared.task.Task.TheVariants as task;
@@ -32,16 +33,17 @@ use terms::{Reduction, Statics, Term, Variable, reduce};
 pub(crate) fn invoke<'a>(
     alloc: Global,
     classes: &'a ClassTable,
-    shared: &mut Shared<'_>,
+    shared: &mut Shared<'a>,
     variables: &[Variable<'a>],
     frames: &mut Frames,
-    pending: &mut Option<usize>,
+    pending: &mut Option<u32>,
     refused: bool,
     i: &mut Invocation<'a>,
 ) -> Result<Outcome<'a>, AllocError>
     requires numbers { OperandsInRange i.old.operands.items }
     requires built { IsTrue (is_built_function (function_value i.old.function)) }
     requires ways { PurposeInRange i.old.purpose }
+    requires grown { IsGrown classes.now }
     ensures step { IfOk result (λ o. Does refused (scene_with classes.now (shared_view shared.old) variables.now frames.old pending.old) (task.Invoke i.old) o
         (scene_with classes.now (shared_view shared.new) variables.now frames.new pending.new) (task.Invoke i.new)) }
     ensures numbers { IfOk result (λ _. OperandsInRange i.new.operands.items) }
@@ -135,10 +137,10 @@ fn outcome_for<'a>(line: usize, purpose: Purpose<'a>, given: Given<'a>) -> Outco
 fn call<'a>(
     alloc: Global,
     classes: &'a ClassTable,
-    shared: &mut Shared<'_>,
+    shared: &mut Shared<'a>,
     variables: &[Variable<'a>],
     frames: &mut Frames,
-    pending: &mut Option<usize>,
+    pending: &mut Option<u32>,
     refused: bool,
     line: usize,
     purpose: Purpose<'a>,
@@ -147,6 +149,7 @@ fn call<'a>(
 ) -> Result<Outcome<'a>, AllocError>
     requires built { IsTrue (is_built_function (function_value function)) }
     requires ways { PurposeInRange purpose }
+    requires grown { IsGrown classes.now }
     ensures step { IfOk result (λ o. MakesCall refused (scene_with classes.now (shared_view shared.old) variables.now frames.old pending.old) line purpose.entry (function_value function) (map actual_view actuals.now) o
         (scene_with classes.now (shared_view shared.new) variables.now frames.new pending.new)) }
     ensures range { IfOk result OutcomeInRange }
@@ -165,7 +168,7 @@ fn call<'a>(
         }
         return Ok(Outcome::Trapped(trap, line));
     }
-    let answer = work_out(classes, &shared.store, variables, frames, function, actuals)?;
+    let answer = work_out(classes, &shared.store, variables, frames, function, actuals);
     let kind = function.prototype().result;
     if refused {
         if !makes_object(answer) {

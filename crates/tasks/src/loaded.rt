@@ -29,7 +29,7 @@ pub fn loaded_store(alloc: Global, world: &World) -> Result<Store, AllocError>
     let mut store = Store::new(alloc);
     make_class_objects(alloc, &mut store, world)?;
     let error = fresh_values(alloc, world.classes(), OUT_OF_MEMORY_ERROR)?;
-    store.add(OUT_OF_MEMORY_ERROR, error)?;
+    store.add(OUT_OF_MEMORY_ERROR as u32, error)?;
     make_objects(alloc, &mut store, world)?;
     Ok(store)
 }
@@ -42,7 +42,7 @@ fn make_class_objects(alloc: Global, store: &mut Store, world: &World) -> Result
     let classes = world.classes();
     for place in 0..classes.len() {
         let values = initial_values(alloc, classes.own_statics(place + 1))?;
-        store.add(CLASS, values)?;
+        store.add(CLASS as u32, values)?;
     }
     Ok(())
 }
@@ -52,9 +52,11 @@ fn make_objects(alloc: Global, store: &mut Store, world: &World) -> Result<(), A
     requires { store.old ≡ take (length world.now.classes + 1) (loaded_objects world.now) }
     ensures { OnOk result (store.new ≡ loaded_objects world.now) }
 {
+    // That there are at most 256 classes is told here.
+    let _ = world.classes().len();
     for object in world.objects() {
         let values = Vec::from_slice(alloc, object.values())?;
-        store.add(object.class(), values)?;
+        store.add(object.class() as u32, values)?;
     }
     Ok(())
 }
@@ -76,7 +78,8 @@ pub(crate) fn fresh_values(
     classes: &ClassTable,
     class: usize,
 ) -> Result<Vec<ObjectValue>, AllocError>
-    ensures { IfOk result (λ values. map object_value_view values.items ≡ map (λ f. initial f.field.type) (layout classes.now class)) }
+    ensures values { IfOk result (λ values. map object_value_view values.items ≡ map (λ f. initial f.field.type) (layout classes.now class)) }
+    ensures short { IfOk result (λ values. length values.items ≤ 16384) }
 {
     let mut values = Vec::new(alloc);
     for place in 0..classes.layout_len(class) {

@@ -68,7 +68,7 @@ fn declare<'a>(
 /// Puts what a call gave, or NULL, where it belongs.
 #[tactic(auto, using(crate::proofs::PutLemmas::put_rules))]
 fn put<'a>(
-    statics: &mut Statics<'_>,
+    statics: &mut Statics<'a>,
     frames: usize,
     variables: &mut Vec<Variable<'a>>,
     target: Target<'a>,
@@ -84,7 +84,7 @@ fn put<'a>(
                 fill(&mut variable.content, given);
                 Ok(())
             }
-            None => statics.set(name, static_result(given)),
+            None => statics.set(name.as_bytes(), static_result(given)),
         },
         Target::Dropped => Ok(()),
     }
@@ -114,7 +114,7 @@ fn set_element<'a>(
 #[tactic(auto, using(crate::proofs::PutLemmas::variable_rules))]
 pub(crate) fn set_variables<'a>(
     alloc: Global,
-    statics: &mut Statics<'_>,
+    statics: &mut Statics<'a>,
     frames: usize,
     variables: &mut Vec<Variable<'a>>,
     outcome: Outcome<'a>,

@@ -2,6 +2,7 @@
 
 ghost use Rattle.std.specs.Prelude.{◌≡◌, IfOk, ℕ};
 ghost use Rattle.syntax.specs.Views.{expr_tree, block_tree};
+ghost use Rattle.classes.specs.Grown.{IsGrown};
 ghost use Rattle.source.specs.Task.{tasks_of};
 ghost use Rattle.source.specs.Variable.{Statics as StaticsOfUnit};
 ghost use Rattle.tasks.specs.declared.task.Task.TheVariants as task;
@@ -272,14 +273,15 @@ fn plain_step<'a>(
 pub(crate) fn step<'a>(
     alloc: Global,
     classes: &'a ClassTable,
-    shared: &mut Shared<'_>,
+    shared: &mut Shared<'a>,
     variables: &[Variable<'a>],
     frames: &mut Frames,
-    pending: &mut Option<usize>,
+    pending: &mut Option<u32>,
     refused: bool,
     task: &mut Task<'a>,
 ) -> Result<Outcome<'a>, AllocError>
-    requires { TaskInRange task.old }
+    requires range { TaskInRange task.old }
+    requires grown { IsGrown classes.now }
     ensures step { IfOk result (λ o. Does refused (scene_with classes.now (shared_view shared.old) variables.now frames.old pending.old) task.old o
         (scene_with classes.now (shared_view shared.new) variables.now frames.new pending.new) task.new) }
     ensures task { IfOk result (λ _. TaskInRange task.new) }

@@ -13,7 +13,7 @@ use world::ObjectValue;
 /// An object: the number of its class, and its values.
 #[derive(Drop)]
 pub(crate) struct Object {
-    pub(crate) class: usize,
+    pub(crate) class: u32,
     pub(crate) values: Vec<ObjectValue>,
 }
 
@@ -70,10 +70,11 @@ impl Store {
 
     /// The number of an object's class; 0 where there is no object of this name.
     pub fn class_of(&self, name: usize) -> usize
-        ensures { result ≡ class_of self.now name }
+        ensures class { result ≡ class_of self.now name }
+        ensures few { result < 2 ^ 32 }
     {
         match self.object(name) {
-            Some(object) => object.class,
+            Some(object) => object.class as usize,
             None => 0,
         }
     }
@@ -100,39 +101,43 @@ impl Store {
         }
     }
 
-    /// Puts a value into an object, if it has the place. A name that no object has is refused, as memory is.
-    pub(crate) fn set(
-        &mut self,
-        name: usize,
-        place: usize,
-        value: ObjectValue,
-    ) -> Result<(), AllocError>
-        ensures { IfOk result (λ _. self.new ≡ with_value_at self.old name place (object_value_view value)) }
+    /// Puts a value into an object, if it has the place. The name is 0 in no accepted program: by the definitions the first
+    /// object is then left without a class and values.
+    pub(crate) fn set(&mut self, name: usize, place: usize, value: ObjectValue)
+        ensures { self.new ≡ with_value_at self.old name place (object_value_view value) }
     {
+        let count = self.objects.len();
+        if name > count || count == 0 {
+            return;
+        }
         if name == 0 {
-            return Err(AllocError);
+            empty(&mut self.objects[0]);
+        } else {
+            put_value(&mut self.objects[name - 1], place, value);
         }
-        if self.objects.len() < name {
-            return Err(AllocError);
-        }
-        put_value(&mut self.objects[name - 1], place, value);
-        Ok(())
     }
 
-    /// Makes the next object. More values than a `jint` counts, and an object whose name is no `u32`, are refused, as memory
-    /// is.
-    pub fn add(&mut self, class: usize, values: Vec<ObjectValue>) -> Result<(), AllocError>
+    /// Makes the next object. There are at most `u32::MAX`, since a name is a `u32`: one more is refused, as if the host had no
+    /// memory for it.
+    pub fn add(&mut self, class: u32, values: Vec<ObjectValue>) -> Result<(), AllocError>
+        requires { length values.items < 2 ^ 31 }
         ensures { IfOk result (λ _. self.new ≡ self.old ++ record { class = class; values = map object_value_view values.items } ∷ []) }
     {
-        if values.len() > i32::MAX as usize {
-            return Err(AllocError);
-        }
         if self.objects.len() >= u32::MAX as usize {
             return Err(AllocError);
         }
         self.objects.push(Object { class, values })?;
         Ok(())
     }
+}
+
+/// Takes an object's class and values away.
+fn empty(object: &mut Object)
+    ensures view { object_view object.new ≡ record { class = 0; values = [] } }
+    ensures length { length object.new.values.items ≡ 0 }
+{
+    object.class = 0;
+    object.values.clear();
 }
 
 /// Puts a value into an object, if it has the place.

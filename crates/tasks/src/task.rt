@@ -82,7 +82,7 @@ fn value_task<'a>(
     Ok(Task::Set(line, name, term_of(alloc, e)?))
 }
 
-/// The task of a call. No accepted program calls an unknown function.
+/// The task of a call, of a function that is there.
 fn call_task<'a>(
     alloc: Global,
     line: usize,
@@ -95,9 +95,7 @@ fn call_task<'a>(
     ensures view { IfOk result (λ t. task_view t ≡ call_task line (purpose_view line purpose.entry) (call_tree call.entry.now)) }
     ensures range { IfOk result TaskInRange }
 {
-    let Some(function) = function_named(call.function.as_bytes()) else {
-        return Err(AllocError);
-    };
+    let function = function_named(call.function.as_bytes()).unwrap();
     let mut operands = Vec::new(alloc);
     let parameters = function.prototype().parameters;
     push_operands(alloc, &mut operands, parameters, &call.arguments)?;

@@ -1,5 +1,5 @@
 -- A static is given another reference at the first place of its name.
-use Rattle.std.proofs.Common.{◌≡◌, ℕ, List, Some, ap, ◌∙◌, get_or, map}
+use Rattle.std.proofs.Common.{◌≡◌, ℕ, List, [], ◌∷◌, ◌++◌, Some, None, ap, ◌∙◌, get_or, map}
 use Rattle.std.specs.Prelude.{position, slice_set}
 use Rattle.std.specs.Borrow.{Bor}
 use Rattle.std.specs.Str.{bytes_eq}
@@ -23,3 +23,7 @@ held_set x h ss i old new at is held name =
     let found = by_name.variable_found name_of value_of x (held_view h) ss i old at there in
     by_name.assigned_there name_of value_of x (held_view h) ss i new at
     (ap (λ (y : Identifier). (y, held_view new.held)) (ap (λ (b : Bor Identifier). b.now) name ∙ found.1) ∙ ap (λ (g : Held). (x, held_view g)) held)
+
+-- a static more, whose name none has
+pub held_new : (x : Identifier) (h : Held) (ss : List Static) (new : Static) → position (λ (s : Static). bytes_eq x s.name.now) ss ≡ None → static_view new ≡ (x, held_view h) → map static_view (ss ++ new ∷ []) ≡ assign x (held_view h) (map static_view ss)
+held_new x h ss new none is = by_name.assigned_new name_of value_of x (held_view h) ss new none is

@@ -21,7 +21,7 @@ pub enum StaticReference {
     /// NULL.
     Empty,
     /// A global reference to an object, by its name.
-    Live(usize),
+    Live(u32),
     /// A global reference that was deleted. It isn't NULL.
     Deleted,
 }
@@ -29,7 +29,7 @@ pub enum StaticReference {
 /// A static with its name.
 #[derive(Drop)]
 pub(crate) struct Static<'a> {
-    pub(crate) name: &'a Name,
+    pub(crate) name: &'a [u8],
     pub(crate) held: StaticReference,
 }
 
@@ -57,20 +57,18 @@ pub(crate) fn is_empty(held: StaticReference) -> bool
 }
 
 /// The place of the first of these statics that has this name. It compares the name with each.
-fn place_of(statics: &[Static<'_>], name: &Name) -> Option<usize>
+fn place_of(statics: &[Static<'_>], name: &[u8]) -> Option<usize>
     ensures { result ≡ position (λ s. bytes_eq name.now s.name.now) statics.now }
 {
-    statics
-        .iter()
-        .position(|s| name.as_bytes() == s.name.as_bytes())
+    statics.iter().position(|s| name == s.name)
 }
 
 /// What the first of these statics that has this name holds.
-fn held_in(statics: &[Static<'_>], name: &Name) -> Option<StaticReference>
+fn held_in(statics: &[Static<'_>], name: &[u8]) -> Option<StaticReference>
     ensures { option_map held_view result ≡ lookup name.now (map static_view statics.now) }
 {
     for s in statics {
-        if name.as_bytes() == s.name.as_bytes() {
+        if name == s.name {
             return Some(s.held);
         }
     }
@@ -90,11 +88,11 @@ impl<'a> Statics<'a> {
     pub fn held(&self, name: &Name) -> Option<StaticReference>
         ensures { option_map held_view result ≡ lookup name.now self.now }
     {
-        held_in(&self.statics, name)
+        held_in(&self.statics, name.as_bytes())
     }
 
-    /// Lets the static of this name hold another reference. A name that no static has is refused, as memory is.
-    pub fn set(&mut self, name: &Name, held: StaticReference) -> Result<(), AllocError>
+    /// Lets the static of this name hold another reference. It is new where there is none, as in no accepted program.
+    pub fn set(&mut self, name: &'a [u8], held: StaticReference) -> Result<(), AllocError>
         ensures { IfOk result (λ _. self.new ≡ assign name.now (held_view held) self.old) }
     {
         match place_of(&self.statics, name) {
@@ -102,7 +100,10 @@ impl<'a> Statics<'a> {
                 put_held(&mut self.statics[place], held);
                 Ok(())
             }
-            None => Err(AllocError),
+            None => {
+                self.statics.push(Static { name, held })?;
+                Ok(())
+            }
         }
     }
 }
@@ -115,7 +116,7 @@ pub fn null_statics<'a>(alloc: Global, items: &'a [Item]) -> Result<Statics<'a>,
     for item in items {
         match item {
             Item::Static(s) => statics.push(Static {
-                name: &s.name,
+                name: s.name.as_bytes(),
                 held: StaticReference::Empty,
             })?,
             Item::Function(_) => {}

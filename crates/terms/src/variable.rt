@@ -19,7 +19,7 @@ use syntax::{ElementType, Name};
 pub enum Content<'a> {
     Number(Value),
     /// A local reference: its level, the number of frames at its declaration, and NULL or an object, by its name.
-    Reference(usize, Option<usize>),
+    Reference(usize, Option<u32>),
     /// A field ID: NULL, or a field or static.
     Field(Option<FieldId<'a>>),
     /// A buffer, which is NULL: no function gives another today.
@@ -48,8 +48,15 @@ pub fn place_of(variables: &[Variable<'_>], name: &Name) -> Option<usize>
 pub fn content_of<'v, 'a>(variables: &'v [Variable<'a>], name: &Name) -> Option<&'v Content<'a>>
     ensures { option_map (λ c. content_view c.now) result ≡ lookup name.now (variables_view variables.now) }
 {
+    content_named(variables, name.as_bytes())
+}
+
+/// The same, by a name that may be none of the unit's.
+pub fn content_named<'v, 'a>(variables: &'v [Variable<'a>], name: &[u8]) -> Option<&'v Content<'a>>
+    ensures { option_map (λ c. content_view c.now) result ≡ lookup name.now (variables_view variables.now) }
+{
     for variable in variables {
-        if name.as_bytes() == variable.name.as_bytes() {
+        if name == variable.name.as_bytes() {
             return Some(&variable.content);
         }
     }

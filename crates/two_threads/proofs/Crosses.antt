@@ -38,7 +38,7 @@ use Rattle.code.specs.contracts.instr.BoxedCall as boxed-call
 use Rattle.code.specs.contracts.instr.BoxedCall.TheInside as boxed-call-inside
 use Rattle.world.specs.contracts.world.World as world
 use Rattle.heap.specs.contracts.heap.Heap as heap
-use Rattle.machine.specs.contracts.frame.Frame as frame
+use Rattle.tables.specs.contracts.locals.Locals as locals
 use Rattle.machine.specs.contracts.store.Store as store
 use Rattle.machine.specs.contracts.thread.Thread as thread
 use Rattle.machine.specs.contracts.machine.Machine as machine
@@ -94,11 +94,11 @@ heap_send = search (crosses, sendable) depth 60 fits 20000
 store_send : IsSend (store.the_field).row
 store_send = search (heap_send, vec.the_send, crosses, sendable) depth 60 fits 20000
 
-frame_send : IsSend frame.the_row
-frame_send = search (crosses, sendable) depth 60 fits 20000
+locals_send : IsSend locals.the_row
+locals_send = search (crosses, sendable) depth 60 fits 20000
 
 thread_send : IsSend thread.the_row
-thread_send = search (frame_send, vec.the_send, crosses, sendable) depth 60 fits 20000
+thread_send = search (locals_send, vec.the_send, crosses, sendable) depth 60 fits 20000
 
 pub machine_send : (k : _) → IsSend (machine.the_row k)
 machine_send k = view_send (machine-inside.the_row k) _ _ _ _ (recorded_send (machine-inside.the_field k).row _ _ (machine-inside.the_type k).to_one (struct_send (shape (machine-inside.the_type k))

@@ -29,7 +29,9 @@ use Rattle.machine.specs.Statics.{References, all_held}
 use Rattle.machine.specs.declared.statics.StaticReference.{StaticReference}
 use Rattle.machine.specs.CarriedOut.{CarriesOut, IsPossible, shared_after}
 use Rattle.machine.specs.Checked.{fit_together, is_answered, trap_found}
-use Rattle.machine.specs.Frames.{frames_after, has_room}
+use Rattle.machine.specs.Locals.{locals_after}
+use Rattle.tables.specs.Locals.{has_room}
+use Rattle.safety.specs.Owners.{Owners}
 use Rattle.machine.specs.Given.{AreAddresses, AreHandles}
 use Rattle.machine.specs.Invoked.{AtCall}
 use Rattle.machine.specs.Received.{HasRoom, HasStatic, Receives, statics_with}
@@ -37,23 +39,23 @@ use Rattle.machine.specs.Stops.{trap_view}
 use Rattle.machine.specs.WorkedOut.{IsWorkedOut}
 use Rattle.machine.proofs.BlockObjects.{is_address}
 use Rattle.machine.proofs.CallAnswers.{answers}
-use Rattle.machine.proofs.CallInstructions.{CalledAs, called, r, goes_on, held, has_static, has_target, possible, traps, levelled, room_after}
+use Rattle.machine.proofs.CallInstructions.{CalledAs, called, r, goes_on, held, has_static, has_target, possible, traps, owned_key, room_after}
 use Rattle.machine.proofs.StaticStores.{shared_long, statics_long}
 use Rattle.machine.proofs.CallTraps.{found_is, handles_there, has_passed, objects_there}
 use Rattle.machine.proofs.invoke.invoke.Goals as goal
 
 -- the machine is at a call
-module _ (p : Lowered) (w : World) (store : Store) (pending : Option ℕ) (call : Activation) (function : Call) (shared : Shared) (s : Thread) (task : Task) (rest : List Task) (h : AtCall p w store pending call function shared s task rest) where
-  abbrev it : CalledAs p w store pending call h.code (call_view function) shared s task rest (r p w store pending call function shared s task rest h) (effect_of (sight_of shared s) task)
-  it = called p w store pending call function shared s task rest h
+module _ (p : Lowered) (w : World) (store : Store) (pending : Option ℕ) (call : Activation) (function : Call) (own : Owners) (shared : Shared) (s : Thread) (task : Task) (rest : List Task) (h : AtCall p w store pending call function own shared s task rest) where
+  abbrev it : CalledAs p w store pending call h.code (call_view function) own shared s task rest (r p w store pending call function own shared s task rest h) (effect_of (sight_of shared s) task)
+  it = called p w store pending call function own shared s task rest h
 
   -- the trap that was found is the source's
-  told : (classes : Classes) (is_pending room : Bool) (references : References) (fields : List (Option FieldHandle)) (o : Option Trap) → classes ≡ w.classes → is_pending ≡ is_some pending → room ≡ has_room (frames_after (function_value function.function) call.frames) → references ≡ references_of store call → fields ≡ call.fields.items
+  told : (classes : Classes) (is_pending room : Bool) (references : References) (fields : List (Option FieldHandle)) (o : Option Trap) → classes ≡ w.classes → is_pending ≡ is_some pending → room ≡ has_room (locals_after (function_value function.function) call.locals) → references ≡ references_of store call → fields ≡ call.fields.items
       → option_map trap_view o ≡ trap_found classes store.heap is_pending room references fields (function_value function.function) function.operands.items
       → option_map trap_view o ≡ trap_of_call w.classes shared s it.target it.f it.args
   told classes is_pending room references fields o same_classes same_pending same_room same_references same_fields found =
       found
-      ∙ (λ i. trap_found (same_classes i) store.heap (same_pending i) ((same_room ∙ ap (λ (f : JniFunction). has_room (frames_after f call.frames)) it.asked.same_function) i) (same_references i) (same_fields i) (it.asked.same_function i) function.operands.items)
+      ∙ (λ i. trap_found (same_classes i) store.heap (same_pending i) ((same_room ∙ ap (λ (f : JniFunction). has_room (locals_after f call.locals)) it.asked.same_function) i) (same_references i) (same_fields i) (it.asked.same_function i) function.operands.items)
       ∙ found_is p w store pending call (call_view function) shared s it.f it.args it.asked it.target
 
   there : (references : References) → references ≡ references_of store call → AreAddresses store.heap references function.operands.items
@@ -78,26 +80,30 @@ module _ (p : Lowered) (w : World) (store : Store) (pending : Option ℕ) (call 
         (λ i. fit_together (same_classes i) store.heap (same_references i) (same_fields i) function.operands.items (it.asked.same_function i))
         ∙ has_passed p w store pending call (call_view function) shared s it.f it.args it.asked it.target free
 
-    answered : (sound : IsSound w) (lent : BuffersInUse) (k : ℕ) (classes : Classes) (loaded : List ℕ) (references : References) (levels : List ℕ) (fields : List (Option FieldHandle)) (kind : ResultKind) (answer : Answer) → classes ≡ w.classes → loaded ≡ store.loaded.items → references ≡ references_of store call → levels ≡ call.levels.items → fields ≡ call.fields.items
-        → kind ≡ (prototype (function_value function.function)).result → IsWorkedOut classes store.heap loaded references levels fields call.stack (call_view function) (function_value function.function) answer
-        → IsAnswer w.classes store.heap kind shared s answer (call_effect w.classes lent k shared s it.args it.f)
-    answered sound lent k classes loaded references levels fields kind answer same_classes same_loaded same_references same_levels same_fields same_kind works =
-        subst (λ (x : ResultKind). IsAnswer w.classes store.heap x shared s answer (call_effect w.classes lent k shared s it.args it.f)) (sym (kind_is kind same_kind))
-        (answers p w store pending call (call_view function) shared s sound lent k it.args it.f it.asked it.target free answer
-        (subst (λ (x : JniFunction). IsWorkedOut w.classes store.heap store.loaded.items (references_of store call) call.levels.items call.fields.items call.stack (call_view function) x answer) it.asked.same_function
-        (subst (λ (l : List (Option FieldHandle)). IsWorkedOut w.classes store.heap store.loaded.items (references_of store call) call.levels.items l call.stack (call_view function) (function_value function.function) answer) same_fields
-        (subst (λ (l : List ℕ). IsWorkedOut w.classes store.heap store.loaded.items (references_of store call) l fields call.stack (call_view function) (function_value function.function) answer) same_levels
-        (subst (λ (l : References). IsWorkedOut w.classes store.heap store.loaded.items l levels fields call.stack (call_view function) (function_value function.function) answer) same_references
-        (subst (λ (l : List ℕ). IsWorkedOut w.classes store.heap l references levels fields call.stack (call_view function) (function_value function.function) answer) same_loaded
-        (subst (λ (t : Classes). IsWorkedOut t store.heap loaded references levels fields call.stack (call_view function) (function_value function.function) answer) same_classes works))))))
-        (levelled p w store pending call function shared s task rest h) (held p w store pending call function shared s task rest h))
+    -- what was worked out
+    worked : (classes : Classes) (loaded : List ℕ) (references : References) (fields : List (Option FieldHandle)) (answer : Answer) → classes ≡ w.classes → loaded ≡ store.loaded.items → references ≡ references_of store call → fields ≡ call.fields.items
+        → IsWorkedOut classes store.heap loaded references fields call.stack (call_view function) (function_value function.function) answer → IsWorkedOut w.classes store.heap store.loaded.items (references_of store call) call.fields.items call.stack (call_view function) it.f answer
+    worked classes loaded references fields answer same_classes same_loaded same_references same_fields works =
+        subst (λ (x : JniFunction). IsWorkedOut w.classes store.heap store.loaded.items (references_of store call) call.fields.items call.stack (call_view function) x answer) it.asked.same_function
+        (subst (λ (l : List (Option FieldHandle)). IsWorkedOut w.classes store.heap store.loaded.items (references_of store call) l call.stack (call_view function) (function_value function.function) answer) same_fields
+        (subst (λ (l : References). IsWorkedOut w.classes store.heap store.loaded.items l fields call.stack (call_view function) (function_value function.function) answer) same_references
+        (subst (λ (l : List ℕ). IsWorkedOut w.classes store.heap l references fields call.stack (call_view function) (function_value function.function) answer) same_loaded
+        (subst (λ (t : Classes). IsWorkedOut t store.heap loaded references fields call.stack (call_view function) (function_value function.function) answer) same_classes works))))
 
-    can_carry : (kind : ResultKind) → kind ≡ (prototype (function_value function.function)).result → IsPossible p w store pending call.frames kind shared s
-    can_carry kind same = subst (λ (x : ResultKind). IsPossible p w store pending call.frames x shared s) (sym (kind_is kind same)) (possible p w store pending call function shared s task rest h)
+    answered : (sound : IsSound w) (lent : BuffersInUse) (k : ℕ) (classes : Classes) (loaded : List ℕ) (references : References) (fields : List (Option FieldHandle)) (kind : ResultKind) (answer : Answer) → classes ≡ w.classes → loaded ≡ store.loaded.items → references ≡ references_of store call → fields ≡ call.fields.items
+        → kind ≡ (prototype (function_value function.function)).result → IsWorkedOut classes store.heap loaded references fields call.stack (call_view function) (function_value function.function) answer
+        → IsAnswer w.classes store.heap call.locals kind shared s answer (call_effect w.classes lent k shared s it.args it.f)
+    answered sound lent k classes loaded references fields kind answer same_classes same_loaded same_references same_fields same_kind works =
+        subst (λ (x : ResultKind). IsAnswer w.classes store.heap call.locals x shared s answer (call_effect w.classes lent k shared s it.args it.f)) (sym (kind_is kind same_kind))
+        (answers p w store pending call (call_view function) shared s sound lent k it.args it.f it.asked it.target free answer (worked classes loaded references fields answer same_classes same_loaded same_references same_fields works)
+        (owned_key p w store pending call function own shared s task rest h) (held p w store pending call function own shared s task rest h))
+
+    can_carry : (kind : ResultKind) → kind ≡ (prototype (function_value function.function)).result → IsPossible p w store pending call.locals kind shared s
+    can_carry kind same = subst (λ (x : ResultKind). IsPossible p w store pending call.locals x shared s) (sym (kind_is kind same)) (possible p w store pending call function own shared s task rest h)
 
 -- what the operands name
-named_are : (store : Store) (call : Activation) (locals : List (Option ℕ)) (statics : List StaticReference) (r : References) → r ≡ record { locals = locals; statics = all_held store.globals statics } → locals ≡ call.references.items → statics ≡ store.statics.items → r ≡ references_of store call
-named_are store call locals statics r is same_locals same_statics = is ∙ (λ i. record { locals = same_locals i; statics = all_held store.globals (same_statics i) })
+named_are : (store : Store) (call : Activation) (keys : List (Option ℕ)) (statics : List StaticReference) (r : References) → r ≡ record { keys = keys; locals = call.locals; statics = all_held store.globals statics } → keys ≡ call.references.items → statics ≡ store.statics.items → r ≡ references_of store call
+named_are store call keys statics r is same_keys same_statics = is ∙ (λ i. record { keys = same_keys i; locals = call.locals; statics = all_held store.globals (same_statics i) })
 
 -- none was found
 no_trap : (o : Option Trap) (t : Option SourceTrap) → option_map trap_view o ≡ t → o ≡ None → t ≡ None
@@ -106,163 +112,167 @@ no_trap o t same none = sym same ∙ ap (option_map trap_view) none
 pub check-trap-requires-clause-objects : goal.check-trap-requires-clause-objects
 check-trap-requires-clause-objects c =
     let a = c.requires.at_call in
-    there a.0 c.args.world.now c.args.store.now c.args.pending.now c.args.call.now c.args.function.now a.1 a.2 a.3 a.4 a.5 c.new-references.result (named_are c.args.store.now c.args.call.now c.deref.result.now c.deref-2.result.now c.new-references.result c.new-references.ensures c.deref.ensures.value c.deref-2.ensures.value)
+    there a.0 c.args.world.now c.args.store.now c.args.pending.now c.args.call.now c.args.function.now a.1 a.2 a.3 a.4 a.5 a.6 c.new-references.result (named_are c.args.store.now c.args.call.now c.deref.result.now c.deref-2.result.now c.new-references.result c.new-references.ensures c.deref.ensures.value c.deref-2.ensures.value)
 
 pub check-trap-requires-clause-handles : goal.check-trap-requires-clause-handles
 check-trap-requires-clause-handles c =
     let a = c.requires.at_call in
-    handled a.0 c.args.world.now c.args.store.now c.args.pending.now c.args.call.now c.args.function.now a.1 a.2 a.3 a.4 a.5 c.classes.result.now c.deref-3.result.now c.classes.ensures.classes c.deref-3.ensures.value
+    handled a.0 c.args.world.now c.args.store.now c.args.pending.now c.args.call.now c.args.function.now a.1 a.2 a.3 a.4 a.5 a.6 c.classes.result.now c.deref-3.result.now c.classes.ensures.classes c.deref-3.ensures.value
 
 pub returns-in-Some-clause-done : goal.returns-in-Some-clause-done
-returns-in-Some-clause-done c p lent k shared s task rest h =
+returns-in-Some-clause-done c p lent k own shared s task rest h =
     let w = c.args.world.now in
-    let found = told p w c.args.store.now c.args.pending.now c.args.call.now c.args.function.now shared s task rest h c.classes.result.now c.is_some.result c.room_after.result c.new-references.result c.deref-3.result.now c.check-trap.result
-    c.classes.ensures.classes c.is_some.ensures c.room_after.ensures (named_are c.args.store.now c.args.call.now c.deref.result.now c.deref-2.result.now c.new-references.result c.new-references.ensures c.deref.ensures.value c.deref-2.ensures.value) c.deref-3.ensures.value c.check-trap.ensures in
-    traps p w c.args.store.now c.args.pending.now c.args.call.now c.args.function.now shared s task rest h lent k c.in-Some.trap c.args.function.now.line refl (sym found ∙ ap (option_map trap_view) c.in-Some.is)
+    let found = told p w c.args.store.now c.args.pending.now c.args.call.now c.args.function.now own shared s task rest h c.classes.result.now c.is_some.result c.has_room.result c.new-references.result c.deref-3.result.now c.check-trap.result
+    c.classes.ensures.classes c.is_some.ensures c.has_room.ensures (named_are c.args.store.now c.args.call.now c.deref.result.now c.deref-2.result.now c.new-references.result c.new-references.ensures c.deref.ensures.value c.deref-2.ensures.value) c.deref-3.ensures.value c.check-trap.ensures in
+    traps p w c.args.store.now c.args.pending.now c.args.call.now c.args.function.now own shared s task rest h lent k c.in-Some.trap c.args.function.now.line refl (sym found ∙ ap (option_map trap_view) c.in-Some.is)
 
 pub work_out-answer-requires-clause-grown : goal.work_out-answer-requires-clause-grown
 work_out-answer-requires-clause-grown c = subst (λ (t : Classes). IsGrown t) (sym c.classes-2.ensures.classes) c.classes.ensures.sound.grown
 
 pub work_out-answer-requires-clause-loaded : goal.work_out-answer-requires-clause-loaded
 work_out-answer-requires-clause-loaded c i a at =
-    let shares = c.requires.at_call.5.shares in
+    let shares = c.requires.at_call.6.shares in
     is_address c.args.store.now.heap a (i + 1) (shares.table.named i a (ap (λ (l : List ℕ). slice_get l i) (sym c.deref-4.ensures.value) ∙ at))
 
 pub work_out-answer-requires-clause-objects : goal.work_out-answer-requires-clause-objects
 work_out-answer-requires-clause-objects c =
     let a = c.requires.at_call in
-    there a.0 c.args.world.now c.args.store.now c.args.pending.now c.args.call.now c.args.function.now a.1 a.2 a.3 a.4 a.5 c.new-references.result (named_are c.args.store.now c.args.call.now c.deref.result.now c.deref-2.result.now c.new-references.result c.new-references.ensures c.deref.ensures.value c.deref-2.ensures.value)
+    there a.0 c.args.world.now c.args.store.now c.args.pending.now c.args.call.now c.args.function.now a.1 a.2 a.3 a.4 a.5 a.6 c.new-references.result (named_are c.args.store.now c.args.call.now c.deref.result.now c.deref-2.result.now c.new-references.result c.new-references.ensures c.deref.ensures.value c.deref-2.ensures.value)
 
 pub work_out-answer-requires-clause-handles : goal.work_out-answer-requires-clause-handles
 work_out-answer-requires-clause-handles c =
     let a = c.requires.at_call in
-    handled a.0 c.args.world.now c.args.store.now c.args.pending.now c.args.call.now c.args.function.now a.1 a.2 a.3 a.4 a.5 c.classes-2.result.now c.deref-6.result.now c.classes-2.ensures.classes c.deref-6.ensures.value
+    handled a.0 c.args.world.now c.args.store.now c.args.pending.now c.args.call.now c.args.function.now a.1 a.2 a.3 a.4 a.5 a.6 c.classes-2.result.now c.deref-5.result.now c.classes-2.ensures.classes c.deref-5.ensures.value
 
 pub work_out-answer-requires-clause-answered : goal.work_out-answer-requires-clause-answered
 work_out-answer-requires-clause-answered c =
     let a = c.requires.at_call in
-    is_answered_there a.0 c.args.world.now c.args.store.now c.args.pending.now c.args.call.now c.args.function.now a.1 a.2 a.3 a.4 a.5
+    is_answered_there a.0 c.args.world.now c.args.store.now c.args.pending.now c.args.call.now c.args.function.now a.1 a.2 a.3 a.4 a.5 a.6
 
 pub work_out-answer-requires-clause-passed : goal.work_out-answer-requires-clause-passed
 work_out-answer-requires-clause-passed c =
     let a = c.requires.at_call in
     let w = c.args.world.now in
-    let found = told a.0 w c.args.store.now c.args.pending.now c.args.call.now c.args.function.now a.1 a.2 a.3 a.4 a.5 c.classes.result.now c.is_some.result c.room_after.result c.new-references.result c.deref-3.result.now c.check-trap.result
-    c.classes.ensures.classes c.is_some.ensures c.room_after.ensures (named_are c.args.store.now c.args.call.now c.deref.result.now c.deref-2.result.now c.new-references.result c.new-references.ensures c.deref.ensures.value c.deref-2.ensures.value) c.deref-3.ensures.value c.check-trap.ensures in
-    passes a.0 w c.args.store.now c.args.pending.now c.args.call.now c.args.function.now a.1 a.2 a.3 a.4 a.5 (no_trap c.check-trap.result _ found c.in_default.is) c.classes-2.result.now c.new-references.result c.deref-6.result.now c.classes-2.ensures.classes (named_are c.args.store.now c.args.call.now c.deref.result.now c.deref-2.result.now c.new-references.result c.new-references.ensures c.deref.ensures.value c.deref-2.ensures.value) c.deref-6.ensures.value
+    let found = told a.0 w c.args.store.now c.args.pending.now c.args.call.now c.args.function.now a.1 a.2 a.3 a.4 a.5 a.6 c.classes.result.now c.is_some.result c.has_room.result c.new-references.result c.deref-3.result.now c.check-trap.result
+    c.classes.ensures.classes c.is_some.ensures c.has_room.ensures (named_are c.args.store.now c.args.call.now c.deref.result.now c.deref-2.result.now c.new-references.result c.new-references.ensures c.deref.ensures.value c.deref-2.ensures.value) c.deref-3.ensures.value c.check-trap.ensures in
+    passes a.0 w c.args.store.now c.args.pending.now c.args.call.now c.args.function.now a.1 a.2 a.3 a.4 a.5 a.6 (no_trap c.check-trap.result _ found c.in_default.is) c.classes-2.result.now c.new-references.result c.deref-5.result.now c.classes-2.ensures.classes (named_are c.args.store.now c.args.call.now c.deref.result.now c.deref-2.result.now c.new-references.result c.new-references.ensures c.deref.ensures.value c.deref-2.ensures.value) c.deref-5.ensures.value
 
 pub carry_out-requires : goal.carry_out-requires
 carry_out-requires c =
     let a = c.requires.at_call in
     let w = c.args.world.now in
-    let found = told a.0 w c.args.store.now c.args.pending.now c.args.call.now c.args.function.now a.1 a.2 a.3 a.4 a.5 c.classes.result.now c.is_some.result c.room_after.result c.new-references.result c.deref-3.result.now c.check-trap.result
-    c.classes.ensures.classes c.is_some.ensures c.room_after.ensures (named_are c.args.store.now c.args.call.now c.deref.result.now c.deref-2.result.now c.new-references.result c.new-references.ensures c.deref.ensures.value c.deref-2.ensures.value) c.deref-3.ensures.value c.check-trap.ensures in
+    let found = told a.0 w c.args.store.now c.args.pending.now c.args.call.now c.args.function.now a.1 a.2 a.3 a.4 a.5 a.6 c.classes.result.now c.is_some.result c.has_room.result c.new-references.result c.deref-3.result.now c.check-trap.result
+    c.classes.ensures.classes c.is_some.ensures c.has_room.ensures (named_are c.args.store.now c.args.call.now c.deref.result.now c.deref-2.result.now c.new-references.result c.new-references.ensures c.deref.ensures.value c.deref-2.ensures.value) c.deref-3.ensures.value c.check-trap.ensures in
     let free = no_trap c.check-trap.result _ found c.in_default.is in
     let kind = result_value c.prototype.result.now.result in
     let same = ap (λ (x : Facts). x.prototype.result) c.prototype.ensures in
     let lent : BuffersInUse = record { copied = 0; views = 0 } in
-    let it = called a.0 w c.args.store.now c.args.pending.now c.args.call.now c.args.function.now a.1 a.2 a.3 a.4 a.5 in
+    let it = called a.0 w c.args.store.now c.args.pending.now c.args.call.now c.args.function.now a.1 a.2 a.3 a.4 a.5 a.6 in
     record {
       possible = (
         a.0,
-        a.1,
         a.2,
-        call_effect w.classes lent 0 a.1 a.2 it.args it.f,
-        can_carry a.0 w c.args.store.now c.args.pending.now c.args.call.now c.args.function.now a.1 a.2 a.3 a.4 a.5 free kind same,
-        answered a.0 w c.args.store.now c.args.pending.now c.args.call.now c.args.function.now a.1 a.2 a.3 a.4 a.5 free c.classes.ensures.sound lent 0 c.classes-2.result.now c.deref-4.result.now c.new-references.result c.deref-5.result.now c.deref-6.result.now kind c.work_out-answer.result
-            c.classes-2.ensures.classes c.deref-4.ensures.value (named_are c.args.store.now c.args.call.now c.deref.result.now c.deref-2.result.now c.new-references.result c.new-references.ensures c.deref.ensures.value c.deref-2.ensures.value) c.deref-5.ensures.value c.deref-6.ensures.value same c.work_out-answer.ensures,
+        a.3,
+        call_effect w.classes lent 0 a.2 a.3 it.args it.f,
+        can_carry a.0 w c.args.store.now c.args.pending.now c.args.call.now c.args.function.now a.1 a.2 a.3 a.4 a.5 a.6 free kind same,
+        answered a.0 w c.args.store.now c.args.pending.now c.args.call.now c.args.function.now a.1 a.2 a.3 a.4 a.5 a.6 free c.classes.ensures.sound lent 0 c.classes-2.result.now c.deref-4.result.now c.new-references.result c.deref-5.result.now kind c.work_out-answer.result
+            c.classes-2.ensures.classes c.deref-4.ensures.value (named_are c.args.store.now c.args.call.now c.deref.result.now c.deref-2.result.now c.new-references.result c.new-references.ensures c.deref.ensures.value c.deref-2.ensures.value) c.deref-5.ensures.value same c.work_out-answer.ensures,
       );
     }
 
 pub receive-requires-clause-target : goal.receive-requires-clause-target
 receive-requires-clause-target c =
     let a = c.requires.at_call in
-    has_target a.0 c.args.world.now c.args.store.now c.args.pending.now c.args.call.now c.args.function.now a.1 a.2 a.3 a.4 a.5
+    has_target a.0 c.args.world.now c.args.store.now c.args.pending.now c.args.call.now c.args.function.now a.1 a.2 a.3 a.4 a.5 a.6
 
 pub receive-requires-clause-static_target : goal.receive-requires-clause-static_target
 receive-requires-clause-static_target c =
     let a = c.requires.at_call in
     let w = c.args.world.now in
-    let found = told a.0 w c.args.store.now c.args.pending.now c.args.call.now c.args.function.now a.1 a.2 a.3 a.4 a.5 c.classes.result.now c.is_some.result c.room_after.result c.new-references.result c.deref-3.result.now c.check-trap.result
-    c.classes.ensures.classes c.is_some.ensures c.room_after.ensures (named_are c.args.store.now c.args.call.now c.deref.result.now c.deref-2.result.now c.new-references.result c.new-references.ensures c.deref.ensures.value c.deref-2.ensures.value) c.deref-3.ensures.value c.check-trap.ensures in
+    let found = told a.0 w c.args.store.now c.args.pending.now c.args.call.now c.args.function.now a.1 a.2 a.3 a.4 a.5 a.6 c.classes.result.now c.is_some.result c.has_room.result c.new-references.result c.deref-3.result.now c.check-trap.result
+    c.classes.ensures.classes c.is_some.ensures c.has_room.ensures (named_are c.args.store.now c.args.call.now c.deref.result.now c.deref-2.result.now c.new-references.result c.new-references.ensures c.deref.ensures.value c.deref-2.ensures.value) c.deref-3.ensures.value c.check-trap.ensures in
     let free = no_trap c.check-trap.result _ found c.in_default.is in
     let kind = result_value c.prototype.result.now.result in
     let same = ap (λ (x : Facts). x.prototype.result) c.prototype.ensures in
     let lent : BuffersInUse = record { copied = 0; views = 0 } in
-    let it = called a.0 w c.args.store.now c.args.pending.now c.args.call.now c.args.function.now a.1 a.2 a.3 a.4 a.5 in
-    let effect = call_effect w.classes lent 0 a.1 a.2 it.args it.f in
-    let carried = c.in_ok-carried.ensures.carried a.0 a.1 a.2 effect (can_carry a.0 w c.args.store.now c.args.pending.now c.args.call.now c.args.function.now a.1 a.2 a.3 a.4 a.5 free kind same) (answered a.0 w c.args.store.now c.args.pending.now c.args.call.now c.args.function.now a.1 a.2 a.3 a.4 a.5 free c.classes.ensures.sound lent 0 c.classes-2.result.now c.deref-4.result.now c.new-references.result c.deref-5.result.now c.deref-6.result.now kind c.work_out-answer.result
-    c.classes-2.ensures.classes c.deref-4.ensures.value (named_are c.args.store.now c.args.call.now c.deref.result.now c.deref-2.result.now c.new-references.result c.new-references.ensures c.deref.ensures.value c.deref-2.ensures.value) c.deref-5.ensures.value c.deref-6.ensures.value same c.work_out-answer.ensures) in
-    let same_count : length a.1.statics ≡ length c.carry_out.new.store.statics.items =
-    shared_long a.0 w c.args.store.now a.1 a.5.shares ∙ sym (statics_long a.0 w c.carry_out.new.store (shared_after w.classes c.in_ok-carried.carried.refused a.1 effect) carried.store_agrees) in
+    let it = called a.0 w c.args.store.now c.args.pending.now c.args.call.now c.args.function.now a.1 a.2 a.3 a.4 a.5 a.6 in
+    let effect = call_effect w.classes lent 0 a.2 a.3 it.args it.f in
+    let carried = c.in_ok-carried.ensures.carried a.0 a.2 a.3 effect (can_carry a.0 w c.args.store.now c.args.pending.now c.args.call.now c.args.function.now a.1 a.2 a.3 a.4 a.5 a.6 free kind same) (answered a.0 w c.args.store.now c.args.pending.now c.args.call.now c.args.function.now a.1 a.2 a.3 a.4 a.5 a.6 free c.classes.ensures.sound lent 0 c.classes-2.result.now c.deref-4.result.now c.new-references.result c.deref-5.result.now kind c.work_out-answer.result
+    c.classes-2.ensures.classes c.deref-4.ensures.value (named_are c.args.store.now c.args.call.now c.deref.result.now c.deref-2.result.now c.new-references.result c.new-references.ensures c.deref.ensures.value c.deref-2.ensures.value) c.deref-5.ensures.value same c.work_out-answer.ensures) in
+    let same_count : length a.2.statics ≡ length c.carry_out.new.store.statics.items =
+    shared_long a.0 w c.args.store.now a.2 a.6.shares ∙ sym (statics_long a.0 w c.carry_out.new.store (shared_after w.classes c.in_ok-carried.carried.refused a.2 effect) carried.store_agrees) in
     subst (λ (l : List StaticReference). HasStatic c.args.function.now.target (length l)) (sym c.deref_mut.ensures.value)
-    (has_static a.0 w c.args.store.now c.args.pending.now c.args.call.now c.args.function.now a.1 a.2 a.3 a.4 a.5 (length c.carry_out.new.store.statics.items) same_count)
+    (has_static a.0 w c.args.store.now c.args.pending.now c.args.call.now c.args.function.now a.1 a.2 a.3 a.4 a.5 a.6 (length c.carry_out.new.store.statics.items) same_count)
 
-pub receive-requires-clause-frame : goal.receive-requires-clause-frame
-receive-requires-clause-frame c =
+pub receive-requires-clause-room : goal.receive-requires-clause-room
+receive-requires-clause-room c =
     let a = c.requires.at_call in
     let w = c.args.world.now in
-    let found = told a.0 w c.args.store.now c.args.pending.now c.args.call.now c.args.function.now a.1 a.2 a.3 a.4 a.5 c.classes.result.now c.is_some.result c.room_after.result c.new-references.result c.deref-3.result.now c.check-trap.result
-    c.classes.ensures.classes c.is_some.ensures c.room_after.ensures (named_are c.args.store.now c.args.call.now c.deref.result.now c.deref-2.result.now c.new-references.result c.new-references.ensures c.deref.ensures.value c.deref-2.ensures.value) c.deref-3.ensures.value c.check-trap.ensures in
+    let found = told a.0 w c.args.store.now c.args.pending.now c.args.call.now c.args.function.now a.1 a.2 a.3 a.4 a.5 a.6 c.classes.result.now c.is_some.result c.has_room.result c.new-references.result c.deref-3.result.now c.check-trap.result
+    c.classes.ensures.classes c.is_some.ensures c.has_room.ensures (named_are c.args.store.now c.args.call.now c.deref.result.now c.deref-2.result.now c.new-references.result c.new-references.ensures c.deref.ensures.value c.deref-2.ensures.value) c.deref-3.ensures.value c.check-trap.ensures in
     let free = no_trap c.check-trap.result _ found c.in_default.is in
     let kind = result_value c.prototype.result.now.result in
     let same = ap (λ (x : Facts). x.prototype.result) c.prototype.ensures in
     let lent : BuffersInUse = record { copied = 0; views = 0 } in
-    let it = called a.0 w c.args.store.now c.args.pending.now c.args.call.now c.args.function.now a.1 a.2 a.3 a.4 a.5 in
-    let effect = call_effect w.classes lent 0 a.1 a.2 it.args it.f in
-    let carried = c.in_ok-carried.ensures.carried a.0 a.1 a.2 effect (can_carry a.0 w c.args.store.now c.args.pending.now c.args.call.now c.args.function.now a.1 a.2 a.3 a.4 a.5 free kind same) (answered a.0 w c.args.store.now c.args.pending.now c.args.call.now c.args.function.now a.1 a.2 a.3 a.4 a.5 free c.classes.ensures.sound lent 0 c.classes-2.result.now c.deref-4.result.now c.new-references.result c.deref-5.result.now c.deref-6.result.now kind c.work_out-answer.result
-    c.classes-2.ensures.classes c.deref-4.ensures.value (named_are c.args.store.now c.args.call.now c.deref.result.now c.deref-2.result.now c.new-references.result c.new-references.ensures c.deref.ensures.value c.deref-2.ensures.value) c.deref-5.ensures.value c.deref-6.ensures.value same c.work_out-answer.ensures) in
-    let is = kind_is a.0 w c.args.store.now c.args.pending.now c.args.call.now c.args.function.now a.1 a.2 a.3 a.4 a.5 kind same in
-    subst (λ (x : ResultKind). HasRoom x c.carry_out.new.frames) (sym is)
-    (room_after a.0 w c.args.store.now c.args.pending.now c.args.call.now c.args.function.now a.1 a.2 a.3 a.4 a.5 lent 0 free c.in_ok-carried.carried.refused c.carry_out.new.store c.carry_out.new.pending c.carry_out.new.frames c.in_ok-carried.carried.given
-    (subst (λ (x : ResultKind). CarriesOut c.requires.at_call.0 w c.args.store.now.heap x a.1 a.2 effect c.in_ok-carried.carried.refused c.carry_out.new.store c.carry_out.new.pending c.carry_out.new.frames c.in_ok-carried.carried.given) is carried))
+    let it = called a.0 w c.args.store.now c.args.pending.now c.args.call.now c.args.function.now a.1 a.2 a.3 a.4 a.5 a.6 in
+    let effect = call_effect w.classes lent 0 a.2 a.3 it.args it.f in
+    let carried = c.in_ok-carried.ensures.carried a.0 a.2 a.3 effect (can_carry a.0 w c.args.store.now c.args.pending.now c.args.call.now c.args.function.now a.1 a.2 a.3 a.4 a.5 a.6 free kind same) (answered a.0 w c.args.store.now c.args.pending.now c.args.call.now c.args.function.now a.1 a.2 a.3 a.4 a.5 a.6 free c.classes.ensures.sound lent 0 c.classes-2.result.now c.deref-4.result.now c.new-references.result c.deref-5.result.now kind c.work_out-answer.result
+    c.classes-2.ensures.classes c.deref-4.ensures.value (named_are c.args.store.now c.args.call.now c.deref.result.now c.deref-2.result.now c.new-references.result c.new-references.ensures c.deref.ensures.value c.deref-2.ensures.value) c.deref-5.ensures.value same c.work_out-answer.ensures) in
+    let is = kind_is a.0 w c.args.store.now c.args.pending.now c.args.call.now c.args.function.now a.1 a.2 a.3 a.4 a.5 a.6 kind same in
+    subst (λ (x : ResultKind). HasRoom x c.carry_out.new.locals) (sym is)
+    (room_after a.0 w c.args.store.now c.args.pending.now c.args.call.now c.args.function.now a.1 a.2 a.3 a.4 a.5 a.6 lent 0 free c.in_ok-carried.carried.refused c.carry_out.new.store c.carry_out.new.pending c.carry_out.new.locals c.in_ok-carried.carried.given c.work_out-answer.result
+    (subst (λ (x : ResultKind). CarriesOut c.requires.at_call.0 w c.args.store.now.heap c.args.call.now.locals c.work_out-answer.result x a.2 a.3 effect c.in_ok-carried.carried.refused c.carry_out.new.store c.carry_out.new.pending c.carry_out.new.locals c.in_ok-carried.carried.given) is carried))
 
 pub returns-then-carried-clause-done : goal.returns-then-carried-clause-done
-returns-then-carried-clause-done c p lent k shared s task rest h =
+returns-then-carried-clause-done c p lent k own shared s task rest h =
     let w = c.args.world.now in
     let store = c.args.store.now in
     let pending = c.args.pending.now in
     let call = c.args.call.now in
     let function = c.args.function.now in
-    let it = called p w store pending call function shared s task rest h in
-    let found = told p w store pending call function shared s task rest h c.classes.result.now c.is_some.result c.room_after.result c.new-references.result c.deref-3.result.now c.check-trap.result
-    c.classes.ensures.classes c.is_some.ensures c.room_after.ensures (named_are c.args.store.now c.args.call.now c.deref.result.now c.deref-2.result.now c.new-references.result c.new-references.ensures c.deref.ensures.value c.deref-2.ensures.value) c.deref-3.ensures.value c.check-trap.ensures in
+    let it = called p w store pending call function own shared s task rest h in
+    let found = told p w store pending call function own shared s task rest h c.classes.result.now c.is_some.result c.has_room.result c.new-references.result c.deref-3.result.now c.check-trap.result
+    c.classes.ensures.classes c.is_some.ensures c.has_room.ensures (named_are c.args.store.now c.args.call.now c.deref.result.now c.deref-2.result.now c.new-references.result c.new-references.ensures c.deref.ensures.value c.deref-2.ensures.value) c.deref-3.ensures.value c.check-trap.ensures in
     let free = no_trap c.check-trap.result (trap_of_call w.classes shared s it.target it.f it.args) found c.in_default.is in
     let kind = result_value c.prototype.result.now.result in
     let same : kind ≡ (prototype (function_value function.function)).result = ap (λ (x : Facts). x.prototype.result) c.prototype.ensures in
     let effect = call_effect w.classes lent k shared s it.args it.f in
-    let is = kind_is p w store pending call function shared s task rest h kind same in
-    let answer = answered p w store pending call function shared s task rest h free c.classes.ensures.sound lent k c.classes-2.result.now c.deref-4.result.now c.new-references.result c.deref-5.result.now c.deref-6.result.now kind c.work_out-answer.result
-    c.classes-2.ensures.classes c.deref-4.ensures.value (named_are c.args.store.now c.args.call.now c.deref.result.now c.deref-2.result.now c.new-references.result c.new-references.ensures c.deref.ensures.value c.deref-2.ensures.value) c.deref-5.ensures.value c.deref-6.ensures.value same c.work_out-answer.ensures in
-    let carried = c.in_ok-carried.ensures.carried p shared s effect (can_carry p w store pending call function shared s task rest h free kind same) answer in
-    let told_refused = subst (λ (b : Bool). CarriesOut p w store.heap kind shared s effect b c.carry_out.new.store c.carry_out.new.pending c.carry_out.new.frames c.in_ok-carried.carried.given) c.if-carried.true carried in
-    goes_on p w store pending call function shared s task rest h lent k true c.carry_out.new.store c.carry_out.new.pending c.carry_out.new.frames c.in_ok-carried.carried.given c.receive.new.call (with_items c.carry_out.new.store.statics c.receive.new.statics) c.work_out-answer.result free
-    (subst (λ (x : ResultKind). IsAnswer w.classes store.heap x shared s c.work_out-answer.result effect) is answer)
-    (subst (λ (x : ResultKind). CarriesOut p w store.heap x shared s effect true c.carry_out.new.store c.carry_out.new.pending c.carry_out.new.frames c.in_ok-carried.carried.given) is told_refused)
-    (subst (λ (x : ResultKind). Receives function.target x c.in_ok-carried.carried.given (record call { frames = c.carry_out.new.frames }) c.receive.new.call) is c.receive.ensures.call)
+    let is = kind_is p w store pending call function own shared s task rest h kind same in
+    let answer = answered p w store pending call function own shared s task rest h free c.classes.ensures.sound lent k c.classes-2.result.now c.deref-4.result.now c.new-references.result c.deref-5.result.now kind c.work_out-answer.result
+    c.classes-2.ensures.classes c.deref-4.ensures.value (named_are c.args.store.now c.args.call.now c.deref.result.now c.deref-2.result.now c.new-references.result c.new-references.ensures c.deref.ensures.value c.deref-2.ensures.value) c.deref-5.ensures.value same c.work_out-answer.ensures in
+    let carried = c.in_ok-carried.ensures.carried p shared s effect (can_carry p w store pending call function own shared s task rest h free kind same) answer in
+    let told_refused = subst (λ (b : Bool). CarriesOut p w store.heap call.locals c.work_out-answer.result kind shared s effect b c.carry_out.new.store c.carry_out.new.pending c.carry_out.new.locals c.in_ok-carried.carried.given) c.if-carried.true carried in
+    goes_on p w store pending call function own shared s task rest h lent k true c.carry_out.new.store c.carry_out.new.pending c.carry_out.new.locals c.in_ok-carried.carried.given c.receive.new.call (with_items c.carry_out.new.store.statics c.receive.new.statics) c.work_out-answer.result c.frames.ensures.stacked free
+    (worked p w store pending call function own shared s task rest h free c.classes-2.result.now c.deref-4.result.now c.new-references.result c.deref-5.result.now c.work_out-answer.result
+    c.classes-2.ensures.classes c.deref-4.ensures.value (named_are c.args.store.now c.args.call.now c.deref.result.now c.deref-2.result.now c.new-references.result c.new-references.ensures c.deref.ensures.value c.deref-2.ensures.value) c.deref-5.ensures.value c.work_out-answer.ensures)
+    (subst (λ (x : ResultKind). IsAnswer w.classes store.heap call.locals x shared s c.work_out-answer.result effect) is answer)
+    (subst (λ (x : ResultKind). CarriesOut p w store.heap call.locals c.work_out-answer.result x shared s effect true c.carry_out.new.store c.carry_out.new.pending c.carry_out.new.locals c.in_ok-carried.carried.given) is told_refused)
+    (subst (λ (x : ResultKind). Receives function.target x c.in_ok-carried.carried.given (record call { locals = c.carry_out.new.locals }) c.receive.new.call) is c.receive.ensures.call)
     (with_items_is c.carry_out.new.store.statics c.receive.new.statics (search (rules, places)) ∙ c.receive.ensures.statics ∙ ap (λ (l : List StaticReference). statics_with function.target c.in_ok-carried.carried.given l) c.deref_mut.ensures.value)
 
 pub returns-else-carried-clause-done : goal.returns-else-carried-clause-done
-returns-else-carried-clause-done c p lent k shared s task rest h =
+returns-else-carried-clause-done c p lent k own shared s task rest h =
     let w = c.args.world.now in
     let store = c.args.store.now in
     let pending = c.args.pending.now in
     let call = c.args.call.now in
     let function = c.args.function.now in
-    let it = called p w store pending call function shared s task rest h in
-    let found = told p w store pending call function shared s task rest h c.classes.result.now c.is_some.result c.room_after.result c.new-references.result c.deref-3.result.now c.check-trap.result
-    c.classes.ensures.classes c.is_some.ensures c.room_after.ensures (named_are c.args.store.now c.args.call.now c.deref.result.now c.deref-2.result.now c.new-references.result c.new-references.ensures c.deref.ensures.value c.deref-2.ensures.value) c.deref-3.ensures.value c.check-trap.ensures in
+    let it = called p w store pending call function own shared s task rest h in
+    let found = told p w store pending call function own shared s task rest h c.classes.result.now c.is_some.result c.has_room.result c.new-references.result c.deref-3.result.now c.check-trap.result
+    c.classes.ensures.classes c.is_some.ensures c.has_room.ensures (named_are c.args.store.now c.args.call.now c.deref.result.now c.deref-2.result.now c.new-references.result c.new-references.ensures c.deref.ensures.value c.deref-2.ensures.value) c.deref-3.ensures.value c.check-trap.ensures in
     let free = no_trap c.check-trap.result (trap_of_call w.classes shared s it.target it.f it.args) found c.in_default.is in
     let kind = result_value c.prototype.result.now.result in
     let same : kind ≡ (prototype (function_value function.function)).result = ap (λ (x : Facts). x.prototype.result) c.prototype.ensures in
     let effect = call_effect w.classes lent k shared s it.args it.f in
-    let is = kind_is p w store pending call function shared s task rest h kind same in
-    let answer = answered p w store pending call function shared s task rest h free c.classes.ensures.sound lent k c.classes-2.result.now c.deref-4.result.now c.new-references.result c.deref-5.result.now c.deref-6.result.now kind c.work_out-answer.result
-    c.classes-2.ensures.classes c.deref-4.ensures.value (named_are c.args.store.now c.args.call.now c.deref.result.now c.deref-2.result.now c.new-references.result c.new-references.ensures c.deref.ensures.value c.deref-2.ensures.value) c.deref-5.ensures.value c.deref-6.ensures.value same c.work_out-answer.ensures in
-    let carried = c.in_ok-carried.ensures.carried p shared s effect (can_carry p w store pending call function shared s task rest h free kind same) answer in
-    let told_refused = subst (λ (b : Bool). CarriesOut p w store.heap kind shared s effect b c.carry_out.new.store c.carry_out.new.pending c.carry_out.new.frames c.in_ok-carried.carried.given) c.if-carried.false carried in
-    goes_on p w store pending call function shared s task rest h lent k false c.carry_out.new.store c.carry_out.new.pending c.carry_out.new.frames c.in_ok-carried.carried.given c.receive.new.call (with_items c.carry_out.new.store.statics c.receive.new.statics) c.work_out-answer.result free
-    (subst (λ (x : ResultKind). IsAnswer w.classes store.heap x shared s c.work_out-answer.result effect) is answer)
-    (subst (λ (x : ResultKind). CarriesOut p w store.heap x shared s effect false c.carry_out.new.store c.carry_out.new.pending c.carry_out.new.frames c.in_ok-carried.carried.given) is told_refused)
-    (subst (λ (x : ResultKind). Receives function.target x c.in_ok-carried.carried.given (record call { frames = c.carry_out.new.frames }) c.receive.new.call) is c.receive.ensures.call)
+    let is = kind_is p w store pending call function own shared s task rest h kind same in
+    let answer = answered p w store pending call function own shared s task rest h free c.classes.ensures.sound lent k c.classes-2.result.now c.deref-4.result.now c.new-references.result c.deref-5.result.now kind c.work_out-answer.result
+    c.classes-2.ensures.classes c.deref-4.ensures.value (named_are c.args.store.now c.args.call.now c.deref.result.now c.deref-2.result.now c.new-references.result c.new-references.ensures c.deref.ensures.value c.deref-2.ensures.value) c.deref-5.ensures.value same c.work_out-answer.ensures in
+    let carried = c.in_ok-carried.ensures.carried p shared s effect (can_carry p w store pending call function own shared s task rest h free kind same) answer in
+    let told_refused = subst (λ (b : Bool). CarriesOut p w store.heap call.locals c.work_out-answer.result kind shared s effect b c.carry_out.new.store c.carry_out.new.pending c.carry_out.new.locals c.in_ok-carried.carried.given) c.if-carried.false carried in
+    goes_on p w store pending call function own shared s task rest h lent k false c.carry_out.new.store c.carry_out.new.pending c.carry_out.new.locals c.in_ok-carried.carried.given c.receive.new.call (with_items c.carry_out.new.store.statics c.receive.new.statics) c.work_out-answer.result c.frames.ensures.stacked free
+    (worked p w store pending call function own shared s task rest h free c.classes-2.result.now c.deref-4.result.now c.new-references.result c.deref-5.result.now c.work_out-answer.result
+    c.classes-2.ensures.classes c.deref-4.ensures.value (named_are c.args.store.now c.args.call.now c.deref.result.now c.deref-2.result.now c.new-references.result c.new-references.ensures c.deref.ensures.value c.deref-2.ensures.value) c.deref-5.ensures.value c.work_out-answer.ensures)
+    (subst (λ (x : ResultKind). IsAnswer w.classes store.heap call.locals x shared s c.work_out-answer.result effect) is answer)
+    (subst (λ (x : ResultKind). CarriesOut p w store.heap call.locals c.work_out-answer.result x shared s effect false c.carry_out.new.store c.carry_out.new.pending c.carry_out.new.locals c.in_ok-carried.carried.given) is told_refused)
+    (subst (λ (x : ResultKind). Receives function.target x c.in_ok-carried.carried.given (record call { locals = c.carry_out.new.locals }) c.receive.new.call) is c.receive.ensures.call)
     (with_items_is c.carry_out.new.store.statics c.receive.new.statics (search (rules, places)) ∙ c.receive.ensures.statics ∙ ap (λ (l : List StaticReference). statics_with function.target c.in_ok-carried.carried.given l) c.deref_mut.ensures.value)

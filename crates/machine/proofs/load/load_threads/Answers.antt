@@ -50,11 +50,11 @@ load_thread-requires-clause-given c =
     subst (λ (cs : List Invocation). list_all (are_arguments made) cs ≡ true) (sym c.deref.ensures.value) (calls_given c.args.world.now k _ c.threads-calls-items.ensures.sound there)
 
 pub returns-clause-agree : goal.returns-clause-agree
-returns-clause-agree c space shared =
+returns-clause-agree c space owners k shared =
     let w = c.args.world.now in
     let items = c.threads-calls-items.result.now in
-    subst (λ (cs : List (List Invocation)). ThreadsAgree c.args.program.now w.classes space (length (loaded_objects w)) shared c.loop-calls.threads.items (map waiting_thread cs)) c.threads-calls-items.ensures.calls
-    (all_agree c.args.program.now w.classes space (length (loaded_objects w)) shared items c.loop-calls.calls-index c.loop-calls.threads.items c.loop-calls-test.false (c.loop-calls.invariant.agree space shared))
+    subst (λ (cs : List (List Invocation)). ThreadsAgree c.args.program.now w.classes space (length (loaded_objects w)) owners k shared c.loop-calls.threads.items (map waiting_thread cs)) c.threads-calls-items.ensures.calls
+    (all_agree c.args.program.now w.classes space (length (loaded_objects w)) shared items c.loop-calls.calls-index c.loop-calls.threads.items c.loop-calls-test.false (c.loop-calls.invariant.agree space shared) owners k)
 
 pub returns-clause-all : goal.returns-clause-all
 returns-clause-all c =

@@ -7,6 +7,7 @@ use Rattle.source.specs.Object.{Reference}
 use Rattle.source.specs.Thread as source
 use Rattle.source.specs.Thread.{Shared, sight_of}
 use Rattle.source.specs.World.{World, loaded_objects}
+use Rattle.safety.specs.Owners.{Owners}
 use Rattle.lower.specs.Lowered.{Lowered}
 use Rattle.lower.specs.Slots.{visible_to}
 use Rattle.machine.specs.declared.store.Store.{Store}
@@ -17,24 +18,25 @@ use Rattle.machine.specs.Agrees.{IsSteady, StoreAgrees, ThreadAgrees, IsExecutin
 use Rattle.machine.specs.declared.thread.Executed.{Executed}
 use Rattle.machine.specs.HeapAgrees.{ReferenceAgrees}
 use Rattle.machine.specs.Entry.{IsReady, Begins}
-use Rattle.machine.proofs.Threads.{Working, working, did, returned, enters, coming, ready_to_begin}
+use Rattle.machine.proofs.Entries.{enters, coming, ready_to_begin}
+use Rattle.machine.proofs.Threads.{Working, working, did, returned}
 use Rattle.machine.proofs.thread.advance.Goals as goal
 
 -- a call in progress stands for the thread's tasks
-works : (p : Lowered) (w : World) (store : Store) (shared : Shared) (t : Thread) (s : source.Thread) (call : Activation) → ThreadAgrees p w.classes store.heap (length (loaded_objects w)) shared t s → t.call ≡ Some call → Working p w.classes store.heap call (visible_to shared s) s.frames s.tasks
-works p w store shared t s call h is = working p w.classes store.heap (visible_to shared s) s.frames t.call call s.tasks h.work is
+works : (p : Lowered) (w : World) (store : Store) (own : Owners) (shared : Shared) (t : Thread) (s : source.Thread) (call : Activation) → ThreadAgrees p w.classes store.heap (length (loaded_objects w)) own shared t s → t.call ≡ Some call → Working p w.classes store.heap call (visible_to own shared s) s.frames s.tasks
+works p w store own shared t s call h is = working p w.classes store.heap (visible_to own shared s) s.frames t.call call s.tasks h.work is
 
-executing : (p : Lowered) (w : World) (store : Store) (shared : Shared) (t : Thread) (s : source.Thread) (call : Activation) → StoreAgrees p w store shared → (h : ThreadAgrees p w.classes store.heap (length (loaded_objects w)) shared t s) (is : t.call ≡ Some call) → IsSteady shared s
-    → IsExecuting p w store call t.pending shared s (works p w store shared t s call h is).task (works p w store shared t s call h is).rest
-executing p w store shared t s call shares h is steady =
-    let k = works p w store shared t s call h is in
+executing : (p : Lowered) (w : World) (store : Store) (own : Owners) (shared : Shared) (t : Thread) (s : source.Thread) (call : Activation) → StoreAgrees p w store shared → (h : ThreadAgrees p w.classes store.heap (length (loaded_objects w)) own shared t s) (is : t.call ≡ Some call) → IsSteady own shared s
+    → IsExecuting p w store call t.pending own shared s (works p w store own shared t s call h is).task (works p w store own shared t s call h is).rest
+executing p w store own shared t s call shares h is steady =
+    let k = works p w store own shared t s call h is in
     record { store_agrees = shares; tasks = k.is; stands = k.stands; pending_agrees = h.pending; viewless = h.viewless; steady = steady }
 
 pub execute-requires-clause-stands : goal.execute-requires-clause-stands
 execute-requires-clause-stands c =
     let a = c.requires.agrees in
-    let k = works c.args.program.now c.args.world.now c.args.store.now a.0 c.args.thread.now a.1 c.in-Some.call a.3 c.in-Some.is in
-    (a.0, a.1, k.task, k.rest, executing c.args.program.now c.args.world.now c.args.store.now a.0 c.args.thread.now a.1 c.in-Some.call a.2 a.3 c.in-Some.is a.5)
+    let k = works c.args.program.now c.args.world.now c.args.store.now a.0 a.1 c.args.thread.now a.2 c.in-Some.call a.4 c.in-Some.is in
+    (a.0, a.1, a.2, k.task, k.rest, executing c.args.program.now c.args.world.now c.args.store.now a.0 a.1 c.args.thread.now a.2 c.in-Some.call a.3 a.4 c.in-Some.is a.6)
 
 pub enter-requires-clause-ready : goal.enter-requires-clause-ready
 enter-requires-clause-ready c next rest is =
@@ -42,34 +44,34 @@ enter-requires-clause-ready c next rest is =
     let p = c.args.program.now in
     let classes = c.args.world.now.classes in
     let made : ℕ = length (loaded_objects c.args.world.now) in
-    let n = coming p classes made next c.args.thread.now.calls.items rest a.1.calls a.3.calls is in
-    subst (λ (m : ℕ). IsReady p m next) (sym (ap length c.deref.ensures.value ∙ a.2.table.counted)) (ready_to_begin p classes made next n.call c.requires.lowered n.function)
+    let n = coming p classes made next c.args.thread.now.calls.items rest a.2.calls a.4.calls is in
+    subst (λ (m : ℕ). IsReady p m next) (sym (ap length c.deref.ensures.value ∙ a.3.table.counted)) (ready_to_begin p classes made next n.call c.requires.lowered n.function)
 
 pub returns-in_ok-enter-in-None-clause-advances : goal.returns-in_ok-enter-in-None-clause-advances
-returns-in_ok-enter-in-None-clause-advances c lent k shared s shares h steady =
+returns-in_ok-enter-in-None-clause-advances c lent k own shared s shares h steady =
     let e = c.in_ok-enter-in-None.ensures.calls in
     let begins = subst (λ (l : List ℕ). Begins c.args.program.now l e.0 e.1) c.deref.ensures.value e.4 in
-    enters c.args.program.now c.args.world.now c.args.store.now lent k shared c.args.thread.now c.enter.new.thread s e.0 e.1 c.requires.lowered shares h c.in-None.is e.2 e.3 begins c.in_ok-enter-in-None.ensures.pending c.in_ok-enter-in-None.ensures.ending
+    enters c.args.program.now c.args.world.now c.args.store.now lent k own shared c.args.thread.now c.enter.new.thread s e.0 e.1 c.requires.lowered shares h c.in-None.is e.2 e.3 begins c.in_ok-enter-in-None.ensures.pending c.in_ok-enter-in-None.ensures.ending
 
 pub returns-in-Did-clause-advances : goal.returns-in-Did-clause-advances
-returns-in-Did-clause-advances c lent k shared s shares h steady =
+returns-in-Did-clause-advances c lent k own shared s shares h steady =
     let p = c.args.program.now in
     let w = c.args.world.now in
     let old = c.args.store.now in
-    let b = works p w old shared c.args.thread.now s c.in-Some.call h c.in-Some.is in
-    let executed = c.in_ok-event-in-Some.ensures.done lent k shared s b.task b.rest (executing p w old shared c.args.thread.now s c.in-Some.call shares h c.in-Some.is steady) in
-    let goes = subst (λ (x : Executed). Executes p w old.heap c.execute.new.store lent k shared s b.rest c.execute.new.call c.execute.new.pending (effect_of (sight_of shared s) b.task) x) c.in-Did.is executed in
-    did p w old.heap lent k shared c.args.thread.now s h c.execute.new.store false c.in-Did.event b.task b.rest b.is c.execute.new.call c.execute.new.pending goes
+    let b = works p w old own shared c.args.thread.now s c.in-Some.call h c.in-Some.is in
+    let executed = c.in_ok-event-in-Some.ensures.done lent k own shared s b.task b.rest (executing p w old own shared c.args.thread.now s c.in-Some.call shares h c.in-Some.is steady) in
+    let goes = subst (λ (x : Executed). Executes p w old.heap c.execute.new.store lent k own shared s b.rest c.execute.new.call c.execute.new.pending (effect_of (sight_of shared s) b.task) x) c.in-Did.is executed in
+    did p w old.heap lent k own shared c.args.thread.now s h c.execute.new.store false c.in-Did.event b.task b.rest b.is c.execute.new.call c.execute.new.pending goes
 
 pub returns-in-Refused-clause-advances : goal.returns-in-Refused-clause-advances
-returns-in-Refused-clause-advances c lent k shared s shares h steady =
+returns-in-Refused-clause-advances c lent k own shared s shares h steady =
     let p = c.args.program.now in
     let w = c.args.world.now in
     let old = c.args.store.now in
-    let b = works p w old shared c.args.thread.now s c.in-Some.call h c.in-Some.is in
-    let executed = c.in_ok-event-in-Some.ensures.done lent k shared s b.task b.rest (executing p w old shared c.args.thread.now s c.in-Some.call shares h c.in-Some.is steady) in
-    let goes = subst (λ (x : Executed). Executes p w old.heap c.execute.new.store lent k shared s b.rest c.execute.new.call c.execute.new.pending (effect_of (sight_of shared s) b.task) x) c.in-Refused.is executed in
-    did p w old.heap lent k shared c.args.thread.now s h c.execute.new.store true Quiet b.task b.rest b.is c.execute.new.call c.execute.new.pending goes
+    let b = works p w old own shared c.args.thread.now s c.in-Some.call h c.in-Some.is in
+    let executed = c.in_ok-event-in-Some.ensures.done lent k own shared s b.task b.rest (executing p w old own shared c.args.thread.now s c.in-Some.call shares h c.in-Some.is steady) in
+    let goes = subst (λ (x : Executed). Executes p w old.heap c.execute.new.store lent k own shared s b.rest c.execute.new.call c.execute.new.pending (effect_of (sight_of shared s) b.task) x) c.in-Refused.is executed in
+    did p w old.heap lent k own shared c.args.thread.now s h c.execute.new.store true Quiet b.task b.rest b.is c.execute.new.call c.execute.new.pending goes
 
 -- an address with a name is that of a block
 there_is : (o : Option Block) (n : ℕ) → option_map (λ (b : Block). b.birth) o ≡ Some n → IsSome o
@@ -88,17 +90,17 @@ leave-requires c a is =
     let old = c.args.store.now in
     let r = c.requires.agrees in
     let lent : source.BuffersInUse = record { copied = 0; views = 0 } in
-    let b = works p w old r.0 c.args.thread.now r.1 c.in-Some.call r.3 c.in-Some.is in
-    let executed = c.in_ok-event-in-Some.ensures.done lent 0 r.0 r.1 b.task b.rest (executing p w old r.0 c.args.thread.now r.1 c.in-Some.call r.2 r.3 c.in-Some.is r.5) in
-    let left = subst (λ (x : Executed). Executes p w old.heap c.execute.new.store lent 0 r.0 r.1 b.rest c.execute.new.call c.execute.new.pending (effect_of (sight_of r.0 r.1) b.task) x) c.in-Returned.is executed in
-    named c.execute.new.store.heap c.execute.new.pending r.1.pending a left.3 is
+    let b = works p w old r.0 r.1 c.args.thread.now r.2 c.in-Some.call r.4 c.in-Some.is in
+    let executed = c.in_ok-event-in-Some.ensures.done lent 0 r.0 r.1 r.2 b.task b.rest (executing p w old r.0 r.1 c.args.thread.now r.2 c.in-Some.call r.3 r.4 c.in-Some.is r.6) in
+    let left = subst (λ (x : Executed). Executes p w old.heap c.execute.new.store lent 0 r.0 r.1 r.2 b.rest c.execute.new.call c.execute.new.pending (effect_of (sight_of r.1 r.2) b.task) x) c.in-Returned.is executed in
+    named c.execute.new.store.heap c.execute.new.pending r.2.pending a left.3 is
 
 pub returns-in-Returned-clause-advances : goal.returns-in-Returned-clause-advances
-returns-in-Returned-clause-advances c lent k shared s shares h steady =
+returns-in-Returned-clause-advances c lent k own shared s shares h steady =
     let p = c.args.program.now in
     let w = c.args.world.now in
     let old = c.args.store.now in
-    let b = works p w old shared c.args.thread.now s c.in-Some.call h c.in-Some.is in
-    let executed = c.in_ok-event-in-Some.ensures.done lent k shared s b.task b.rest (executing p w old shared c.args.thread.now s c.in-Some.call shares h c.in-Some.is steady) in
-    let left = subst (λ (x : Executed). Executes p w old.heap c.execute.new.store lent k shared s b.rest c.execute.new.call c.execute.new.pending (effect_of (sight_of shared s) b.task) x) c.in-Returned.is executed in
-    returned p w old.heap lent k shared c.args.thread.now s h c.execute.new.store c.execute.new.pending c.leave.new.thread b.task b.rest b.is left.1 left.2 left.3 c.requires.agrees.4 left.0 c.leave.ensures.call c.leave.ensures.pending c.leave.ensures.calls c.leave.ensures.ending
+    let b = works p w old own shared c.args.thread.now s c.in-Some.call h c.in-Some.is in
+    let executed = c.in_ok-event-in-Some.ensures.done lent k own shared s b.task b.rest (executing p w old own shared c.args.thread.now s c.in-Some.call shares h c.in-Some.is steady) in
+    let left = subst (λ (x : Executed). Executes p w old.heap c.execute.new.store lent k own shared s b.rest c.execute.new.call c.execute.new.pending (effect_of (sight_of shared s) b.task) x) c.in-Returned.is executed in
+    returned p w old.heap lent k own shared c.args.thread.now s h c.execute.new.store c.execute.new.pending c.leave.new.thread b.task b.rest b.is left.1 left.2 left.3 c.requires.agrees.5 left.0 c.leave.ensures.call c.leave.ensures.pending c.leave.ensures.calls c.leave.ensures.ending

@@ -39,6 +39,11 @@ begin-requires-clause-room c =
     let same : ready.code ≡ c.unwrap-code.result.now = cc (ready.of_function, here) in
     subst (λ (k : Listing). HasRoom k (map object_value_view c.unwrap-next.result.now.arguments.items)) same ready.room
 
+pub begin-requires-clause-few : goal.begin-requires-clause-few
+begin-requires-clause-few c =
+    let f = in_front c.args.thread.now.calls.items c.front.result c.unwrap-next.result c.unwrap-next.ensures c.front.ensures.item.3 in
+    (c.requires.ready c.unwrap-next.result.now f.0 f.1).few
+
 pub returns-clause-calls : goal.returns-clause-calls
 returns-clause-calls c =
     let next = c.unwrap-next.result.now in

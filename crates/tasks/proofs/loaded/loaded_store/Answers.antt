@@ -13,7 +13,7 @@ use Rattle.tasks.proofs.loaded.loaded_store.Goals as goal
 pub make_objects-requires : goal.make_objects-requires
 make_objects-requires c =
     let w = c.args.world.now in
-    let values = c.in_ok-error.ensures ∙ ap (λ (T : Classes). map (λ (f : FieldId). initial f.field.type) (layout T out_of_memory_error)) c.classes.ensures.classes in
+    let values = c.in_ok-error.ensures.values ∙ ap (λ (T : Classes). map (λ (f : FieldId). initial f.field.type) (layout T out_of_memory_error)) c.classes.ensures.classes in
     let object : ◌≡◌ {A = Object} (record { class = out_of_memory_error; values = map object_value_view c.in_ok-error.error.items }) (fresh_object w.classes out_of_memory_error) =
     ap (λ (vs : List ObjectValue). let o : Object = record { class = out_of_memory_error; values = vs } in o) values in
     c.in_ok-add.ensures

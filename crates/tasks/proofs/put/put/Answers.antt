@@ -1,8 +1,9 @@
 use Rattle.std.proofs.Common.{None, ap, ◌∙◌, rules}
+use Rattle.base.specs.Bytes.{Identifier}
 use Rattle.source.specs.Variable.{Variable, FieldHandle, StaticReference, assign}
 use Rattle.tasks.proofs.CallLemmas.{if_ok}
 use Rattle.tasks.specs.Answers.{given_view}
-use Rattle.terms.specs.Views.{content_view, variables_view}
+use Rattle.terms.specs.Views.{content_view, held_view, variables_view}
 use Rattle.tasks.proofs.PutLemmas.{content_set, assigned_leaves, static_leaves}
 use Rattle.terms.proofs.VariableLemmas.{variable_at, variable_found, variable_missing}
 use Rattle.tasks.proofs.put.put.Goals as goal
@@ -23,5 +24,5 @@ returns-in-None c =
     let x = c.in-Assigned.name.now in
     let old = c.args.variables.now.items in
     if_ok c.set.result
-    (λ done is. rw c.in-Assigned.is (static_leaves c.args.frames c.args.statics.now c.set.new.self old x (given_view c.args.given) (variable_missing x (FieldHandle None) old (search rules)) (is ∙ ap (λ (r : StaticReference). assign x r c.args.statics.now) c.static_result.ensures)))
+    (λ done is. rw c.in-Assigned.is (static_leaves c.args.frames c.args.statics.now c.set.new.self old x (given_view c.args.given) (variable_missing x (FieldHandle None) old (search rules)) (is ∙ ap (λ (y : Identifier). assign y (held_view c.static_result.result) c.args.statics.now) c.as_bytes.ensures ∙ ap (λ (r : StaticReference). assign x r c.args.statics.now) c.static_result.ensures)))
     c.set.ensures

@@ -9,7 +9,9 @@ use Rattle.machine.proofs.Classed.{classed_loaded}
 use Rattle.machine.proofs.ThreadLoads.{agree_length}
 use Rattle.syntax.specs.Parts.{statics_of}
 use Rattle.syntax.specs.declared.unit.Item.{Item}
-use Rattle.machine.specs.Agrees.{GlobalsAgree, StaticsAgree}
+use Rattle.machine.specs.Agrees.{StaticsAgree}
+use Rattle.machine.specs.HeapAgrees.{SlotsAgree}
+use Rattle.safety.specs.Owners.{AllOwners, owners_after}
 use Rattle.machine.specs.Statics.{HaveKeys, all_held}
 use Rattle.machine.specs.declared.statics.StaticReference.{StaticReference}
 use Rattle.machine.specs.declared.statics.StaticReference.TheVariants.{Empty}
@@ -21,8 +23,9 @@ invariant_of-result c =
     let w = c.args.world in
     let s = start (unit_tree c.args.program.unit) w in
     let made = c.in_ok-store.ensures.made in
-    let agree = c.in-Ok.ensures.agree c.in_ok-store.store.heap s.shared in
-    let count : length c.in-Ok.threads.items ≡ length c.args.world.threads = agree_length _ _ _ _ _ _ _ agree ∙ length-map c.args.world.threads waiting_thread in
+    let owners : AllOwners = owners_after (unit_tree c.args.program.unit) w c.new-in-Ok.result.items in
+    let agree = c.in-Ok.ensures.agree c.in_ok-store.store.heap owners 1 s.shared in
+    let count : length c.in-Ok.threads.items ≡ length c.args.world.threads = agree_length _ _ _ _ _ _ _ _ _ agree ∙ length-map c.args.world.threads waiting_thread in
     record {
       lowered = c.items.ensures.lowered;
       safe = c.accepted_is_safe.ensures (unit_tree c.args.program.unit) w
@@ -43,7 +46,7 @@ invariant_of-result c =
             (subst (λ (l : List StaticReference). StaticsAgree c.in_ok-store.store.heap (all_held [] l) s.shared.statics) (sym (c.in_ok-store.ensures.statics ∙ ap (λ (items : List Item). replicate (length (statics_of (unit_tree items))) Empty) c.items.ensures.items)) (statics_begin c.in_ok-store.store.heap (statics_of (unit_tree c.args.program.unit))));
         named = names_begin (statics_of (unit_tree c.args.program.unit));
         keys = subst (HaveKeys c.in_ok-store.store.globals) (sym c.in_ok-store.ensures.statics) (no_keys c.in_ok-store.store.globals (length (statics_of (unit_tree c.items.result.now))));
-        globals = subst (λ (globals : List (Option ℕ)). GlobalsAgree c.in_ok-store.store.heap globals []) (sym c.in_ok-store.ensures.globals) (record { names = []; agree = tt; same = λ n. refl });
+        globals = subst (λ (globals : List (Option ℕ)). SlotsAgree c.in_ok-store.store.heap globals []) (sym c.in_ok-store.ensures.globals) (record { names = []; agree = tt; same = λ n. refl });
         monitors = refl;
       };
       threads_agree = agree;

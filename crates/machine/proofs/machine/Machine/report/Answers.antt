@@ -4,7 +4,7 @@ use Rattle.report.specs.ThreadStatus.{standing_view}
 use Rattle.machine.specs.declared.fault.ReportFault.TheVariants as reporting
 use Rattle.machine.specs.declared.thread.Thread.{Thread}
 use Rattle.tables.specs.References.{references_in}
-use Rattle.machine.specs.Roots.{name_of, thread_names, ThreadsAreThere}
+use Rattle.machine.specs.Roots.{name_of, thread_names, ThreadsAreStacked, ThreadsAreThere}
 use Rattle.machine.proofs.Reports.{globals_there, roots_there, rows_are, writes_run}
 use Rattle.machine.proofs.Standings.{standings}
 use Rattle.machine.proofs.machine.Machine.report.Goals as goal
@@ -23,9 +23,10 @@ returns-in-Ok-clause-run g c =
     let told = c.standings_of-standings.ensures ∙ ap (λ (ts : List Thread). standings c.classes-classes.result.now i.stop 1 ts) c.deref.ensures.value
     ∙ ap (λ (classes : Classes). standings classes i.stop 1 i.threads.items) c.classes-classes.ensures.classes in
     let agrees = c.self.invariant.store_agrees in
-    let names = c.deref-3.ensures.value ∙ c.in_ok-names.ensures ∙ ap (λ (ts : List Thread). map (name_of i.store.heap) (references_in i.store.globals) ++ flat_map (thread_names i.store.heap) ts) c.deref-2.ensures.value in
+    let names = c.deref-3.ensures.value ∙ c.in_ok-names.ensures.names ∙ ap (λ (ts : List Thread). map (name_of i.store.heap) (references_in i.store.globals) ++ flat_map (thread_names i.store.heap) ts) c.deref-2.ensures.value in
+    let stacked = subst (λ (ts : List Thread). ThreadsAreStacked ts) c.deref-2.ensures.value c.in_ok-names.ensures.stacked in
     let loaded : c.len.result ≡ length i.store.loaded.items = omega (arith, c.len.ensures, i.store.loaded.ok) in
-    let rows = rows_are _ _ _ _ _ _ _ c.self.invariant _ _ _ _ _ c.classes-classes.ensures.classes (c.in_ok-objects.ensures c.self.invariant.state.shared.heap agrees.heap agrees.births) loaded names c.in_ok-rows.ensures in
+    let rows = rows_are _ _ _ _ _ _ _ c.self.invariant _ _ _ _ _ c.classes-classes.ensures.classes (c.in_ok-objects.ensures c.self.invariant.state.shared.heap agrees.heap agrees.births) loaded names stacked c.in_ok-rows.ensures in
     writes_run _ _ _ _ _ _ _ c.self.invariant c.args.self.now c.self.view_is _ _ (Ok c.in-Ok.field-0) _ _ _ _ c.as_slice.ensures.value (ap (map standing_view) c.as_slice-2.ensures.value ∙ told) rows c.as_slice-3.ensures.value c.in-Ok.ensures.text
 
 pub returns-clause-run : goal.returns-clause-run
@@ -34,7 +35,8 @@ returns-clause-run g c =
     let told = c.standings_of-standings.ensures ∙ ap (λ (ts : List Thread). standings c.classes-classes.result.now i.stop 1 ts) c.deref.ensures.value
     ∙ ap (λ (classes : Classes). standings classes i.stop 1 i.threads.items) c.classes-classes.ensures.classes in
     let agrees = c.self.invariant.store_agrees in
-    let names = c.deref-3.ensures.value ∙ c.in_ok-names.ensures ∙ ap (λ (ts : List Thread). map (name_of i.store.heap) (references_in i.store.globals) ++ flat_map (thread_names i.store.heap) ts) c.deref-2.ensures.value in
+    let names = c.deref-3.ensures.value ∙ c.in_ok-names.ensures.names ∙ ap (λ (ts : List Thread). map (name_of i.store.heap) (references_in i.store.globals) ++ flat_map (thread_names i.store.heap) ts) c.deref-2.ensures.value in
+    let stacked = subst (λ (ts : List Thread). ThreadsAreStacked ts) c.deref-2.ensures.value c.in_ok-names.ensures.stacked in
     let loaded : c.len.result ≡ length i.store.loaded.items = omega (arith, c.len.ensures, i.store.loaded.ok) in
-    let rows = rows_are _ _ _ _ _ _ _ c.self.invariant _ _ _ _ _ c.classes-classes.ensures.classes (c.in_ok-objects.ensures c.self.invariant.state.shared.heap agrees.heap agrees.births) loaded names c.in_ok-rows.ensures in
+    let rows = rows_are _ _ _ _ _ _ _ c.self.invariant _ _ _ _ _ c.classes-classes.ensures.classes (c.in_ok-objects.ensures c.self.invariant.state.shared.heap agrees.heap agrees.births) loaded names stacked c.in_ok-rows.ensures in
     writes_run _ _ _ _ _ _ _ c.self.invariant c.args.self.now c.self.view_is _ _ (Err reporting.Sink) _ _ _ _ c.as_slice.ensures.value (ap (map standing_view) c.as_slice-2.ensures.value ∙ told) rows c.as_slice-3.ensures.value c.in-Err.ensures.text

@@ -14,6 +14,7 @@ use Rattle.lower.specs.Lowered.{Lowered}
 use Rattle.machine.specs.declared.store.Store.{Store}
 use Rattle.machine.specs.declared.thread.Advanced.{Advanced}
 use Rattle.machine.specs.declared.thread.Event.TheVariants.{Quiet}
+use Rattle.safety.specs.Owners.{Owners}
 use Rattle.machine.specs.Agrees.{IsSteady, StoreAgrees, ThreadAgrees, AdvancesBy}
 use Rattle.machine.proofs.Steps.{steady, the_thread, can_turn_here, has_ended, steps_on}
 use Rattle.machine.proofs.machine.Machine.step.Goals as goal
@@ -124,13 +125,13 @@ advance-requires-clause-agrees c =
     let seen = there a c.index.result.now c.index.ensures in
     let at = there a c.index_mut.result.now c.index_mut.ensures.value in
     let f = the_thread _ _ _ _ _ _ _ c.self.invariant c.args.k (c.from-index.result - 1) c.index_mut.result.now (number a) at in
-    (c.self.invariant.state.shared, f.source, c.self.invariant.store_agrees, f.agrees, same_thread c.self.inside.threads.items (c.from-index.result - 1) _ _ seen at (is_live _ (sym c.has_ended.ensures ∙ c.if-has_ended.false)), steady _ _ _ _ _ _ _ c.self.invariant c.args.k (c.from-index.result - 1) c.index_mut.result.now (number a) at)
+    (_, c.self.invariant.state.shared, f.source, c.self.invariant.store_agrees, f.agrees, same_thread c.self.inside.threads.items (c.from-index.result - 1) _ _ seen at (is_live _ (sym c.has_ended.ensures ∙ c.if-has_ended.false)), steady _ _ _ _ _ _ _ c.self.invariant c.args.k (c.from-index.result - 1) c.index_mut.result.now (number a) at)
 
 -- what the thread did, whatever state it stands for
 abbrev Always : Lowered → World → (store store' : Store) → Thread → Thread → Advanced → Type 0
 Always p w store store' t after x =
-    (lent : BuffersInUse) (k : ℕ) (shared : Shared) (s : SourceThread) → StoreAgrees p w store shared → ThreadAgrees p w.classes store.heap (length (loaded_objects w)) shared t s → IsSteady shared s
-    → AdvancesBy p w store.heap store' lent k shared s after x
+    (lent : BuffersInUse) (k : ℕ) (own : Owners) (shared : Shared) (s : SourceThread) → StoreAgrees p w store shared → ThreadAgrees p w.classes store.heap (length (loaded_objects w)) own shared t s → IsSteady own shared s
+    → AdvancesBy p w store.heap store' lent k own shared s after x
 
 -- the journal has one more entry
 one_more : (old before after : List Entry) (e : Entry) → after ≡ before ++ e ∷ [] → before ≡ old → after ≡ old ++ e ∷ []

@@ -1,40 +1,53 @@
-use Rattle.std.proofs.Common.{◌≡◌, ◌∙◌, ◌-◌, true, length, ap, sym, subst, arith, rules}
+use Rattle.std.proofs.Common.{◌≡◌, ◌∙◌, ◌-◌, ◌++◌, ◌∷◌, [], true, length, length-append, ap, sym, subst, arith, rules}
 use Rattle.std.proofs.lemmas.List.{get_or_read}
-use Rattle.std.proofs.lemmas.Result.{err_from_is_err_and}
 use Rattle.tables.specs.declared.slots.Slot.{Slot}
-use Rattle.tables.specs.References.{AreTaken}
-use Rattle.tables.specs.Locals.{LocalTable, has_room, current_slots}
+use Rattle.tables.specs.Locals.{LocalTable, has_room}
 use Rattle.tables.specs.Levels.{table_in}
 use Rattle.tables.proofs.Links.{no_slot}
-use Rattle.tables.proofs.Levels.{levels_added, levels_taken}
+use Rattle.tables.proofs.Levels.{levels_added, levels_taken, more_memory, slots_fit}
+use Rattle.tables.specs.Slots.{taken_slot}
 use Rattle.tables.proofs.TableViews.{top_of_room}
-use Rattle.tables.proofs.Makes.{current_taken, made_end, room_at_end, first_of_level, made_free}
+use Rattle.tables.proofs.Makes.{made_end, room_at_end, first_of_level, made_free}
 use Rattle.tables.proofs.locals.Locals.make.Goals as goal
 
-pub returns-in_err-push-clause-taken : goal.returns-in_err-push-clause-taken
-returns-in_err-push-clause-taken c =
-    let room : has_room c.args.self.now ≡ true = search rules in
-    let here = top_of_room c.self.inside.levels.items c.self.inside.slots.items c.self.inside.total c.args.self.now c.len-current.result c.index.result.now c.self.invariant c.self.view_is room (c.len-current.ensures ∙ c.self.inside.levels.ok.0) c.index.ensures in
-    let taken = current_taken c.self.inside.levels.items c.self.inside.slots.items c.self.inside.total c.len-current.result c.index.result.now c.self.invariant here c.if-free-eq0.true in
-    let taken' : AreTaken (current_slots c.args.self.now) = subst (λ (t : LocalTable). AreTaken (current_slots t)) c.self.view_is taken in
-    let p = err_from_is_err_and c.from_residual.result c.from_residual.ensures.1 in
-    rw p.1 (λ memory. taken')
-
-pub invariant_of-self-then-free-eq0 : goal.invariant_of-self-then-free-eq0
-invariant_of-self-then-free-eq0 c =
+pub unwrap-requires : goal.unwrap-requires
+unwrap-requires c =
     let room : has_room c.args.self.now ≡ true = search rules in
     let here = top_of_room c.self.inside.levels.items c.self.inside.slots.items c.self.inside.total c.args.self.now c.len-current.result c.index.result.now c.self.invariant c.self.view_is room (c.len-current.ensures ∙ c.self.inside.levels.ok.0) c.index.ensures in
     let room' : has_room (table_in c.self.inside.levels.items c.self.inside.slots.items) ≡ true = subst (λ (t : LocalTable). has_room t ≡ true) (sym c.self.view_is) room in
     let at_end = room_at_end c.self.inside.levels.items c.self.inside.slots.items c.len-current.result c.index.result.now here c.if-free-eq0.true room' in
-    rw c.in_ok-push.ensures.items (levels_added c.self.inside.levels.items c.self.inside.slots.items c.self.inside.total (c.len-current.result - 1) c.args.addr c.self.invariant here.last at_end)
+    let added = levels_added c.self.inside.levels.items c.self.inside.slots.items c.self.inside.total (c.len-current.result - 1) c.args.addr c.self.invariant here.last at_end in
+    let few = slots_fit c.self.inside.levels.items _ c.self.inside.total added in
+    let longer = length-append c.self.inside.slots.items (taken_slot (c.len-current.result - 1) c.args.addr ∷ []) in
+    c.push.ensures.succeeds (omega (arith, few, longer, c.self.invariant.memory, c.self.inside.slots.ok.0))
+
+pub invariant_of-self : goal.invariant_of-self
+invariant_of-self c =
+    let room : has_room c.args.self.now ≡ true = search rules in
+    let here = top_of_room c.self.inside.levels.items c.self.inside.slots.items c.self.inside.total c.args.self.now c.len-current.result c.index.result.now c.self.invariant c.self.view_is room (c.len-current.ensures ∙ c.self.inside.levels.ok.0) c.index.ensures in
+    let room' : has_room (table_in c.self.inside.levels.items c.self.inside.slots.items) ≡ true = subst (λ (t : LocalTable). has_room t ≡ true) (sym c.self.view_is) room in
+    let at_end = room_at_end c.self.inside.levels.items c.self.inside.slots.items c.len-current.result c.index.result.now here c.if-free-eq0.true room' in
+    let added = levels_added c.self.inside.levels.items c.self.inside.slots.items c.self.inside.total (c.len-current.result - 1) c.args.addr c.self.invariant here.last at_end in
+    let few = slots_fit c.self.inside.levels.items _ c.self.inside.total added in
+    let longer = length-append c.self.inside.slots.items (taken_slot (c.len-current.result - 1) c.args.addr ∷ []) in
+    let ok = c.push.ensures.succeeds (omega (arith, few, longer, c.self.invariant.memory, c.self.inside.slots.ok.0)) in
+    let items : c.push.new.self.items ≡ c.self.inside.slots.items ++ taken_slot (c.len-current.result - 1) c.args.addr ∷ [] = rw (c.push.ensures.items, ok) in
+    rw items (more_memory c.self.inside.levels.items _ c.self.inside.total _ _ added c.push.ensures.capacity)
 
 pub returns-then-free-eq0-clause-made : goal.returns-then-free-eq0-clause-made
 returns-then-free-eq0-clause-made c =
     let room : has_room c.args.self.now ≡ true = search rules in
     let here = top_of_room c.self.inside.levels.items c.self.inside.slots.items c.self.inside.total c.args.self.now c.len-current.result c.index.result.now c.self.invariant c.self.view_is room (c.len-current.ensures ∙ c.self.inside.levels.ok.0) c.index.ensures in
+    let room' : has_room (table_in c.self.inside.levels.items c.self.inside.slots.items) ≡ true = subst (λ (t : LocalTable). has_room t ≡ true) (sym c.self.view_is) room in
+    let at_end = room_at_end c.self.inside.levels.items c.self.inside.slots.items c.len-current.result c.index.result.now here c.if-free-eq0.true room' in
+    let added = levels_added c.self.inside.levels.items c.self.inside.slots.items c.self.inside.total (c.len-current.result - 1) c.args.addr c.self.invariant here.last at_end in
+    let few = slots_fit c.self.inside.levels.items _ c.self.inside.total added in
+    let longer = length-append c.self.inside.slots.items (taken_slot (c.len-current.result - 1) c.args.addr ∷ []) in
+    let ok = c.push.ensures.succeeds (omega (arith, few, longer, c.self.invariant.memory, c.self.inside.slots.ok.0)) in
+    let items : c.push.new.self.items ≡ c.self.inside.slots.items ++ taken_slot (c.len-current.result - 1) c.args.addr ∷ [] = rw (c.push.ensures.items, ok) in
     let made = made_end c.self.inside.levels.items c.self.inside.slots.items c.self.inside.total c.len-current.result c.args.addr c.index.result.now c.self.invariant here c.if-free-eq0.true in
     let len : c.len-place.result ≡ length c.self.inside.slots.items = c.len-place.ensures ∙ c.self.inside.slots.ok.0 in
-    rw (len, c.in_ok-push.ensures.items, ← c.self.view_is) made
+    rw (len, items, ← c.self.view_is) made
 
 pub index-requires-2 : goal.index-requires-2
 index-requires-2 c =

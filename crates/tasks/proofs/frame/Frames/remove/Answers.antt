@@ -1,20 +1,29 @@
-use Rattle.std.proofs.Common.{◌-◌, List, length, refl, ap, ◌∙◌, arith}
+use Rattle.std.proofs.Common.{◌≡◌, ◌<◌, ◌+◌, ◌-◌, length, refl, ap, ◌∙◌, arith}
+use Rattle.std.specs.Prelude.{min}
 use Rattle.std.proofs.lemmas.Option.{slice_get_read}
 use Rattle.source.specs.CallEffects.{without_local}
-use Rattle.source.specs.Thread.{Frame}
 use Rattle.tasks.proofs.FrameLemmas.{removed_view, removed_total}
 use Rattle.tasks.proofs.frame.Frames.remove.Goals as goal
 
-pub invariant_of-self-then-level-gt0 : goal.invariant_of-self-then-level-gt0
-invariant_of-self-then-level-gt0 c =
-    let below = c.self.inside.below.items in
-    let at = slice_get_read below (length below) (c.args.level - 1) c.index_mut.result.now refl (omega (arith, c.if-level-count.false, c.if-level-gt0.true, c.len-count.ensures)) c.index_mut.ensures.value in
-    c.self.invariant
-    ∙ removed_total c.self.inside.current below c.args.level c.args.name c.index_mut.result.now c.remove_from.new.frame (omega (arith, c.if-level-gt0.true)) (omega (arith, c.if-level-count.false, c.len-count.ensures)) at c.remove_from.ensures.capacity
+pub invariant_of-self : goal.invariant_of-self
+invariant_of-self c =
+    let xs = c.self.inside.frames.items in
+    let level = c.args.level in
+    let p = c.min-place.result - 1 in
+    let old = c.index_mut.result.now in
+    let placed : p + 1 ≡ min level (length xs) = omega (arith, c.if-place-gt0.true, c.min-place.ensures, c.len.ensures) in
+    let above : 0 < level = omega (arith, placed) in
+    let at = slice_get_read xs (length xs) p old refl (omega (arith, placed)) c.index_mut.ensures.value in
+    c.self.invariant ∙ removed_total xs level c.args.name p old c.remove_from.new.frame above placed at c.remove_from.ensures.capacity
 
-pub returns-then-level-gt0 : goal.returns-then-level-gt0
-returns-then-level-gt0 c =
-    let below = c.self.inside.below.items in
-    let at = slice_get_read below (length below) (c.args.level - 1) c.index_mut.result.now refl (omega (arith, c.if-level-count.false, c.if-level-gt0.true, c.len-count.ensures)) c.index_mut.ensures.value in
-    removed_view c.self.inside.current below c.args.level c.args.name c.index_mut.result.now c.remove_from.new.frame (omega (arith, c.if-level-gt0.true)) (omega (arith, c.if-level-count.false, c.len-count.ensures)) at c.remove_from.ensures.view
-    ∙ ap (λ (fs : List Frame). without_local c.args.level c.args.name fs) c.self.view_is
+pub returns-then-place-gt0 : goal.returns-then-place-gt0
+returns-then-place-gt0 c =
+    let xs = c.self.inside.frames.items in
+    let level = c.args.level in
+    let p = c.min-place.result - 1 in
+    let old = c.index_mut.result.now in
+    let placed : p + 1 ≡ min level (length xs) = omega (arith, c.if-place-gt0.true, c.min-place.ensures, c.len.ensures) in
+    let above : 0 < level = omega (arith, placed) in
+    let at = slice_get_read xs (length xs) p old refl (omega (arith, placed)) c.index_mut.ensures.value in
+    removed_view xs level c.args.name p old c.remove_from.new.frame above placed at c.remove_from.ensures.view
+    ∙ ap (without_local level c.args.name) c.self.view_is

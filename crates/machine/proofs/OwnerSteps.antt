@@ -1,0 +1,98 @@
+-- The owners of all threads after one more entry, and the threads that agree with them.
+use Rattle.std.proofs.Common.{◌≡◌, ◌≢◌, ℕ, zero, suc, ◌+◌, ◌<◌, Bool, true, false, List, [], ◌∷◌, ◌++◌, Option, Some, None, refl, sym, ap, ◌∙◌, subst, arith, if◌then◌else◌}
+use Rattle.std.specs.Prelude.{◌==◌, slice_get, slice_set}
+use Rattle.std.specs.Option.{option_and_then}
+use Rattle.std.proofs.lemmas.Bool.Decides.{Decides-eqb}
+use Rattle.syntax.specs.Tree.{SourceUnit}
+use Rattle.classes.specs.Class.{Classes}
+use Rattle.heap.specs.Heap.{Space}
+use Rattle.lower.specs.Lowered.{Lowered}
+use Rattle.safety.specs.Owners.{AllOwners, Owners, after_advance, after_entry, after_turn, no_owner, owners_after, owners_from, with_owners}
+use Rattle.source.specs.declared.journal.Entry.{Entry}
+use Rattle.source.specs.declared.journal.Entry.TheVariants.{Step}
+use Rattle.source.specs.Journal.{Journal}
+use Rattle.source.specs.Run.{replay, replay_from}
+use Rattle.source.specs.Start.{start}
+use Rattle.source.specs.State.{State, thread_at, lent}
+use Rattle.source.specs.Step.{world_step}
+use Rattle.source.specs.Thread as source
+use Rattle.source.specs.Thread.{Advance, Shared}
+use Rattle.source.specs.ThreadStep.{thread_step}
+use Rattle.source.specs.World.{World}
+use Rattle.machine.specs.declared.thread.Thread.{Thread}
+use Rattle.machine.specs.Agrees.{ThreadAgrees, ThreadsAgree}
+
+-- ---- one more entry
+
+owners_more : (unit : SourceUnit) (w : World) (s : State) (owners : AllOwners) (journal : Journal) (e : Entry) (s' : State) → replay_from unit w s journal ≡ Some s'
+    → owners_from unit w (Some s) owners (journal ++ e ∷ []) ≡ after_entry unit w.classes s' (owners_from unit w (Some s) owners journal) e
+owners_more unit w s owners [] e s' is = let same : s ≡ s' = cc in ap (λ (t : State). after_entry unit w.classes t owners e) same
+owners_more unit w s owners (x ∷ journal) e s' is = by_step (world_step unit w.classes s x) is (λ t at. owners_more unit w t (after_entry unit w.classes s owners x) journal e s' at)
+  where
+    by_step : (o : Option State) → option_and_then (λ (t : State). replay_from unit w t journal) o ≡ Some s'
+        → ((t : State) → replay_from unit w t journal ≡ Some s' → owners_from unit w (Some t) (after_entry unit w.classes s owners x) (journal ++ e ∷ []) ≡ after_entry unit w.classes s' (owners_from unit w (Some t) (after_entry unit w.classes s owners x) journal) e)
+        → owners_from unit w o (after_entry unit w.classes s owners x) (journal ++ e ∷ []) ≡ after_entry unit w.classes s' (owners_from unit w o (after_entry unit w.classes s owners x) journal) e
+    by_step None is further = absurd (cc)
+    by_step (Some t) is further = further t is
+
+-- a step of thread k that leaves this
+pub owners_stepped : (unit : SourceUnit) (w : World) (journal : Journal) (s : State) (k : ℕ) (refused : Bool) (t : source.Thread) (a : Advance) → replay unit w journal ≡ Some s → thread_at s k ≡ Some t → thread_step unit w.classes (lent s) k s.shared t refused ≡ a
+    → owners_after unit w (journal ++ Step k refused ∷ []) ≡ with_owners (owners_after unit w journal) k (after_advance s.shared t (owners_after unit w journal k) a)
+owners_stepped unit w journal s k refused t a is there steps =
+    owners_more unit w (start unit w) (λ k. no_owner) journal (Step k refused) s is
+    ∙ ap (after_turn unit w.classes s (owners_after unit w journal) k refused) there
+    ∙ ap (λ (x : Advance). with_owners (owners_after unit w journal) k (after_advance s.shared t (owners_after unit w journal k) x)) steps
+
+pub owner_here : (owners : AllOwners) (k : ℕ) (own : Owners) → with_owners owners k own k ≡ own
+owner_here owners k own = by_test (k == k) ((Decides-eqb k k).1 refl)
+  where
+    by_test : (b : Bool) → b ≡ true → (if b then own else owners k) ≡ own
+    by_test true e = refl
+    by_test false e = absurd (cc)
+
+pub owner_elsewhere : (owners : AllOwners) (k : ℕ) (own : Owners) (j : ℕ) → j ≢ k → with_owners owners k own j ≡ owners j
+owner_elsewhere owners k own j other = by_test (j == k) refl
+  where
+    by_test : (b : Bool) → (j == k) ≡ b → (if b then own else owners j) ≡ owners j
+    by_test false e = refl
+    by_test true e = absurd (other ((Decides-eqb j k).0 e))
+
+-- ---- threads
+
+module _ (p : Lowered) (classes : Classes) (space : Space) (made : ℕ) (shared : Shared) where
+  -- one thread of several
+  pub record Found (own : Owners) (t : Thread) (ss : List source.Thread) (i : ℕ) : Type 0 where
+    pub source : source.Thread
+    pub is : slice_get ss i ≡ Some source
+    pub agrees : ThreadAgrees p classes space made own shared t source
+
+  pub found : (owners : AllOwners) (n k : ℕ) (ts : List Thread) (ss : List source.Thread) (i : ℕ) (t : Thread) → k ≡ n + i → ThreadsAgree p classes space made owners n shared ts ss → slice_get ts i ≡ Some t → Found (owners k) t ss i
+  found owners n k [] [] i t place h e = absurd (cc)
+  found owners n k [] (s ∷ ss) i t place h e = absurd h
+  found owners n k (x ∷ ts) [] i t place h e = absurd h
+  found owners n k (x ∷ ts) (s ∷ ss) zero t place h e =
+      let same : x ≡ t = cc in
+      let here : n ≡ k = omega (arith, place) in
+      record { source = s; is = refl; agrees = subst (λ (m : ℕ). ThreadAgrees p classes space made (owners m) shared t s) here (subst (λ y. ThreadAgrees p classes space made (owners n) shared y s) same h.0) }
+  found owners n k (x ∷ ts) (s ∷ ss) (suc i) t place h e =
+      let f = found owners (suc n) k ts ss i t (omega (arith, place)) h.1 e in
+      record { source = f.source; is = f.is; agrees = f.agrees }
+
+  module _ (owners owners' : AllOwners) (k : ℕ) (elsewhere : (j : ℕ) → j ≢ k → owners' j ≡ owners j) where
+    one_same : (n : ℕ) (t : Thread) (s : source.Thread) → n ≢ k → ThreadAgrees p classes space made (owners n) shared t s → ThreadAgrees p classes space made (owners' n) shared t s
+    one_same n t s other h = subst (λ (o : Owners). ThreadAgrees p classes space made o shared t s) (sym (elsewhere n other)) h
+
+    later_same : (n : ℕ) (ts : List Thread) (ss : List source.Thread) → k < n → ThreadsAgree p classes space made owners n shared ts ss → ThreadsAgree p classes space made owners' n shared ts ss
+    later_same n [] [] later h = h
+    later_same n [] (s ∷ ss) later h = h
+    later_same n (t ∷ ts) [] later h = h
+    later_same n (t ∷ ts) (s ∷ ss) later h = (one_same n t s (λ e. omega (arith, e, later)) h.0, later_same (suc n) ts ss (omega (arith, later)) h.1)
+
+    pub changed : (n : ℕ) (ts : List Thread) (ss : List source.Thread) (i : ℕ) (t : Thread) (s : source.Thread) → k ≡ n + i → ThreadsAgree p classes space made owners n shared ts ss → ThreadAgrees p classes space made (owners' k) shared t s → ThreadsAgree p classes space made owners' n shared (slice_set ts i t) (slice_set ss i s)
+    changed n [] [] i t s place h a = tt
+    changed n [] (y ∷ ss) i t s place h a = absurd h
+    changed n (x ∷ ts) [] i t s place h a = absurd h
+    changed n (x ∷ ts) (y ∷ ss) zero t s place h a =
+        let here : k ≡ n = omega (arith, place) in
+        (subst (λ (m : ℕ). ThreadAgrees p classes space made (owners' m) shared t s) here a, later_same (suc n) ts ss (omega (arith, place)) h.1)
+    changed n (x ∷ ts) (y ∷ ss) (suc i) t s place h a = (one_same n x y (λ e. omega (arith, e, place)) h.0, changed (suc n) ts ss i t s (omega (arith, place)) h.1 a)
