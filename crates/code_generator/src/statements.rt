@@ -3,7 +3,7 @@
 ghost use Rattle.std.specs.Prelude.{◌≡◌, ◌+◌, ◌-◌, ◌<◌, ◌≤◌, [], ◌∷◌, ◌++◌, slice_set, vec_len, map, zip, IfOk, OnOk};
 ghost use Rattle.base.specs.Bytes.{lookup};
 ghost use Rattle.syntax.specs.Views.{element_tree, expr_tree, argument_tree, call_tree, right_side_tree, test_tree, variable_type_tree, form_tree, block_tree};
-ghost use Rattle.jni.specs.Prototype.{function_named};
+ghost use Rattle.jni.specs.JniFunction.{function_named};
 ghost use Rattle.jni.specs.Table.{parameter_value};
 ghost use Rattle.types.specs.SortRules.{variable_sort};
 ghost use Rattle.source.specs.Arguments.{mode_of};

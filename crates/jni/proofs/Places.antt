@@ -4,8 +4,8 @@ use Rattle.std.specs.List.{slice_get}
 use Rattle.std.proofs.Math.Seq.{drop-nil}
 use Rattle.std.proofs.lemmas.List.{drop-take}
 use Rattle.base.specs.Element.{ElementType}
-use Rattle.jni.specs.JniFunction.{JniFunction, ElementsCopy}
-use Rattle.jni.specs.Prototype.{all_functions, typed_functions, access_functions}
+use Rattle.jni.specs.Access.{ElementsCopy}
+use Rattle.jni.specs.JniFunction.{JniFunction, all_functions, typed_functions, access_functions}
 
 -- what is at a place of a part of a list, is in the list too
 in_front : (xs : List JniFunction) (m k : ℕ) (f : JniFunction) → slice_get (take m xs) k ≡ Some f → slice_get xs k ≡ Some f

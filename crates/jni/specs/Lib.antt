@@ -1,5 +1,5 @@
-pub mod JniFunction
+pub mod Access
 pub mod Prototype
-pub mod BuiltFunctions
+pub mod JniFunction
 pub mod StateEffect
 pub mod Table

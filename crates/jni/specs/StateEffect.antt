@@ -1,5 +1,6 @@
 -- What a function of the JNI does to buffers, references and frames.
-use Rattle.jni.specs.JniFunction.{Access, JniFunction, GetBuffer, ReleaseBuffer, DeleteLocalRef, PopLocalFrame}
+use Rattle.jni.specs.Access.{Access}
+use Rattle.jni.specs.JniFunction.{JniFunction, GetBuffer, ReleaseBuffer, DeleteLocalRef, PopLocalFrame}
 
 -- the functions that the rules on ways know apart
 pub data StateEffect : Type 0 where

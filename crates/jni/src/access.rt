@@ -3,7 +3,7 @@
 ghost use Rattle.std.specs.Prelude.{◌≡◌};
 ghost use Rattle.base.specs.Element.{same_element};
 ghost use Rattle.syntax.specs.Views.{element_tree};
-ghost use Rattle.jni.specs.JniFunction.{is_critical, same_access};
+ghost use Rattle.jni.specs.Access.{is_critical, same_access};
 ghost use Rattle.jni.specs.Table.{access_value};
 
 use syntax::ElementType;

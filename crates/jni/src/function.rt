@@ -1,12 +1,20 @@
-//! The functions of the JNI (JNI Specification, chapter 4).
+//! The table of the functions of the JNI (JNI Specification, chapter 4), and who has a name.
 
-ghost use Rattle.std.specs.Prelude.{◌≡◌, Some, take, drop, slice_get};
+ghost use Rattle.std.specs.Prelude.{◌≡◌, ◌<◌, [], Some, length, map, find, get_or, take, drop, slice_get};
+ghost use Rattle.std.specs.Option.{option_map};
 ghost use Rattle.syntax.specs.Views.{element_tree};
-ghost use Rattle.jni.specs.Prototype.{all_functions, typed_functions, access_functions};
-ghost use Rattle.jni.specs.Table.{access_value, function_value};
+ghost use Rattle.jni.specs.JniFunction.{access_functions, all_functions, function_named, typed_functions};
+ghost use Rattle.jni.specs.Table.{access_value, facts, facts_of, function_value, functions_value, has_name};
 
 use crate::access::Access;
+use crate::access::Access::{ArrayView, CharsCopy, CharsView, ElementsCopy};
+use crate::function::JniFunction::*;
+use crate::kinds::ParameterKind::*;
+use crate::kinds::Prototype;
+use crate::kinds::ResultKind::*;
+use crate::kinds::StateEffect::*;
 use syntax::ElementType;
+use syntax::ElementType::{Jbyte, Jchar, Jint, Jshort};
 
 /// A function of the JNI, where one is there for each element type or for each access.
 #[derive(Clone, Copy)]
@@ -66,6 +74,118 @@ pub enum JniFunction {
     MonitorExit,
 }
 
+const INTS: Access = ElementsCopy(Jint);
+
+const SHORTS: Access = ElementsCopy(Jshort);
+
+const BYTES: Access = ElementsCopy(Jbyte);
+
+const CHARS: Access = ElementsCopy(Jchar);
+
+macro_rules! rows {
+    ($($name:literal [$($parameter:expr),*] => $result:expr, $effect:expr, $pending:expr, $built:expr;)*) => {
+        [$(Prototype {
+            name: $name,
+            parameters: &[$($parameter),*],
+            result: $result,
+            effect: $effect,
+            pending: $pending,
+            built: $built,
+        }),*]
+    };
+}
+
+/// The functions in the order of their numbers. A row has the name, the parameters after `env`, the result, what a call does to buffers,
+/// references and frames, whether it may be called while an exception is pending, and whether it can be called today.
+static FUNCTIONS: [Prototype; 77] = rows! {
+    // classes and references
+    b"FindClass"           [TextBytes]                => NewLocal,     Other,   false, true;
+    b"GetSuperclass"       [ClassObject]              => NewLocal,     Other,   false, true;
+    b"GetObjectClass"      [NonNull]                  => NewLocal,     Other,   false, true;
+    b"IsInstanceOf"        [Nullable, ClassObject]    => GivesFlag,    Other,   false, true;
+    b"IsAssignableFrom"    [ClassObject, ClassObject] => GivesFlag,    Other,   false, true;
+    b"AllocObject"         [ClassObject]              => NewLocal,     Other,   false, true;
+    b"NewLocalRef"         [Nullable]                 => NewLocal,     Other,   false, true;
+    b"NewGlobalRef"        [Nullable]                 => NewGlobal,    Other,   false, true;
+    b"DeleteLocalRef"      [LocalVariable]            => GivesNothing, Deletes, true,  true;
+    b"DeleteGlobalRef"     [StaticVariable]           => GivesNothing, Other,   true,  true;
+    b"IsSameObject"        [Nullable, Nullable]       => GivesFlag,    Other,   false, true;
+    b"EnsureLocalCapacity" [IntNumber]                => GivesInt,     Other,   false, true;
+    b"PushLocalFrame"      [IntNumber]                => GivesInt,     Other,   true,  true;
+    b"PopLocalFrame"       [Nullable]                 => NewLocal,     Pops,    true,  true;
+    // fields of references, arrays of objects, and the length of any array
+    b"GetFieldID"            [ClassObject, TextBytes, TextBytes] => GivesField,   Other, false, true;
+    b"GetStaticFieldID"      [ClassObject, TextBytes, TextBytes] => GivesField,   Other, false, true;
+    b"GetObjectField"        [NonNull, FieldID]                  => NewLocal,     Other, false, true;
+    b"SetObjectField"        [NonNull, FieldID, Nullable]        => GivesNothing, Other, false, true;
+    b"GetStaticObjectField"  [ClassObject, FieldID]              => NewLocal,     Other, false, true;
+    b"SetStaticObjectField"  [ClassObject, FieldID, Nullable]    => GivesNothing, Other, false, true;
+    b"GetArrayLength"        [NonNull]                           => GivesInt,     Other, false, true;
+    b"NewObjectArray"        [IntNumber, ClassObject, Nullable]  => NewLocal,     Other, false, false;
+    b"GetObjectArrayElement" [ObjectArray, IntNumber]            => NewLocal,     Other, false, false;
+    b"SetObjectArrayElement" [ObjectArray, IntNumber, Nullable]  => GivesNothing, Other, false, false;
+    // strings
+    b"NewStringUTF"    [TextBytes]                                                => NewLocal,     Other, false, false;
+    b"GetStringLength" [StringObject]                                             => GivesInt,     Other, false, false;
+    b"GetStringRegion" [StringObject, IntNumber, IntNumber, ArrayVariable(Jchar)] => GivesNothing, Other, false, false;
+    // exceptions and monitors
+    b"Throw"             [NonNull]                => GivesInt,     Other, false, false;
+    b"ThrowNew"          [ClassObject, TextBytes] => GivesInt,     Other, false, false;
+    b"ExceptionOccurred" []                       => NewLocal,     Other, true,  false;
+    b"ExceptionCheck"    []                       => GivesFlag,    Other, true,  false;
+    b"ExceptionClear"    []                       => GivesNothing, Other, true,  false;
+    b"FatalError"        [TextBytes]              => GivesNothing, Other, false, false;
+    b"MonitorEnter"      [NonNull]                => GivesInt,     Other, false, false;
+    b"MonitorExit"       [NonNull]                => GivesInt,     Other, true,  false;
+    // `jint`
+    b"GetIntField"             [NonNull, FieldID]                                             => GivesInt,          Other,          false, true;
+    b"SetIntField"             [NonNull, FieldID, IntNumber]                                  => GivesNothing,      Other,          false, true;
+    b"GetStaticIntField"       [ClassObject, FieldID]                                         => GivesInt,          Other,          false, true;
+    b"SetStaticIntField"       [ClassObject, FieldID, IntNumber]                              => GivesNothing,      Other,          false, true;
+    b"NewIntArray"             [IntNumber]                                                    => NewLocal,          Other,          false, false;
+    b"GetIntArrayRegion"       [NumberArray(Jint), IntNumber, IntNumber, ArrayVariable(Jint)] => GivesNothing,      Other,          false, false;
+    b"SetIntArrayRegion"       [NumberArray(Jint), IntNumber, IntNumber, ArrayVariable(Jint)] => GivesNothing,      Other,          false, false;
+    b"GetIntArrayElements"     [NumberArray(Jint), IsCopy]                                    => GivesBuffer(INTS), Gets(INTS),     false, false;
+    b"ReleaseIntArrayElements" [NumberArray(Jint), BufferVariable(INTS), Mode]                => GivesNothing,      Releases(INTS), true,  false;
+    // `jshort`
+    b"GetShortField"             [NonNull, FieldID]                                                 => GivesInt,            Other,            false, true;
+    b"SetShortField"             [NonNull, FieldID, IntNumber]                                      => GivesNothing,        Other,            false, true;
+    b"GetStaticShortField"       [ClassObject, FieldID]                                             => GivesInt,            Other,            false, true;
+    b"SetStaticShortField"       [ClassObject, FieldID, IntNumber]                                  => GivesNothing,        Other,            false, true;
+    b"NewShortArray"             [IntNumber]                                                        => NewLocal,            Other,            false, false;
+    b"GetShortArrayRegion"       [NumberArray(Jshort), IntNumber, IntNumber, ArrayVariable(Jshort)] => GivesNothing,        Other,            false, false;
+    b"SetShortArrayRegion"       [NumberArray(Jshort), IntNumber, IntNumber, ArrayVariable(Jshort)] => GivesNothing,        Other,            false, false;
+    b"GetShortArrayElements"     [NumberArray(Jshort), IsCopy]                                      => GivesBuffer(SHORTS), Gets(SHORTS),     false, false;
+    b"ReleaseShortArrayElements" [NumberArray(Jshort), BufferVariable(SHORTS), Mode]                => GivesNothing,        Releases(SHORTS), true,  false;
+    // `jbyte`
+    b"GetByteField"             [NonNull, FieldID]                                               => GivesInt,           Other,           false, true;
+    b"SetByteField"             [NonNull, FieldID, IntNumber]                                    => GivesNothing,       Other,           false, true;
+    b"GetStaticByteField"       [ClassObject, FieldID]                                           => GivesInt,           Other,           false, true;
+    b"SetStaticByteField"       [ClassObject, FieldID, IntNumber]                                => GivesNothing,       Other,           false, true;
+    b"NewByteArray"             [IntNumber]                                                      => NewLocal,           Other,           false, false;
+    b"GetByteArrayRegion"       [NumberArray(Jbyte), IntNumber, IntNumber, ArrayVariable(Jbyte)] => GivesNothing,       Other,           false, false;
+    b"SetByteArrayRegion"       [NumberArray(Jbyte), IntNumber, IntNumber, ArrayVariable(Jbyte)] => GivesNothing,       Other,           false, false;
+    b"GetByteArrayElements"     [NumberArray(Jbyte), IsCopy]                                     => GivesBuffer(BYTES), Gets(BYTES),     false, false;
+    b"ReleaseByteArrayElements" [NumberArray(Jbyte), BufferVariable(BYTES), Mode]                => GivesNothing,       Releases(BYTES), true,  false;
+    // `jchar`
+    b"GetCharField"             [NonNull, FieldID]                                               => GivesInt,           Other,           false, true;
+    b"SetCharField"             [NonNull, FieldID, IntNumber]                                    => GivesNothing,       Other,           false, true;
+    b"GetStaticCharField"       [ClassObject, FieldID]                                           => GivesInt,           Other,           false, true;
+    b"SetStaticCharField"       [ClassObject, FieldID, IntNumber]                                => GivesNothing,       Other,           false, true;
+    b"NewCharArray"             [IntNumber]                                                      => NewLocal,           Other,           false, false;
+    b"GetCharArrayRegion"       [NumberArray(Jchar), IntNumber, IntNumber, ArrayVariable(Jchar)] => GivesNothing,       Other,           false, false;
+    b"SetCharArrayRegion"       [NumberArray(Jchar), IntNumber, IntNumber, ArrayVariable(Jchar)] => GivesNothing,       Other,           false, false;
+    b"GetCharArrayElements"     [NumberArray(Jchar), IsCopy]                                     => GivesBuffer(CHARS), Gets(CHARS),     false, false;
+    b"ReleaseCharArrayElements" [NumberArray(Jchar), BufferVariable(CHARS), Mode]                => GivesNothing,       Releases(CHARS), true,  false;
+    // views of arrays and strings, and copies of strings
+    b"GetPrimitiveArrayCritical"     [NonNull, IsCopy]                          => GivesBuffer(ArrayView), Gets(ArrayView),     false, false;
+    b"ReleasePrimitiveArrayCritical" [NonNull, BufferVariable(ArrayView), Mode] => GivesNothing,           Releases(ArrayView), true,  false;
+    b"GetStringChars"                [StringObject, IsCopy]                     => GivesBuffer(CharsCopy), Gets(CharsCopy),     false, false;
+    b"ReleaseStringChars"            [StringObject, BufferVariable(CharsCopy)]  => GivesNothing,           Releases(CharsCopy), true,  false;
+    b"GetStringCritical"             [StringObject, IsCopy]                     => GivesBuffer(CharsView), Gets(CharsView),     false, false;
+    b"ReleaseStringCritical"         [StringObject, BufferVariable(CharsView)]  => GivesNothing,           Releases(CharsView), true,  false;
+};
+
 /// The number of the first function of an element type in the table, each of which has nine.
 fn typed_number(element: ElementType) -> usize
     ensures { take 9 (drop result all_functions) ≡ typed_functions (element_tree element) }
@@ -90,9 +210,17 @@ fn buffer_number(access: Access) -> usize
     }
 }
 
+/// The row of a number.
+fn row_at(rows: &'static [Prototype], number: usize) -> &'static Prototype
+    requires { number < length rows.now }
+    ensures { slice_get (map facts rows.now) number ≡ Some (facts result.now) }
+{
+    &rows[number]
+}
+
 impl JniFunction {
     /// The function's place in the table.
-    pub(crate) fn number(self) -> usize
+    fn number(self) -> usize
         ensures { slice_get all_functions result ≡ Some (function_value self) }
     {
         match self {
@@ -142,4 +270,152 @@ impl JniFunction {
             JniFunction::ReleaseBuffer(access) => buffer_number(access) + 1,
         }
     }
+
+    /// What the table says of the function.
+    pub fn prototype(self) -> &'static Prototype
+        ensures { facts result.now ≡ facts_of (function_value self) }
+    {
+        row_at(&FUNCTIONS, self.number())
+    }
+
+    /// Whether this is the function's name.
+    fn is_named(self, name: &[u8]) -> bool
+        ensures { result ≡ has_name name.now (function_value self) }
+    {
+        self.prototype().name == name
+    }
+}
+
+/// The functions by the length of their names.
+static BY_LENGTH: [&[JniFunction]; 32] = [
+    &[],
+    &[],
+    &[],
+    &[],
+    &[],
+    &[Throw],
+    &[],
+    &[],
+    &[ThrowNew],
+    &[FindClass],
+    &[GetFieldID, FatalError],
+    &[
+        AllocObject,
+        NewLocalRef,
+        MonitorExit,
+        GetField(Jint),
+        SetField(Jint),
+        NewArray(Jint),
+    ],
+    &[
+        IsInstanceOf,
+        NewGlobalRef,
+        IsSameObject,
+        NewStringUTF,
+        MonitorEnter,
+        GetField(Jbyte),
+        SetField(Jbyte),
+        NewArray(Jbyte),
+        GetField(Jchar),
+        SetField(Jchar),
+        NewArray(Jchar),
+    ],
+    &[
+        GetSuperclass,
+        PopLocalFrame,
+        GetField(Jshort),
+        SetField(Jshort),
+        NewArray(Jshort),
+    ],
+    &[
+        GetObjectClass,
+        DeleteLocalRef,
+        PushLocalFrame,
+        GetObjectField,
+        SetObjectField,
+        GetArrayLength,
+        NewObjectArray,
+        ExceptionCheck,
+        ExceptionClear,
+        GetBuffer(CharsCopy),
+    ],
+    &[DeleteGlobalRef, GetStringLength, GetStringRegion],
+    &[IsAssignableFrom, GetStaticFieldID],
+    &[
+        ExceptionOccurred,
+        GetStaticField(Jint),
+        SetStaticField(Jint),
+        GetArrayRegion(Jint),
+        SetArrayRegion(Jint),
+        GetBuffer(CharsView),
+    ],
+    &[
+        GetStaticField(Jbyte),
+        SetStaticField(Jbyte),
+        GetArrayRegion(Jbyte),
+        SetArrayRegion(Jbyte),
+        GetStaticField(Jchar),
+        SetStaticField(Jchar),
+        GetArrayRegion(Jchar),
+        SetArrayRegion(Jchar),
+        ReleaseBuffer(CharsCopy),
+    ],
+    &[
+        EnsureLocalCapacity,
+        GetBuffer(INTS),
+        GetStaticField(Jshort),
+        SetStaticField(Jshort),
+        GetArrayRegion(Jshort),
+        SetArrayRegion(Jshort),
+    ],
+    &[
+        GetStaticObjectField,
+        SetStaticObjectField,
+        GetBuffer(BYTES),
+        GetBuffer(CHARS),
+    ],
+    &[
+        GetObjectArrayElement,
+        SetObjectArrayElement,
+        GetBuffer(SHORTS),
+        ReleaseBuffer(CharsView),
+    ],
+    &[],
+    &[ReleaseBuffer(INTS)],
+    &[ReleaseBuffer(BYTES), ReleaseBuffer(CHARS)],
+    &[ReleaseBuffer(SHORTS), GetBuffer(ArrayView)],
+    &[],
+    &[],
+    &[],
+    &[ReleaseBuffer(ArrayView)],
+    &[],
+    &[],
+];
+
+/// The first of the functions that has a name.
+fn first_named(mut functions: &[JniFunction], name: &[u8]) -> Option<JniFunction>
+    ensures { option_map function_value result ≡ find (has_name name.now) (map function_value functions.entry.now) }
+{
+    while let [function, rest @ ..] = functions {
+        if function.is_named(name) {
+            return Some(*function);
+        }
+        functions = rest;
+    }
+    None
+}
+
+/// The function of a name among those of a length.
+fn named_at(table: &[&[JniFunction]], place: usize, name: &[u8]) -> Option<JniFunction>
+    requires { place < length table.now }
+    ensures { option_map function_value result ≡ find (has_name name.now) (get_or (map functions_value table.now) place []) }
+{
+    first_named(table[place], name)
+}
+
+/// The function of a name. It is looked for among those whose names are as long.
+pub fn function_named(name: &[u8]) -> Option<JniFunction>
+    ensures { option_map function_value result ≡ function_named name.now }
+{
+    named_at(&BY_LENGTH, name.len() % 32, name)
 }

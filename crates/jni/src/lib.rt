@@ -4,9 +4,7 @@
 mod access;
 mod function;
 mod kinds;
-mod table;
 
 pub use access::{Access, is_same_element};
-pub use function::JniFunction;
+pub use function::{JniFunction, function_named};
 pub use kinds::{ParameterKind, Prototype, ResultKind, StateEffect};
-pub use table::function_named;

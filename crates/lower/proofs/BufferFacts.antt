@@ -12,8 +12,8 @@ use Rattle.base.specs.Options.{some_passes}
 use Rattle.syntax.specs.Parts.{statements_of, statements_within, declared_name, names_declared, own_call, call_of_right_side, own_expressions, names_in, addresses_in, used_names, written_name}
 use Rattle.syntax.specs.Tree as tree
 use Rattle.syntax.specs.Tree.{Expr, Argument, Call, RightSide, Test, TestExpr, TestCall, Stmt, Block, End, Next}
-use Rattle.jni.specs.JniFunction.{JniFunction, is_critical}
-use Rattle.jni.specs.BuiltFunctions.{is_built_function}
+use Rattle.jni.specs.Access.{is_critical}
+use Rattle.jni.specs.JniFunction.{JniFunction, is_built_function}
 use Rattle.types.specs.BuiltCalls.{is_built_call, calls_unbuilt}
 use Rattle.types.specs.Sorts.{Buffer, Array}
 use Rattle.types.specs.SortRules.{variable_sort, has_name}

@@ -2,9 +2,8 @@
 use Rattle.std.proofs.Common.{◌≡◌, Bool, true, false, List, Option, Some, None, refl}
 use Rattle.base.specs.Options.{some_passes}
 use Rattle.syntax.specs.Tree.{Argument, Call}
-use Rattle.jni.specs.JniFunction.{JniFunction, PushLocalFrame, GetBuffer}
-use Rattle.jni.specs.Prototype.{ResultKind, GivesInt, GivesBuffer, function_named, prototype}
-use Rattle.jni.specs.BuiltFunctions.{is_built_function}
+use Rattle.jni.specs.JniFunction.{JniFunction, PushLocalFrame, GetBuffer, function_named, prototype, is_built_function}
+use Rattle.jni.specs.Prototype.{ResultKind, GivesInt, GivesBuffer}
 use Rattle.types.specs.BuiltCalls.{is_built_call}
 use Rattle.types.specs.SortRules.{may_be_tested}
 use Rattle.regions.specs.RegionStates.{get_of}

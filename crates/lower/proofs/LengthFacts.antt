@@ -8,7 +8,8 @@ use Rattle.syntax.specs.Parts.{null_tested, names_declared, statements_of, state
 use Rattle.syntax.specs.Tree as tree
 use Rattle.syntax.specs.Tree.{ResultType, Void, IntResult, ReferenceResult, LogicalNot, Complement, ToWord, ToInt, BinaryOp, LogicalOr, LogicalAnd, Equal, NotEqual, Expr, Argument, Call, RightSide, FromExpr, FromCall, Test, TestExpr, TestCall, Stmt, Block, End, Next}
 use Rattle.base.specs.Element.{JChar}
-use Rattle.jni.specs.Prototype.{ParameterKind, IntNumber, function_named, prototype}
+use Rattle.jni.specs.JniFunction.{function_named, prototype}
+use Rattle.jni.specs.Prototype.{ParameterKind, IntNumber}
 use Rattle.types.specs.Sorts.{Sort, Jint, Ref, Global, FieldId, Buffer, constant_sort, sort_in, sort_of, is_ref, is_null, name_sort}
 use Rattle.types.specs.Sorts as sort
 use Rattle.types.specs.SortRules.{variable_sort, return_fits, places_within, places_of}

@@ -2,7 +2,9 @@
 use Rattle.code.specs.declared.instr.Operand.{Operand as Where}
 use Rattle.std.specs.List.{AllZip}
 use Rattle.std.specs.Prelude.{zip, map}
-use Rattle.jni.specs.JniFunction.{JniFunction, FindClass, ReleaseBuffer, ArrayView, CharsCopy, CharsView, ElementsCopy}
+use Rattle.jni.specs.Access.{ArrayView, CharsCopy, CharsView, ElementsCopy}
+use Rattle.jni.specs.JniFunction.{JniFunction, FindClass, ReleaseBuffer, function_named, prototype}
+use Rattle.jni.specs.Prototype.{ParameterKind, IntNumber, Mode}
 use Rattle.std.proofs.Common.{◌≡◌, ℕ, suc, ◌+◌, ◌<◌, ◌≤◌, inl, inr, Bool, true, false, List, [], ◌∷◌, ◌++◌, length, Option, Some, refl, sym, ap, ◌∙◌, subst, arith, None, ◌-◌}
 use Rattle.std.proofs.lemmas.Bool.{lt-ltb, le-leb}
 use Rattle.base.specs.Bytes.{Identifier, lookup}
@@ -14,7 +16,6 @@ use Rattle.types.specs.SortRules.{variable_sort}
 use Rattle.base.specs.Element.{JChar}
 use Rattle.code.specs.declared.instr.Target.{Target}
 use Rattle.code.specs.declared.instr.Target.TheVariants as destination
-use Rattle.jni.specs.Prototype.{function_named, ParameterKind, IntNumber, Mode, prototype}
 use Rattle.code.specs.declared.instr.Instr.{Instr}
 use Rattle.code.specs.declared.instr.Instr.TheVariants as instr
 use Rattle.code.specs.Depth.{depth_after, words_taken, with_result}

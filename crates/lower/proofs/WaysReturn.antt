@@ -3,8 +3,7 @@ use Rattle.std.proofs.Common.{◌≡◌, ℕ, Bool, true, false, ◌&&◌, ◌||
 use Rattle.std.specs.List.{list_any}
 use Rattle.syntax.specs.Tree as tree
 use Rattle.syntax.specs.Tree.{Call, Test, TestExpr, TestCall, Stmt, Block, End, Next}
-use Rattle.jni.specs.JniFunction.{JniFunction}
-use Rattle.jni.specs.Prototype.{function_named}
+use Rattle.jni.specs.JniFunction.{JniFunction, function_named}
 use Rattle.source.specs.Task.{Task, Tested, invocation, if_task, task_of, tasks_of}
 use Rattle.lower.specs.Stands.{stmt_returns, block_returns, task_returns}
 

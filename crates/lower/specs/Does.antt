@@ -6,9 +6,9 @@ use Rattle.std.specs.Int.{w32, cast_signed}
 use Rattle.base.specs.Bytes.{Identifier, lookup}
 use Rattle.base.specs.Element.{ElementType}
 use Rattle.syntax.specs.Tree.{Block}
-use Rattle.jni.specs.JniFunction.{Access, JniFunction}
-use Rattle.jni.specs.BuiltFunctions.{is_built_function}
-use Rattle.jni.specs.Prototype.{ParameterKind, FieldID, IntNumber, TextBytes, ArrayVariable, BufferVariable, Mode, IsCopy, ResultKind, NewLocal, NewGlobal, GivesInt, GivesField, prototype}
+use Rattle.jni.specs.Access.{Access}
+use Rattle.jni.specs.JniFunction.{JniFunction, is_built_function, prototype}
+use Rattle.jni.specs.Prototype.{ParameterKind, FieldID, IntNumber, TextBytes, ArrayVariable, BufferVariable, Mode, IsCopy, ResultKind, NewLocal, NewGlobal, GivesInt, GivesField}
 use Rattle.types.specs.Sorts.{Sort, Flag, Ref, Global, FieldId, Buffer}
 use Rattle.classes.specs.Fields as source
 use Rattle.source.specs.Object.{Reference}

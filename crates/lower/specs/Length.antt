@@ -5,8 +5,8 @@ use Rattle.std.specs.List.{list_any, sum_by}
 use Rattle.base.specs.Bytes.{Identifier}
 use Rattle.syntax.specs.Parts.{null_tested}
 use Rattle.syntax.specs.Tree.{ResultType, IntResult, Null, Expr, Number, Named, Variable, Element, Prefix, Binary, Paren, Argument, Value, Call, RightSide, FromExpr, FromCall, Test, TestExpr, TestCall, Stmt, Declare, DeclareBuffer, DeclareChars, DeclareArray, Assign, AssignElement, Perform, PutJint, If, IfElse, While, Return, ReturnValue, Block, End, Next, Function, Item, StaticItem, FunctionItem, SourceUnit}
-use Rattle.jni.specs.JniFunction.{JniFunction}
-use Rattle.jni.specs.Prototype.{ParameterKind, IntNumber, prototype, function_named}
+use Rattle.jni.specs.JniFunction.{JniFunction, prototype, function_named}
+use Rattle.jni.specs.Prototype.{ParameterKind, IntNumber}
 
 -- ---- expressions
 

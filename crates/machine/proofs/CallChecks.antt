@@ -12,12 +12,13 @@ use Rattle.class_table.specs.declared.class.FieldHandle.{FieldHandle}
 use Rattle.code.specs.declared.instr.Operand.{Operand}
 use Rattle.code.specs.declared.instr.Operand.TheVariants as operand
 use Rattle.heap.specs.Heap.{Space, IsAddress}
-use Rattle.jni.specs.JniFunction.{JniFunction, is_allowed_pending, AllocObject, NewLocalRef, NewGlobalRef, DeleteLocalRef, DeleteGlobalRef, IsSameObject, EnsureLocalCapacity, PushLocalFrame, FindClass, GetFieldID, GetStaticFieldID, GetField, SetField, GetStaticField, SetStaticField, GetObjectField, SetObjectField, GetStaticObjectField, SetStaticObjectField, GetArrayLength, GetSuperclass, GetObjectClass, IsInstanceOf, IsAssignableFrom, PopLocalFrame}
-use Rattle.jni.specs.Prototype.{ParameterKind, Nullable, LocalVariable, StaticVariable, IsCopy, ClassObject, NumberArray, ObjectArray, StringObject, ResultKind, NewLocal, prototype}
+use Rattle.jni.specs.JniFunction.{JniFunction, is_allowed_pending, AllocObject, NewLocalRef, NewGlobalRef, DeleteLocalRef, DeleteGlobalRef, IsSameObject, EnsureLocalCapacity, PushLocalFrame, FindClass, GetFieldID, GetStaticFieldID, GetField, SetField, GetStaticField, SetStaticField, GetObjectField, SetObjectField, GetStaticObjectField, SetStaticObjectField, GetArrayLength, GetSuperclass, GetObjectClass, IsInstanceOf, IsAssignableFrom, PopLocalFrame, prototype}
+use Rattle.jni.specs.Prototype.{ParameterKind, Nullable, LocalVariable, StaticVariable, IsCopy, ClassObject, NumberArray, ObjectArray, StringObject, ResultKind, NewLocal}
+use Rattle.source.specs.CallTable.{go_together}
 use Rattle.source.specs.Arguments.{Actual, ReferenceActual, FieldActual, NumberActual, TextActual, VariableActual, ModeActual, NothingActual, ReleaseMode, reference_given, reference_in_actual, name_or_zero, field_given, field_in_actual}
 use Rattle.source.specs.CallStep.{trap_of_call, target_element}
-use Rattle.source.specs.Checks.{is_deleted, is_missing, is_misfit, go_together, frames_after, is_full, lacks_room, first_trap, call_trap, fits_type, holds_number, holds_reference}
-use Rattle.source.specs.Heap.{Heap, class_of, fits_class}
+use Rattle.source.specs.Checks.{is_deleted, is_missing, is_misfit, frames_after, is_full, lacks_room, first_trap, call_trap}
+use Rattle.source.specs.Heap.{fits_type, holds_number, holds_reference, Heap, class_of, fits_class}
 use Rattle.source.specs.Object.{Reference}
 use Rattle.source.specs.Task.{Target}
 use Rattle.source.specs.Thread.{Frame, Shared, Thread}

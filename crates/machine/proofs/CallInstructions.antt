@@ -5,9 +5,8 @@ use Rattle.std.specs.Prelude.{slice_get, slice_set, ◌&&◌, nat_le, if◌then�
 use Rattle.std.specs.List.{AllZip}
 use Rattle.classes.specs.Class.{Classes}
 use Rattle.heap.specs.Heap.{Space}
-use Rattle.jni.specs.BuiltFunctions.{is_built_function}
-use Rattle.jni.specs.JniFunction.{JniFunction, FindClass, GetSuperclass, GetObjectClass, IsInstanceOf, IsAssignableFrom, AllocObject, NewLocalRef, DeleteLocalRef, DeleteGlobalRef, IsSameObject, EnsureLocalCapacity, PushLocalFrame, PopLocalFrame, GetFieldID, GetStaticFieldID, GetField, SetField, GetStaticField, SetStaticField, GetObjectField, SetObjectField, GetStaticObjectField, SetStaticObjectField, GetArrayLength, NewGlobalRef, GetBuffer}
-use Rattle.jni.specs.Prototype.{prototype, ResultKind, NewLocal, NewGlobal, GivesFlag, GivesInt, GivesField, GivesNothing, GivesBuffer}
+use Rattle.jni.specs.JniFunction.{is_built_function, JniFunction, FindClass, GetSuperclass, GetObjectClass, IsInstanceOf, IsAssignableFrom, AllocObject, NewLocalRef, DeleteLocalRef, DeleteGlobalRef, IsSameObject, EnsureLocalCapacity, PushLocalFrame, PopLocalFrame, GetFieldID, GetStaticFieldID, GetField, SetField, GetStaticField, SetStaticField, GetObjectField, SetObjectField, GetStaticObjectField, SetStaticObjectField, GetArrayLength, NewGlobalRef, GetBuffer, prototype}
+use Rattle.jni.specs.Prototype.{ResultKind, NewLocal, NewGlobal, GivesFlag, GivesInt, GivesField, GivesNothing, GivesBuffer}
 use Rattle.source.specs.Arguments.{Actual, reference_given, variable_given}
 use Rattle.source.specs.Object.{Object}
 use Rattle.source.specs.CallEffects.{level_of, CallEffect, CallResult, Halts, Leaves, ScalarResult, Throws, refuses_frames, with_capacity}

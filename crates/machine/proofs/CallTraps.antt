@@ -11,8 +11,7 @@ use Rattle.code.specs.Call.{Call}
 use Rattle.code.specs.declared.instr.Operand.{Operand}
 use Rattle.code.specs.declared.instr.Operand.TheVariants as operand
 use Rattle.heap.specs.Heap.{Block, Space, IsAddress, block_at, name_at}
-use Rattle.jni.specs.JniFunction.{JniFunction, is_allowed_pending}
-use Rattle.jni.specs.Prototype.{prototype}
+use Rattle.jni.specs.JniFunction.{JniFunction, is_allowed_pending, prototype}
 use Rattle.source.specs.Arguments.{Actual}
 use Rattle.source.specs.CallStep.{trap_of_call}
 use Rattle.source.specs.Checks.{first_trap, frames_after}

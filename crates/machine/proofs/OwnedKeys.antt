@@ -8,8 +8,8 @@ use Rattle.syntax.specs.Tree as tree
 use Rattle.syntax.specs.Tree.{Expr}
 use Rattle.classes.specs.Class.{Classes}
 use Rattle.heap.specs.Heap.{Space}
-use Rattle.jni.specs.JniFunction.{JniFunction}
-use Rattle.jni.specs.Prototype.{ParameterKind, FieldID, IntNumber, TextBytes, LocalVariable, ArrayVariable, BufferVariable, Mode, IsCopy, prototype}
+use Rattle.jni.specs.JniFunction.{JniFunction, prototype}
+use Rattle.jni.specs.Prototype.{ParameterKind, FieldID, IntNumber, TextBytes, LocalVariable, ArrayVariable, BufferVariable, Mode, IsCopy}
 use Rattle.types.specs.Sorts.{Ref}
 use Rattle.safety.specs.Owners.{Owners, IsOwn}
 use Rattle.safety.specs.Used.{operand_names, task_names}

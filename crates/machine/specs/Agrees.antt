@@ -23,8 +23,8 @@ use Rattle.source.specs.Checks.{frames_after}
 use Rattle.source.specs.Arguments.{Actual}
 use Rattle.safety.specs.Owners.{Owners, AllOwners, IsOwn, after_advance, after_call}
 use Rattle.safety.specs.Used.{task_names}
-use Rattle.jni.specs.JniFunction.{JniFunction}
-use Rattle.jni.specs.Prototype.{NewLocal, prototype}
+use Rattle.jni.specs.JniFunction.{JniFunction, prototype}
+use Rattle.jni.specs.Prototype.{NewLocal}
 use Rattle.source.specs.Thread as source
 use Rattle.source.specs.Thread.{BuffersInUse, Shared, Advance, viewed_by}
 use Rattle.source.specs.Variable.{StaticReference, Empty, Live, Deleted, LocalRef, Statics, Variables, assign}

@@ -2,8 +2,7 @@
 use Rattle.std.specs.Prelude.{◌≡◌, ℕ, true, List, length, Option}
 use Rattle.std.specs.List.{AllZip}
 use Rattle.code.specs.Call.{Call}
-use Rattle.jni.specs.JniFunction.{JniFunction}
-use Rattle.jni.specs.Prototype.{prototype}
+use Rattle.jni.specs.JniFunction.{JniFunction, prototype}
 use Rattle.source.specs.Arguments.{Actual}
 use Rattle.source.specs.Thread.{Shared, Thread}
 use Rattle.source.specs.World.{World}

@@ -11,7 +11,7 @@ ghost use Rattle.jni.specs.Table.{function_value, parameter_value, result_value}
 ghost use Rattle.machine.specs.Given.{class_of_given, field_there, name_there, AreAddresses, AreHandles};
 ghost use Rattle.machine.specs.Checked.{gives_null, gives_deleted, may_be_null, some_missing, class_misfits, misfits, some_misfit, is_array_at, fits_type_there, fit_together, puts_local, trap_found};
 ghost use Rattle.machine.specs.Stops.{trap_view};
-ghost use Rattle.source.specs.Checks.{holds_number, holds_reference};
+ghost use Rattle.source.specs.Heap.{holds_number, holds_reference};
 
 use crate::operands::{
     class_of_given, declaring, element_type, field_in, fits_there, handle_at, is_static,

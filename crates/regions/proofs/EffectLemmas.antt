@@ -6,8 +6,8 @@ use Rattle.base.specs.Options.{some_passes}
 use Rattle.syntax.specs.declared.call.Argument.{Argument as ArgumentInMemory}
 use Rattle.syntax.specs.Tree.{Commit, Named, Argument, Value, Call}
 use Rattle.syntax.specs.Views.{argument_tree}
-use Rattle.jni.specs.JniFunction.{Access, JniFunction, GetBuffer, ReleaseBuffer, DeleteLocalRef, PopLocalFrame}
-use Rattle.jni.specs.Prototype.{function_named}
+use Rattle.jni.specs.Access.{Access}
+use Rattle.jni.specs.JniFunction.{JniFunction, GetBuffer, ReleaseBuffer, DeleteLocalRef, PopLocalFrame, function_named}
 use Rattle.jni.specs.StateEffect.{Releases}
 use Rattle.regions.specs.StateEffects.{call_state_effect, got, released, deleted, popped, is_forbidden}
 use Rattle.regions.specs.RegionRules.{is_critical_call}

@@ -2,7 +2,7 @@
 use Rattle.std.proofs.Common.{◌≡◌, ◌-◌, Bool, true, false, not, ◌&&◌, ◌||◌, List, [], ◌∷◌, Option, Some, refl, ap, ap₂, ◌∙◌, if◌then◌else◌, find, is_some, nat_le, bytes_eq, None}
 use Rattle.std.specs.Option.{option_map}
 use Rattle.base.specs.Bytes.{Identifier}
-use Rattle.jni.specs.JniFunction.{is_critical}
+use Rattle.jni.specs.Access.{is_critical}
 use Rattle.base.specs.Options.{some_passes}
 use Rattle.syntax.specs.Parts.{assigned_name, call_of_right_side}
 use Rattle.syntax.specs.Tree.{ReferenceVariable, RightSide, Declare, DeclareBuffer, DeclareChars, Assign, Stmt}

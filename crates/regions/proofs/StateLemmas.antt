@@ -5,7 +5,7 @@ use Rattle.std.specs.List.{list_any, cons_option}
 use Rattle.std.specs.Option.{option_and_then}
 use Rattle.base.specs.Bytes.{Identifier}
 use Rattle.base.specs.Options.{some_passes}
-use Rattle.jni.specs.JniFunction.{Access}
+use Rattle.jni.specs.Access.{Access}
 use Rattle.regions.specs.declared.states.Variable.{Variable}
 use Rattle.regions.specs.RegionStates.{RegionState, buffer_of, held_by, held_buffers}
 use Rattle.regions.specs.RegionRules.{is_held}

@@ -4,7 +4,7 @@ use Rattle.std.specs.Option.{option_map}
 use Rattle.std.specs.Borrow.{Bor}
 use Rattle.base.specs.Bytes.{Identifier}
 use Rattle.syntax.specs.Tree.{BinaryOp, Equal, NotEqual, Variable, Binary, Expr}
-use Rattle.jni.specs.JniFunction.{Access}
+use Rattle.jni.specs.Access.{Access}
 use Rattle.types.specs.Sorts.{is_null}
 use Rattle.jni.specs.declared.access.Access.{Access as AccessInMemory}
 use Rattle.regions.specs.declared.changes.Change.{Change}

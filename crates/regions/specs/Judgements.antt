@@ -5,7 +5,7 @@ use Rattle.base.specs.Bytes.{Identifier}
 use Rattle.base.specs.Options.{some_passes}
 use Rattle.syntax.specs.Parts.{assigned_name}
 use Rattle.syntax.specs.Tree.{ReferenceVariable, Declare, DeclareBuffer, DeclareChars, Assign, Stmt}
-use Rattle.jni.specs.JniFunction.{Access, is_critical}
+use Rattle.jni.specs.Access.{Access, is_critical}
 use Rattle.regions.specs.declared.states.Condition.TheVariants as condition
 use Rattle.regions.specs.StateEffects.{EffectCall, got, released, deleted, popped, is_forbidden}
 use Rattle.regions.specs.RegionRules.{RegionRule, CallWhileCritical, ReturnWithBuffer, HeldBuffer, UntestedBuffer, WrongBuffer, ReturnInFrame, PopLastFrame, DeadReference, ArrayInUse, WrongLevel, own_rules, is_return, is_put_jint, is_reference_now, is_mismatched, is_level, holds_buffer}

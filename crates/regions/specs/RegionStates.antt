@@ -5,8 +5,8 @@ use Rattle.base.specs.Bytes.{Identifier, ByName, lookup}
 use Rattle.syntax.specs.Tree.{Commit}
 use Rattle.syntax.specs.Parts.{own_call, call_of_right_side}
 use Rattle.syntax.specs.Tree.{IntParameter, ReferenceParameter, ReferenceVariable, Named, Variable, Argument, Value, Call, RightSide, Stmt, Declare, DeclareBuffer, DeclareChars, Assign, Parameter, Function}
-use Rattle.jni.specs.JniFunction.{Access, JniFunction, GetBuffer, ReleaseBuffer, DeleteLocalRef, PopLocalFrame}
-use Rattle.jni.specs.Prototype.{function_named}
+use Rattle.jni.specs.Access.{Access}
+use Rattle.jni.specs.JniFunction.{JniFunction, GetBuffer, ReleaseBuffer, DeleteLocalRef, PopLocalFrame, function_named}
 
 -- ---- what is known
 

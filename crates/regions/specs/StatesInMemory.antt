@@ -4,7 +4,7 @@ use Rattle.std.specs.Option.{option_and_then}
 use Rattle.std.specs.List.{list_any}
 use Rattle.base.specs.Bytes.{Identifier, ByName}
 use Rattle.base.specs.Options.{some_passes}
-use Rattle.jni.specs.JniFunction.{Access, is_critical}
+use Rattle.jni.specs.Access.{Access, is_critical}
 use Rattle.jni.specs.Table.{access_value}
 use Rattle.regions.specs.declared.states.VariableState.{VariableState as VariableStateInMemory}
 use Rattle.regions.specs.declared.states.VariableState.TheVariants as known

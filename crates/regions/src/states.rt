@@ -3,7 +3,7 @@
 ghost use Rattle.std.specs.Prelude.{◌≡◌, bytes_eq, Some, IfOk};
 ghost use Rattle.std.specs.Option.{option_map};
 ghost use Rattle.base.specs.Options.{some_passes};
-ghost use Rattle.jni.specs.JniFunction.{is_critical};
+ghost use Rattle.jni.specs.Access.{is_critical};
 ghost use Rattle.jni.specs.Table.{access_value};
 ghost use Rattle.regions.specs.RegionStates.{state_of};
 ghost use Rattle.regions.specs.RegionRules.{holds_buffer, is_level};

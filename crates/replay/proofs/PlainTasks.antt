@@ -11,9 +11,7 @@ use Rattle.syntax.specs.Tree.{SourceUnit, Call, Expr, Block, True, False, Commit
 use Rattle.syntax.specs.Views.{stmt_tree}
 use Rattle.classes.specs.Class.{Classes}
 use Rattle.types.specs.BuiltCalls.{is_built_call}
-use Rattle.jni.specs.JniFunction.{JniFunction}
-use Rattle.jni.specs.BuiltFunctions.{is_built_function}
-use Rattle.jni.specs.Prototype.{function_named}
+use Rattle.jni.specs.JniFunction.{JniFunction, is_built_function, function_named}
 use Rattle.source.specs.Arguments.{Actual, actuals}
 use Rattle.source.specs.CallStep.{waits_with}
 use Rattle.source.specs.Effect.{Effect, Becomes, Sets, SetsNull, SetsElement, MakesArray, Prints, Calls, Returns, TrapsAt, NoEffect, at_line, goes_on, with_value, print_effect, branch_effect, loop_effect, element_effect, returned_name, return_effect, effect_of, is_ready, reduce_first}

@@ -7,7 +7,7 @@ use Rattle.base.specs.Bytes.{Identifier}
 use Rattle.base.specs.Element.{ElementType, JInt, JShort, JByte, JChar, same_element}
 use Rattle.syntax.specs.Parts.{names_in, elements_in, argument_expressions}
 use Rattle.syntax.specs.Tree.{Null, Expr, Number, Named, Variable, Element, Prefix, Binary, Paren, Argument, Value, Text, AddressOf}
-use Rattle.jni.specs.JniFunction.{Access, ElementsCopy, ArrayView, CharsCopy, CharsView}
+use Rattle.jni.specs.Access.{Access, ElementsCopy, ArrayView, CharsCopy, CharsView}
 use Rattle.jni.specs.Prototype.{ParameterKind, Nullable, NonNull, ClassObject, ObjectArray, StringObject, NumberArray, LocalVariable, StaticVariable, FieldID, IntNumber, TextBytes, ArrayVariable, BufferVariable, Mode, IsCopy}
 use Rattle.types.specs.Sorts.{Sort, Word, Jint, Flag, Truth, Ref, Global, Buffer, Array, Scope, sort_in, sort_of, is_jint, is_flag, is_ref, is_global, is_reference, is_field, is_array_of, is_buffer_for, is_null, name_sort, argument_fits, arguments_fit}
 use Rattle.types.specs.Sorts as sort

@@ -11,8 +11,9 @@ use Rattle.base.specs.Options.{some_passes}
 use Rattle.base.specs.Element.{ElementType}
 use Rattle.syntax.specs.Tree as tree
 use Rattle.syntax.specs.Tree.{ResultType, Expr, Argument, Call, RightSide, FromExpr, FromCall, Stmt}
-use Rattle.jni.specs.JniFunction.{Access, JniFunction, GetBuffer}
-use Rattle.jni.specs.Prototype.{ResultKind, NewLocal, NewGlobal, GivesFlag, GivesInt, GivesField, GivesNothing, GivesBuffer, prototype}
+use Rattle.jni.specs.Access.{Access}
+use Rattle.jni.specs.JniFunction.{JniFunction, GetBuffer, prototype}
+use Rattle.jni.specs.Prototype.{ResultKind, NewLocal, NewGlobal, GivesFlag, GivesInt, GivesField, GivesNothing, GivesBuffer}
 use Rattle.types.specs.Sorts.{Sort, Word, Jint, Flag, Ref, Global, Buffer, sort_in, sort_of, is_word, is_ref, is_field, is_null, name_sort}
 use Rattle.types.specs.Sorts as sort
 use Rattle.types.specs.SortRules as rules

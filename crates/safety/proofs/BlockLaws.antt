@@ -2,8 +2,9 @@
 use Rattle.std.proofs.Common.{inl, inr, List, ◌++◌, Option, Some, None}
 use Rattle.base.specs.Bytes.{Identifier}
 use Rattle.syntax.specs.Tree.{Stmt, If, IfElse, While, Block, End, Next, TestExpr, TestCall, Call}
-use Rattle.jni.specs.JniFunction.{Access, JniFunction}
-use Rattle.jni.specs.Prototype.{ResultKind, NewLocal, NewGlobal, GivesFlag, GivesInt, GivesField, GivesBuffer, prototype, function_named}
+use Rattle.jni.specs.Access.{Access}
+use Rattle.jni.specs.JniFunction.{JniFunction, prototype, function_named}
+use Rattle.jni.specs.Prototype.{ResultKind, NewLocal, NewGlobal, GivesFlag, GivesInt, GivesField, GivesBuffer}
 use Rattle.types.specs.Sorts.{Sort, sort_in}
 use Rattle.types.specs.Sorts as sort
 use Rattle.regions.specs.RegionStates.{get_of}

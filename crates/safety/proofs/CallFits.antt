@@ -11,8 +11,9 @@ use Rattle.base.specs.Element.{ElementType}
 use Rattle.base.specs.Options.{some_passes}
 use Rattle.syntax.specs.Parts.{names_in, elements_in, argument_expressions, own_expressions, own_call, used_names, addresses_in, written_name, assigned_name}
 use Rattle.syntax.specs.Tree.{Variable, Argument, Value, Stmt}
-use Rattle.jni.specs.JniFunction.{Access, ElementsCopy, ArrayView, CharsCopy, CharsView, is_critical, same_access, JniFunction, GetBuffer, ReleaseBuffer, DeleteLocalRef, PopLocalFrame}
-use Rattle.jni.specs.Prototype.{ParameterKind, IntNumber, BufferVariable, Mode, owner, release_mode, prototype}
+use Rattle.jni.specs.Access.{Access, ElementsCopy, ArrayView, CharsCopy, CharsView, is_critical, same_access}
+use Rattle.jni.specs.JniFunction.{JniFunction, GetBuffer, ReleaseBuffer, DeleteLocalRef, PopLocalFrame, prototype}
+use Rattle.jni.specs.Prototype.{ParameterKind, IntNumber, BufferVariable, Mode, owner, release_mode}
 use Rattle.types.specs.Sorts.{arguments_fit}
 use Rattle.types.specs.SortRules.{modes_fit}
 use Rattle.regions.specs.RegionRules.{RegionRule, CallWhileCritical, UntestedBuffer, WrongBuffer, PopLastFrame, DeadReference, ArrayInUse, is_put_jint, is_critical_call, is_dead, is_reference_now, is_untested, is_free, is_mismatched, is_array_in_use, is_level, breaks_region_rule, Obeys}

@@ -9,8 +9,8 @@ use Rattle.base.specs.Element.{ElementType, JChar}
 use Rattle.syntax.specs.Tree as tree
 use Rattle.classes.specs.Class.{Classes}
 use Rattle.classes.specs.BuiltIns.{array_index_out_of_bounds, string_index_out_of_bounds}
-use Rattle.jni.specs.JniFunction.{JniFunction, DeleteGlobalRef, GetArrayRegion, GetStringRegion, PushLocalFrame}
-use Rattle.jni.specs.Prototype.{ResultKind, NewLocal, GivesNothing, NumberArray, StringObject, IntNumber, ArrayVariable, prototype}
+use Rattle.jni.specs.JniFunction.{JniFunction, DeleteGlobalRef, GetArrayRegion, GetStringRegion, PushLocalFrame, prototype}
+use Rattle.jni.specs.Prototype.{ResultKind, NewLocal, GivesNothing, NumberArray, StringObject, IntNumber, ArrayVariable}
 use Rattle.types.specs.Sorts.{Sort, sort_in}
 use Rattle.types.specs.Sorts as sort
 use Rattle.source.specs.Arguments.{Actual, actuals, object_given, reference_given, number_given, variable_given}

@@ -8,8 +8,9 @@ use Rattle.std.proofs.lemmas.Slice.Eq.{bytes_eq-Decides}
 use Rattle.base.specs.Bytes.{Identifier, ByName, lookup}
 use Rattle.syntax.specs.Tree as tree
 use Rattle.syntax.specs.Tree.{Argument}
-use Rattle.jni.specs.JniFunction.{Access, JniFunction, is_critical}
-use Rattle.jni.specs.Prototype.{ParameterKind, FieldID, IntNumber, TextBytes, LocalVariable, StaticVariable, ArrayVariable, BufferVariable, Mode, IsCopy, prototype}
+use Rattle.jni.specs.Access.{Access, is_critical}
+use Rattle.jni.specs.JniFunction.{JniFunction, prototype}
+use Rattle.jni.specs.Prototype.{ParameterKind, FieldID, IntNumber, TextBytes, LocalVariable, StaticVariable, ArrayVariable, BufferVariable, Mode, IsCopy}
 use Rattle.types.specs.Sorts.{Sort, sort_in}
 use Rattle.types.specs.Sorts as sort
 use Rattle.source.specs.Object.{Reference}

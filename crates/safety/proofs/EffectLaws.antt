@@ -5,8 +5,8 @@ use Rattle.std.proofs.lemmas.Bool.{cond_both}
 use Rattle.base.specs.Bytes.{Identifier, lookup}
 use Rattle.syntax.specs.Tree as tree
 use Rattle.syntax.specs.Tree.{Block, Expr, Argument}
-use Rattle.jni.specs.JniFunction.{JniFunction}
-use Rattle.jni.specs.Prototype.{ParameterKind, IntNumber, prototype}
+use Rattle.jni.specs.JniFunction.{JniFunction, prototype}
+use Rattle.jni.specs.Prototype.{ParameterKind, IntNumber}
 use Rattle.types.specs.Sorts.{Sort, sort_in}
 use Rattle.types.specs.Sorts as sort
 use Rattle.source.specs.Arguments.{actuals}

@@ -12,7 +12,7 @@ use Rattle.safety.proofs.EntryPoints.{known, known_at, known_is, once_known, abs
 use Rattle.safety.proofs.KnownPoints.{IsKnown, held_of}
 use Rattle.safety.specs.Points.{Point}
 use Rattle.syntax.specs.Parts.{parameter_names}
-use Rattle.jni.specs.JniFunction.{Access}
+use Rattle.jni.specs.Access.{Access}
 use Rattle.safety.proofs.NameLaws.{front_other}
 use Rattle.safety.proofs.SetLaws.{none_some}
 

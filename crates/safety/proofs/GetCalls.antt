@@ -8,8 +8,9 @@ use Rattle.base.specs.Bytes.{Identifier, ByName, lookup}
 use Rattle.base.specs.Element.{ElementType}
 use Rattle.syntax.specs.Tree as tree
 use Rattle.classes.specs.Class.{Classes}
-use Rattle.jni.specs.JniFunction.{Access, ElementsCopy, ArrayView, CharsCopy, CharsView, JniFunction, GetBuffer, PushLocalFrame, is_critical, is_allowed_pending}
-use Rattle.jni.specs.Prototype.{GivesBuffer, owner, IsCopy, prototype}
+use Rattle.jni.specs.Access.{Access, ElementsCopy, ArrayView, CharsCopy, CharsView, is_critical}
+use Rattle.jni.specs.JniFunction.{JniFunction, GetBuffer, PushLocalFrame, is_allowed_pending, prototype}
+use Rattle.jni.specs.Prototype.{GivesBuffer, owner, IsCopy}
 use Rattle.types.specs.Sorts.{Sort, sort_in}
 use Rattle.types.specs.Sorts as sort
 use Rattle.regions.specs.RegionStates.{get_of, VariableState, BufferState, Free, Untested, ReferenceAt, BufferIn, state_of, with_new, with_changed}
@@ -17,8 +18,8 @@ use Rattle.source.specs.Object.{Reference}
 use Rattle.source.specs.Arguments.{Actual, ReferenceActual, look_up, actuals, variable_given, variable_in_actual, reference_in_actual, name_or_zero}
 use Rattle.source.specs.CallEffects.{CallEffect, Leaves, BufferResult}
 use Rattle.source.specs.CallStep.{put, put_assigned, tell_copy, trap_of_call, target_element, checked, after_call, call_step}
-use Rattle.source.specs.CallTable.{call_effect}
-use Rattle.source.specs.Checks.{call_trap, first_trap, is_deleted, is_missing, is_misfit, go_together, lacks_room, frames_after}
+use Rattle.source.specs.CallTable.{call_effect, go_together}
+use Rattle.source.specs.Checks.{call_trap, first_trap, is_deleted, is_missing, is_misfit, lacks_room, frames_after}
 use Rattle.source.specs.Effect.{tasks_after, Calls}
 use Rattle.source.specs.Heap.{Heap, numbers_of}
 use Rattle.source.specs.Sight.{held_reference}

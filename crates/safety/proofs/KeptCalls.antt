@@ -6,9 +6,10 @@ use Rattle.base.specs.Bytes.{Identifier, lookup}
 use Rattle.classes.specs.Class.{Classes, class_named}
 use Rattle.classes.specs.Fields.{FieldId, find_field, find_static}
 use Rattle.syntax.specs.Tree.{SourceUnit}
+use Rattle.jni.specs.Access.{ElementsCopy, ArrayView, CharsCopy, CharsView}
 use Rattle.jni.specs.JniFunction as jni
-use Rattle.jni.specs.JniFunction.{JniFunction}
-use Rattle.jni.specs.Prototype.{ResultKind, NewLocal, prototype}
+use Rattle.jni.specs.JniFunction.{JniFunction, prototype}
+use Rattle.jni.specs.Prototype.{ResultKind, NewLocal}
 use Rattle.source.specs.Activation.{ending_after, calls_after}
 use Rattle.source.specs.Arguments.{Actual, ReleaseMode, CopyBackAndFree, CopyBack, FreeUncopied, number_given, object_given, reference_given, text_given, variable_given, mode_given}
 use Rattle.source.specs.CallEffects.{CallResult, NoResult, NullResult, ScalarResult, ReferenceResult, FieldResult, BufferResult, CallEffect, Throws, Halts, Leaves, out_of_memory, with_capacity, ensure_effect, push_effect, delete_local_effect, delete_global_effect, found_class_effect, found_field_effect, new_array_effect, at_index, at_region, local_array, get_region_effect, set_region_effect, store_effect, release_effect, enter_effect, exit_effect}
@@ -140,14 +141,14 @@ module _ (classes : Classes) (lent : BuffersInUse) (k : ℕ) (s : Shared) (t : T
   effect_keeps args (jni.GetArrayRegion T) = region_keeps _ _ (number_given args 1) (number_given args 2) _ (λ i j. get_region_keeps _ _ i j)
   effect_keeps args (jni.SetArrayRegion T) = region_keeps _ _ (number_given args 1) (number_given args 2) _ (λ i j. set_region_keeps _ _ i j)
   effect_keeps args jni.GetStringRegion = region_keeps _ _ (number_given args 1) (number_given args 2) _ (λ i j. get_region_keeps _ _ i j)
-  effect_keeps args (jni.GetBuffer (jni.ElementsCopy T)) = refl
-  effect_keeps args (jni.GetBuffer jni.ArrayView) = refl
-  effect_keeps args (jni.GetBuffer jni.CharsCopy) = refl
-  effect_keeps args (jni.GetBuffer jni.CharsView) = refl
-  effect_keeps args (jni.ReleaseBuffer (jni.ElementsCopy T)) = release_keeps (object_given args 0) (variable_given args 1) (mode_given args 2)
-  effect_keeps args (jni.ReleaseBuffer jni.ArrayView) = refl
-  effect_keeps args (jni.ReleaseBuffer jni.CharsCopy) = refl
-  effect_keeps args (jni.ReleaseBuffer jni.CharsView) = refl
+  effect_keeps args (jni.GetBuffer (ElementsCopy T)) = refl
+  effect_keeps args (jni.GetBuffer ArrayView) = refl
+  effect_keeps args (jni.GetBuffer CharsCopy) = refl
+  effect_keeps args (jni.GetBuffer CharsView) = refl
+  effect_keeps args (jni.ReleaseBuffer (ElementsCopy T)) = release_keeps (object_given args 0) (variable_given args 1) (mode_given args 2)
+  effect_keeps args (jni.ReleaseBuffer ArrayView) = refl
+  effect_keeps args (jni.ReleaseBuffer CharsCopy) = refl
+  effect_keeps args (jni.ReleaseBuffer CharsView) = refl
   effect_keeps args jni.FatalError = tt
   effect_keeps args jni.MonitorEnter = enter_keeps (object_given args 0) (monitor_of s.monitors (object_given args 0))
   effect_keeps args jni.MonitorExit = exit_keeps (object_given args 0) (monitor_of s.monitors (object_given args 0))

@@ -7,7 +7,7 @@ use Rattle.std.proofs.lemmas.List.Folds.{list_any-append}
 use Rattle.std.proofs.lemmas.Slice.Eq.{bytes_eq-Decides}
 use Rattle.base.specs.Bytes.{Identifier, ByName, lookup}
 use Rattle.base.specs.Element.{ElementType}
-use Rattle.jni.specs.JniFunction.{Access}
+use Rattle.jni.specs.Access.{Access}
 use Rattle.types.specs.Sorts.{Sort, Ref, Truth, Buffer, sort_in}
 use Rattle.types.specs.SortRules.{has_name}
 use Rattle.regions.specs.RegionRules.{is_held}

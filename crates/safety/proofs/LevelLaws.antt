@@ -2,8 +2,9 @@
 use Rattle.std.proofs.Common.{◌≡◌, ℕ, List, length, Option, Some, refl, sym, ap, ◌∙◌, subst}
 use Rattle.std.specs.Prelude.{drop}
 use Rattle.base.specs.Bytes.{Identifier, lookup}
-use Rattle.jni.specs.JniFunction.{Access, JniFunction, ReleaseBuffer, DeleteLocalRef, PopLocalFrame}
-use Rattle.jni.specs.Prototype.{ResultKind, NewLocal, GivesNothing, prototype}
+use Rattle.jni.specs.Access.{Access}
+use Rattle.jni.specs.JniFunction.{JniFunction, ReleaseBuffer, DeleteLocalRef, PopLocalFrame, prototype}
+use Rattle.jni.specs.Prototype.{ResultKind, NewLocal, GivesNothing}
 use Rattle.regions.specs.RegionStates.{RegionState, get_of, after_call, after_pop}
 use Rattle.types.specs.Sorts.{Sort, sort_in}
 use Rattle.types.specs.Sorts as sort

@@ -10,8 +10,9 @@ use Rattle.base.specs.Options.{some_passes}
 use Rattle.syntax.specs.Parts.{elements_in, used_names, names_in}
 use Rattle.syntax.specs.Tree as tree
 use Rattle.syntax.specs.Tree.{ResultType, Void, IntResult, ReferenceResult, VariableType, UInt32, JIntVariable, JSize, JBoolean, JFieldId, ReferenceVariable, Constant, True, False, Commit, Abort, Null, Expr, Argument, Call, RightSide, FromExpr, FromCall, Stmt}
-use Rattle.jni.specs.JniFunction.{Access, is_critical}
-use Rattle.jni.specs.Prototype.{ResultKind, NewGlobal, GivesBuffer, prototype}
+use Rattle.jni.specs.Access.{Access, is_critical}
+use Rattle.jni.specs.JniFunction.{prototype}
+use Rattle.jni.specs.Prototype.{ResultKind, NewGlobal, GivesBuffer}
 use Rattle.types.specs.Sorts.{Sort, Jint, Array, sort_in, sort_of, is_jint, is_ref, is_index, has_elements, is_null, name_sort}
 use Rattle.types.specs.SortRules as rules
 use Rattle.types.specs.SortRules.{has_name, variable_sort, result_fits, call_fits, may_be_dropped, is_droppable, return_fits, value_sets}

@@ -6,8 +6,8 @@ use Rattle.std.proofs.lemmas.Bool.{cond_both}
 use Rattle.classes.specs.Class.{Classes}
 use Rattle.classes.specs.Fields.{FieldId, find_field, find_static}
 use Rattle.jni.specs.JniFunction as jni
-use Rattle.jni.specs.JniFunction.{JniFunction}
-use Rattle.jni.specs.Prototype.{prototype, NewLocal, GivesField, GivesInt, GivesNothing, ResultKind}
+use Rattle.jni.specs.JniFunction.{JniFunction, prototype}
+use Rattle.jni.specs.Prototype.{NewLocal, GivesField, GivesInt, GivesNothing, ResultKind}
 use Rattle.source.specs.Arguments.{Actual, number_given, object_given, text_given}
 use Rattle.source.specs.CallEffects.{CallEffect, ReferenceResult, found_field_effect, found_class_effect, new_array_effect, at_index, at_region, store_effect, set_region_effect, local_array, with_capacity, ensure_effect, enter_effect, exit_effect}
 use Rattle.source.specs.CallStep.{failure}

@@ -3,8 +3,8 @@ use Rattle.std.proofs.Common.{◌≡◌, ℕ, ◌≤◌, Bool, true, false, List
 use Rattle.base.specs.Bytes.{Identifier}
 use Rattle.classes.specs.Class.{Classes}
 use Rattle.syntax.specs.Tree.{Argument}
-use Rattle.jni.specs.JniFunction.{JniFunction, ReleaseBuffer, DeleteLocalRef, PopLocalFrame}
-use Rattle.jni.specs.Prototype.{ResultKind, NewLocal, prototype}
+use Rattle.jni.specs.JniFunction.{JniFunction, ReleaseBuffer, DeleteLocalRef, PopLocalFrame, prototype}
+use Rattle.jni.specs.Prototype.{ResultKind, NewLocal}
 use Rattle.source.specs.Object.{Object}
 use Rattle.source.specs.World.{fresh_object}
 use Rattle.source.specs.Arguments.{Actual, variable_given}

@@ -5,14 +5,14 @@ use Rattle.std.specs.List.{list_any}
 use Rattle.base.specs.Element.{ElementType}
 use Rattle.classes.specs.Class.{Classes}
 use Rattle.jni.specs.JniFunction as jni
-use Rattle.jni.specs.JniFunction.{JniFunction, PushLocalFrame, is_allowed_pending}
-use Rattle.jni.specs.Prototype.{ResultKind, NewLocal, prototype}
+use Rattle.jni.specs.JniFunction.{JniFunction, PushLocalFrame, is_allowed_pending, prototype}
+use Rattle.jni.specs.Prototype.{ResultKind, NewLocal}
 use Rattle.source.specs.Arguments.{Actual}
 use Rattle.source.specs.CallStep.{trap_of_call, target_element, checked, after_call, call_step}
-use Rattle.source.specs.Checks.{call_trap, first_trap, is_deleted, is_missing, is_misfit, go_together, frames_after, is_full, lacks_room}
+use Rattle.source.specs.Checks.{call_trap, first_trap, is_deleted, is_missing, is_misfit, frames_after, is_full, lacks_room}
 use Rattle.source.specs.Heap.{Heap}
 use Rattle.source.specs.Value.{Trap, ExceptionPending, DeletedReference, NullReference, WrongObject, NoCapacity}
-use Rattle.source.specs.CallTable.{call_effect}
+use Rattle.source.specs.CallTable.{call_effect, go_together}
 use Rattle.regions.specs.RegionStates as states
 use Rattle.regions.specs.RegionStates.{RegionState, get_of}
 use Rattle.source.specs.Task.{Task, Target, Declared, Assigned, Tested, Dropped, Operand, Invoke}

@@ -5,7 +5,8 @@ use Rattle.std.proofs.lemmas.Bool.{cond_both}
 use Rattle.base.specs.Bytes.{Identifier, lookup}
 use Rattle.classes.specs.Class.{Classes}
 use Rattle.syntax.specs.Tree.{SourceUnit}
-use Rattle.jni.specs.JniFunction.{JniFunction, ElementsCopy, ArrayView, CharsCopy, CharsView, DeleteLocalRef, DeleteGlobalRef, PushLocalFrame, PopLocalFrame, GetArrayRegion, GetStringRegion, GetBuffer, ReleaseBuffer}
+use Rattle.jni.specs.Access.{ElementsCopy, ArrayView, CharsCopy, CharsView}
+use Rattle.jni.specs.JniFunction.{JniFunction, DeleteLocalRef, DeleteGlobalRef, PushLocalFrame, PopLocalFrame, GetArrayRegion, GetStringRegion, GetBuffer, ReleaseBuffer}
 use Rattle.source.specs.Arguments.{Actual, ReleaseMode, CopyBackAndFree, CopyBack, FreeUncopied, number_given, object_given, variable_given, reference_given, mode_given}
 use Rattle.source.specs.CallEffects.{CallEffect, delete_local_effect, delete_global_effect, push_effect, release_effect}
 use Rattle.source.specs.CallStep.{trap_of_call, checked, makes_objects, after_refusal, call_step}

@@ -5,8 +5,9 @@ use Rattle.std.specs.Str.{bytes_eq}
 use Rattle.base.specs.Bytes.{Identifier, lookup}
 use Rattle.syntax.specs.Tree as tree
 use Rattle.classes.specs.Class.{Classes}
-use Rattle.jni.specs.JniFunction.{Access, ElementsCopy, ArrayView, CharsCopy, CharsView, ReleaseBuffer, PushLocalFrame, is_critical}
-use Rattle.jni.specs.Prototype.{GivesNothing, release_mode, Mode, prototype}
+use Rattle.jni.specs.Access.{Access, ElementsCopy, ArrayView, CharsCopy, CharsView, is_critical}
+use Rattle.jni.specs.JniFunction.{ReleaseBuffer, PushLocalFrame, prototype}
+use Rattle.jni.specs.Prototype.{GivesNothing, release_mode, Mode}
 use Rattle.types.specs.Sorts.{sort_in}
 use Rattle.regions.specs.RegionStates as states
 use Rattle.regions.specs.RegionStates.{VariableState, Free, Usable, BufferIn, state_of, with_changed, made_free, has_commit}

@@ -2,7 +2,8 @@
 use Rattle.std.proofs.Common.{◌≡◌, ℕ, Bool, true, false, List, ◌∷◌, map, Option, Some, refl, sym, ap, ◌∙◌}
 use Rattle.base.specs.Bytes.{Identifier, lookup}
 use Rattle.syntax.specs.Tree as tree
-use Rattle.jni.specs.JniFunction.{Access, ElementsCopy, ArrayView, CharsCopy, CharsView, ReleaseBuffer, is_critical}
+use Rattle.jni.specs.Access.{Access, ElementsCopy, ArrayView, CharsCopy, CharsView, is_critical}
+use Rattle.jni.specs.JniFunction.{ReleaseBuffer}
 use Rattle.jni.specs.Prototype.{owner}
 use Rattle.source.specs.Arguments.{Actual, ReferenceActual, look_up, actuals, object_given, variable_given, reference_in_actual, name_or_zero}
 use Rattle.source.specs.Heap.{Heap}

@@ -5,7 +5,7 @@ use Rattle.base.specs.Bytes.{Identifier, lookup}
 use Rattle.base.specs.Element.{ElementType}
 use Rattle.classes.specs.Class.{Classes}
 use Rattle.classes.specs.Fields.{FieldId}
-use Rattle.jni.specs.JniFunction.{Access}
+use Rattle.jni.specs.Access.{Access}
 use Rattle.jni.specs.Prototype.{ResultKind, NewLocal, NewGlobal, GivesFlag, GivesInt, GivesField, GivesNothing}
 use Rattle.types.specs.Sorts.{Sort, sort_in}
 use Rattle.types.specs.Sorts as sort

@@ -2,7 +2,7 @@
 use Rattle.std.proofs.Common.{◌≡◌, ℕ, Bool, true, false, List, Option, Some, None, refl, sym, subst}
 use Rattle.std.specs.Prelude.{ℤ, slice_get}
 use Rattle.base.specs.Bytes.{Identifier, lookup}
-use Rattle.jni.specs.JniFunction.{is_critical}
+use Rattle.jni.specs.Access.{is_critical}
 use Rattle.types.specs.Sorts.{Sort, sort_in}
 use Rattle.types.specs.Sorts as sort
 use Rattle.source.specs.Heap.{Heap, numbers_of}

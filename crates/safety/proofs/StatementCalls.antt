@@ -7,8 +7,7 @@ use Rattle.base.specs.Bytes.{Identifier}
 use Rattle.base.specs.Options.{some_passes}
 use Rattle.syntax.specs.Parts.{argument_expressions, own_expressions, own_call}
 use Rattle.syntax.specs.Tree.{ResultType, Call, TestCall, Stmt, If, IfElse, End}
-use Rattle.jni.specs.JniFunction.{JniFunction, PushLocalFrame}
-use Rattle.jni.specs.Prototype.{function_named, prototype}
+use Rattle.jni.specs.JniFunction.{JniFunction, PushLocalFrame, function_named, prototype}
 use Rattle.types.specs.Sorts.{call_arguments_fit, arguments_fit}
 use Rattle.types.specs.SortRules as rules
 use Rattle.types.specs.SortRules.{has_wrong_count, has_wrong_mode, modes_fit, may_be_tested}

@@ -2,8 +2,9 @@
 use Rattle.std.proofs.Common.{◌≡◌, ◌≢◌, ℕ, List, [], ◌∷◌, length, Option, Some, None, sym, subst}
 use Rattle.std.specs.List.{AllByRecursion}
 use Rattle.base.specs.Bytes.{Identifier, lookup}
-use Rattle.jni.specs.JniFunction.{Access, JniFunction, ReleaseBuffer}
-use Rattle.jni.specs.Prototype.{NewLocal, prototype}
+use Rattle.jni.specs.Access.{Access}
+use Rattle.jni.specs.JniFunction.{JniFunction, ReleaseBuffer, prototype}
+use Rattle.jni.specs.Prototype.{NewLocal}
 use Rattle.source.specs.Arguments.{Actual, object_given, variable_given}
 use Rattle.source.specs.Checks.{frames_after}
 use Rattle.source.specs.Effect.{Calls, Returns, NoEffect}

@@ -17,7 +17,7 @@ use Rattle.safety.specs.Owners.{Owners}
 use Rattle.safety.specs.Points.{Point, IsNumberSort, value_sort, ElementsFit, is_copy, owns}
 use Rattle.safety.specs.Stands.{VariableFits, IsOf, Shows, Goes, Stands}
 use Rattle.regions.specs.RegionStates.{VariableState, Free, Untested, Usable, ReferenceAt, BufferIn, with_new}
-use Rattle.jni.specs.JniFunction.{is_critical}
+use Rattle.jni.specs.Access.{is_critical}
 use Rattle.safety.specs.Wanted.{Holds, IsNew, SetsNumber, GoesOn, at, named}
 use Rattle.safety.specs.Follows.{Follows}
 use Rattle.safety.proofs.NameLaws.{one_or_other, lookup_same, lookup_other, front_same, front_other}

@@ -6,7 +6,7 @@ use Rattle.base.specs.Element.{ElementType}
 use Rattle.syntax.specs.Tree.{SourceUnit}
 use Rattle.classes.specs.Class.{Classes}
 use Rattle.classes.specs.Fields.{FieldId}
-use Rattle.jni.specs.JniFunction.{Access, is_critical}
+use Rattle.jni.specs.Access.{Access, is_critical}
 use Rattle.types.specs.Sorts.{Sort, Word, Jint, Flag, Truth, Ref, Global, Buffer, Array, sort_in}
 use Rattle.types.specs.Sorts as sort
 use Rattle.source.specs.Object.{Reference}

@@ -3,8 +3,9 @@ use Rattle.std.specs.Prelude.{◌≡◌, ℕ, ◌+◌, ◌<◌, ◌≤◌, Bool,
 use Rattle.base.specs.Bytes.{Identifier}
 use Rattle.syntax.specs.Tree as tree
 use Rattle.syntax.specs.Tree.{Stmt, If, IfElse, While, Block, End, Next, Argument, Expr, Test, TestExpr, TestCall}
-use Rattle.jni.specs.JniFunction.{Access, JniFunction, GetBuffer, ReleaseBuffer, DeleteLocalRef, PushLocalFrame, PopLocalFrame, is_critical}
-use Rattle.jni.specs.Prototype.{ResultKind, NewLocal, NewGlobal, GivesFlag, GivesInt, GivesField, GivesBuffer, prototype}
+use Rattle.jni.specs.Access.{Access, is_critical}
+use Rattle.jni.specs.JniFunction.{JniFunction, GetBuffer, ReleaseBuffer, DeleteLocalRef, PushLocalFrame, PopLocalFrame, prototype}
+use Rattle.jni.specs.Prototype.{ResultKind, NewLocal, NewGlobal, GivesFlag, GivesInt, GivesField, GivesBuffer}
 use Rattle.types.specs.Sorts.{Sort, Word, Jint, Flag, Truth, Ref, Global, Buffer, Array, sort_in}
 use Rattle.types.specs.Sorts as sort
 use Rattle.regions.specs.RegionRules.{is_critical_call}

@@ -1,8 +1,7 @@
 -- What is known of each function that can be called today: none waits for a monitor.
 use Rattle.std.proofs.Common.{◌≡◌, ℕ, true, false, List, refl}
 use Rattle.classes.specs.Class.{Classes}
-use Rattle.jni.specs.JniFunction.{JniFunction, MonitorEnter}
-use Rattle.jni.specs.BuiltFunctions.{is_built_function}
+use Rattle.jni.specs.JniFunction.{JniFunction, MonitorEnter, is_built_function}
 use Rattle.source.specs.Arguments.{Actual}
 use Rattle.source.specs.CallStep.{waits_with}
 use Rattle.source.specs.Effect.{Calls}

@@ -2,6 +2,7 @@
 use Rattle.std.specs.Prelude.{◌≡◌, ℕ, ◌+◌, ◌-◌, nat_lt, nat_le, ◌==◌, Bool, true, false, ℤ, pos, negsuc, List, [], ◌∷◌, length, Option, Some, None, refl}
 use Rattle.std.proofs.lemmas.Bool.{cond_both}
 use lib.ListN.{length-set}
+use Rattle.jni.specs.Access.{ElementsCopy}
 use Rattle.jni.specs.JniFunction as jni
 use Rattle.base.specs.Bytes.{Identifier, lookup}
 use Rattle.classes.specs.Class.{Classes, class_named}
@@ -91,52 +92,26 @@ module _ (classes : Classes) (lent : BuffersInUse) (k : ℕ) (s : Shared) (t : T
   pub effect_keeps : (f : JniFunction) → Keeps s (call_effect classes lent k s t args f)
   unfolding call_effect
   effect_keeps jni.FindClass = found_class_keeps s t _ (class_named classes (text_given args 0))
-  effect_keeps jni.GetSuperclass = refl
-  effect_keeps jni.GetObjectClass = refl
-  effect_keeps jni.IsInstanceOf = refl
-  effect_keeps jni.IsAssignableFrom = refl
-  effect_keeps jni.AllocObject = refl
-  effect_keeps jni.NewLocalRef = refl
-  effect_keeps jni.NewGlobalRef = refl
   effect_keeps jni.DeleteLocalRef = delete_local_keeps s t (lookup (variable_given args 0) t.variables) (reference_given args 0)
   effect_keeps jni.DeleteGlobalRef = delete_global_keeps s t (variable_given args 0) (reference_given args 0)
-  effect_keeps jni.IsSameObject = refl
   effect_keeps jni.EnsureLocalCapacity = ensure_keeps classes s t (number_given args 0)
   effect_keeps jni.PushLocalFrame = push_keeps classes s t (number_given args 0)
-  effect_keeps jni.PopLocalFrame = refl
   effect_keeps jni.GetFieldID = found_field_keeps s t _ (find_field classes (object_given args 0) (text_given args 1) (text_given args 2))
   effect_keeps jni.GetStaticFieldID = found_field_keeps s t _ (find_static classes (object_given args 0) (text_given args 1) (text_given args 2))
-  effect_keeps jni.GetObjectField = refl
   effect_keeps jni.SetObjectField = with_values_keeps s.heap _ _
-  effect_keeps jni.GetStaticObjectField = refl
   effect_keeps jni.SetStaticObjectField = with_values_keeps s.heap _ _
-  effect_keeps jni.GetArrayLength = refl
   effect_keeps jni.NewObjectArray = new_array_keeps s t _ (number_given args 0) _
   effect_keeps jni.GetObjectArrayElement = index_keeps s _ _ (number_given args 1) _ (λ i. refl)
   effect_keeps jni.SetObjectArrayElement = index_keeps s _ _ (number_given args 1) _ (λ i. store_keeps s t _ _ _ i)
-  effect_keeps (jni.GetBuffer jni.ArrayView) = refl
-  effect_keeps (jni.ReleaseBuffer jni.ArrayView) = refl
-  effect_keeps jni.NewStringUTF = refl
-  effect_keeps jni.GetStringLength = refl
   effect_keeps jni.GetStringRegion = region_keeps s _ _ (number_given args 1) (number_given args 2) _ (λ i n. get_region_keeps s t _ _ i n)
-  effect_keeps (jni.GetBuffer jni.CharsCopy) = refl
-  effect_keeps (jni.ReleaseBuffer jni.CharsCopy) = refl
-  effect_keeps (jni.GetBuffer jni.CharsView) = refl
-  effect_keeps (jni.ReleaseBuffer jni.CharsView) = refl
-  effect_keeps jni.Throw = refl
-  effect_keeps jni.ThrowNew = refl
-  effect_keeps jni.ExceptionOccurred = refl
-  effect_keeps jni.ExceptionCheck = refl
-  effect_keeps jni.ExceptionClear = refl
   effect_keeps jni.FatalError = tt
   effect_keeps jni.MonitorEnter = enter_keeps k s t _ (monitor_of s.monitors (object_given args 0))
   effect_keeps jni.MonitorExit = exit_keeps k s t _ (monitor_of s.monitors (object_given args 0))
-  effect_keeps (jni.GetField T) = refl
   effect_keeps (jni.SetField T) = with_values_keeps s.heap _ _
-  effect_keeps (jni.GetStaticField T) = refl
   effect_keeps (jni.SetStaticField T) = with_values_keeps s.heap _ _
   effect_keeps (jni.NewArray T) = new_array_keeps s t _ (number_given args 0) _
   effect_keeps (jni.GetArrayRegion T) = region_keeps s _ _ (number_given args 1) (number_given args 2) _ (λ i n. get_region_keeps s t _ _ i n)
   effect_keeps (jni.SetArrayRegion T) = region_keeps s _ _ (number_given args 1) (number_given args 2) _ (λ i n. set_region_keeps s t _ _ i n)
-  effect_keeps (jni.GetBuffer (jni.ElementsCopy T)) = refl
-  effect_keeps (jni.ReleaseBuffer (jni.ElementsCopy T)) = release_keeps s t _ _ (mode_given args 2)
+  effect_keeps (jni.ReleaseBuffer (ElementsCopy T)) = release_keeps s t _ _ (mode_given args 2)
+  effect_keeps (jni.GetBuffer (ElementsCopy T)) = refl
+  effect_keeps f = refl

@@ -6,8 +6,8 @@ use Rattle.base.specs.Element.{JInt}
 use Rattle.syntax.specs.Tree.{Commit, Abort, Expr, Argument, AddressOf}
 use Rattle.classes.specs.Class.{NumberField}
 use Rattle.classes.specs.Fields.{FieldId}
-use Rattle.jni.specs.JniFunction.{JniFunction}
-use Rattle.jni.specs.Prototype.{FieldID, ArrayVariable, BufferVariable, Mode, IsCopy, prototype, ParameterKind}
+use Rattle.jni.specs.JniFunction.{JniFunction, prototype}
+use Rattle.jni.specs.Prototype.{FieldID, ArrayVariable, BufferVariable, Mode, IsCopy, ParameterKind}
 use Rattle.source.specs.Object.{Reference}
 use Rattle.source.specs.Sight.{Sight}
 use Rattle.source.specs.Task.{Operand, NumberOperand, Given}

@@ -4,8 +4,8 @@ use Rattle.std.specs.Ordering.{int_eq}
 use Rattle.base.specs.Bytes.{Identifier, lookup}
 use Rattle.base.specs.Element.{ElementType, JInt}
 use Rattle.classes.specs.Class.{Classes}
-use Rattle.jni.specs.JniFunction.{JniFunction, MonitorEnter}
-use Rattle.jni.specs.Prototype.{ResultKind, NewLocal, NewGlobal, GivesFlag, GivesInt, GivesField, GivesBuffer, GivesNothing, prototype}
+use Rattle.jni.specs.JniFunction.{JniFunction, MonitorEnter, prototype}
+use Rattle.jni.specs.Prototype.{ResultKind, NewLocal, NewGlobal, GivesFlag, GivesInt, GivesField, GivesBuffer, GivesNothing}
 use Rattle.source.specs.Object.{Object}
 use Rattle.source.specs.World.{fresh_object}
 use Rattle.source.specs.Arguments.{Actual, object_given, variable_given}

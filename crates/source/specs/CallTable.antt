@@ -1,18 +1,52 @@
--- What each JNI function does, all checks being passed (JNI Specification, chapter 4).
-use Rattle.std.specs.Prelude.{ℕ, Bool, ℤ, pos, List, [], ◌++◌, drop, length, is_some, Some, None}
+-- What each JNI function asks of its arguments together, and what it does, all checks being passed (JNI Specification, chapter 4).
+use Rattle.std.specs.Prelude.{ℕ, Bool, true, not, ◌&&◌, ◌==◌, ℤ, pos, List, [], ◌++◌, drop, length, is_some, Some, None}
 use Rattle.std.specs.Option.{option_to_list, option_map_or}
 use Rattle.base.specs.Bytes.{lookup}
-use Rattle.classes.specs.BuiltIns.{number_array, no_class_def_found_error, no_such_field_error, array_index_out_of_bounds, string_index_out_of_bounds}
-use Rattle.classes.specs.Class.{Classes, class_named, class_kind, superclass, assignable, array_class_of, element_class}
-use Rattle.classes.specs.Fields.{find_field, find_static}
-use Rattle.jni.specs.JniFunction.{JniFunction, FindClass, GetSuperclass, GetObjectClass, IsInstanceOf, IsAssignableFrom, AllocObject, NewLocalRef, NewGlobalRef, DeleteLocalRef, DeleteGlobalRef, IsSameObject, EnsureLocalCapacity, PushLocalFrame, PopLocalFrame, GetFieldID, GetStaticFieldID, GetField, SetField, GetStaticField, SetStaticField, GetObjectField, SetObjectField, GetStaticObjectField, SetStaticObjectField, GetArrayLength, NewObjectArray, GetObjectArrayElement, SetObjectArrayElement, NewArray, GetArrayRegion, SetArrayRegion, NewStringUTF, GetStringLength, GetStringRegion, Throw, ThrowNew, ExceptionOccurred, ExceptionCheck, ExceptionClear, FatalError, MonitorEnter, MonitorExit, GetBuffer, ReleaseBuffer, ElementsCopy, ArrayView, CharsCopy, CharsView}
+use Rattle.base.specs.Element.{ElementType}
+use Rattle.classes.specs.BuiltIns.{has_own_making, throwable_class, number_array, no_class_def_found_error, no_such_field_error, array_index_out_of_bounds, string_index_out_of_bounds}
+use Rattle.classes.specs.Class.{Classes, class_named, class_kind, is_plain, superclass, assignable, array_class_of, element_class}
+use Rattle.classes.specs.Fields.{FieldId, find_field, find_static}
+use Rattle.jni.specs.Access.{ElementsCopy, ArrayView, CharsCopy, CharsView}
+use Rattle.jni.specs.JniFunction.{JniFunction, FindClass, GetSuperclass, GetObjectClass, IsInstanceOf, IsAssignableFrom, AllocObject, NewLocalRef, NewGlobalRef, DeleteLocalRef, DeleteGlobalRef, IsSameObject, EnsureLocalCapacity, PushLocalFrame, PopLocalFrame, GetFieldID, GetStaticFieldID, GetField, SetField, GetStaticField, SetStaticField, GetObjectField, SetObjectField, GetStaticObjectField, SetStaticObjectField, GetArrayLength, NewObjectArray, GetObjectArrayElement, SetObjectArrayElement, NewArray, GetArrayRegion, SetArrayRegion, NewStringUTF, GetStringLength, GetStringRegion, Throw, ThrowNew, ExceptionOccurred, ExceptionCheck, ExceptionClear, FatalError, MonitorEnter, MonitorExit, GetBuffer, ReleaseBuffer}
 use Rattle.source.specs.Object.{Number, Refers, Reference}
 use Rattle.source.specs.World.{fresh_object}
 use Rattle.source.specs.Arguments.{Actual, reference_given, object_given, number_given, text_given, field_given, variable_given, mode_given, FreeUncopied}
 use Rattle.source.specs.CallEffects.{CallResult, NoResult, ScalarResult, ReferenceResult, CallEffect, Leaves, ensure_effect, push_effect, same_reference, delete_local_effect, delete_global_effect, heap_effect, new_effect, found_class_effect, found_field_effect, new_array_effect, string_object, at_index, at_region, get_region_effect, set_region_effect, store_effect, copy_effect, view_effect, with_freed, release_effect, throw_new_effect, enter_effect, exit_effect, Halts}
-use Rattle.source.specs.Heap.{class_of, values_of, value_at, numbers_of, number_in, reference_in, field_place, static_place, fits_class, with_value_at}
+use Rattle.source.specs.Heap.{Heap, is_instance, holds_number, holds_reference, fits_type, class_of, values_of, value_at, numbers_of, number_in, reference_in, field_place, static_place, fits_class, with_value_at}
 use Rattle.source.specs.Thread.{Shared, Thread, BuffersInUse, monitor_of}
 use Rattle.source.specs.Value.{Int, Flag, convert, Fatal}
+
+-- The arguments of a function, each of its kind; a critical buffer has the element type of its variable.
+module _ (classes : Classes) (heap : Heap) (buffer : ElementType) (args : List Actual) where
+  -- the field or static of argument 1
+  abbrev pub field : FieldId
+  field = field_given args 1
+
+  -- argument 0 is an object that has the field
+  abbrev pub has_field : Bool
+  has_field = not field.is_static && is_instance classes heap (object_given args 0) field.class
+
+  -- argument 0 is a class that has the static
+  abbrev pub has_static : Bool
+  has_static = field.is_static && assignable classes (object_given args 0) field.class
+
+  -- the function's arguments go together
+  unfoldable pub go_together : JniFunction → Bool
+  go_together AllocObject = not (has_own_making classes (object_given args 0))
+  go_together (GetField T) = has_field && holds_number T field.field.type
+  go_together (SetField T) = has_field && holds_number T field.field.type
+  go_together GetObjectField = has_field && holds_reference field.field.type
+  go_together SetObjectField = has_field && fits_type classes heap (reference_given args 2) field.field.type
+  go_together (GetStaticField T) = has_static && holds_number T field.field.type
+  go_together (SetStaticField T) = has_static && holds_number T field.field.type
+  go_together GetStaticObjectField = has_static && holds_reference field.field.type
+  go_together SetStaticObjectField = has_static && fits_type classes heap (reference_given args 2) field.field.type
+  go_together GetArrayLength = not (is_plain (class_kind classes (class_of heap (object_given args 0))))
+  go_together NewObjectArray = is_plain (class_kind classes (object_given args 1)) && fits_class classes heap (reference_given args 2) (object_given args 1)
+  go_together (GetBuffer ArrayView) = class_of heap (object_given args 0) == number_array buffer
+  go_together Throw = is_instance classes heap (object_given args 0) throwable_class
+  go_together ThrowNew = assignable classes (object_given args 0) throwable_class
+  go_together f = true
 
 -- Thread k calls a function. `object i`, `number i` and so on are its arguments after `env`, from 0.
 module _ (classes : Classes) (lent : BuffersInUse) (k : ℕ) (s : Shared) (t : Thread) (args : List Actual) where

@@ -1,8 +1,9 @@
 -- The heap. An object has a name, its birth number, and never moves.
-use Rattle.std.specs.Prelude.{ℕ, zero, suc, ◌+◌, ◌-◌, Bool, true, ◌==◌, ℤ, pos, List, [], map, length, position, slice_get, slice_set, Option, Some, None}
+use Rattle.std.specs.Prelude.{ℕ, zero, suc, ◌+◌, ◌-◌, Bool, true, false, ◌==◌, ℤ, pos, List, [], map, length, position, slice_get, slice_set, Option, Some, None}
 use Rattle.std.specs.Option.{option_map_or}
+use Rattle.base.specs.Element.{ElementType, same_element}
 use Rattle.classes.specs.BuiltIns.{class_class}
-use Rattle.classes.specs.Class.{Classes, assignable}
+use Rattle.classes.specs.Class.{Classes, FieldType, NumberField, ReferenceField, assignable}
 use Rattle.classes.specs.Fields.{FieldId, layout, own_statics, same_field}
 use Rattle.source.specs.Object.{ObjectValue, Number, Refers, Reference, Object}
 
@@ -92,3 +93,18 @@ fits_class classes heap (Some n) c = is_instance classes heap n c
 -- whether an object is a class
 abbrev pub is_class_object : Heap → ℕ → Bool
 is_class_object heap n = class_of heap n == class_class
+
+-- whether a field is of this number type
+abbrev pub holds_number : ElementType → FieldType → Bool
+holds_number T (NumberField U) = same_element T U
+holds_number T (ReferenceField c) = false
+
+-- whether a field is of a reference type
+abbrev pub holds_reference : FieldType → Bool
+holds_reference (NumberField T) = false
+holds_reference (ReferenceField c) = true
+
+-- whether a reference may be stored in such a field
+abbrev pub fits_type : Classes → Heap → Reference → FieldType → Bool
+fits_type classes heap r (NumberField T) = false
+fits_type classes heap r (ReferenceField c) = fits_class classes heap r c

@@ -19,9 +19,9 @@ pub mod Arguments
 pub mod Effect
 -- threads, and calls of the JNI
 pub mod Thread
-pub mod Checks
 pub mod CallEffects
 pub mod CallTable
+pub mod Checks
 pub mod CallStep
 -- a step of a thread, and of a run
 pub mod Activation

@@ -4,8 +4,8 @@ use Rattle.syntax.specs.Tree as tree
 use Rattle.base.specs.Bytes.{Identifier}
 use Rattle.base.specs.Element.{ElementType, JChar}
 use Rattle.syntax.specs.Tree.{Null, Expr, Argument, RightSide, FromExpr, FromCall, Call, Test, TestExpr, TestCall, VariableType, JFieldId, Stmt, Block, End, Next}
-use Rattle.jni.specs.JniFunction.{JniFunction}
-use Rattle.jni.specs.Prototype.{ParameterKind, IntNumber, prototype, function_named}
+use Rattle.jni.specs.JniFunction.{JniFunction, prototype, function_named}
+use Rattle.jni.specs.Prototype.{ParameterKind, IntNumber}
 use Rattle.source.specs.Term.{Term, term_of}
 
 -- what a declaration makes

@@ -7,14 +7,13 @@ use Rattle.base.specs.Element.{ElementType}
 use Rattle.classes.specs.BuiltIns.{no_class_def_found_error, no_such_field_error}
 use Rattle.classes.specs.Class.{Classes}
 use Rattle.classes.specs.Fields.{FieldId}
-use Rattle.jni.specs.BuiltFunctions.{is_built_function}
-use Rattle.jni.specs.JniFunction.{JniFunction, FindClass, GetSuperclass, GetObjectClass, IsInstanceOf, IsAssignableFrom, AllocObject, NewLocalRef, NewGlobalRef, DeleteLocalRef, DeleteGlobalRef, IsSameObject, EnsureLocalCapacity, PushLocalFrame, PopLocalFrame, GetFieldID, GetStaticFieldID, GetField, SetField, GetStaticField, SetStaticField, GetObjectField, SetObjectField, GetStaticObjectField, SetStaticObjectField, GetArrayLength}
-use Rattle.jni.specs.Prototype.{ResultKind, NewLocal, prototype}
+use Rattle.jni.specs.JniFunction.{is_built_function, JniFunction, FindClass, GetSuperclass, GetObjectClass, IsInstanceOf, IsAssignableFrom, AllocObject, NewLocalRef, NewGlobalRef, DeleteLocalRef, DeleteGlobalRef, IsSameObject, EnsureLocalCapacity, PushLocalFrame, PopLocalFrame, GetFieldID, GetStaticFieldID, GetField, SetField, GetStaticField, SetStaticField, GetObjectField, SetObjectField, GetStaticObjectField, SetStaticObjectField, GetArrayLength, prototype}
+use Rattle.jni.specs.Prototype.{ResultKind, NewLocal}
 use Rattle.source.specs.Arguments.{Actual, reference_given, variable_given}
 use Rattle.source.specs.CallEffects.{CallResult, NoResult, ReferenceResult, CallEffect, Leaves, delete_global_effect, delete_local_effect, ensure_effect, found_class_effect, found_field_effect, level_of, out_of_memory, push_effect, refuses_frames, with_capacity, without_local}
 use Rattle.source.specs.CallStep.{after_call, after_refusal, call_step, checked, completed, failure, is_zero, makes_objects, put, received, target_element, tell_copy}
-use Rattle.source.specs.CallTable.{call_effect}
-use Rattle.source.specs.Checks.{call_trap, go_together}
+use Rattle.source.specs.CallTable.{call_effect, go_together}
+use Rattle.source.specs.Checks.{call_trap}
 use Rattle.source.specs.Effect.{tasks_after}
 use Rattle.source.specs.Heap.{Heap, next_name}
 use Rattle.source.specs.Object.{Object, Reference}

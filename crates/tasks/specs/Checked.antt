@@ -4,11 +4,11 @@ use Rattle.std.specs.List.{list_any}
 use Rattle.classes.specs.BuiltIns.{class_class, has_own_making, string_class, number_array}
 use Rattle.classes.specs.Class.{Classes, class_kind, is_plain, is_object_array, assignable}
 use Rattle.classes.specs.Fields.{FieldId}
-use Rattle.jni.specs.JniFunction.{is_allowed_pending, JniFunction, AllocObject, GetField, SetField, GetStaticField, SetStaticField, GetObjectField, SetObjectField, GetStaticObjectField, SetStaticObjectField, GetArrayLength}
-use Rattle.jni.specs.Prototype.{ParameterKind, ClassObject, ObjectArray, StringObject, NumberArray, prototype}
+use Rattle.jni.specs.JniFunction.{is_allowed_pending, JniFunction, AllocObject, GetField, SetField, GetStaticField, SetStaticField, GetObjectField, SetObjectField, GetStaticObjectField, SetStaticObjectField, GetArrayLength, prototype}
+use Rattle.jni.specs.Prototype.{ParameterKind, ClassObject, ObjectArray, StringObject, NumberArray}
 use Rattle.source.specs.Arguments.{Actual, reference_given, object_given, field_given}
-use Rattle.source.specs.Checks.{first_trap, fits_type, frames_after, holds_number, holds_reference, is_deleted, is_misfit, is_missing, lacks_room}
-use Rattle.source.specs.Heap.{Heap, class_of, is_instance}
+use Rattle.source.specs.Checks.{first_trap, frames_after, is_deleted, is_misfit, is_missing, lacks_room}
+use Rattle.source.specs.Heap.{fits_type, holds_number, holds_reference, Heap, class_of, is_instance}
 use Rattle.source.specs.Thread.{Frame}
 use Rattle.source.specs.Value.{Trap, NullReference, ExceptionPending, WrongObject, DeletedReference, NoCapacity}
 

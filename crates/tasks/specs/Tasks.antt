@@ -9,7 +9,7 @@ use Rattle.syntax.specs.Limits.{numbers_in_range}
 use Rattle.syntax.specs.Parts.{argument_expressions, statements_of, own_expressions, right_side_expressions, test_expressions, call_of_right_side}
 use Rattle.syntax.specs.Tree.{Argument, Call, Expr, RightSide, Test, TestExpr, TestCall, Stmt, If, IfElse, While, Block}
 use Rattle.syntax.specs.Views.{argument_tree, expr_tree, element_tree, stmt_tree, block_tree}
-use Rattle.jni.specs.BuiltFunctions.{is_built_function}
+use Rattle.jni.specs.JniFunction.{is_built_function}
 use Rattle.jni.specs.Table.{function_value}
 use Rattle.types.specs.BuiltCalls.{is_built_call, calls_unbuilt}
 use Rattle.source.specs.Task.{Operand, NumberOperand, Given, Task, SetScalar, SetElement, SetNull, MakeArray, Invoke, Print, Branch, EndIf, Loop, EndTurn, Return, ReturnValue, task_of}

@@ -5,7 +5,7 @@ ghost use Rattle.std.specs.Option.{option_map};
 ghost use Rattle.base.specs.Bytes.{lookup};
 ghost use Rattle.class_table.specs.FieldViews.{field_id_view};
 ghost use Rattle.classes.specs.Grown.{IsGrown};
-ghost use Rattle.jni.specs.BuiltFunctions.{is_built_function};
+ghost use Rattle.jni.specs.JniFunction.{is_built_function};
 ghost use Rattle.jni.specs.Table.{function_value};
 ghost use Rattle.source.specs.CallEffects.{level_of, same_reference};
 ghost use Rattle.source.specs.Heap.{field_place, fits_class, number_in, reference_in, static_place};

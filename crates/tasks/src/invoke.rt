@@ -2,7 +2,7 @@
 
 ghost use Rattle.std.specs.Prelude.{◌≡◌, IfOk, IfSome, IsTrue, None, map};
 ghost use Rattle.classes.specs.Grown.{IsGrown};
-ghost use Rattle.jni.specs.BuiltFunctions.{is_built_function};
+ghost use Rattle.jni.specs.JniFunction.{is_built_function};
 ghost use Rattle.jni.specs.Table.{function_value};
 ghost use Rattle.tasks.specs.declared.task.Task.TheVariants as task;
 ghost use Rattle.tasks.specs.Actuals.{actual_view};

@@ -10,11 +10,9 @@ use Rattle.syntax.specs.declared.stmt.Form.TheVariants as form
 use Rattle.syntax.specs.Parts.{line_of, own_call, used_names, assigned_name}
 use Rattle.syntax.specs.Tree.{Call, ResultType, Void, Stmt}
 use Rattle.syntax.specs.Views.{form_tree}
-use Rattle.jni.specs.JniFunction.{JniFunction}
-use Rattle.jni.specs.Prototype.{function_named}
+use Rattle.jni.specs.JniFunction.{JniFunction, function_named, is_built_function}
 use Rattle.types.specs.Sorts.{Scope, is_unknown}
 use Rattle.types.specs.SortRules.{UnknownName, UnknownFunction, sort_rules, breaks_sort_rule}
-use Rattle.jni.specs.BuiltFunctions.{is_built_function}
 use Rattle.types.specs.BuiltCalls.{is_built_call, calls_unbuilt, refuses, refused_at}
 use Rattle.types.specs.Faults.{statement_place, refused_of}
 use Rattle.types.specs.Uses.{uses}

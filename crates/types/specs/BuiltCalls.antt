@@ -4,8 +4,7 @@ use Rattle.std.specs.List.{list_all}
 use Rattle.base.specs.Options.{some_passes}
 use Rattle.syntax.specs.Tree.{Call, Stmt, SourceUnit}
 use Rattle.syntax.specs.Parts.{functions_of, statements_of, own_call}
-use Rattle.jni.specs.Prototype.{function_named}
-use Rattle.jni.specs.BuiltFunctions.{is_built_function}
+use Rattle.jni.specs.JniFunction.{function_named, is_built_function}
 use Rattle.types.specs.SortRules.{Place, Form, StatementForm, SortRule, UnknownFunction, sort_rules, breaks, places, BreaksSortRule}
 
 -- a call of a function that can be called

@@ -2,8 +2,7 @@
 use Rattle.std.specs.Prelude.{Option, None, Some}
 use Rattle.std.specs.Option.{option_and_then}
 use Rattle.syntax.specs.Tree.{Call, Test, TestExpr, TestCall}
-use Rattle.jni.specs.JniFunction.{JniFunction}
-use Rattle.jni.specs.Prototype.{function_named}
+use Rattle.jni.specs.JniFunction.{JniFunction, function_named}
 
 -- the function of a call, where there is a call and the table has its name
 abbrev pub function_in : Option Call → Option JniFunction

@@ -9,8 +9,8 @@ use Rattle.syntax.specs.Tree.{Commit, Abort}
 use Rattle.syntax.specs.Parts.{statements_of, statements_within, line_of, declared_name, right_side, own_call, own_expressions, used_names, assigned_name, written_name, names_declared, parameter_names}
 use Rattle.syntax.specs.Tree.{ResultType, Void, IntResult, ReferenceResult, ParameterType, IntParameter, ReferenceParameter, VariableType, UInt32, JIntVariable, JSize, JBoolean, JFieldId, ReferenceVariable, Expr, Number, Named, Variable, Argument, Value, Call, RightSide, FromExpr, FromCall, Test, TestExpr, TestCall, Stmt, Declare, DeclareBuffer, DeclareChars, DeclareArray, Assign, AssignElement, Perform, PutJint, If, IfElse, While, Return, ReturnValue, Block, End, Next, Function, Static, Item, StaticItem, FunctionItem, SourceUnit}
 use Rattle.classes.specs.Mangling.{unmangle}
-use Rattle.jni.specs.JniFunction.{JniFunction, PushLocalFrame}
-use Rattle.jni.specs.Prototype.{ParameterKind, Mode, ResultKind, GivesNothing, GivesInt, GivesFlag, NewLocal, NewGlobal, GivesField, GivesBuffer, function_named, prototype}
+use Rattle.jni.specs.JniFunction.{JniFunction, PushLocalFrame, function_named, prototype}
+use Rattle.jni.specs.Prototype.{ParameterKind, Mode, ResultKind, GivesNothing, GivesInt, GivesFlag, NewLocal, NewGlobal, GivesField, GivesBuffer}
 use Rattle.types.specs.Sorts.{Sort, Word, Jint, Flag, Ref, Global, FieldId, Buffer, Array, Scope, sort_in, is_unknown, sort_of, is_word, is_jint, is_flag, is_truth, is_ref, is_field, is_index, has_elements, is_buffer_for, is_read_only, is_null, name_sort, call_arguments_fit}
 
 -- ---- places: the forms of a unit that a rule can be broken at

@@ -6,8 +6,9 @@ use Rattle.base.specs.Element.{ElementType, JChar, same_element}
 use Rattle.syntax.specs.Tree.{Constant, True, False, Null}
 use Rattle.syntax.specs.Parts.{null_tested}
 use Rattle.syntax.specs.Tree.{PrefixOp, LogicalNot, Complement, ToWord, ToInt, BinaryOp, LogicalOr, LogicalAnd, Equal, NotEqual, Less, LessEqual, Greater, GreaterEqual, Expr, Number, Named, Variable, Element, Prefix, Binary, Paren, Argument, Value, Text, AddressOf, Call}
-use Rattle.jni.specs.JniFunction.{Access, ElementsCopy, ArrayView, CharsCopy, CharsView, JniFunction}
-use Rattle.jni.specs.Prototype.{ParameterKind, FieldID, IntNumber, TextBytes, IsCopy, Mode, LocalVariable, StaticVariable, ArrayVariable, BufferVariable, prototype}
+use Rattle.jni.specs.Access.{Access, ElementsCopy, ArrayView, CharsCopy, CharsView}
+use Rattle.jni.specs.JniFunction.{JniFunction, prototype}
+use Rattle.jni.specs.Prototype.{ParameterKind, FieldID, IntNumber, TextBytes, IsCopy, Mode, LocalVariable, StaticVariable, ArrayVariable, BufferVariable}
 
 -- what a name or an expression is; all reference types are one sort
 pub data Sort : Type 0 where

@@ -11,7 +11,7 @@ use Rattle.syntax.specs.Tree.{SourceUnit}
 use Rattle.classes.specs.BuiltIns.{built_ins}
 use Rattle.classes.specs.Class.{Classes}
 use Rattle.classes.specs.Mangling.{unmangle}
-use Rattle.jni.specs.Prototype.{function_named}
+use Rattle.jni.specs.JniFunction.{function_named}
 use Rattle.types.specs.SortRules.{SortRule, sort_rule_number, IsSorted}
 use Rattle.source.specs.declared.journal.Entry.{Entry}
 use Rattle.source.specs.declared.journal.Entry.TheVariants.{Step}
@@ -34,8 +34,8 @@ use Rattle.world.specs.WorldLines.{WorldLine, Lines, has_words, line_text, space
 use Rattle.world.specs.WorldMeaning.{world_of}
 use Rattle.world.specs.WorldRules.{IsWorldText, IsNumberedLine, broken_after, is_thread_line}
 use Rattle.std.proofs.lemmas.Slice.Eq.{bytes_eq-Decides}
-use Rattle.source.specs.CallTable.{call_effect}
-use Rattle.source.specs.Checks.{go_together, call_trap}
+use Rattle.source.specs.CallTable.{call_effect, go_together}
+use Rattle.source.specs.Checks.{call_trap}
 use Rattle.regions.specs.Findings.{first_fault}
 use Rattle.source.specs.Load.{first_load_fault}
 use Rattle.source.specs.Reachable.{live_size}

@@ -1,5 +1,5 @@
 use Rattle.std.proofs.Common.{sym, ap, ◌∙◌}
-use Rattle.jni.specs.Prototype.{access_functions}
+use Rattle.jni.specs.JniFunction.{access_functions}
 use Rattle.jni.specs.Table.{access_value}
 use Rattle.jni.proofs.Places.{buffers_placed}
 use Rattle.jni.proofs.function.buffer_number.Goals as goal

@@ -5,8 +5,8 @@ use Rattle.std.specs.Option.{option_map}
 use Rattle.classes.specs.Class.{Classes}
 use Rattle.classes.specs.Grown.{IsGrown}
 use Rattle.class_table.specs.declared.class.FieldHandle.{FieldHandle}
-use Rattle.jni.specs.JniFunction.{JniFunction}
-use Rattle.jni.specs.Prototype.{ResultKind, prototype}
+use Rattle.jni.specs.JniFunction.{JniFunction, prototype}
+use Rattle.jni.specs.Prototype.{ResultKind}
 use Rattle.jni.specs.Table.{Facts, function_value, result_value}
 use Rattle.source.specs.CallStep.{trap_of_call}
 use Rattle.source.specs.CallTable.{call_effect}

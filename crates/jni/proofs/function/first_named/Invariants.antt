@@ -1,6 +1,6 @@
 use Rattle.std.proofs.Common.{◌≡◌, length, map, find}
 use Rattle.jni.specs.Table.{function_value, has_name}
-use Rattle.jni.proofs.table.first_named.Given as goal
+use Rattle.jni.proofs.function.first_named.Given as goal
 
 abbrev pub invariant-loop-functions : goal.invariant-loop-functions
 invariant-loop-functions l = find (has_name l.name) (map function_value l.functions) ≡ find (has_name l.name) (map function_value l.initial.functions)
