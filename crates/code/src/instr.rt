@@ -151,6 +151,8 @@ pub enum Target {
     FieldId(u32),
     /// Into the global reference of this static.
     Static(u32),
+    /// Into this slot of buffers.
+    Buffer(u32),
     /// Onto the stack: the truth whether the result, a `jint`, is 0, which is the test of an `if` (6.8.4.1).
     Test,
 }

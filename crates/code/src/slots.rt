@@ -75,6 +75,7 @@ fn target_within(target: Target, slots: SlotCounts) -> bool
         Target::Local(slot) => slot < slots.references,
         Target::FieldId(slot) => slot < slots.field_ids,
         Target::Static(index) => index < slots.statics,
+        Target::Buffer(slot) => slot < slots.buffers,
         Target::Test => true,
     }
 }

@@ -219,6 +219,7 @@ abbrev pub result_target : Sort → ℕ → Target
 result_target Ref i = target.Local i
 result_target Global i = target.Static i
 result_target FieldId i = target.FieldId i
+result_target (Buffer t writable) i = target.Buffer i
 result_target s i = target.Number i
 
 -- a call of a function, whose result goes there

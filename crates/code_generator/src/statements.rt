@@ -277,6 +277,7 @@ fn result_target(slot: Slot) -> Target
         Sort::Reference => Target::Local(slot.index),
         Sort::Static => Target::Static(slot.index),
         Sort::FieldId => Target::FieldId(slot.index),
+        Sort::Buffer(..) => Target::Buffer(slot.index),
         _ => Target::Number(slot.index),
     }
 }

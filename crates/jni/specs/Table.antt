@@ -5,7 +5,7 @@ use Rattle.base.specs.Bytes.{Identifier}
 use Rattle.syntax.specs.Views.{element_tree}
 use Rattle.jni.specs.Access.{Access, ElementsCopy, ArrayView, CharsCopy, CharsView}
 use Rattle.jni.specs.JniFunction.{JniFunction, FindClass, GetSuperclass, GetObjectClass, IsInstanceOf, IsAssignableFrom, AllocObject, NewLocalRef, NewGlobalRef, DeleteLocalRef, DeleteGlobalRef, IsSameObject, EnsureLocalCapacity, PushLocalFrame, PopLocalFrame, GetFieldID, GetStaticFieldID, GetField, SetField, GetStaticField, SetStaticField, GetObjectField, SetObjectField, GetStaticObjectField, SetStaticObjectField, GetArrayLength, NewObjectArray, GetObjectArrayElement, SetObjectArrayElement, NewArray, GetArrayRegion, SetArrayRegion, GetBuffer, ReleaseBuffer, NewStringUTF, GetStringLength, GetStringRegion, Throw, ThrowNew, ExceptionOccurred, ExceptionCheck, ExceptionClear, FatalError, MonitorEnter, MonitorExit, is_allowed_pending, prototype, is_built_function}
-use Rattle.jni.specs.Prototype.{Prototype, ParameterKind, Nullable, NonNull, ClassObject, ObjectArray, StringObject, NumberArray, LocalVariable, StaticVariable, FieldID, IntNumber, TextBytes, ArrayVariable, BufferVariable, Mode, IsCopy, ResultKind, NewLocal, NewGlobal, GivesFlag, GivesInt, GivesField, GivesNothing, GivesBuffer}
+use Rattle.jni.specs.Prototype.{Prototype, ParameterKind, Nullable, NonNull, ClassObject, AnyArray, ObjectArray, StringObject, NumberArray, LocalVariable, StaticVariable, FieldID, IntNumber, TextBytes, ArrayVariable, BufferVariable, Mode, IsCopy, ResultKind, NewLocal, NewGlobal, GivesFlag, GivesInt, GivesField, GivesNothing, GivesBuffer}
 use Rattle.jni.specs.StateEffect.{StateEffect, Gets, Releases, Deletes, Pops, Other, state_effect}
 use Rattle.jni.specs.declared.access.Access.{Access as AccessInMemory}
 use Rattle.jni.specs.declared.access.Access.TheVariants as access
@@ -78,6 +78,7 @@ abbrev pub parameter_value : ParameterInMemory → ParameterKind
 parameter_value parameter.Nullable = Nullable
 parameter_value parameter.NonNull = NonNull
 parameter_value parameter.ClassObject = ClassObject
+parameter_value parameter.AnyArray = AnyArray
 parameter_value parameter.ObjectArray = ObjectArray
 parameter_value parameter.StringObject = StringObject
 parameter_value (parameter.NumberArray t) = NumberArray (element_tree t)

@@ -8,10 +8,12 @@ use syntax::ElementType;
 pub enum ParameterKind {
     /// A reference that may be NULL.
     Nullable,
-    /// A reference that may not be NULL, as are the next four.
+    /// A reference that may not be NULL, as are the next five.
     NonNull,
     /// A class object.
     ClassObject,
+    /// An array of whatever kind.
+    AnyArray,
     /// An array of objects.
     ObjectArray,
     /// A string.

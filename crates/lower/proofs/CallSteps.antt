@@ -291,6 +291,7 @@ module _ (code : Listing) (known : Known) (place : ℕ) (stack : List ℕ) (slot
       let slot : Slot = record { sort = FieldId; index = i } in
       (h.0, goes_into line f operands FieldKind slot target rest (λ x. TakesField code known place stack slots visible i x rest) returns (λ x r stands. takes_field i x rest r stands) (λ x found. (shows.each x slot found).kind) h.1)
   takes_result line f operands (destination.Static i) gives target rest h returns = (h.0, takes_static line f operands i target rest returns h.1)
+  takes_result line f operands (destination.Buffer i) gives target rest h returns = absurd h
   takes_result line f operands destination.Test gives target rest h returns = (h.0, takes_test line f operands target rest returns h.1)
   takes_result line f operands destination.Dropped gives target rest h returns = (h.0, record { stand = h.1; returns = subst (λ (t : Target). IsTrue (list_any task_returns (Invoke line t f operands ∷ rest))) h.0 returns })
 

@@ -240,12 +240,14 @@ module _ (code : Listing) (known : Known) (place : ℕ) (stack : List ℕ) (slot
   GoesInto kind (Assigned x) Takes = (visible.kind x ≡ Some kind) × Takes x
   GoesInto kind target Takes = ⊥
 
-  -- where the result of a call in a statement on this line goes, by what the function gives, and what comes then
+  -- where the result of a call in a statement on this line goes, by what the function gives, and what comes then; no function
+  -- that can be called today gives a buffer
   abbrev pub TakesResult : (line : ℕ) → Destination → ResultKind → Target → List Task → Type 0
   TakesResult line (destination.Number i) gives target tasks = (s : Sort) × (number_sort gives ≡ Some s) × GoesInto ScalarKind target (λ x. TakesNumber s i x tasks)
   TakesResult line (destination.Local i) gives target tasks = (gives ≡ NewLocal) × GoesInto ReferenceKind target (λ x. TakesReference i x tasks)
   TakesResult line (destination.FieldId i) gives target tasks = (gives ≡ GivesField) × GoesInto FieldKind target (λ x. TakesField i x tasks)
   TakesResult line (destination.Static i) gives target tasks = (gives ≡ NewGlobal) × ((x : Identifier) × (target ≡ Assigned x) × TakesStatic i x tasks)
+  TakesResult line (destination.Buffer i) gives target tasks = ⊥
   TakesResult line destination.Test gives target tasks = (gives ≡ GivesInt) × TakesTest line target tasks
   TakesResult line destination.Dropped gives target tasks = (target ≡ Dropped) × StandsFor code known (place + 1) [] tasks
 

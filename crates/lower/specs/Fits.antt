@@ -7,7 +7,7 @@ use Rattle.syntax.specs.Tree as tree
 use Rattle.syntax.specs.Tree.{LogicalNot, Complement, ToWord, ToInt, Expr, Argument, Call, RightSide, FromExpr, FromCall, Test, TestExpr, TestCall, Stmt, Block, End, Next, Function}
 use Rattle.jni.specs.Access.{Access}
 use Rattle.jni.specs.JniFunction.{JniFunction, is_built_function, function_named, prototype}
-use Rattle.jni.specs.Prototype.{ParameterKind, Nullable, NonNull, ClassObject, ObjectArray, StringObject, NumberArray, LocalVariable, StaticVariable, FieldID, IntNumber, TextBytes, ArrayVariable, BufferVariable, Mode, IsCopy, ResultKind, NewLocal, NewGlobal, GivesFlag, GivesInt, GivesField}
+use Rattle.jni.specs.Prototype.{ParameterKind, Nullable, NonNull, ClassObject, AnyArray, ObjectArray, StringObject, NumberArray, LocalVariable, StaticVariable, FieldID, IntNumber, TextBytes, ArrayVariable, BufferVariable, Mode, IsCopy, ResultKind, NewLocal, NewGlobal, GivesFlag, GivesInt, GivesField}
 use Rattle.types.specs.Sorts.{Sort, Word, Jint, Flag, Truth, Ref, Global, FieldId, Buffer, Array, OperatorGroup, Logic, Equality, Order, OnWords, group, is_buffer_for}
 use Rattle.types.specs.SortRules.{variable_sort, is_mode}
 use Rattle.code.specs.declared.slots.SlotCounts.{SlotCounts}
@@ -156,6 +156,7 @@ abbrev pub IsReferenceKind : ParameterKind → Type 0
 IsReferenceKind Nullable = Unit {0}
 IsReferenceKind NonNull = Unit {0}
 IsReferenceKind ClassObject = Unit {0}
+IsReferenceKind AnyArray = Unit {0}
 IsReferenceKind ObjectArray = Unit {0}
 IsReferenceKind StringObject = Unit {0}
 IsReferenceKind (NumberArray t) = Unit {0}

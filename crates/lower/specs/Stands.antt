@@ -320,13 +320,15 @@ pub record TestStands (code : Listing) (known : Known) (after : After) (place : 
   pub is : target ≡ Tested then' else'
   pub ways : (gave_zero : Bool) → BranchStands code known place (truth_word gave_zero ∷ []) after line (Done (Truth gave_zero)) then' else'
 
--- where the result of a call in a statement on this line goes, as an instruction has it, and then what comes
+-- where the result of a call in a statement on this line goes, as an instruction has it, and then what comes; no function that can
+-- be called today gives a buffer
 abbrev pub TargetStands : Listing → Known → After → (place : ℕ) → (line : ℕ) → Destination → ResultKind → Target → Type 0
 TargetStands code known after place line (destination.Number i) gives target =
     (s : Sort) × (number_sort gives ≡ Some s) × ResultGoes code known after place (record { sort = s; index = i }) ScalarKind target
 TargetStands code known after place line (destination.Local i) gives target = (gives ≡ NewLocal) × ResultGoes code known after place (record { sort = Ref; index = i }) ReferenceKind target
 TargetStands code known after place line (destination.FieldId i) gives target = (gives ≡ GivesField) × ResultGoes code known after place (record { sort = FieldId; index = i }) FieldKind target
 TargetStands code known after place line (destination.Static i) gives target = (gives ≡ NewGlobal) × StaticStands known after place i target
+TargetStands code known after place line (destination.Buffer i) gives target = ⊥
 TargetStands code known after place line destination.Test gives target = (gives ≡ GivesInt) × TestStands code known after place line target
 TargetStands code known after place line destination.Dropped gives target = (target ≡ Dropped) × after place known
 

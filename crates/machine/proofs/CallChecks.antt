@@ -13,7 +13,7 @@ use Rattle.code.specs.declared.instr.Operand.{Operand}
 use Rattle.code.specs.declared.instr.Operand.TheVariants as operand
 use Rattle.heap.specs.Heap.{Space, IsAddress}
 use Rattle.jni.specs.JniFunction.{JniFunction, is_allowed_pending, AllocObject, NewLocalRef, NewGlobalRef, DeleteLocalRef, DeleteGlobalRef, IsSameObject, EnsureLocalCapacity, PushLocalFrame, FindClass, GetFieldID, GetStaticFieldID, GetField, SetField, GetStaticField, SetStaticField, GetObjectField, SetObjectField, GetStaticObjectField, SetStaticObjectField, GetArrayLength, GetSuperclass, GetObjectClass, IsInstanceOf, IsAssignableFrom, PopLocalFrame, prototype}
-use Rattle.jni.specs.Prototype.{ParameterKind, Nullable, LocalVariable, StaticVariable, IsCopy, ClassObject, NumberArray, ObjectArray, StringObject, ResultKind, NewLocal}
+use Rattle.jni.specs.Prototype.{ParameterKind, Nullable, LocalVariable, StaticVariable, IsCopy, ClassObject, NumberArray, AnyArray, ObjectArray, StringObject, ResultKind, NewLocal}
 use Rattle.source.specs.CallTable.{go_together}
 use Rattle.source.specs.Arguments.{Actual, ReferenceActual, FieldActual, NumberActual, TextActual, VariableActual, ModeActual, NothingActual, ReleaseMode, reference_given, reference_in_actual, name_or_zero, field_given, field_in_actual}
 use Rattle.source.specs.CallStep.{trap_of_call, target_element}
@@ -240,6 +240,7 @@ module _ (classes : Classes) (space : Space) (references : References) (fields :
     live_misfit : (p : ParameterKind) (x : Identifier) (n : ℕ) → is_misfit classes heap (p, ReferenceActual x (Live n)) ≡ class_misfits classes p (class_of heap n)
     live_misfit ClassObject x n = refl
     live_misfit (NumberArray T) x n = refl
+    live_misfit AnyArray x n = refl
     live_misfit ObjectArray x n = refl
     live_misfit StringObject x n = refl
     live_misfit p x n = refl

@@ -210,6 +210,7 @@ module _ (p : Lowered) (classes : Classes) (space : Space) (call : Activation) (
   target_there line (destination.FieldId i) kind (Tested a b) h = absurd h.1
   target_there line (destination.FieldId i) kind Dropped h = absurd h.1
   target_there line (destination.Static i) kind target h = (tt, tt, tt)
+  target_there line (destination.Buffer i) kind target h = absurd h
   target_there line destination.Test kind target h = (tt, tt, tt)
 
 -- a local reference has room in frames of which the source's have
@@ -316,6 +317,7 @@ module _ (p : Lowered) (w : World) (store : Store) (pending : Option ℕ) (call 
       static_within statics count (destination.Number i) goes = tt
       static_within statics count (destination.Local i) goes = tt
       static_within statics count (destination.FieldId i) goes = tt
+      static_within statics count (destination.Buffer i) goes = tt
       static_within statics count destination.Test goes = tt
       static_within statics count destination.Dropped goes = tt
 

@@ -600,6 +600,7 @@ module _ (p : Lowered) (w : World) (old : Space) (store : Store) (own : Owners) 
       field_finishes same_statics (ap (λ (d : Destination). with_result d 0) same) i target receives (field_given w.classes space g c (subst (λ (k : ResultKind). GivenAgrees w.classes space k g c) goes.0 (other_given w.classes store kind g c (λ e. let clash : GivesField ≡ NewGlobal = sym goes.0 ∙ e in cc) agrees))) goes.1
   finishes (destination.Static i) target there same goes receives same_statics =
       subst Ends (sym goes.1.1) (static_finishes i goes.1.0 (ap (λ (d : Destination). with_result d 0) same) receives goes.0 same_statics (global_given w.classes store g c (subst (λ (k : ResultKind). ResultAgrees w.classes store g k c) goes.0 agrees)) goes.1.2)
+  finishes (destination.Buffer i) target there same goes receives same_statics = absurd goes
   finishes destination.Test target there same goes receives same_statics =
       test_finishes same_statics target (ap (λ (d : Destination). with_result d 0) same) receives (number_given w.classes space kind g c Jint (other_given w.classes store kind g c (λ e. let clash : GivesInt ≡ NewGlobal = sym goes.0 ∙ e in cc) agrees) (ap number_sort goes.0)) goes.1
   finishes destination.Dropped target there same goes receives same_statics =

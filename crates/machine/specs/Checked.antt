@@ -9,41 +9,12 @@ use Rattle.code.specs.declared.instr.Operand.{Operand}
 use Rattle.code.specs.declared.instr.Operand.TheVariants as operand
 use Rattle.heap.specs.Heap.{Space}
 use Rattle.jni.specs.JniFunction.{is_allowed_pending, JniFunction, FindClass, GetSuperclass, GetObjectClass, IsInstanceOf, IsAssignableFrom, AllocObject, NewLocalRef, NewGlobalRef, DeleteLocalRef, DeleteGlobalRef, IsSameObject, EnsureLocalCapacity, PushLocalFrame, PopLocalFrame, GetFieldID, GetStaticFieldID, GetField, SetField, GetStaticField, SetStaticField, GetObjectField, SetObjectField, GetStaticObjectField, SetStaticObjectField, GetArrayLength, prototype}
-use Rattle.jni.specs.Prototype.{ParameterKind, Nullable, ClassObject, ObjectArray, StringObject, NumberArray, LocalVariable, StaticVariable, IsCopy, ResultKind, NewLocal}
+use Rattle.jni.specs.Prototype.{ParameterKind, Nullable, ClassObject, AnyArray, ObjectArray, StringObject, NumberArray, LocalVariable, StaticVariable, IsCopy, ResultKind, NewLocal}
 use Rattle.source.specs.Checks.{first_trap}
 use Rattle.source.specs.Heap.{holds_number, holds_reference}
 use Rattle.source.specs.Value.{Trap, NullReference, ExceptionPending, WrongObject, DeletedReference, NoCapacity}
 use Rattle.machine.specs.Given.{operand_at, field_at, operand_of, class_there, class_of_given, name_there, fits_there, field_there}
 use Rattle.machine.specs.Statics.{References, holds_deleted, holds_null, static_at}
-
--- the functions whose calls the machine can work out
-abbrev pub is_answered : JniFunction → Bool
-is_answered FindClass = true
-is_answered GetSuperclass = true
-is_answered GetObjectClass = true
-is_answered IsInstanceOf = true
-is_answered IsAssignableFrom = true
-is_answered AllocObject = true
-is_answered NewLocalRef = true
-is_answered NewGlobalRef = true
-is_answered DeleteLocalRef = true
-is_answered DeleteGlobalRef = true
-is_answered IsSameObject = true
-is_answered EnsureLocalCapacity = true
-is_answered PushLocalFrame = true
-is_answered PopLocalFrame = true
-is_answered GetFieldID = true
-is_answered GetStaticFieldID = true
-is_answered (GetField T) = true
-is_answered (SetField T) = true
-is_answered (GetStaticField T) = true
-is_answered (SetStaticField T) = true
-is_answered GetObjectField = true
-is_answered SetObjectField = true
-is_answered GetStaticObjectField = true
-is_answered SetStaticObjectField = true
-is_answered GetArrayLength = true
-is_answered f = false
 
 -- an operand gives NULL
 abbrev pub gives_null : References → List (Option FieldHandle) → Operand → Bool
@@ -80,6 +51,7 @@ some_missing references fields parameters operands = false
 abbrev pub class_misfits : Classes → ParameterKind → (class : ℕ) → Bool
 class_misfits classes ClassObject class = not (class == class_class)
 class_misfits classes (NumberArray T) class = not (class == number_array T)
+class_misfits classes AnyArray class = is_plain (class_kind classes class)
 class_misfits classes ObjectArray class = not (is_object_array (class_kind classes class))
 class_misfits classes StringObject class = not (class == string_class)
 class_misfits classes p class = false
@@ -93,11 +65,6 @@ misfits classes space p (Some a) = class_misfits classes p (class_there space a)
 abbrev pub some_misfit : Classes → Space → References → List ParameterKind → List Operand → Bool
 some_misfit classes space references (p ∷ parameters) (o ∷ operands) = misfits classes space p (operand_at references o) || some_misfit classes space references parameters operands
 some_misfit classes space references parameters operands = false
-
--- an address of an object of a class of arrays
-abbrev pub is_array_at : Classes → Space → Option ℕ → Bool
-is_array_at classes space None = false
-is_array_at classes space (Some a) = not (is_plain (class_kind classes (class_there space a)))
 
 -- the reference may be stored in a field of this type
 abbrev pub fits_type_there : Classes → Space → Option ℕ → FieldType → Bool
@@ -133,7 +100,6 @@ module _ (classes : Classes) (space : Space) (references : References) (fields :
   fit_together (SetStaticField T) = has_static && holds_number T field.field.type
   fit_together GetStaticObjectField = has_static && holds_reference field.field.type
   fit_together SetStaticObjectField = has_static && fits_type_there classes space (reference 2) field.field.type
-  fit_together GetArrayLength = is_array_at classes space (reference 0)
   fit_together f = true
 
 -- a call of this kind of result puts a local reference into the frame

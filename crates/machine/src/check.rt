@@ -9,7 +9,7 @@ ghost use Rattle.classes.specs.Class.{assignable};
 ghost use Rattle.heap.specs.Heap.{IsAddress};
 ghost use Rattle.jni.specs.Table.{function_value, parameter_value, result_value};
 ghost use Rattle.machine.specs.Given.{class_of_given, field_there, name_there, AreAddresses, AreHandles};
-ghost use Rattle.machine.specs.Checked.{gives_null, gives_deleted, may_be_null, some_missing, class_misfits, misfits, some_misfit, is_array_at, fits_type_there, fit_together, puts_local, trap_found};
+ghost use Rattle.machine.specs.Checked.{gives_null, gives_deleted, may_be_null, some_missing, class_misfits, misfits, some_misfit, fits_type_there, fit_together, puts_local, trap_found};
 ghost use Rattle.machine.specs.Stops.{trap_view};
 ghost use Rattle.source.specs.Heap.{holds_number, holds_reference};
 
@@ -100,6 +100,7 @@ fn class_misfits(classes: &ClassTable, parameter: ParameterKind, class: usize) -
     match parameter {
         ParameterKind::ClassObject => class != CLASS,
         ParameterKind::NumberArray(element) => class != number_array(element_type(element)),
+        ParameterKind::AnyArray => matches!(classes.kind(class), ClassKind::Plain),
         ParameterKind::ObjectArray => !matches!(classes.kind(class), ClassKind::ArrayOfObjects(_)),
         ParameterKind::StringObject => class != STRING,
         _ => false,
@@ -143,17 +144,6 @@ fn some_misfit(
             [] => false,
         },
         [] => false,
-    }
-}
-
-/// Whether an object of a class of arrays is there.
-fn is_array_at(classes: &ClassTable, heap: &Heap, reference: Option<Addr>) -> bool
-    requires { (a : ℕ) → reference ≡ Some a → IsAddress heap.now a }
-    ensures { result ≡ is_array_at classes.now heap.now reference }
-{
-    match reference {
-        Some(addr) => classes.is_array(heap.class_of(addr) as usize),
-        None => false,
     }
 }
 
@@ -266,7 +256,6 @@ fn fit_together(
             has_static(classes, heap, first, field)
                 && fits_type(classes, heap, value, type_of(classes, field))
         }
-        JniFunction::GetArrayLength => is_array_at(classes, heap, first),
         _ => true,
     }
 }

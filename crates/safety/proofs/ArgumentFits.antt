@@ -8,7 +8,7 @@ use Rattle.base.specs.Element.{ElementType, JInt, JShort, JByte, JChar, same_ele
 use Rattle.syntax.specs.Parts.{names_in, elements_in, argument_expressions}
 use Rattle.syntax.specs.Tree.{Null, Expr, Number, Named, Variable, Element, Prefix, Binary, Paren, Argument, Value, Text, AddressOf}
 use Rattle.jni.specs.Access.{Access, ElementsCopy, ArrayView, CharsCopy, CharsView}
-use Rattle.jni.specs.Prototype.{ParameterKind, Nullable, NonNull, ClassObject, ObjectArray, StringObject, NumberArray, LocalVariable, StaticVariable, FieldID, IntNumber, TextBytes, ArrayVariable, BufferVariable, Mode, IsCopy}
+use Rattle.jni.specs.Prototype.{ParameterKind, Nullable, NonNull, ClassObject, AnyArray, ObjectArray, StringObject, NumberArray, LocalVariable, StaticVariable, FieldID, IntNumber, TextBytes, ArrayVariable, BufferVariable, Mode, IsCopy}
 use Rattle.types.specs.Sorts.{Sort, Word, Jint, Flag, Truth, Ref, Global, Buffer, Array, Scope, sort_in, sort_of, is_jint, is_flag, is_ref, is_global, is_reference, is_field, is_array_of, is_buffer_for, is_null, name_sort, argument_fits, arguments_fit}
 use Rattle.types.specs.Sorts as sort
 use Rattle.types.specs.SortRules.{is_mode, is_mode_parameter, modes_fit}
@@ -200,6 +200,12 @@ module _ (p : Point) (stated : AreStated p) where
   argument_is ClassObject a h mode read tested = reference_argument a (same_as_nullable a h) read
     where
       same_as_nullable : (a : Argument) → argument_fits p.names ClassObject a ≡ true → argument_fits p.names Nullable a ≡ true
+      same_as_nullable (Value e) h = h
+      same_as_nullable (Text t) h = h
+      same_as_nullable (AddressOf x) h = h
+  argument_is AnyArray a h mode read tested = reference_argument a (same_as_nullable a h) read
+    where
+      same_as_nullable : (a : Argument) → argument_fits p.names AnyArray a ≡ true → argument_fits p.names Nullable a ≡ true
       same_as_nullable (Value e) h = h
       same_as_nullable (Text t) h = h
       same_as_nullable (AddressOf x) h = h

@@ -41,7 +41,6 @@ module _ (classes : Classes) (heap : Heap) (buffer : ElementType) (args : List A
   go_together (SetStaticField T) = has_static && holds_number T field.field.type
   go_together GetStaticObjectField = has_static && holds_reference field.field.type
   go_together SetStaticObjectField = has_static && fits_type classes heap (reference_given args 2) field.field.type
-  go_together GetArrayLength = not (is_plain (class_kind classes (class_of heap (object_given args 0))))
   go_together NewObjectArray = is_plain (class_kind classes (object_given args 1)) && fits_class classes heap (reference_given args 2) (object_given args 1)
   go_together (GetBuffer ArrayView) = class_of heap (object_given args 0) == number_array buffer
   go_together Throw = is_instance classes heap (object_given args 0) throwable_class

@@ -3,9 +3,9 @@ use Rattle.std.specs.Prelude.{Bool, true, false, not, ◌&&◌, ◌||◌, ◌==�
 use Rattle.std.specs.List.{list_any}
 use Rattle.base.specs.Element.{ElementType}
 use Rattle.classes.specs.BuiltIns.{string_class, number_array}
-use Rattle.classes.specs.Class.{Classes, class_kind, is_object_array}
+use Rattle.classes.specs.Class.{Classes, class_kind, is_plain, is_object_array}
 use Rattle.jni.specs.JniFunction.{JniFunction, PopLocalFrame, is_allowed_pending, prototype}
-use Rattle.jni.specs.Prototype.{LocalVariable, StaticVariable, ParameterKind, Nullable, ClassObject, NumberArray, ObjectArray, StringObject, ResultKind, NewLocal}
+use Rattle.jni.specs.Prototype.{LocalVariable, StaticVariable, ParameterKind, Nullable, ClassObject, NumberArray, AnyArray, ObjectArray, StringObject, ResultKind, NewLocal}
 use Rattle.source.specs.Arguments.{Actual, ReferenceActual, FieldActual}
 use Rattle.source.specs.CallTable.{go_together}
 use Rattle.source.specs.Heap.{Heap, class_of, is_class_object}
@@ -33,6 +33,7 @@ is_missing (p, a) = false
 abbrev pub is_misfit : Classes → Heap → ParameterKind × Actual → Bool
 is_misfit classes heap (ClassObject, ReferenceActual x (Live n)) = not (is_class_object heap n)
 is_misfit classes heap (NumberArray T, ReferenceActual x (Live n)) = not (class_of heap n == number_array T)
+is_misfit classes heap (AnyArray, ReferenceActual x (Live n)) = is_plain (class_kind classes (class_of heap n))
 is_misfit classes heap (ObjectArray, ReferenceActual x (Live n)) = not (is_object_array (class_kind classes (class_of heap n)))
 is_misfit classes heap (StringObject, ReferenceActual x (Live n)) = not (class_of heap n == string_class)
 is_misfit classes heap a = false

@@ -5,7 +5,7 @@ use Rattle.classes.specs.BuiltIns.{class_class, has_own_making, string_class, nu
 use Rattle.classes.specs.Class.{Classes, class_kind, is_plain, is_object_array, assignable}
 use Rattle.classes.specs.Fields.{FieldId}
 use Rattle.jni.specs.JniFunction.{is_allowed_pending, JniFunction, AllocObject, GetField, SetField, GetStaticField, SetStaticField, GetObjectField, SetObjectField, GetStaticObjectField, SetStaticObjectField, GetArrayLength, prototype}
-use Rattle.jni.specs.Prototype.{ParameterKind, ClassObject, ObjectArray, StringObject, NumberArray}
+use Rattle.jni.specs.Prototype.{ParameterKind, ClassObject, AnyArray, ObjectArray, StringObject, NumberArray}
 use Rattle.source.specs.Arguments.{Actual, reference_given, object_given, field_given}
 use Rattle.source.specs.Checks.{first_trap, frames_after, is_deleted, is_misfit, is_missing, lacks_room}
 use Rattle.source.specs.Heap.{fits_type, holds_number, holds_reference, Heap, class_of, is_instance}
@@ -16,6 +16,7 @@ use Rattle.source.specs.Value.{Trap, NullReference, ExceptionPending, WrongObjec
 abbrev pub misfits : Classes → ParameterKind → (class : ℕ) → Bool
 misfits classes ClassObject class = not (class == class_class)
 misfits classes (NumberArray T) class = not (class == number_array T)
+misfits classes AnyArray class = is_plain (class_kind classes class)
 misfits classes ObjectArray class = not (is_object_array (class_kind classes class))
 misfits classes StringObject class = not (class == string_class)
 misfits classes p class = false
@@ -44,7 +45,6 @@ module _ (classes : Classes) (heap : Heap) (args : List Actual) where
   fit_together (SetStaticField T) = has_static classes args && holds_number T field.field.type
   fit_together GetStaticObjectField = has_static classes args && holds_reference field.field.type
   fit_together SetStaticObjectField = has_static classes args && fits_type classes heap (reference_given args 2) field.field.type
-  fit_together GetArrayLength = not (is_plain (class_kind classes (class_of heap (object_given args 0))))
   fit_together f = true
 
 -- The trap of a call before it does anything.

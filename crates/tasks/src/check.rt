@@ -153,6 +153,7 @@ fn misfits(classes: &ClassTable, parameter: ParameterKind, class: usize) -> bool
     match parameter {
         ParameterKind::ClassObject => class != CLASS,
         ParameterKind::NumberArray(element) => class != number_array(element_type(element)),
+        ParameterKind::AnyArray => matches!(classes.kind(class), ClassKind::Plain),
         ParameterKind::ObjectArray => !matches!(classes.kind(class), ClassKind::ArrayOfObjects(_)),
         ParameterKind::StringObject => class != STRING,
         _ => false,
@@ -205,9 +206,6 @@ fn fit_together(
         JniFunction::SetStaticObjectField => {
             has_static(classes, actuals)
                 && fits_type(classes, store, reference_given(actuals, 2), type_of(field))
-        }
-        JniFunction::GetArrayLength => {
-            classes.is_array(store.class_of(object_given(actuals, 0) as usize))
         }
         _ => true,
     }

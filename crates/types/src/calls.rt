@@ -45,6 +45,7 @@ fn value_fits(known: &[Known], kind: ParameterKind, e: &Expr) -> bool
         ParameterKind::Nullable => is_reference(known, e),
         ParameterKind::NonNull => is_reference(known, e),
         ParameterKind::ClassObject => is_reference(known, e),
+        ParameterKind::AnyArray => is_reference(known, e),
         ParameterKind::ObjectArray => is_reference(known, e),
         ParameterKind::StringObject => is_reference(known, e),
         ParameterKind::NumberArray(_) => is_reference(known, e),

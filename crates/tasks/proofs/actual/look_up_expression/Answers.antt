@@ -17,6 +17,7 @@ by_default : (sight : Sight) (e : Expr) (p : ParameterKind) → (p ≡ parameter
 by_default sight e parameter.Nullable f a b m i = refl
 by_default sight e parameter.NonNull f a b m i = refl
 by_default sight e parameter.ClassObject f a b m i = refl
+by_default sight e parameter.AnyArray f a b m i = refl
 by_default sight e parameter.ObjectArray f a b m i = refl
 by_default sight e parameter.StringObject f a b m i = refl
 by_default sight e (parameter.NumberArray t) f a b m i = refl
