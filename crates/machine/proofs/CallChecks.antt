@@ -12,7 +12,8 @@ use Rattle.class_table.specs.declared.class.FieldHandle.{FieldHandle}
 use Rattle.code.specs.declared.instr.Operand.{Operand}
 use Rattle.code.specs.declared.instr.Operand.TheVariants as operand
 use Rattle.heap.specs.Heap.{Space, IsAddress}
-use Rattle.jni.specs.JniFunction.{JniFunction, is_allowed_pending, AllocObject, NewLocalRef, NewGlobalRef, DeleteLocalRef, DeleteGlobalRef, IsSameObject, EnsureLocalCapacity, PushLocalFrame, FindClass, GetFieldID, GetStaticFieldID, GetField, SetField, GetStaticField, SetStaticField, GetObjectField, SetObjectField, GetStaticObjectField, SetStaticObjectField, GetArrayLength, GetSuperclass, GetObjectClass, IsInstanceOf, IsAssignableFrom, PopLocalFrame, prototype}
+use Rattle.jni.specs.Access.{ArrayView}
+use Rattle.jni.specs.JniFunction.{JniFunction, is_allowed_pending, AllocObject, GetField, SetField, GetStaticField, SetStaticField, GetObjectField, SetObjectField, GetStaticObjectField, SetStaticObjectField, prototype, is_built_function, NewObjectArray, GetBuffer, Throw, ThrowNew}
 use Rattle.jni.specs.Prototype.{ParameterKind, Nullable, LocalVariable, StaticVariable, IsCopy, ClassObject, NumberArray, AnyArray, ObjectArray, StringObject, ResultKind, NewLocal}
 use Rattle.source.specs.CallTable.{go_together}
 use Rattle.source.specs.Arguments.{Actual, ReferenceActual, FieldActual, NumberActual, TextActual, VariableActual, ModeActual, NothingActual, ReleaseMode, reference_given, reference_in_actual, name_or_zero, field_given, field_in_actual}
@@ -29,7 +30,7 @@ use Rattle.machine.specs.Agrees.{FieldAgrees, HeldAgrees}
 use Rattle.machine.specs.Statics.{References, held_address, holds_deleted, holds_null, static_at}
 use Rattle.machine.specs.declared.statics.Held.{Held}
 use Rattle.machine.specs.declared.statics.Held.TheVariants as held
-use Rattle.machine.specs.Checked.{is_answered, gives_deleted, gives_null, may_be_null, some_missing, class_misfits, misfits, some_misfit, is_array_at, fit_together, puts_local, trap_found, fits_type_there}
+use Rattle.machine.specs.Checked.{gives_deleted, gives_null, may_be_null, some_missing, class_misfits, misfits, some_misfit, is_array_at, fit_together, puts_local, trap_found, fits_type_there}
 use Rattle.machine.specs.Given.{AreAddresses, AreHandles, IsGiven, ReferenceIsGiven, class_of_given, class_there, field_at, field_there, fits_there, name_there, no_field, operand_at, operand_of}
 use Rattle.machine.specs.HeapAgrees.{ReferenceAgrees, BlocksAgree}
 use Rattle.machine.proofs.ObjectsAtAddresses.{is_object}
@@ -349,33 +350,11 @@ module _ (classes : Classes) (space : Space) (references : References) (fields :
     fits_type_is o q (NumberField T) h = refl
     fits_type_is o q (ReferenceField c) h = fits_is o q c h
 
-    array_is : (o : Option ℕ) (q : Reference) → ReferenceAgrees space o q → is_array_at classes space o ≡ not (is_plain (class_kind classes (class_of heap (name_or_zero q))))
-    array_is None None h = refl
-    array_is None (Some n) h = absurd h
-    array_is (Some a) None h = absurd h
-    array_is (Some a) (Some n) h = ap (λ c. not (is_plain (class_kind classes c))) (class_is a n h)
-
-    together_is : (buffer : ElementType) (operands : List Operand) (args : List Actual) → AllZip (IsGiven classes space references fields) operands args → (f : JniFunction) → is_answered f ≡ true
+    together_is : (buffer : ElementType) (operands : List Operand) (args : List Actual) → AllZip (IsGiven classes space references fields) operands args → (f : JniFunction) → is_built_function f ≡ true
         → fit_together classes space references fields operands f ≡ go_together classes heap buffer args f
     unfolding go_together
-    together_is buffer operands args h GetArrayLength e = array_is (operand_at references (operand_of operands 0)) (reference_given args 0) (reference_at_place operands args 0 h)
     together_is buffer operands args h AllocObject e =
         ap (λ (n : ℕ). not (has_own_making classes n)) (name_is (operand_at references (operand_of operands 0)) (reference_given args 0) (reference_at_place operands args 0 h))
-    together_is buffer operands args h FindClass e = refl
-    together_is buffer operands args h GetFieldID e = refl
-    together_is buffer operands args h GetStaticFieldID e = refl
-    together_is buffer operands args h GetSuperclass e = refl
-    together_is buffer operands args h GetObjectClass e = refl
-    together_is buffer operands args h IsInstanceOf e = refl
-    together_is buffer operands args h IsAssignableFrom e = refl
-    together_is buffer operands args h NewLocalRef e = refl
-    together_is buffer operands args h NewGlobalRef e = refl
-    together_is buffer operands args h DeleteGlobalRef e = refl
-    together_is buffer operands args h DeleteLocalRef e = refl
-    together_is buffer operands args h IsSameObject e = refl
-    together_is buffer operands args h PushLocalFrame e = refl
-    together_is buffer operands args h PopLocalFrame e = refl
-    together_is buffer operands args h EnsureLocalCapacity e = refl
     together_is buffer operands args h (GetField T) e =
         let field = field_at_place operands args 1 h in
         let class = class_given_is (operand_at references (operand_of operands 0)) (reference_given args 0) (reference_at_place operands args 0 h) in
@@ -410,7 +389,11 @@ module _ (classes : Classes) (space : Space) (references : References) (fields :
         let name = name_is (operand_at references (operand_of operands 0)) (reference_given args 0) (reference_at_place operands args 0 h) in
         let fit = ap (fits_type_there classes space (operand_at references (operand_of operands 2))) (ap (λ (f : FieldId). f.field.type) field) ∙ fits_type_is (operand_at references (operand_of operands 2)) (reference_given args 2) (field_given args 1).field.type (reference_at_place operands args 2 h) in
         λ i. ((field i).is_static && assignable classes (name i) (field i).class) && fit i
-    together_is buffer operands args h f e = absurd (cc)
+    together_is buffer operands args h NewObjectArray e = absurd (cc)
+    together_is buffer operands args h (GetBuffer ArrayView) e = absurd (cc)
+    together_is buffer operands args h Throw e = absurd (cc)
+    together_is buffer operands args h ThrowNew e = absurd (cc)
+    together_is buffer operands args h f e = refl
 
     -- ---- all of them
 
@@ -419,7 +402,7 @@ module _ (classes : Classes) (space : Space) (references : References) (fields :
     room_is kind has_room frame h = refl
 
     -- the trap that is found is the source's
-    pub found_is : (is_pending has_room : Bool) (f : JniFunction) (operands : List Operand) (args : List Actual) (s : Shared) (t : Thread) (target : Target) → is_answered f ≡ true → s.heap ≡ heap → is_pending ≡ is_some t.pending
+    pub found_is : (is_pending has_room : Bool) (f : JniFunction) (operands : List Operand) (args : List Actual) (s : Shared) (t : Thread) (target : Target) → is_built_function f ≡ true → s.heap ≡ heap → is_pending ≡ is_some t.pending
         → is_full (slice_get (frames_after f t.frames) 0) ≡ not has_room → AllZip ActualFits (prototype f).parameters args → AllZip (IsGiven classes space references fields) operands args
         → trap_found classes space is_pending has_room references fields f operands ≡ trap_of_call classes s t target f args
     unfolding call_trap

@@ -5,7 +5,7 @@ use Rattle.std.specs.Prelude.{slice_get, slice_set, ◌&&◌, nat_le, if◌then�
 use Rattle.std.specs.List.{AllZip}
 use Rattle.classes.specs.Class.{Classes}
 use Rattle.heap.specs.Heap.{Space}
-use Rattle.jni.specs.JniFunction.{is_built_function, JniFunction, FindClass, GetSuperclass, GetObjectClass, IsInstanceOf, IsAssignableFrom, AllocObject, NewLocalRef, DeleteLocalRef, DeleteGlobalRef, IsSameObject, EnsureLocalCapacity, PushLocalFrame, PopLocalFrame, GetFieldID, GetStaticFieldID, GetField, SetField, GetStaticField, SetStaticField, GetObjectField, SetObjectField, GetStaticObjectField, SetStaticObjectField, GetArrayLength, NewGlobalRef, GetBuffer, prototype}
+use Rattle.jni.specs.JniFunction.{is_built_function, JniFunction, DeleteLocalRef, DeleteGlobalRef, PopLocalFrame, GetBuffer, prototype}
 use Rattle.jni.specs.Prototype.{ResultKind, NewLocal, NewGlobal, GivesFlag, GivesInt, GivesField, GivesNothing, GivesBuffer}
 use Rattle.source.specs.Arguments.{Actual, reference_given, variable_given}
 use Rattle.source.specs.Object.{Object}
@@ -48,7 +48,7 @@ use Rattle.machine.specs.Answers.{HoldsObject, IsAnswer}
 use Rattle.machine.specs.Asked.{IsAsked, references_of}
 use Rattle.machine.specs.Statics.{all_held}
 use Rattle.machine.specs.CarriedOut.{CarriesOut, IsLeft, IsPossible, can_fail, frames_left, pending_after, result_after, shared_after}
-use Rattle.machine.specs.Checked.{is_answered, puts_local}
+use Rattle.machine.specs.Checked.{puts_local}
 use Rattle.tables.specs.Locals.{has_room}
 use Rattle.machine.specs.Given.{held_in, key_at, operand_of}
 use Rattle.machine.specs.Invoked.{AtCall}
@@ -79,37 +79,8 @@ use Rattle.machine.proofs.HeldStatics.{place_below}
 use Rattle.machine.specs.declared.statics.StaticReference.{StaticReference}
 use Rattle.machine.proofs.Keeping.{keeps_same}
 
--- a function whose calls can be made is one that is answered
-pub answered_there : (f : JniFunction) → is_built_function f ≡ true → is_answered f ≡ true
-answered_there FindClass h = refl
-answered_there GetSuperclass h = refl
-answered_there GetObjectClass h = refl
-answered_there IsInstanceOf h = refl
-answered_there IsAssignableFrom h = refl
-answered_there NewLocalRef h = refl
-answered_there DeleteLocalRef h = refl
-answered_there NewGlobalRef h = refl
-answered_there DeleteGlobalRef h = refl
-answered_there IsSameObject h = refl
-answered_there EnsureLocalCapacity h = refl
-answered_there PushLocalFrame h = refl
-answered_there PopLocalFrame h = refl
-answered_there AllocObject h = refl
-answered_there GetFieldID h = refl
-answered_there GetStaticFieldID h = refl
-answered_there (GetField T) h = refl
-answered_there (SetField T) h = refl
-answered_there (GetStaticField T) h = refl
-answered_there (SetStaticField T) h = refl
-answered_there GetObjectField h = refl
-answered_there SetObjectField h = refl
-answered_there GetStaticObjectField h = refl
-answered_there SetStaticObjectField h = refl
-answered_there GetArrayLength h = refl
-answered_there f h = absurd (cc)
-
--- what is answered can fail
-pub answered_fails : (f : JniFunction) → is_answered f ≡ true → can_fail (prototype f).result ≡ true
+-- what can be called can fail
+pub answered_fails : (f : JniFunction) → is_built_function f ≡ true → can_fail (prototype f).result ≡ true
 answered_fails (GetBuffer a) h = absurd (cc)
 answered_fails f h = refl
 
@@ -266,7 +237,7 @@ module _ (p : Lowered) (w : World) (store : Store) (pending : Option ℕ) (call 
           pending_agrees = h.pending_agrees;
           frames_agree = r.frames_agree;
           same_function = ap (λ (x : Call). x.function) (sym same) ∙ c.same_function;
-          answered = answered_there f c.built;
+          answered = c.built;
           count = c.count;
           kinds = subst (λ (x : Call). AllZip OperandFits (prototype f).parameters x.operands) same c.kinds;
           fit = c.fit;

@@ -2,7 +2,7 @@
 use Rattle.std.proofs.Common.{◌≡◌, Bool, true, false, Option, Some, None, refl, ℕ, List}
 use Rattle.classes.specs.BuiltIns.{no_class_def_found_error}
 use Rattle.classes.specs.Class.{Classes, class_named}
-use Rattle.jni.specs.JniFunction.{JniFunction, FindClass, GetSuperclass, GetObjectClass, IsInstanceOf, IsAssignableFrom, AllocObject, NewLocalRef, NewGlobalRef, DeleteLocalRef, DeleteGlobalRef, IsSameObject, EnsureLocalCapacity, PushLocalFrame, PopLocalFrame, GetFieldID, GetStaticFieldID, GetField, SetField, GetStaticField, SetStaticField, GetObjectField, SetObjectField, GetStaticObjectField, SetStaticObjectField, GetArrayLength, prototype}
+use Rattle.jni.specs.JniFunction.{JniFunction, FindClass, GetSuperclass, GetObjectClass, AllocObject, NewLocalRef, PopLocalFrame, GetObjectField, GetStaticObjectField, prototype, is_built_function}
 use Rattle.jni.specs.Prototype.{NewLocal}
 use Rattle.source.specs.Arguments.{Actual, text_given}
 use Rattle.source.specs.CallEffects.{found_class_effect}
@@ -11,11 +11,10 @@ use Rattle.source.specs.CallTable.{call_effect}
 use Rattle.source.specs.Checks.{frames_after}
 use Rattle.source.specs.Thread.{BuffersInUse, Shared, Thread}
 use Rattle.machine.specs.CarriedOut.{frames_left}
-use Rattle.machine.specs.Checked.{is_answered}
 
 module _ (classes : Classes) (lent : BuffersInUse) (k : ℕ) (shared : Shared) (s : Thread) (args : List Actual) where
   -- it is put into the frames that the call leaves, which are the frames that were checked for room
-  pub left_is : (f : JniFunction) → is_answered f ≡ true → (prototype f).result ≡ NewLocal → (refused : Bool) → (refused ≡ true → makes_objects (call_effect classes lent k shared s args f) ≡ true)
+  pub left_is : (f : JniFunction) → is_built_function f ≡ true → (prototype f).result ≡ NewLocal → (refused : Bool) → (refused ≡ true → makes_objects (call_effect classes lent k shared s args f) ≡ true)
       → frames_left refused s (call_effect classes lent k shared s args f) ≡ frames_after f s.frames
   unfolding call_effect
   left_is FindClass a n true could = refl
@@ -38,21 +37,4 @@ module _ (classes : Classes) (lent : BuffersInUse) (k : ℕ) (shared : Shared) (
   left_is GetStaticObjectField a n false could = refl
   left_is PopLocalFrame a n true could = absurd (let e = could refl in cc)
   left_is PopLocalFrame a n false could = refl
-  left_is IsInstanceOf a n refused could = absurd (cc)
-  left_is IsAssignableFrom a n refused could = absurd (cc)
-  left_is NewGlobalRef a n refused could = absurd (cc)
-  left_is DeleteGlobalRef a n refused could = absurd (cc)
-  left_is DeleteLocalRef a n refused could = absurd (cc)
-  left_is IsSameObject a n refused could = absurd (cc)
-  left_is EnsureLocalCapacity a n refused could = absurd (cc)
-  left_is PushLocalFrame a n refused could = absurd (cc)
-  left_is GetFieldID a n refused could = absurd (cc)
-  left_is GetStaticFieldID a n refused could = absurd (cc)
-  left_is (GetField T) a n refused could = absurd (cc)
-  left_is (SetField T) a n refused could = absurd (cc)
-  left_is (GetStaticField T) a n refused could = absurd (cc)
-  left_is (SetStaticField T) a n refused could = absurd (cc)
-  left_is SetObjectField a n refused could = absurd (cc)
-  left_is SetStaticObjectField a n refused could = absurd (cc)
-  left_is GetArrayLength a n refused could = absurd (cc)
   left_is f a n refused could = absurd (cc)

@@ -36,6 +36,7 @@ pub mod MadeInOrder
 pub mod CallChecks
 pub mod CallTraps
 pub mod FieldValues
+pub mod CallOperands
 pub mod CallAnswers
 pub mod CallInstructions
 pub mod FrameChanges

@@ -2,7 +2,7 @@
 use Rattle.std.specs.Prelude.{◌≡◌, ℕ, true, List, length, Option}
 use Rattle.std.specs.List.{AllZip}
 use Rattle.code.specs.Call.{Call}
-use Rattle.jni.specs.JniFunction.{JniFunction, prototype}
+use Rattle.jni.specs.JniFunction.{JniFunction, prototype, is_built_function}
 use Rattle.source.specs.Arguments.{Actual}
 use Rattle.source.specs.Thread.{Shared, Thread}
 use Rattle.source.specs.World.{World}
@@ -12,7 +12,6 @@ use Rattle.machine.specs.declared.store.Store.{Store}
 use Rattle.machine.specs.declared.thread.Activation.{Activation}
 use Rattle.machine.specs.Agrees.{StoreAgrees}
 use Rattle.machine.specs.Locals.{FramesAgree}
-use Rattle.machine.specs.Checked.{is_answered}
 use Rattle.machine.specs.Given.{IsGiven}
 use Rattle.machine.specs.HeapAgrees.{ReferenceAgrees}
 use Rattle.machine.specs.Statics.{References, all_held}
@@ -27,7 +26,7 @@ pub record IsAsked (p : Lowered) (w : World) (store : Store) (pending : Option �
   pub pending_agrees : ReferenceAgrees store.heap pending s.pending
   pub frames_agree : FramesAgree store.heap call.locals s.frames
   pub same_function : function.function ≡ f
-  pub answered : is_answered f ≡ true
+  pub answered : is_built_function f ≡ true
   pub count : length args ≡ length (prototype f).parameters
   pub kinds : AllZip OperandFits (prototype f).parameters function.operands
   pub fit : AllZip ActualFits (prototype f).parameters args

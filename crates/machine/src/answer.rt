@@ -9,8 +9,9 @@ ghost use Rattle.code.specs.Call.{call_view};
 ghost use Rattle.code.specs.Effect.{element_word, truth_word};
 ghost use Rattle.code_generator.specs.Coding.{element_of};
 ghost use Rattle.heap.specs.Heap.{IsAddress};
+ghost use Rattle.jni.specs.JniFunction.{is_built_function};
 ghost use Rattle.jni.specs.Table.{function_value};
-ghost use Rattle.machine.specs.Checked.{fit_together, is_answered};
+ghost use Rattle.machine.specs.Checked.{fit_together};
 ghost use Rattle.machine.specs.Given.{class_of_given, field_at, field_there, operand_at, operand_of, AreAddresses, AreHandles};
 ghost use Rattle.machine.specs.WorkedOut.{address_in, class_object, count_there, deletes, deletes_global, found_class, frame_for, held_reference, place_there, room_for, top_word, value_there, word_in, writes_there, IsFoundField, IsWorkedOut};
 ghost use Rattle.syntax.specs.Views.{element_tree};
@@ -85,7 +86,7 @@ pub fn work_out(
     requires loaded { (i a : ℕ) → slice_get loaded.now i ≡ Some a → IsAddress heap.now a }
     requires objects { AreAddresses heap.now references.now function.now.operands.items }
     requires handles { AreHandles classes.now fields.now function.now.operands.items }
-    requires answered { is_answered (function_value function.now.function) ≡ true }
+    requires answered { is_built_function (function_value function.now.function) ≡ true }
     requires passed { fit_together classes.now heap.now references.now fields.now function.now.operands.items (function_value function.now.function) ≡ true }
     ensures { IsWorkedOut classes.now heap.now loaded.now references.now fields.now stack.now (call_view function.now) (function_value function.now.function) result }
 {

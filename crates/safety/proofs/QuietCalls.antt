@@ -5,9 +5,10 @@ use Rattle.base.specs.Bytes.{Identifier, lookup}
 use Rattle.std.proofs.lemmas.Bool.{cond_both}
 use Rattle.classes.specs.Class.{Classes}
 use Rattle.classes.specs.Fields.{FieldId, find_field, find_static}
+use Rattle.jni.specs.Access.{Access}
 use Rattle.jni.specs.JniFunction as jni
 use Rattle.jni.specs.JniFunction.{JniFunction, prototype}
-use Rattle.jni.specs.Prototype.{NewLocal, GivesField, GivesInt, GivesNothing, ResultKind}
+use Rattle.jni.specs.Prototype.{NewLocal, NewGlobal, GivesFlag, GivesField, GivesInt, GivesNothing, GivesBuffer, ResultKind}
 use Rattle.source.specs.Arguments.{Actual, number_given, object_given, text_given}
 use Rattle.source.specs.CallEffects.{CallEffect, ReferenceResult, found_field_effect, found_class_effect, new_array_effect, at_index, at_region, store_effect, set_region_effect, local_array, with_capacity, ensure_effect, enter_effect, exit_effect}
 use Rattle.source.specs.CallStep.{failure}
@@ -18,45 +19,17 @@ use Rattle.safety.proofs.ResultLaws.{Simple, AnInt, AFlag, AField, NoField, AGlo
 use Rattle.safety.proofs.QuietLaws.{Gives, Plainly, ALocal, IsQuiet}
 use Rattle.safety.proofs.FrameLaws.{references_of}
 
--- the functions of which this is shown
+-- the functions of which this is shown: those that end no reference, and touch no frame, no local array and no buffer
 abbrev pub IsQuietFunction : JniFunction → Type 0
-IsQuietFunction jni.FindClass = Unit {0}
-IsQuietFunction jni.GetSuperclass = Unit {0}
-IsQuietFunction jni.GetObjectClass = Unit {0}
-IsQuietFunction jni.IsInstanceOf = Unit {0}
-IsQuietFunction jni.IsAssignableFrom = Unit {0}
-IsQuietFunction jni.AllocObject = Unit {0}
-IsQuietFunction jni.NewLocalRef = Unit {0}
-IsQuietFunction jni.NewGlobalRef = Unit {0}
-IsQuietFunction jni.IsSameObject = Unit {0}
-IsQuietFunction jni.EnsureLocalCapacity = Unit {0}
-IsQuietFunction jni.GetFieldID = Unit {0}
-IsQuietFunction jni.GetStaticFieldID = Unit {0}
-IsQuietFunction (jni.GetField T) = Unit {0}
-IsQuietFunction (jni.SetField T) = Unit {0}
-IsQuietFunction jni.GetObjectField = Unit {0}
-IsQuietFunction jni.SetObjectField = Unit {0}
-IsQuietFunction (jni.GetStaticField T) = Unit {0}
-IsQuietFunction (jni.SetStaticField T) = Unit {0}
-IsQuietFunction jni.GetStaticObjectField = Unit {0}
-IsQuietFunction jni.SetStaticObjectField = Unit {0}
-IsQuietFunction jni.GetArrayLength = Unit {0}
-IsQuietFunction (jni.NewArray T) = Unit {0}
-IsQuietFunction jni.NewObjectArray = Unit {0}
-IsQuietFunction jni.GetObjectArrayElement = Unit {0}
-IsQuietFunction jni.SetObjectArrayElement = Unit {0}
-IsQuietFunction (jni.SetArrayRegion T) = Unit {0}
-IsQuietFunction jni.NewStringUTF = Unit {0}
-IsQuietFunction jni.GetStringLength = Unit {0}
-IsQuietFunction jni.Throw = Unit {0}
-IsQuietFunction jni.ThrowNew = Unit {0}
-IsQuietFunction jni.ExceptionOccurred = Unit {0}
-IsQuietFunction jni.ExceptionCheck = Unit {0}
-IsQuietFunction jni.ExceptionClear = Unit {0}
-IsQuietFunction jni.FatalError = Unit {0}
-IsQuietFunction jni.MonitorEnter = Unit {0}
-IsQuietFunction jni.MonitorExit = Unit {0}
-IsQuietFunction f = ⊥
+IsQuietFunction jni.DeleteLocalRef = ⊥
+IsQuietFunction jni.DeleteGlobalRef = ⊥
+IsQuietFunction jni.PushLocalFrame = ⊥
+IsQuietFunction jni.PopLocalFrame = ⊥
+IsQuietFunction (jni.GetArrayRegion T) = ⊥
+IsQuietFunction jni.GetStringRegion = ⊥
+IsQuietFunction (jni.GetBuffer access) = ⊥
+IsQuietFunction (jni.ReleaseBuffer access) = ⊥
+IsQuietFunction f = Unit {0}
 
 module _ (classes : Classes) (lent : BuffersInUse) (k : ℕ) (s : Shared) (t : Thread) (args : List Actual) where
   field_quiet : (c : ℕ) (o : Option FieldId) → IsQuiet s t GivesField (found_field_effect s t c o)
@@ -121,68 +94,48 @@ module _ (classes : Classes) (lent : BuffersInUse) (k : ℕ) (s : Shared) (t : T
   effect_quiet jni.EnsureLocalCapacity h = ensure_quiet (number_given args 0)
   effect_quiet jni.GetFieldID h = field_quiet _ (find_field classes (object_given args 0) (text_given args 1) (text_given args 2))
   effect_quiet jni.GetStaticFieldID h = field_quiet _ (find_static classes (object_given args 0) (text_given args 1) (text_given args 2))
-  effect_quiet (jni.GetField T) h = (refl, refl, refl, Plainly (AnInt _))
   effect_quiet (jni.SetField T) h = (refl, refl, refl, Plainly NoResultThere)
   effect_quiet jni.GetObjectField h = (refl, refl, refl, reference_given_quiet _)
   effect_quiet jni.SetObjectField h = (refl, refl, refl, Plainly NoResultThere)
-  effect_quiet (jni.GetStaticField T) h = (refl, refl, refl, Plainly (AnInt _))
   effect_quiet (jni.SetStaticField T) h = (refl, refl, refl, Plainly NoResultThere)
   effect_quiet jni.GetStaticObjectField h = (refl, refl, refl, reference_given_quiet _)
   effect_quiet jni.SetStaticObjectField h = (refl, refl, refl, Plainly NoResultThere)
-  effect_quiet jni.GetArrayLength h = (refl, refl, refl, Plainly (AnInt _))
   effect_quiet (jni.NewArray T) h = array_quiet _ (number_given args 0) _
   effect_quiet jni.NewObjectArray h = array_quiet _ (number_given args 0) _
   effect_quiet jni.GetObjectArrayElement h = index_quiet NewLocal _ _ (number_given args 1) _ NoLocal (λ i. (refl, refl, refl, reference_given_quiet _))
   effect_quiet jni.SetObjectArrayElement h = index_quiet GivesNothing _ _ (number_given args 1) _ NoResultThere (λ i. store_quiet _ _ _ i)
   effect_quiet (jni.SetArrayRegion T) h = region_quiet GivesNothing _ _ (number_given args 1) (number_given args 2) _ NoResultThere (λ i j. set_region_quiet _ _ i j)
   effect_quiet jni.NewStringUTF h = (refl, refl, refl, ALocal _)
-  effect_quiet jni.GetStringLength h = (refl, refl, refl, Plainly (AnInt _))
-  effect_quiet jni.Throw h = (refl, refl, refl, Plainly (AnInt _))
-  effect_quiet jni.ThrowNew h = (refl, refl, refl, Plainly (AnInt _))
   effect_quiet jni.ExceptionOccurred h = (refl, refl, refl, reference_given_quiet _)
   effect_quiet jni.ExceptionCheck h = (refl, refl, refl, Plainly (AFlag _))
   effect_quiet jni.ExceptionClear h = (refl, refl, refl, Plainly NoResultThere)
   effect_quiet jni.FatalError h = tt
   effect_quiet jni.MonitorEnter h = enter_quiet (object_given args 0) (monitor_of s.monitors (object_given args 0))
   effect_quiet jni.MonitorExit h = exit_quiet (object_given args 0) (monitor_of s.monitors (object_given args 0))
-  effect_quiet f h = absurd h
+  effect_quiet jni.DeleteLocalRef h = absurd h
+  effect_quiet jni.DeleteGlobalRef h = absurd h
+  effect_quiet jni.PushLocalFrame h = absurd h
+  effect_quiet jni.PopLocalFrame h = absurd h
+  effect_quiet (jni.GetArrayRegion T) h = absurd h
+  effect_quiet jni.GetStringRegion h = absurd h
+  effect_quiet (jni.GetBuffer access) h = absurd h
+  effect_quiet (jni.ReleaseBuffer access) h = absurd h
+  -- what only gives a number
+  effect_quiet f h = (refl, refl, refl, Plainly (AnInt _))
 
--- what such a function gives where it fails
+-- a function that fails gives NULL, 0 or nothing
+failure_is_simple : (kind : ResultKind) → ((access : Access) → kind ≡ GivesBuffer access → ⊥) → Simple kind (failure kind)
+failure_is_simple NewLocal no = NoLocal
+failure_is_simple NewGlobal no = NoGlobal
+failure_is_simple GivesFlag no = AFlag _
+failure_is_simple GivesInt no = AnInt _
+failure_is_simple GivesField no = NoField
+failure_is_simple GivesNothing no = NoResultThere
+failure_is_simple (GivesBuffer access) no = absurd (no access refl)
+
+gives_no_buffer : (f : JniFunction) → IsQuietFunction f → (access : Access) → (prototype f).result ≡ GivesBuffer access → ⊥
+gives_no_buffer (jni.GetBuffer a) h access e = h
+gives_no_buffer f h access e = cc
+
 pub fails_simply : (f : JniFunction) → IsQuietFunction f → Simple (prototype f).result (failure (prototype f).result)
-fails_simply jni.FindClass h = NoLocal
-fails_simply jni.GetSuperclass h = NoLocal
-fails_simply jni.GetObjectClass h = NoLocal
-fails_simply jni.IsInstanceOf h = AFlag _
-fails_simply jni.IsAssignableFrom h = AFlag _
-fails_simply jni.AllocObject h = NoLocal
-fails_simply jni.NewLocalRef h = NoLocal
-fails_simply jni.NewGlobalRef h = NoGlobal
-fails_simply jni.IsSameObject h = AFlag _
-fails_simply jni.EnsureLocalCapacity h = AnInt _
-fails_simply jni.GetFieldID h = NoField
-fails_simply jni.GetStaticFieldID h = NoField
-fails_simply (jni.GetField T) h = AnInt _
-fails_simply (jni.SetField T) h = NoResultThere
-fails_simply jni.GetObjectField h = NoLocal
-fails_simply jni.SetObjectField h = NoResultThere
-fails_simply (jni.GetStaticField T) h = AnInt _
-fails_simply (jni.SetStaticField T) h = NoResultThere
-fails_simply jni.GetStaticObjectField h = NoLocal
-fails_simply jni.SetStaticObjectField h = NoResultThere
-fails_simply jni.GetArrayLength h = AnInt _
-fails_simply (jni.NewArray T) h = NoLocal
-fails_simply jni.NewObjectArray h = NoLocal
-fails_simply jni.GetObjectArrayElement h = NoLocal
-fails_simply jni.SetObjectArrayElement h = NoResultThere
-fails_simply (jni.SetArrayRegion T) h = NoResultThere
-fails_simply jni.NewStringUTF h = NoLocal
-fails_simply jni.GetStringLength h = AnInt _
-fails_simply jni.Throw h = AnInt _
-fails_simply jni.ThrowNew h = AnInt _
-fails_simply jni.ExceptionOccurred h = NoLocal
-fails_simply jni.ExceptionCheck h = AFlag _
-fails_simply jni.ExceptionClear h = NoResultThere
-fails_simply jni.FatalError h = NoResultThere
-fails_simply jni.MonitorEnter h = AnInt _
-fails_simply jni.MonitorExit h = AnInt _
-fails_simply f h = absurd h
+fails_simply f h = failure_is_simple (prototype f).result (gives_no_buffer f h)

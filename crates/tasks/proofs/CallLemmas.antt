@@ -7,7 +7,8 @@ use Rattle.base.specs.Element.{ElementType}
 use Rattle.classes.specs.BuiltIns.{no_class_def_found_error, no_such_field_error}
 use Rattle.classes.specs.Class.{Classes}
 use Rattle.classes.specs.Fields.{FieldId}
-use Rattle.jni.specs.JniFunction.{is_built_function, JniFunction, FindClass, GetSuperclass, GetObjectClass, IsInstanceOf, IsAssignableFrom, AllocObject, NewLocalRef, NewGlobalRef, DeleteLocalRef, DeleteGlobalRef, IsSameObject, EnsureLocalCapacity, PushLocalFrame, PopLocalFrame, GetFieldID, GetStaticFieldID, GetField, SetField, GetStaticField, SetStaticField, GetObjectField, SetObjectField, GetStaticObjectField, SetStaticObjectField, GetArrayLength, prototype}
+use Rattle.jni.specs.Access.{ArrayView}
+use Rattle.jni.specs.JniFunction.{is_built_function, JniFunction, FindClass, GetSuperclass, GetObjectClass, IsInstanceOf, IsAssignableFrom, AllocObject, NewLocalRef, NewGlobalRef, DeleteLocalRef, DeleteGlobalRef, IsSameObject, EnsureLocalCapacity, PushLocalFrame, PopLocalFrame, GetFieldID, GetStaticFieldID, GetField, SetField, GetStaticField, SetStaticField, GetObjectField, SetObjectField, GetStaticObjectField, SetStaticObjectField, GetArrayLength, prototype, NewObjectArray, GetBuffer, Throw, ThrowNew}
 use Rattle.jni.specs.Prototype.{ResultKind, NewLocal}
 use Rattle.source.specs.Arguments.{Actual, reference_given, variable_given}
 use Rattle.source.specs.CallEffects.{CallResult, NoResult, ReferenceResult, CallEffect, Leaves, delete_global_effect, delete_local_effect, ensure_effect, found_class_effect, found_field_effect, level_of, out_of_memory, push_effect, refuses_frames, with_capacity, without_local}
@@ -54,32 +55,11 @@ module _ (classes : Classes) (heap : Heap) (buffer : ElementType) (args : List A
   -- the arguments go together
   together : (f : JniFunction) → is_built_function f ≡ true → go_together classes heap buffer args f ≡ fit_together classes heap args f
   unfolding go_together
-  together FindClass built = refl
-  together GetSuperclass built = refl
-  together GetObjectClass built = refl
-  together IsInstanceOf built = refl
-  together IsAssignableFrom built = refl
-  together NewLocalRef built = refl
-  together NewGlobalRef built = refl
-  together DeleteLocalRef built = refl
-  together DeleteGlobalRef built = refl
-  together IsSameObject built = refl
-  together AllocObject built = refl
-  together EnsureLocalCapacity built = refl
-  together PushLocalFrame built = refl
-  together PopLocalFrame built = refl
-  together GetFieldID built = refl
-  together GetStaticFieldID built = refl
-  together (GetField T) built = refl
-  together (SetField T) built = refl
-  together (GetStaticField T) built = refl
-  together (SetStaticField T) built = refl
-  together GetObjectField built = refl
-  together SetObjectField built = refl
-  together GetStaticObjectField built = refl
-  together SetStaticObjectField built = refl
-  together GetArrayLength built = refl
-  together f built = absurd (cc)
+  together NewObjectArray built = absurd (cc)
+  together (GetBuffer ArrayView) built = absurd (cc)
+  together Throw built = absurd (cc)
+  together ThrowNew built = absurd (cc)
+  together f built = refl
 
 -- the trap of a call is the one that was found
 trap_is : (classes : Classes) (heap : Heap) (buffer : ElementType) (args : List Actual) (f : JniFunction) (t : Thread) → is_built_function f ≡ true

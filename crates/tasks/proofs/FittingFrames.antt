@@ -4,7 +4,7 @@ use Rattle.std.specs.Prelude.{ℤ, pos, negsuc, nat_le, if◌then◌else◌}
 use Rattle.base.specs.Bytes.{Identifier}
 use Rattle.classes.specs.Class.{Classes}
 use Rattle.classes.specs.Fields.{FieldId}
-use Rattle.jni.specs.JniFunction.{JniFunction, FindClass, GetSuperclass, GetObjectClass, IsInstanceOf, IsAssignableFrom, AllocObject, NewLocalRef, NewGlobalRef, DeleteLocalRef, DeleteGlobalRef, IsSameObject, EnsureLocalCapacity, PushLocalFrame, PopLocalFrame, GetFieldID, GetStaticFieldID, GetField, SetField, GetStaticField, SetStaticField, GetObjectField, SetObjectField, GetStaticObjectField, SetStaticObjectField, GetArrayLength}
+use Rattle.jni.specs.JniFunction.{JniFunction, FindClass, NewGlobalRef, DeleteLocalRef, DeleteGlobalRef, EnsureLocalCapacity, PushLocalFrame, GetFieldID, GetStaticFieldID}
 use Rattle.source.specs.Arguments.{Actual, variable_given, reference_given, number_given}
 use Rattle.source.specs.CallEffects.{with_capacity}
 use Rattle.source.specs.Heap.{Heap}
@@ -54,28 +54,11 @@ module _ (frames : List Frame) where
 
   pub answer_fits : (classes : Classes) (heap : Heap) (vs : Variables) (args : List Actual) (f : JniFunction) → FitsFrames frames (worked_out classes heap vs frames args f)
   answer_fits classes heap vs args FindClass = class_fits _
-  answer_fits classes heap vs args GetSuperclass = tt
-  answer_fits classes heap vs args GetObjectClass = tt
-  answer_fits classes heap vs args IsInstanceOf = tt
-  answer_fits classes heap vs args IsAssignableFrom = tt
-  answer_fits classes heap vs args NewLocalRef = tt
   answer_fits classes heap vs args NewGlobalRef = global_fits (reference_given args 0)
   answer_fits classes heap vs args DeleteLocalRef = local_fits _ (reference_given args 0)
   answer_fits classes heap vs args DeleteGlobalRef = deleted_fits (variable_given args 0) (reference_given args 0)
-  answer_fits classes heap vs args IsSameObject = tt
-  answer_fits classes heap vs args AllocObject = tt
   answer_fits classes heap vs args EnsureLocalCapacity = ensured_fits (number_given args 0)
   answer_fits classes heap vs args PushLocalFrame = pushed_fits (number_given args 0)
-  answer_fits classes heap vs args PopLocalFrame = tt
   answer_fits classes heap vs args GetFieldID = field_fits _
   answer_fits classes heap vs args GetStaticFieldID = field_fits _
-  answer_fits classes heap vs args (GetField T) = tt
-  answer_fits classes heap vs args (SetField T) = tt
-  answer_fits classes heap vs args (GetStaticField T) = tt
-  answer_fits classes heap vs args (SetStaticField T) = tt
-  answer_fits classes heap vs args GetObjectField = tt
-  answer_fits classes heap vs args SetObjectField = tt
-  answer_fits classes heap vs args GetStaticObjectField = tt
-  answer_fits classes heap vs args SetStaticObjectField = tt
-  answer_fits classes heap vs args GetArrayLength = tt
   answer_fits classes heap vs args f = tt

@@ -4,7 +4,7 @@ use Rattle.std.specs.List.{list_any}
 use Rattle.classes.specs.BuiltIns.{class_class, has_own_making, string_class, number_array}
 use Rattle.classes.specs.Class.{Classes, class_kind, is_plain, is_object_array, assignable}
 use Rattle.classes.specs.Fields.{FieldId}
-use Rattle.jni.specs.JniFunction.{is_allowed_pending, JniFunction, AllocObject, GetField, SetField, GetStaticField, SetStaticField, GetObjectField, SetObjectField, GetStaticObjectField, SetStaticObjectField, GetArrayLength, prototype}
+use Rattle.jni.specs.JniFunction.{is_allowed_pending, JniFunction, AllocObject, GetField, SetField, GetStaticField, SetStaticField, GetObjectField, SetObjectField, GetStaticObjectField, SetStaticObjectField, prototype}
 use Rattle.jni.specs.Prototype.{ParameterKind, ClassObject, AnyArray, ObjectArray, StringObject, NumberArray}
 use Rattle.source.specs.Arguments.{Actual, reference_given, object_given, field_given}
 use Rattle.source.specs.Checks.{first_trap, frames_after, is_deleted, is_misfit, is_missing, lacks_room}

@@ -5,7 +5,7 @@ use Rattle.std.specs.Option.{option_map}
 use Rattle.classes.specs.Class.{Classes}
 use Rattle.classes.specs.Grown.{IsGrown}
 use Rattle.class_table.specs.declared.class.FieldHandle.{FieldHandle}
-use Rattle.jni.specs.JniFunction.{JniFunction, prototype}
+use Rattle.jni.specs.JniFunction.{JniFunction, prototype, is_built_function}
 use Rattle.jni.specs.Prototype.{ResultKind}
 use Rattle.jni.specs.Table.{Facts, function_value, result_value}
 use Rattle.source.specs.CallStep.{trap_of_call}
@@ -28,7 +28,7 @@ use Rattle.machine.specs.Asked.{references_of}
 use Rattle.machine.specs.Statics.{References, all_held}
 use Rattle.machine.specs.declared.statics.StaticReference.{StaticReference}
 use Rattle.machine.specs.CarriedOut.{CarriesOut, IsPossible, shared_after}
-use Rattle.machine.specs.Checked.{fit_together, is_answered, trap_found}
+use Rattle.machine.specs.Checked.{fit_together, trap_found}
 use Rattle.machine.specs.Locals.{locals_after}
 use Rattle.tables.specs.Locals.{has_room}
 use Rattle.safety.specs.Owners.{Owners}
@@ -66,8 +66,8 @@ module _ (p : Lowered) (w : World) (store : Store) (pending : Option ℕ) (call 
       subst (λ (t : Classes). AreHandles t fields function.operands.items) (sym same_classes)
       (subst (λ (l : List (Option FieldHandle)). AreHandles w.classes l function.operands.items) (sym same) (handles_there p w store pending call (call_view function) shared s it.f it.args it.asked))
 
-  is_answered_there : is_answered (function_value function.function) ≡ true
-  is_answered_there = ap is_answered it.asked.same_function ∙ it.asked.answered
+  is_built_there : is_built_function (function_value function.function) ≡ true
+  is_built_there = ap is_built_function it.asked.same_function ∙ it.asked.answered
 
   -- the kind of its result
   kind_is : (kind : ResultKind) → kind ≡ (prototype (function_value function.function)).result → kind ≡ (prototype it.f).result
@@ -147,7 +147,7 @@ work_out-answer-requires-clause-handles c =
 pub work_out-answer-requires-clause-answered : goal.work_out-answer-requires-clause-answered
 work_out-answer-requires-clause-answered c =
     let a = c.requires.at_call in
-    is_answered_there a.0 c.args.world.now c.args.store.now c.args.pending.now c.args.call.now c.args.function.now a.1 a.2 a.3 a.4 a.5 a.6
+    is_built_there a.0 c.args.world.now c.args.store.now c.args.pending.now c.args.call.now c.args.function.now a.1 a.2 a.3 a.4 a.5 a.6
 
 pub work_out-answer-requires-clause-passed : goal.work_out-answer-requires-clause-passed
 work_out-answer-requires-clause-passed c =
