@@ -100,6 +100,7 @@ pub enum Advanced {
 
 /// Takes one step of a thread that has not ended. Only the entry into a call, a new frame and a new global reference
 /// take host memory.
+#[inline(always)]
 pub fn advance(
     program: &Program<'_>,
     world: &World,
@@ -177,6 +178,7 @@ fn leave(heap: &Heap, thread: &mut Thread)
 }
 
 /// One instruction of a call.
+#[inline(always)]
 fn execute(
     program: &Program<'_>,
     world: &World,

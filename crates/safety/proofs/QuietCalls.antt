@@ -125,13 +125,13 @@ module _ (classes : Classes) (lent : BuffersInUse) (k : ℕ) (s : Shared) (t : T
 
 -- a function that fails gives NULL, 0 or nothing
 failure_is_simple : (kind : ResultKind) → ((access : Access) → kind ≡ GivesBuffer access → ⊥) → Simple kind (failure kind)
-failure_is_simple NewLocal no = NoLocal
-failure_is_simple NewGlobal no = NoGlobal
-failure_is_simple GivesFlag no = AFlag _
-failure_is_simple GivesInt no = AnInt _
-failure_is_simple GivesField no = NoField
-failure_is_simple GivesNothing no = NoResultThere
-failure_is_simple (GivesBuffer access) no = absurd (no access refl)
+failure_is_simple NewLocal differs = NoLocal
+failure_is_simple NewGlobal differs = NoGlobal
+failure_is_simple GivesFlag differs = AFlag _
+failure_is_simple GivesInt differs = AnInt _
+failure_is_simple GivesField differs = NoField
+failure_is_simple GivesNothing differs = NoResultThere
+failure_is_simple (GivesBuffer access) differs = absurd (differs access refl)
 
 gives_no_buffer : (f : JniFunction) → IsQuietFunction f → (access : Access) → (prototype f).result ≡ GivesBuffer access → ⊥
 gives_no_buffer (jni.GetBuffer a) h access e = h
