@@ -1,5 +1,5 @@
 -- What the machine works out of calls is what the source's calls do.
-use Rattle.std.proofs.Common.{◌≡◌, ℕ, pos, negsuc, zero, suc, ◌-◌, ◌<◌, ◌≤◌, true, false, not, List, [], ◌∷◌, length, Option, Some, None, slice_get, refl, sym, ap, ◌∙◌, subst, arith, ℤ}
+use Rattle.std.proofs.Common.{◌≡◌, ℕ, pos, negsuc, zero, suc, ◌<◌, ◌≤◌, true, false, not, List, [], ◌∷◌, length, Option, Some, None, slice_get, refl, sym, ap, ◌∙◌, subst, arith, ℤ}
 use Rattle.std.specs.Prelude.{◌==◌, unwrap_or, FitsSigned}
 use Rattle.std.specs.Int.{w32, cast_signed, cast_unsigned}
 use Rattle.std.specs.List.{AllZip}
@@ -60,7 +60,7 @@ use Rattle.machine.proofs.CallChecks.{class_given_is, class_is, field_at_place, 
 use Rattle.machine.proofs.BlockObjects.{Named, named, name_within}
 use Rattle.machine.proofs.CallTraps.{has_passed, none_deleted, none_lacking, none_unfit, handles_there}
 use Rattle.machine.proofs.LongTables.{classes_loaded, grown_long}
-use Rattle.machine.proofs.CallOperands.{count_is, few_there, class_object_is, super_known, only_text, two_texts, first_object, first_class, second_field, only_number, third_number, class_of_first, only_static, own_making, by_reference}
+use Rattle.machine.proofs.CallOperands.{count_is, few_there, class_object_is, super_known, only_text, two_texts, first_object, first_class, second_field, only_number, third_number, class_of_first, only_static, own_making}
 
 -- a call that is asked and passed its checks
 module _ (p : Lowered) (w : World) (store : Store) (pending : Option ℕ) (call : Activation) (function : Call) (shared : Shared) (s : Thread) (sound : IsSound w) (lent : BuffersInUse) (k : ℕ) (args : List Actual) where

@@ -5,7 +5,7 @@ use Rattle.std.specs.List.{AllZip, list_any}
 use Rattle.base.specs.Bytes.{Identifier}
 use Rattle.base.specs.Element.{ElementType}
 use Rattle.classes.specs.BuiltIns.{has_own_making}
-use Rattle.classes.specs.Class.{Classes, FieldType, NumberField, ReferenceField, assignable, class_kind, is_plain}
+use Rattle.classes.specs.Class.{Classes, FieldType, NumberField, ReferenceField, assignable}
 use Rattle.classes.specs.Fields.{FieldId}
 use Rattle.class_table.specs.FieldViews.{field_of}
 use Rattle.class_table.specs.declared.class.FieldHandle.{FieldHandle}
@@ -30,7 +30,7 @@ use Rattle.machine.specs.Agrees.{FieldAgrees, HeldAgrees}
 use Rattle.machine.specs.Statics.{References, held_address, holds_deleted, holds_null, static_at}
 use Rattle.machine.specs.declared.statics.Held.{Held}
 use Rattle.machine.specs.declared.statics.Held.TheVariants as held
-use Rattle.machine.specs.Checked.{gives_deleted, gives_null, may_be_null, some_missing, class_misfits, misfits, some_misfit, is_array_at, fit_together, puts_local, trap_found, fits_type_there}
+use Rattle.machine.specs.Checked.{gives_deleted, gives_null, may_be_null, some_missing, class_misfits, misfits, some_misfit, fit_together, puts_local, trap_found, fits_type_there}
 use Rattle.machine.specs.Given.{AreAddresses, AreHandles, IsGiven, ReferenceIsGiven, class_of_given, class_there, field_at, field_there, fits_there, name_there, no_field, operand_at, operand_of}
 use Rattle.machine.specs.HeapAgrees.{ReferenceAgrees, BlocksAgree}
 use Rattle.machine.proofs.ObjectsAtAddresses.{is_object}

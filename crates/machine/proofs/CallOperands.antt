@@ -29,7 +29,6 @@ use Rattle.machine.specs.Given.{operand_at, operand_of, class_there, IsGiven, fi
 use Rattle.machine.specs.HeapAgrees.{ReferenceAgrees, BlocksAgree, IsTable}
 use Rattle.machine.specs.WorkedOut.{count_there, class_object}
 use Rattle.machine.proofs.CallChecks.{reference_at_place}
-use Rattle.machine.proofs.BlockObjects.{named}
 use Rattle.machine.proofs.FewValues.{few_values}
 use Rattle.machine.proofs.ObjectsAtAddresses.{is_object}
 

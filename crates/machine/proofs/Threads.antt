@@ -82,9 +82,9 @@ left_owners : (effect : Effect) (event : source.Event) (frames : ℕ) (own : Own
 left_owners (Calls line target f args) source.Quiet frames own vs = refl
 left_owners (Calls line target f args) (source.PrintedNumber z) frames own vs = refl
 left_owners (Calls line target f args) (source.Trapped trap at) frames own vs = refl
-left_owners effect source.Quiet frames own vs = refl
-left_owners effect (source.PrintedNumber z) frames own vs = refl
-left_owners effect (source.Trapped trap at) frames own vs = refl
+left_owners other source.Quiet frames own vs = refl
+left_owners other (source.PrintedNumber z) frames own vs = refl
+left_owners other (source.Trapped trap at) frames own vs = refl
 
 -- those after a step within a call
 advanced_owners : (shared : Shared) (s : source.Thread) (own : Owners) (task : Task) (rest : List Task) → s.tasks ≡ Some (task ∷ rest) → (event : source.Event) (vs : Variables)

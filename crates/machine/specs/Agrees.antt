@@ -223,7 +223,7 @@ after_any classes lent k shared s rest true effect = after_refused_effect classe
 abbrev pub owners_left : Effect → source.Event → (frames : ℕ) → Owners → Variables → Owners
 owners_left (Calls line target f args) (source.Trapped trap at) frames own vs = own
 owners_left (Calls line target f args) event frames own vs = after_call target f args frames own vs
-owners_left effect event frames own vs = own
+owners_left other event frames own vs = own
 
 -- The first task had this effect on thread k, with the rest still to do: the thread goes on within its call.
 pub record GoesOn (p : Lowered) (w : World) (old : Space) (store : Store) (lent : BuffersInUse) (k : ℕ) (own : Owners) (shared : Shared) (s : source.Thread) (rest : List Task) (call : Activation) (pending : Option ℕ) (effect : Effect) (refused : Bool) (event : Event) : Type 0 where
