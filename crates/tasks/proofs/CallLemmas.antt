@@ -8,7 +8,7 @@ use Rattle.classes.specs.BuiltIns.{no_class_def_found_error, no_such_field_error
 use Rattle.classes.specs.Class.{Classes}
 use Rattle.classes.specs.Fields.{FieldId}
 use Rattle.jni.specs.Access.{ArrayView}
-use Rattle.jni.specs.JniFunction.{is_built_function, JniFunction, FindClass, GetSuperclass, GetObjectClass, IsInstanceOf, IsAssignableFrom, AllocObject, NewLocalRef, NewGlobalRef, DeleteLocalRef, DeleteGlobalRef, IsSameObject, EnsureLocalCapacity, PushLocalFrame, PopLocalFrame, GetFieldID, GetStaticFieldID, GetField, SetField, GetStaticField, SetStaticField, GetObjectField, SetObjectField, GetStaticObjectField, SetStaticObjectField, GetArrayLength, prototype, NewObjectArray, GetBuffer, Throw, ThrowNew}
+use Rattle.jni.specs.JniFunction.{is_built_function, JniFunction, FindClass, NewGlobalRef, DeleteLocalRef, DeleteGlobalRef, EnsureLocalCapacity, PushLocalFrame, GetFieldID, GetStaticFieldID, prototype, NewObjectArray, GetBuffer, Throw, ThrowNew}
 use Rattle.jni.specs.Prototype.{ResultKind, NewLocal}
 use Rattle.source.specs.Arguments.{Actual, reference_given, variable_given}
 use Rattle.source.specs.CallEffects.{CallResult, NoResult, ReferenceResult, CallEffect, Leaves, delete_global_effect, delete_local_effect, ensure_effect, found_class_effect, found_field_effect, level_of, out_of_memory, push_effect, refuses_frames, with_capacity, without_local}
@@ -106,31 +106,14 @@ module _ (classes : Classes) (lent : BuffersInUse) (k : ℕ) (s : Shared) (t : T
   effects : (f : JniFunction) → is_built_function f ≡ true → call_effect classes lent k s t args f ≡ effect_as classes s t (worked_out classes s.heap t.variables t.frames args f)
   unfolding call_effect
   effects FindClass built = class_found _
-  effects GetSuperclass built = refl
-  effects GetObjectClass built = refl
-  effects IsInstanceOf built = refl
-  effects IsAssignableFrom built = refl
-  effects NewLocalRef built = refl
   effects NewGlobalRef built = makes_global _
   effects DeleteLocalRef built = deletes_local (lookup (variable_given args 0) t.variables) (reference_given args 0)
   effects DeleteGlobalRef built = deletes_global _ _
-  effects IsSameObject built = refl
-  effects AllocObject built = refl
   effects EnsureLocalCapacity built = ensures _
   effects PushLocalFrame built = pushes _
-  effects PopLocalFrame built = refl
   effects GetFieldID built = field_found _
   effects GetStaticFieldID built = field_found _
-  effects (GetField T) built = refl
-  effects (SetField T) built = refl
-  effects (GetStaticField T) built = refl
-  effects (SetStaticField T) built = refl
-  effects GetObjectField built = refl
-  effects SetObjectField built = refl
-  effects GetStaticObjectField built = refl
-  effects SetStaticObjectField built = refl
-  effects GetArrayLength built = refl
-  effects f built = absurd (cc)
+  effects f built = cc
 
 -- ---- what a call leaves
 

@@ -8,7 +8,7 @@ use Rattle.jni.specs.JniFunction.{is_allowed_pending, JniFunction, AllocObject, 
 use Rattle.jni.specs.Prototype.{ParameterKind, ClassObject, AnyArray, ObjectArray, StringObject, NumberArray}
 use Rattle.source.specs.Arguments.{Actual, reference_given, object_given, field_given}
 use Rattle.source.specs.Checks.{first_trap, frames_after, is_deleted, is_misfit, is_missing, lacks_room}
-use Rattle.source.specs.Heap.{fits_type, holds_number, holds_reference, Heap, class_of, is_instance}
+use Rattle.source.specs.Heap.{fits_type, holds_number, holds_reference, Heap, is_instance}
 use Rattle.source.specs.Thread.{Frame}
 use Rattle.source.specs.Value.{Trap, NullReference, ExceptionPending, WrongObject, DeletedReference, NoCapacity}
 
