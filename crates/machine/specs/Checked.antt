@@ -56,6 +56,15 @@ class_misfits classes ObjectArray class = not (is_object_array (class_kind class
 class_misfits classes StringObject class = not (class == string_class)
 class_misfits classes p class = false
 
+-- a parameter asks for objects of a kind
+abbrev pub asks_kind : ParameterKind → Bool
+asks_kind ClassObject = true
+asks_kind AnyArray = true
+asks_kind ObjectArray = true
+asks_kind StringObject = true
+asks_kind (NumberArray T) = true
+asks_kind p = false
+
 -- so is an object at an address
 abbrev pub misfits : Classes → Space → ParameterKind → Option ℕ → Bool
 misfits classes space p None = false

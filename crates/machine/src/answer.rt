@@ -90,32 +90,49 @@ pub fn work_out(
     requires passed { fit_together classes.now heap.now references.now fields.now function.now.operands.items (function_value function.now.function) ≡ true }
     ensures { IsWorkedOut classes.now heap.now loaded.now references.now fields.now stack.now (call_view function.now) (function_value function.now.function) result }
 {
-    let first = reference_at(heap, references, &function.operands, 0);
-    let second = reference_at(heap, references, &function.operands, 1);
-    let third = reference_at(heap, references, &function.operands, 2);
     match function.function {
         JniFunction::FindClass => found_class(loaded, classes.find(text_at(&function.texts, 0))),
         JniFunction::GetSuperclass => {
+            let first = reference_at(heap, references, &function.operands, 0);
             let above = classes.superclass(name_there(heap, first));
             Answer::Gives(Given::Reference(class_object(loaded, above)))
         }
         JniFunction::GetObjectClass => {
+            let first = reference_at(heap, references, &function.operands, 0);
             let class = class_of_given(heap, first);
             Answer::Gives(Given::Reference(class_object(loaded, Some(class))))
         }
         JniFunction::IsInstanceOf => {
+            let first = reference_at(heap, references, &function.operands, 0);
+            let second = reference_at(heap, references, &function.operands, 1);
             let fits = fits_there(classes, heap, first, name_there(heap, second));
             Answer::Gives(Given::Number(word_of_truth(fits)))
         }
         JniFunction::IsAssignableFrom => {
+            let first = reference_at(heap, references, &function.operands, 0);
+            let second = reference_at(heap, references, &function.operands, 1);
             let fits = classes.assignable(name_there(heap, first), name_there(heap, second));
             Answer::Gives(Given::Number(word_of_truth(fits)))
         }
-        JniFunction::AllocObject => Answer::Makes(name_there(heap, first)),
-        JniFunction::NewLocalRef => Answer::Gives(Given::Reference(first)),
-        JniFunction::NewGlobalRef => Answer::MakesGlobal(first),
-        JniFunction::DeleteGlobalRef => deletes_global(first, operand_of(&function.operands, 0)),
+        JniFunction::AllocObject => {
+            let first = reference_at(heap, references, &function.operands, 0);
+            Answer::Makes(name_there(heap, first))
+        }
+        JniFunction::NewLocalRef => {
+            let first = reference_at(heap, references, &function.operands, 0);
+            Answer::Gives(Given::Reference(first))
+        }
+        JniFunction::NewGlobalRef => {
+            let first = reference_at(heap, references, &function.operands, 0);
+            Answer::MakesGlobal(first)
+        }
+        JniFunction::DeleteGlobalRef => {
+            let first = reference_at(heap, references, &function.operands, 0);
+            deletes_global(first, operand_of(&function.operands, 0))
+        }
         JniFunction::IsSameObject => {
+            let first = reference_at(heap, references, &function.operands, 0);
+            let second = reference_at(heap, references, &function.operands, 1);
             let same = name_there(heap, first) == name_there(heap, second);
             Answer::Gives(Given::Number(word_of_truth(same)))
         }
@@ -124,26 +141,36 @@ pub fn work_out(
         }
         JniFunction::EnsureLocalCapacity => room_for(top_word(stack).cast_signed()),
         JniFunction::PushLocalFrame => frame_for(top_word(stack).cast_signed()),
-        JniFunction::PopLocalFrame => Answer::Pops(first),
+        JniFunction::PopLocalFrame => {
+            let first = reference_at(heap, references, &function.operands, 0);
+            Answer::Pops(first)
+        }
         JniFunction::GetFieldID => {
+            let first = reference_at(heap, references, &function.operands, 0);
             find_field(classes, name_there(heap, first), &function.texts, false)
         }
         JniFunction::GetStaticFieldID => {
+            let first = reference_at(heap, references, &function.operands, 0);
             find_field(classes, name_there(heap, first), &function.texts, true)
         }
         JniFunction::GetField(_) => {
+            let first = reference_at(heap, references, &function.operands, 0);
             let place = place_of_field(classes, heap, references, fields, &function.operands);
             Answer::Gives(Given::Number(word_in(value_there(heap, first, place))))
         }
         JniFunction::SetField(element) => {
+            let first = reference_at(heap, references, &function.operands, 0);
             let place = place_of_field(classes, heap, references, fields, &function.operands);
             writes_there(heap, first, place, stored(element, stack))
         }
         JniFunction::GetObjectField => {
+            let first = reference_at(heap, references, &function.operands, 0);
             let place = place_of_field(classes, heap, references, fields, &function.operands);
             Answer::Gives(Given::Reference(address_in(value_there(heap, first, place))))
         }
         JniFunction::SetObjectField => {
+            let first = reference_at(heap, references, &function.operands, 0);
+            let third = reference_at(heap, references, &function.operands, 2);
             let place = place_of_field(classes, heap, references, fields, &function.operands);
             writes_there(heap, first, place, held_reference(third))
         }
@@ -163,11 +190,15 @@ pub fn work_out(
             Answer::Gives(Given::Reference(address_in(value_there(heap, holder, place))))
         }
         JniFunction::SetStaticObjectField => {
+            let third = reference_at(heap, references, &function.operands, 2);
             let holder = holder_of_static(classes, loaded, fields, &function.operands);
             let place = place_of_static(classes, fields, &function.operands);
             writes_there(heap, holder, place, held_reference(third))
         }
-        JniFunction::GetArrayLength => Answer::Gives(Given::Number(count_there(heap, first))),
+        JniFunction::GetArrayLength => {
+            let first = reference_at(heap, references, &function.operands, 0);
+            Answer::Gives(Given::Number(count_there(heap, first)))
+        }
         _ => unreachable!(),
     }
 }

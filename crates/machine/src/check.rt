@@ -1,15 +1,16 @@
 //! What is checked of a call before it does anything, in one order for all functions.
 
-ghost use Rattle.std.specs.Prelude.{◌≡◌, ◌&&◌, not, ℕ, Some, IsSome, map};
+ghost use Rattle.std.specs.Prelude.{◌≡◌, ℕ, Some, IsSome, map};
 ghost use Rattle.std.specs.List.{list_any};
 ghost use Rattle.std.specs.Option.{option_map};
 ghost use Rattle.class_table.specs.FieldViews.{field_of};
 ghost use Rattle.class_table.specs.Views.{element_view, field_type_view};
-ghost use Rattle.classes.specs.Class.{assignable};
 ghost use Rattle.heap.specs.Heap.{IsAddress};
-ghost use Rattle.jni.specs.Table.{function_value, parameter_value, result_value};
-ghost use Rattle.machine.specs.Given.{class_of_given, field_there, name_there, AreAddresses, AreHandles};
-ghost use Rattle.machine.specs.Checked.{gives_null, gives_deleted, may_be_null, some_missing, class_misfits, misfits, some_misfit, fits_type_there, fit_together, puts_local, trap_found};
+ghost use Rattle.jni.specs.Table.{facts, facts_of, function_value, parameter_value, result_value};
+ghost use Rattle.machine.specs.Given.{field_at, operand_at, operand_of, AreAddresses, AreHandles};
+ghost use Rattle.machine.specs.Locals.{locals_after};
+ghost use Rattle.tables.specs.Locals.{has_room};
+ghost use Rattle.machine.specs.Checked.{asks_kind, has_field, has_static, gives_null, gives_deleted, may_be_null, some_missing, class_misfits, misfits, some_misfit, fits_type_there, fit_together, puts_local, trap_found};
 ghost use Rattle.machine.specs.Stops.{trap_view};
 ghost use Rattle.source.specs.Heap.{holds_number, holds_reference};
 
@@ -24,7 +25,8 @@ use class_table::class::{ClassKind, ElementType, FieldHandle, FieldType};
 use class_table::table::ClassTable;
 use code::instr::{Call, Operand};
 use heap::{Addr, Heap};
-use jni::{JniFunction, ParameterKind, ResultKind};
+use jni::{JniFunction, ParameterKind, Prototype, ResultKind};
+use tables::Locals;
 
 /// Whether an operand gives NULL.
 fn gives_null(references: &References<'_>, fields: &[Option<FieldHandle>], operand: Operand) -> bool
@@ -107,17 +109,35 @@ fn class_misfits(classes: &ClassTable, parameter: ParameterKind, class: usize) -
     }
 }
 
-/// Whether an object is of another kind than the parameter.
+/// Whether a parameter asks for objects of a kind.
+fn asks_kind(parameter: ParameterKind) -> bool
+    ensures { result ≡ asks_kind (parameter_value parameter) }
+{
+    matches!(
+        parameter,
+        ParameterKind::ClassObject
+            | ParameterKind::AnyArray
+            | ParameterKind::ObjectArray
+            | ParameterKind::StringObject
+            | ParameterKind::NumberArray(_)
+    )
+}
+
+/// Whether an operand gives an object of another kind than the parameter.
 fn misfits(
     classes: &ClassTable,
     heap: &Heap,
+    references: &References<'_>,
     parameter: ParameterKind,
-    reference: Option<Addr>,
+    operand: Operand,
 ) -> bool
-    requires { (a : ℕ) → reference ≡ Some a → IsAddress heap.now a }
-    ensures { result ≡ misfits classes.now heap.now (parameter_value parameter) reference }
+    requires { (a : ℕ) → operand_at references.now operand ≡ Some a → IsAddress heap.now a }
+    ensures { result ≡ misfits classes.now heap.now (parameter_value parameter) (operand_at references.now operand) }
 {
-    match reference {
+    if !asks_kind(parameter) {
+        return false;
+    }
+    match reference_in(references, operand) {
         Some(addr) => class_misfits(classes, parameter, heap.class_of(addr) as usize),
         None => false,
     }
@@ -137,8 +157,7 @@ fn some_misfit(
     match parameters {
         [parameter, parameters @ ..] => match operands {
             [operand, operands @ ..] => {
-                let reference = reference_in(references, *operand);
-                misfits(classes, heap, *parameter, reference)
+                misfits(classes, heap, references, *parameter, *operand)
                     || some_misfit(classes, heap, references, parameters, operands)
             }
             [] => false,
@@ -186,32 +205,51 @@ fn fits_type(
     }
 }
 
-/// Whether an object has the field of a handle.
+/// The field or static of operand 1.
+fn field_of(
+    classes: &ClassTable,
+    fields: &[Option<FieldHandle>],
+    operands: &[Operand],
+) -> Option<FieldHandle>
+    requires { AreHandles classes.now fields.now operands.now }
+    ensures field { result ≡ field_at fields.now (operand_of operands.now 1) }
+    ensures there { (h : FieldHandle) → result ≡ Some h → IsSome (field_of classes.now h) }
+{
+    handle_at(classes, fields, operands, 1)
+}
+
+/// Whether operand 0 is an object that has the field of operand 1.
 fn has_field(
     classes: &ClassTable,
     heap: &Heap,
-    reference: Option<Addr>,
-    field: Option<FieldHandle>,
+    references: &References<'_>,
+    fields: &[Option<FieldHandle>],
+    operands: &[Operand],
 ) -> bool
-    requires object { (a : ℕ) → reference ≡ Some a → IsAddress heap.now a }
-    requires handle { (h : FieldHandle) → field ≡ Some h → IsSome (field_of classes.now h) }
-    ensures { result ≡ (not (field_there classes.now field).is_static && assignable classes.now (class_of_given heap.now reference) (field_there classes.now field).class) }
+    requires objects { AreAddresses heap.now references.now operands.now }
+    requires handles { AreHandles classes.now fields.now operands.now }
+    ensures { result ≡ has_field classes.now heap.now references.now fields.now operands.now }
 {
+    let field = field_of(classes, fields, operands);
+    let reference = reference_at(heap, references, operands, 0);
     !is_static(classes, field)
         && classes.assignable(class_of_given(heap, reference), declaring(classes, field))
 }
 
-/// Whether a class has the static of a handle.
+/// Whether operand 0 is a class that has the static of operand 1.
 fn has_static(
     classes: &ClassTable,
     heap: &Heap,
-    reference: Option<Addr>,
-    field: Option<FieldHandle>,
+    references: &References<'_>,
+    fields: &[Option<FieldHandle>],
+    operands: &[Operand],
 ) -> bool
-    requires object { (a : ℕ) → reference ≡ Some a → IsAddress heap.now a }
-    requires handle { (h : FieldHandle) → field ≡ Some h → IsSome (field_of classes.now h) }
-    ensures { result ≡ ((field_there classes.now field).is_static && assignable classes.now (name_there heap.now reference) (field_there classes.now field).class) }
+    requires objects { AreAddresses heap.now references.now operands.now }
+    requires handles { AreHandles classes.now fields.now operands.now }
+    ensures { result ≡ has_static classes.now heap.now references.now fields.now operands.now }
 {
+    let field = field_of(classes, fields, operands);
+    let reference = reference_at(heap, references, operands, 0);
     is_static(classes, field)
         && classes.assignable(name_there(heap, reference), declaring(classes, field))
 }
@@ -229,53 +267,74 @@ fn fit_together(
     requires handles { AreHandles classes.now fields.now operands.now }
     ensures { result ≡ fit_together classes.now heap.now references.now fields.now operands.now (function_value function) }
 {
-    let first = reference_at(heap, references, operands, 0);
-    let field = handle_at(classes, fields, operands, 1);
-    let value = reference_at(heap, references, operands, 2);
     match function {
-        JniFunction::AllocObject => !classes.has_own_making(name_there(heap, first)),
+        JniFunction::AllocObject => {
+            let class = reference_at(heap, references, operands, 0);
+            !classes.has_own_making(name_there(heap, class))
+        }
         JniFunction::GetField(element) | JniFunction::SetField(element) => {
-            has_field(classes, heap, first, field)
-                && holds_number(element_type(element), type_of(classes, field))
+            has_field(classes, heap, references, fields, operands)
+                && holds_number(
+                    element_type(element),
+                    type_of(classes, field_of(classes, fields, operands)),
+                )
         }
         JniFunction::GetObjectField => {
-            has_field(classes, heap, first, field) && holds_reference(type_of(classes, field))
+            has_field(classes, heap, references, fields, operands)
+                && holds_reference(type_of(classes, field_of(classes, fields, operands)))
         }
         JniFunction::SetObjectField => {
-            has_field(classes, heap, first, field)
-                && fits_type(classes, heap, value, type_of(classes, field))
+            let value = reference_at(heap, references, operands, 2);
+            has_field(classes, heap, references, fields, operands)
+                && fits_type(
+                    classes,
+                    heap,
+                    value,
+                    type_of(classes, field_of(classes, fields, operands)),
+                )
         }
         JniFunction::GetStaticField(element) | JniFunction::SetStaticField(element) => {
-            has_static(classes, heap, first, field)
-                && holds_number(element_type(element), type_of(classes, field))
+            has_static(classes, heap, references, fields, operands)
+                && holds_number(
+                    element_type(element),
+                    type_of(classes, field_of(classes, fields, operands)),
+                )
         }
         JniFunction::GetStaticObjectField => {
-            has_static(classes, heap, first, field) && holds_reference(type_of(classes, field))
+            has_static(classes, heap, references, fields, operands)
+                && holds_reference(type_of(classes, field_of(classes, fields, operands)))
         }
         JniFunction::SetStaticObjectField => {
-            has_static(classes, heap, first, field)
-                && fits_type(classes, heap, value, type_of(classes, field))
+            let value = reference_at(heap, references, operands, 2);
+            has_static(classes, heap, references, fields, operands)
+                && fits_type(
+                    classes,
+                    heap,
+                    value,
+                    type_of(classes, field_of(classes, fields, operands)),
+                )
         }
         _ => true,
     }
 }
 
-/// The trap of a call before it does anything. It takes no host memory.
+/// The trap of a call before it does anything, by what the table says of its function. It takes no host memory.
 pub fn check(
     classes: &ClassTable,
     heap: &Heap,
     is_pending: bool,
-    has_room: bool,
+    locals: &Locals,
     references: &References<'_>,
     fields: &[Option<FieldHandle>],
+    asked: &Prototype,
     function: &Call,
 ) -> Option<Trap>
+    requires asked { facts asked.now ≡ facts_of (function_value function.now.function) }
     requires objects { AreAddresses heap.now references.now function.now.operands.items }
     requires handles { AreHandles classes.now fields.now function.now.operands.items }
-    ensures { option_map trap_view result ≡ trap_found classes.now heap.now is_pending has_room references.now fields.now (function_value function.now.function) function.now.operands.items }
+    ensures { option_map trap_view result ≡ trap_found classes.now heap.now is_pending (has_room (locals_after (function_value function.now.function) locals.now)) references.now fields.now (function_value function.now.function) function.now.operands.items }
 {
     let operands = &function.operands;
-    let asked = function.function.prototype();
     if is_pending && !asked.pending {
         return Some(Trap::ExceptionPending);
     }
@@ -297,7 +356,7 @@ pub fn check(
     {
         return Some(Trap::WrongObject);
     }
-    if puts_local(asked.result) && !has_room {
+    if puts_local(asked.result) && !has_room(locals, function.function) {
         return Some(Trap::NoCapacity);
     }
     None
@@ -308,4 +367,14 @@ fn puts_local(kind: ResultKind) -> bool
     ensures { result ≡ puts_local (result_value kind) }
 {
     matches!(kind, ResultKind::NewLocal)
+}
+
+/// Whether there is room for a local reference that a function gives: `PopLocalFrame` puts it into the frame below.
+fn has_room(locals: &Locals, function: JniFunction) -> bool
+    ensures { result ≡ has_room (locals_after (function_value function) locals.now) }
+{
+    match function {
+        JniFunction::PopLocalFrame => locals.has_room_below(),
+        _ => locals.has_room(),
+    }
 }

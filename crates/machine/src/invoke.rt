@@ -6,9 +6,6 @@ ghost use Rattle.source.specs.Task.{Task};
 ghost use Rattle.source.specs.Thread.{BuffersInUse, Shared, Thread as SourceThread, sight_of};
 ghost use Rattle.safety.specs.Owners.{Owners};
 ghost use Rattle.lower.specs.Lowered.{Lowered};
-ghost use Rattle.jni.specs.Table.{function_value};
-ghost use Rattle.machine.specs.Locals.{locals_after};
-ghost use Rattle.tables.specs.Locals.{has_room};
 ghost use Rattle.machine.specs.Agrees.{Executes};
 ghost use Rattle.machine.specs.Invoked.{AtCall};
 
@@ -21,9 +18,7 @@ use crate::store::Store;
 use crate::thread::{Activation, Event, Executed};
 use code::instr::Call;
 use heap::Addr;
-use jni::JniFunction;
 use std::alloc::AllocError;
-use tables::Locals;
 use world::World;
 
 /// The instruction that calls a function. Only a new frame and a new global reference take host memory.
@@ -49,13 +44,15 @@ pub fn invoke(
         &store.statics,
         &store.globals,
     );
+    let asked = function.function.prototype();
     let trap = check(
         world.classes(),
         &store.heap,
         pending.is_some(),
-        has_room(&call.locals, function.function),
+        &call.locals,
         &references,
         &call.fields,
+        asked,
         function,
     );
     if let Some(trap) = trap {
@@ -70,7 +67,7 @@ pub fn invoke(
         &call.stack,
         function,
     );
-    let kind = function.function.prototype().result;
+    let kind = asked.result;
     let carried = carry_out(world, store, pending, &mut call.locals, kind, answer)?;
     // Here the proof takes up what is known of a table.
     let _ = call.locals.frames();
@@ -85,15 +82,5 @@ pub fn invoke(
         Ok(Executed::Refused)
     } else {
         Ok(Executed::Did(Event::Quiet))
-    }
-}
-
-/// Whether there is room for a local reference that a function gives: `PopLocalFrame` puts it into the frame below.
-fn has_room(locals: &Locals, function: JniFunction) -> bool
-    ensures { result ≡ has_room (locals_after (function_value function) locals.now) }
-{
-    match function {
-        JniFunction::PopLocalFrame => locals.has_room_below(),
-        _ => locals.has_room(),
     }
 }

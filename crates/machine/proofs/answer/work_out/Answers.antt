@@ -12,4 +12,4 @@ pub returns-in-FindClass : goal.returns-in-FindClass
 returns-in-FindClass c =
     subst (λ (f : JniFunction). IsWorkedOut c.args.classes.now c.args.heap.now c.args.loaded.now c.args.references.now c.args.fields.now c.args.stack.now (call_view c.args.function.now) (function_value f) c.found_class.result) (sym c.in-FindClass.is)
     (c.found_class.ensures
-    ∙ ap (found_class c.args.loaded.now) (c.find.ensures ∙ ap (class_named c.args.classes.now) (c.text_at.ensures ∙ ap (λ (l : List (Vec ℕ)). unwrap_or (slice_get (map (λ (text : Vec ℕ). text.items) l) 0) []) c.deref-in-FindClass.ensures.value)))
+    ∙ ap (found_class c.args.loaded.now) (c.find.ensures ∙ ap (class_named c.args.classes.now) (c.text_at.ensures ∙ ap (λ (l : List (Vec ℕ)). unwrap_or (slice_get (map (λ (text : Vec ℕ). text.items) l) 0) []) c.deref.ensures.value)))

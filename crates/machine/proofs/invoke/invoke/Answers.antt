@@ -122,8 +122,8 @@ check-trap-requires-clause-handles c =
 pub returns-in-Some-clause-done : goal.returns-in-Some-clause-done
 returns-in-Some-clause-done c p lent k own shared s task rest h =
     let w = c.args.world.now in
-    let found = told p w c.args.store.now c.args.pending.now c.args.call.now c.args.function.now own shared s task rest h c.classes.result.now c.is_some.result c.has_room.result c.new-references.result c.deref-3.result.now c.check-trap.result
-    c.classes.ensures.classes c.is_some.ensures c.has_room.ensures (named_are c.args.store.now c.args.call.now c.deref.result.now c.deref-2.result.now c.new-references.result c.new-references.ensures c.deref.ensures.value c.deref-2.ensures.value) c.deref-3.ensures.value c.check-trap.ensures in
+    let found = told p w c.args.store.now c.args.pending.now c.args.call.now c.args.function.now own shared s task rest h c.classes.result.now c.is_some.result (has_room (locals_after (function_value c.args.function.now.function) c.args.call.now.locals)) c.new-references.result c.deref-3.result.now c.check-trap.result
+    c.classes.ensures.classes c.is_some.ensures refl (named_are c.args.store.now c.args.call.now c.deref.result.now c.deref-2.result.now c.new-references.result c.new-references.ensures c.deref.ensures.value c.deref-2.ensures.value) c.deref-3.ensures.value c.check-trap.ensures in
     traps p w c.args.store.now c.args.pending.now c.args.call.now c.args.function.now own shared s task rest h lent k c.in-Some.trap c.args.function.now.line refl (sym found ∙ ap (option_map trap_view) c.in-Some.is)
 
 pub work_out-answer-requires-clause-grown : goal.work_out-answer-requires-clause-grown
@@ -153,19 +153,19 @@ pub work_out-answer-requires-clause-passed : goal.work_out-answer-requires-claus
 work_out-answer-requires-clause-passed c =
     let a = c.requires.at_call in
     let w = c.args.world.now in
-    let found = told a.0 w c.args.store.now c.args.pending.now c.args.call.now c.args.function.now a.1 a.2 a.3 a.4 a.5 a.6 c.classes.result.now c.is_some.result c.has_room.result c.new-references.result c.deref-3.result.now c.check-trap.result
-    c.classes.ensures.classes c.is_some.ensures c.has_room.ensures (named_are c.args.store.now c.args.call.now c.deref.result.now c.deref-2.result.now c.new-references.result c.new-references.ensures c.deref.ensures.value c.deref-2.ensures.value) c.deref-3.ensures.value c.check-trap.ensures in
+    let found = told a.0 w c.args.store.now c.args.pending.now c.args.call.now c.args.function.now a.1 a.2 a.3 a.4 a.5 a.6 c.classes.result.now c.is_some.result (has_room (locals_after (function_value c.args.function.now.function) c.args.call.now.locals)) c.new-references.result c.deref-3.result.now c.check-trap.result
+    c.classes.ensures.classes c.is_some.ensures refl (named_are c.args.store.now c.args.call.now c.deref.result.now c.deref-2.result.now c.new-references.result c.new-references.ensures c.deref.ensures.value c.deref-2.ensures.value) c.deref-3.ensures.value c.check-trap.ensures in
     passes a.0 w c.args.store.now c.args.pending.now c.args.call.now c.args.function.now a.1 a.2 a.3 a.4 a.5 a.6 (no_trap c.check-trap.result _ found c.in_default.is) c.classes-2.result.now c.new-references.result c.deref-5.result.now c.classes-2.ensures.classes (named_are c.args.store.now c.args.call.now c.deref.result.now c.deref-2.result.now c.new-references.result c.new-references.ensures c.deref.ensures.value c.deref-2.ensures.value) c.deref-5.ensures.value
 
 pub carry_out-requires : goal.carry_out-requires
 carry_out-requires c =
     let a = c.requires.at_call in
     let w = c.args.world.now in
-    let found = told a.0 w c.args.store.now c.args.pending.now c.args.call.now c.args.function.now a.1 a.2 a.3 a.4 a.5 a.6 c.classes.result.now c.is_some.result c.has_room.result c.new-references.result c.deref-3.result.now c.check-trap.result
-    c.classes.ensures.classes c.is_some.ensures c.has_room.ensures (named_are c.args.store.now c.args.call.now c.deref.result.now c.deref-2.result.now c.new-references.result c.new-references.ensures c.deref.ensures.value c.deref-2.ensures.value) c.deref-3.ensures.value c.check-trap.ensures in
+    let found = told a.0 w c.args.store.now c.args.pending.now c.args.call.now c.args.function.now a.1 a.2 a.3 a.4 a.5 a.6 c.classes.result.now c.is_some.result (has_room (locals_after (function_value c.args.function.now.function) c.args.call.now.locals)) c.new-references.result c.deref-3.result.now c.check-trap.result
+    c.classes.ensures.classes c.is_some.ensures refl (named_are c.args.store.now c.args.call.now c.deref.result.now c.deref-2.result.now c.new-references.result c.new-references.ensures c.deref.ensures.value c.deref-2.ensures.value) c.deref-3.ensures.value c.check-trap.ensures in
     let free = no_trap c.check-trap.result _ found c.in_default.is in
-    let kind = result_value c.prototype.result.now.result in
-    let same = ap (λ (x : Facts). x.prototype.result) c.prototype.ensures in
+    let kind = result_value c.prototype-asked.result.now.result in
+    let same = ap (λ (x : Facts). x.prototype.result) c.prototype-asked.ensures in
     let lent : BuffersInUse = record { copied = 0; views = 0 } in
     let it = called a.0 w c.args.store.now c.args.pending.now c.args.call.now c.args.function.now a.1 a.2 a.3 a.4 a.5 a.6 in
     record {
@@ -189,11 +189,11 @@ pub receive-requires-clause-static_target : goal.receive-requires-clause-static_
 receive-requires-clause-static_target c =
     let a = c.requires.at_call in
     let w = c.args.world.now in
-    let found = told a.0 w c.args.store.now c.args.pending.now c.args.call.now c.args.function.now a.1 a.2 a.3 a.4 a.5 a.6 c.classes.result.now c.is_some.result c.has_room.result c.new-references.result c.deref-3.result.now c.check-trap.result
-    c.classes.ensures.classes c.is_some.ensures c.has_room.ensures (named_are c.args.store.now c.args.call.now c.deref.result.now c.deref-2.result.now c.new-references.result c.new-references.ensures c.deref.ensures.value c.deref-2.ensures.value) c.deref-3.ensures.value c.check-trap.ensures in
+    let found = told a.0 w c.args.store.now c.args.pending.now c.args.call.now c.args.function.now a.1 a.2 a.3 a.4 a.5 a.6 c.classes.result.now c.is_some.result (has_room (locals_after (function_value c.args.function.now.function) c.args.call.now.locals)) c.new-references.result c.deref-3.result.now c.check-trap.result
+    c.classes.ensures.classes c.is_some.ensures refl (named_are c.args.store.now c.args.call.now c.deref.result.now c.deref-2.result.now c.new-references.result c.new-references.ensures c.deref.ensures.value c.deref-2.ensures.value) c.deref-3.ensures.value c.check-trap.ensures in
     let free = no_trap c.check-trap.result _ found c.in_default.is in
-    let kind = result_value c.prototype.result.now.result in
-    let same = ap (λ (x : Facts). x.prototype.result) c.prototype.ensures in
+    let kind = result_value c.prototype-asked.result.now.result in
+    let same = ap (λ (x : Facts). x.prototype.result) c.prototype-asked.ensures in
     let lent : BuffersInUse = record { copied = 0; views = 0 } in
     let it = called a.0 w c.args.store.now c.args.pending.now c.args.call.now c.args.function.now a.1 a.2 a.3 a.4 a.5 a.6 in
     let effect = call_effect w.classes lent 0 a.2 a.3 it.args it.f in
@@ -208,11 +208,11 @@ pub receive-requires-clause-room : goal.receive-requires-clause-room
 receive-requires-clause-room c =
     let a = c.requires.at_call in
     let w = c.args.world.now in
-    let found = told a.0 w c.args.store.now c.args.pending.now c.args.call.now c.args.function.now a.1 a.2 a.3 a.4 a.5 a.6 c.classes.result.now c.is_some.result c.has_room.result c.new-references.result c.deref-3.result.now c.check-trap.result
-    c.classes.ensures.classes c.is_some.ensures c.has_room.ensures (named_are c.args.store.now c.args.call.now c.deref.result.now c.deref-2.result.now c.new-references.result c.new-references.ensures c.deref.ensures.value c.deref-2.ensures.value) c.deref-3.ensures.value c.check-trap.ensures in
+    let found = told a.0 w c.args.store.now c.args.pending.now c.args.call.now c.args.function.now a.1 a.2 a.3 a.4 a.5 a.6 c.classes.result.now c.is_some.result (has_room (locals_after (function_value c.args.function.now.function) c.args.call.now.locals)) c.new-references.result c.deref-3.result.now c.check-trap.result
+    c.classes.ensures.classes c.is_some.ensures refl (named_are c.args.store.now c.args.call.now c.deref.result.now c.deref-2.result.now c.new-references.result c.new-references.ensures c.deref.ensures.value c.deref-2.ensures.value) c.deref-3.ensures.value c.check-trap.ensures in
     let free = no_trap c.check-trap.result _ found c.in_default.is in
-    let kind = result_value c.prototype.result.now.result in
-    let same = ap (λ (x : Facts). x.prototype.result) c.prototype.ensures in
+    let kind = result_value c.prototype-asked.result.now.result in
+    let same = ap (λ (x : Facts). x.prototype.result) c.prototype-asked.ensures in
     let lent : BuffersInUse = record { copied = 0; views = 0 } in
     let it = called a.0 w c.args.store.now c.args.pending.now c.args.call.now c.args.function.now a.1 a.2 a.3 a.4 a.5 a.6 in
     let effect = call_effect w.classes lent 0 a.2 a.3 it.args it.f in
@@ -231,11 +231,11 @@ returns-then-carried-clause-done c p lent k own shared s task rest h =
     let call = c.args.call.now in
     let function = c.args.function.now in
     let it = called p w store pending call function own shared s task rest h in
-    let found = told p w store pending call function own shared s task rest h c.classes.result.now c.is_some.result c.has_room.result c.new-references.result c.deref-3.result.now c.check-trap.result
-    c.classes.ensures.classes c.is_some.ensures c.has_room.ensures (named_are c.args.store.now c.args.call.now c.deref.result.now c.deref-2.result.now c.new-references.result c.new-references.ensures c.deref.ensures.value c.deref-2.ensures.value) c.deref-3.ensures.value c.check-trap.ensures in
+    let found = told p w store pending call function own shared s task rest h c.classes.result.now c.is_some.result (has_room (locals_after (function_value c.args.function.now.function) c.args.call.now.locals)) c.new-references.result c.deref-3.result.now c.check-trap.result
+    c.classes.ensures.classes c.is_some.ensures refl (named_are c.args.store.now c.args.call.now c.deref.result.now c.deref-2.result.now c.new-references.result c.new-references.ensures c.deref.ensures.value c.deref-2.ensures.value) c.deref-3.ensures.value c.check-trap.ensures in
     let free = no_trap c.check-trap.result (trap_of_call w.classes shared s it.target it.f it.args) found c.in_default.is in
-    let kind = result_value c.prototype.result.now.result in
-    let same : kind ≡ (prototype (function_value function.function)).result = ap (λ (x : Facts). x.prototype.result) c.prototype.ensures in
+    let kind = result_value c.prototype-asked.result.now.result in
+    let same : kind ≡ (prototype (function_value function.function)).result = ap (λ (x : Facts). x.prototype.result) c.prototype-asked.ensures in
     let effect = call_effect w.classes lent k shared s it.args it.f in
     let is = kind_is p w store pending call function own shared s task rest h kind same in
     let answer = answered p w store pending call function own shared s task rest h free c.classes.ensures.sound lent k c.classes-2.result.now c.deref-4.result.now c.new-references.result c.deref-5.result.now kind c.work_out-answer.result
@@ -258,11 +258,11 @@ returns-else-carried-clause-done c p lent k own shared s task rest h =
     let call = c.args.call.now in
     let function = c.args.function.now in
     let it = called p w store pending call function own shared s task rest h in
-    let found = told p w store pending call function own shared s task rest h c.classes.result.now c.is_some.result c.has_room.result c.new-references.result c.deref-3.result.now c.check-trap.result
-    c.classes.ensures.classes c.is_some.ensures c.has_room.ensures (named_are c.args.store.now c.args.call.now c.deref.result.now c.deref-2.result.now c.new-references.result c.new-references.ensures c.deref.ensures.value c.deref-2.ensures.value) c.deref-3.ensures.value c.check-trap.ensures in
+    let found = told p w store pending call function own shared s task rest h c.classes.result.now c.is_some.result (has_room (locals_after (function_value c.args.function.now.function) c.args.call.now.locals)) c.new-references.result c.deref-3.result.now c.check-trap.result
+    c.classes.ensures.classes c.is_some.ensures refl (named_are c.args.store.now c.args.call.now c.deref.result.now c.deref-2.result.now c.new-references.result c.new-references.ensures c.deref.ensures.value c.deref-2.ensures.value) c.deref-3.ensures.value c.check-trap.ensures in
     let free = no_trap c.check-trap.result (trap_of_call w.classes shared s it.target it.f it.args) found c.in_default.is in
-    let kind = result_value c.prototype.result.now.result in
-    let same : kind ≡ (prototype (function_value function.function)).result = ap (λ (x : Facts). x.prototype.result) c.prototype.ensures in
+    let kind = result_value c.prototype-asked.result.now.result in
+    let same : kind ≡ (prototype (function_value function.function)).result = ap (λ (x : Facts). x.prototype.result) c.prototype-asked.ensures in
     let effect = call_effect w.classes lent k shared s it.args it.f in
     let is = kind_is p w store pending call function own shared s task rest h kind same in
     let answer = answered p w store pending call function own shared s task rest h free c.classes.ensures.sound lent k c.classes-2.result.now c.deref-4.result.now c.new-references.result c.deref-5.result.now kind c.work_out-answer.result
