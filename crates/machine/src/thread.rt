@@ -224,10 +224,7 @@ fn execute(
             call.place += 1;
             Ok(Executed::Did(Event::Printed(word.cast_signed())))
         }
-        Instr::Call(boxed) => {
-            let done = invoke(world, store, pending, call, boxed.call())?;
-            Ok(done)
-        }
+        Instr::Call(boxed) => invoke(world, store, pending, call, boxed.call()),
         Instr::Return | Instr::ReturnJint | Instr::ReturnReference(_) => Ok(Executed::Returned),
         _ => match plain(instr, &mut call.stack, &mut call.numbers) {
             Plain::Next => {
