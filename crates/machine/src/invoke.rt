@@ -56,7 +56,7 @@ pub fn invoke(
         function,
     );
     if let Some(trap) = trap {
-        return Ok(Executed::Did(Event::Trapped(trap, function.line as usize)));
+        return Ok(Executed::Did(Event::Trapped(trap, function.line)));
     }
     let answer = work_out(
         world.classes(),

@@ -298,7 +298,7 @@ fn note(printed: &mut Vec<Printed>, stop: &mut Option<Stop>, k: u8, event: Event
             *stop = Some(Stop {
                 thread: k,
                 trap,
-                line,
+                line: line as usize,
             });
         }
     }

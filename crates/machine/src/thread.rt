@@ -46,7 +46,7 @@ pub enum Event {
     /// The thread printed a number.
     Printed(i32),
     /// A statement of this line stopped the machine.
-    Trapped(Trap, usize),
+    Trapped(Trap, u32),
 }
 
 /// A thread: the calls that it has still to make, and the call in progress.
@@ -224,7 +224,10 @@ fn execute(
             call.place += 1;
             Ok(Executed::Did(Event::Printed(word.cast_signed())))
         }
-        Instr::Call(boxed) => invoke(world, store, pending, call, boxed.call()),
+        Instr::Call(boxed) => {
+            let done = invoke(world, store, pending, call, boxed.call())?;
+            Ok(done)
+        }
         Instr::Return | Instr::ReturnJint | Instr::ReturnReference(_) => Ok(Executed::Returned),
         _ => match plain(instr, &mut call.stack, &mut call.numbers) {
             Plain::Next => {
@@ -239,10 +242,7 @@ fn execute(
                 call.place -= back as usize;
                 Ok(Executed::Did(Event::Quiet))
             }
-            Plain::Trap(trap, line) => Ok(Executed::Did(Event::Trapped(
-                trap_of(trap),
-                line as usize,
-            ))),
+            Plain::Trap(trap, line) => { Ok(Executed::Did(Event::Trapped(trap_of(trap), line))) }
         },
     }
 }

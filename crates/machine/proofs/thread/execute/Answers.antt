@@ -173,6 +173,12 @@ returns-in-PutJint-clause-done c lent k own shared s task rest e =
     c.pop-word.result after c.pop-word.new.self c.in-PutJint.is c.pop-word.ensures.words
     (record { function = refl; place = refl; stack = refl; numbers = refl; references = refl; fields = refl; locals = refl }))
 
+pub returns-in_ok-done-in-Call-clause-done : goal.returns-in_ok-done-in-Call-clause-done
+returns-in_ok-done-in-Call-clause-done c lent k own shared s task rest e =
+    let f = fetched (goal.at.returns-in_ok-done-in-Call-clause-done c).After-unwrap-instr in
+    c.in_ok-done-in-Call.ensures.done c.args.program.now lent k own shared s task rest
+    (at_call c.args.program.now c.args.world.now c.args.store.now c.args.pending.now c.args.call.now c.unwrap-instr.result.now f c.call.result.now (c.in-Call.is ∙ ap (λ (x : Call). instr.Call x) (sym c.call.ensures)) own shared s task rest e)
+
 pub returns-in-Return-clause-done : goal.returns-in-Return-clause-done
 returns-in-Return-clause-done c lent k own shared s task rest e =
     let f = fetched (goal.at.returns-in-Return-clause-done c).After-unwrap-instr in
