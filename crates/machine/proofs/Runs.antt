@@ -117,6 +117,10 @@ pub word_without_step : (r : Run) (word : ScheduleWord) → GivesNoStep r word �
 word_without_step r word h = no_step r word h
 
 -- a thread that has ended can't step
+pub words_without_step : (r : Run) (word : ScheduleWord) (n : ℕ) → GivesNoStep r word → IsSome (replay_of r) → RunsAlong r r (replicate n word)
+words_without_step r word zero h d = none_yet r d
+words_without_step r word (suc n) h d = along_both r r r (word ∷ []) (replicate n word) (word_without_step r word h) (words_without_step r word n h d)
+
 ended_waits : (classes : Classes) (s : State) (k : ℕ) → HasEnded s k → can_step classes s k ≡ false
 ended_waits classes s k h =
     and_left (is_none s.stop && is_live (thread_at s k)) (not (is_waiting classes k s.shared (thread_at s k)))

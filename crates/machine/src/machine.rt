@@ -169,19 +169,16 @@ impl<'a> Machine<'a> {
         }
     }
 
-    /// Takes one word of a schedule.
-    fn take_word(&mut self, word: ScheduleWord) -> Result<(), RunFault>
-        ensures ok { OnOk result (RunsAlong self.old self.new (word ∷ [])) }
-        ensures err { OnErr result ((self.new ≡ self.old) × GivesStep self.old word) }
+    /// Lets thread `k` take a turn of a schedule.
+    fn take_turn(&mut self, k: u8) -> Result<(), RunFault>
+        requires counted { 0 < k }
+        requires is_thread { k ≤ length self.old.world.threads }
+        ensures ok { OnOk result (RunsAlong self.old self.new (ScheduleWord.Turn k ∷ [])) }
+        ensures err { OnErr result ((self.new ≡ self.old) × GivesStep self.old (ScheduleWord.Turn k)) }
         ensures full { result ≡ Err RunFault.Full → 1000000 ≤ length self.new.journal }
         ensures memory { result ≡ Err RunFault.Memory → length self.new.journal < 1000000 }
         ensures runs { IsSome (replay_of self.new) }
     {
-        // Here the proof takes up the machine's invariant.
-        let _ = &self.world;
-        let Some(k) = self.turn_of(word) else {
-            return Ok(());
-        };
         match self.step(k) {
             Err(_) => Err(RunFault::Memory),
             Ok(turn) => match turn {
@@ -201,8 +198,11 @@ impl<'a> Machine<'a> {
     {
         // Here the proof takes up the machine's invariant.
         let _ = &self.world;
+        let Some(k) = self.turn_of(word) else {
+            return Ok(());
+        };
         for _taken in 0..times {
-            match self.take_word(word) {
+            match self.take_turn(k) {
                 Ok(()) => {}
                 Err(fault) => return Err(fault),
             }

@@ -4,6 +4,6 @@ use Rattle.machine.proofs.machine.Machine.repeat.Given as goal
 
 abbrev pub invariant-loop-taken : goal.invariant-loop-taken
 invariant-loop-taken l = record {
-  along : RunsAlong l.fn.self l.self (replicate l._taken l.word);
+  along : RunsAlong l.fn.self l.self (replicate l._taken l.fn.word);
   runs : IsSome (replay_of l.self);
 }
