@@ -14,7 +14,7 @@ ghost use Rattle.machine.specs.Agrees.{StoreAgrees, ThreadAgrees, IsSteady, IsEx
 ghost use Rattle.machine.specs.Entry.{IsReady, Begins};
 
 use crate::entry::begin;
-use crate::invoke::invoke;
+use crate::invoke::{Invoked, invoke};
 use crate::statics::References;
 use crate::stop::{Trap, trap_of};
 use crate::store::Store;
@@ -225,8 +225,12 @@ fn execute(
             Ok(Executed::Did(Event::Printed(word.cast_signed())))
         }
         Instr::Call(boxed) => {
-            let done = invoke(world, store, pending, call, boxed.call())?;
-            Ok(done)
+            let function = boxed.call();
+            match invoke(world, store, pending, call, function)? {
+                Invoked::Done => Ok(Executed::Did(Event::Quiet)),
+                Invoked::Refused => Ok(Executed::Refused),
+                Invoked::Trapped(trap) => { Ok(Executed::Did(Event::Trapped(trap, function.line))) }
+            }
         }
         Instr::Return | Instr::ReturnJint | Instr::ReturnReference(_) => Ok(Executed::Returned),
         _ => match plain(instr, &mut call.stack, &mut call.numbers) {
