@@ -1,9 +1,11 @@
 //! The instructions. Sections in brackets are those of ISO/IEC 9899:1999.
 
-ghost use Rattle.std.specs.Prelude.{◌≡◌, IfOk};
-ghost use Rattle.code.specs.Call.{call_view};
+ghost use Rattle.std.specs.Prelude.{◌≡◌, IfOk, map};
+ghost use Rattle.std.specs.List.{list_all, list_any};
+ghost use Rattle.jni.specs.Table.{function_value, parameter_value};
+ghost use Rattle.code.specs.Call.{call_view, is_static, takes_any, IsPrepared};
 
-use jni::JniFunction;
+use jni::{JniFunction, ParameterKind, ResultKind};
 use std::alloc::{AllocError, Global};
 use std::marker::Model;
 
@@ -157,7 +159,8 @@ pub enum Target {
     Test,
 }
 
-/// A call of a function of the JNI, in a statement on this line (JNI Specification, chapter 4).
+/// A call of a function of the JNI, in a statement on this line (JNI Specification, chapter 4), and what its step would else find in the
+/// table each time.
 #[derive(Drop)]
 pub struct Call {
     /// Counted from 1; a trap of the call is reported there.
@@ -168,6 +171,70 @@ pub struct Call {
     pub operands: Vec<Operand>,
     /// The texts among them, in order.
     pub texts: Vec<Vec<u8>>,
+    /// What the function gives.
+    pub result: ResultKind,
+    /// Whether something has to be checked of the arguments.
+    pub asks: bool,
+}
+
+/// Whether a parameter takes each local reference, and NULL.
+fn takes_any(parameter: ParameterKind) -> bool
+    ensures { result ≡ takes_any (parameter_value parameter) }
+{
+    matches!(
+        parameter,
+        ParameterKind::Nullable | ParameterKind::LocalVariable
+    )
+}
+
+/// Whether an argument is the global reference of a static, which may be deleted.
+fn is_static(operand: Operand) -> bool
+    ensures { result ≡ is_static operand }
+{
+    matches!(operand, Operand::Static(_))
+}
+
+/// Whether all parameters do.
+fn all_take_any(parameters: &[ParameterKind]) -> bool
+    ensures { result ≡ list_all takes_any (map parameter_value parameters.now) }
+{
+    match parameters {
+        [parameter, parameters @ ..] => takes_any(*parameter) && all_take_any(parameters),
+        [] => true,
+    }
+}
+
+/// Whether some argument is the global reference of a static.
+fn has_static(operands: &[Operand]) -> bool
+    ensures { result ≡ list_any is_static operands.now }
+{
+    operands.iter().any(|operand| is_static(*operand))
+}
+
+impl Call {
+    /// A call of a function with these operands and texts.
+    pub fn new(
+        line: u32,
+        target: Target,
+        function: JniFunction,
+        operands: Vec<Operand>,
+        texts: Vec<Vec<u8>>,
+    ) -> Call
+        ensures view { call_view result ≡ record { line = line; target = target; function = function_value function; operands = operands.items; texts = map (λ text. text.items) texts.items } }
+        ensures prepared { IsPrepared result }
+    {
+        let prototype = function.prototype();
+        let asks = !all_take_any(prototype.parameters) || has_static(&operands);
+        Call {
+            line,
+            target,
+            function,
+            operands,
+            texts,
+            result: prototype.result,
+            asks,
+        }
+    }
 }
 
 /// A call in host memory of its own, so that an instruction stays small however many arguments there are.
@@ -182,11 +249,16 @@ impl Model for BoxedCall {
     ghost Value = { Call };
 
     ghost view = { λ b. call_view b.call.value };
+
+    ghost use Rattle.code.specs.Call.{IsPrepared};
+
+    ghost invariant = { λ b. IsPrepared b.call.value };
 }
 
 impl BoxedCall {
     /// The same call.
     pub fn of(alloc: Global, call: Call) -> Result<BoxedCall, AllocError>
+        requires { IsPrepared call }
         ensures { IfOk result (λ boxed. boxed ≡ call_view call) }
     {
         Ok(BoxedCall {
@@ -196,7 +268,8 @@ impl BoxedCall {
 
     /// The call.
     pub fn call(&self) -> &Call
-        ensures { call_view result.now ≡ self.now }
+        ensures view { call_view result.now ≡ self.now }
+        ensures prepared { IsPrepared result.now }
     {
         &self.call
     }

@@ -1,2 +1,2 @@
-pub mod KnownNames
+pub mod BlockNames
 pub mod Jumps

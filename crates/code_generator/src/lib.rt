@@ -6,6 +6,6 @@ mod names;
 mod statements;
 mod terms;
 
-pub use emitting::{counted, emit};
-pub use names::{Known, Names, Slot, Sort};
+pub use emitting::emit;
+pub use names::{Names, Slot, Sort};
 pub use statements::emit_block;

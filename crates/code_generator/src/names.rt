@@ -1,17 +1,19 @@
-//! The slots of a function's names.
+//! The slots of names.
 
-ghost use Rattle.std.specs.Prelude.{◌≡◌, ◌+◌, [], ◌∷◌, ◌++◌, map, IfOk, OnOk};
+ghost use Rattle.std.specs.Prelude.{◌≡◌, ◌+◌, ◌-◌, [], ◌++◌, length, drop, map, IfOk, OnOk};
 ghost use Rattle.std.specs.Option.{option_map};
 ghost use Rattle.base.specs.Bytes.{lookup};
-ghost use Rattle.syntax.specs.Views.{function_tree, parameter_type_tree};
-ghost use Rattle.code_generator.specs.Layout.{new_slot, parameter_slot, numbers_after, references_after, slots_after, with_name, closed, entry_layout};
-ghost use Rattle.code_generator.specs.Names.{sort_view, slot_view, entry_view, known_behind, latest_of};
+ghost use Rattle.syntax.specs.Views.{static_tree, function_tree, parameter_tree, parameter_type_tree};
+ghost use Rattle.types.specs.SortRules.{parameter_sort};
+ghost use Rattle.code_generator.specs.Layout.{new_slot, with_static, parameter_slots, numbers_of, references_of, slots_after, with_name, entry_layout};
+ghost use Rattle.code_generator.specs.Names.{sort_view, slot_view};
 
 use crate::emitting::counted;
 use code::slots::SlotCounts;
 use std::alloc::{AllocError, Global};
 use std::marker::Model;
-use syntax::{ElementType, Function, Name, Parameter, ParameterType};
+use syntax::{ElementType, Function, Name, Parameter, ParameterType, Static};
+use types::Known;
 
 /// What a name is.
 #[derive(Clone, Copy)]
@@ -35,72 +37,92 @@ pub struct Slot {
     pub index: u32,
 }
 
-/// A name and its slot.
-#[derive(Clone, Copy)]
-pub struct Known<'a> {
-    pub name: &'a Name,
-    pub slot: Slot,
-}
-
-/// The names that are known at a place of a function, and how many slots are taken so far.
+/// The names that are known at a place of a unit, and how many slots are taken so far in the function there.
+///
+/// One serves all functions of a unit: it keeps the statics, and a function's own names are forgotten after it.
 #[derive(Drop)]
 pub struct Names<'a> {
-    /// The statics before the function, the latest last.
-    statics: &'a [Known<'a>],
-    /// The class, the parameters and the variables, the latest last.
-    known: Vec<Known<'a>>,
+    known: Known<'a, Slot>,
     slots: SlotCounts,
 }
 
 impl<'a> Model for Names<'a> {
-    ghost use Rattle.std.specs.Prelude.{[]};
     ghost use Rattle.code_generator.specs.Layout.{Layout};
-    ghost use Rattle.code_generator.specs.Names.{known_behind};
+    ghost use Rattle.code_generator.specs.Names.{known_view};
 
     ghost Value = { Layout };
 
-    ghost view = { λ n. record { known = known_behind n.known.items (known_behind n.statics.now []); slots = n.slots } };
+    ghost view = { λ n. record { known = known_view n.known; slots = n.slots } };
 }
 
 impl<'a> Names<'a> {
-    ghost use Rattle.std.specs.Prelude.{[]};
-
-    /// The statics, the class and the parameters of a function.
-    pub fn of(
-        alloc: Global,
-        statics: &'a [Known<'a>],
-        function: &'a Function,
-    ) -> Result<Names<'a>, AllocError>
-        ensures { IfOk result (λ n. n ≡ entry_layout (known_behind statics.now []) (function_tree function.now)) }
+    /// No names.
+    pub fn new(alloc: Global) -> Names<'a>
+        ensures { result.known ≡ [] }
     {
-        let declared = counted(statics.len())?;
-        let mut known = Vec::new(alloc);
-        known.push(known_as(&function.class_name, Sort::Reference, 0))?;
-        let mut numbers = 0;
-        let mut references = 1;
-        for parameter in &function.parameters {
-            add_parameter(&mut known, &mut numbers, &mut references, parameter)?;
-        }
-        known.reverse();
-        Ok(Names {
-            statics,
-            known,
+        Names {
+            known: Known::new(alloc),
             slots: SlotCounts {
-                numbers,
-                references,
-                statics: declared,
+                numbers: 0,
+                references: 0,
+                statics: 0,
                 field_ids: 0,
                 buffers: 0,
             },
-        })
+        }
+    }
+
+    /// One static more; their slots are counted in the order of the text.
+    pub fn declare_static(&mut self, named: &'a Static) -> Result<(), AllocError>
+        ensures { OnOk result (self.new.known ≡ with_static (static_tree named.now) self.old.known) }
+    {
+        let index = counted(self.len())?;
+        let sort = Sort::Static;
+        self.known.declare(&named.name, Slot { sort, index })
+    }
+
+    /// The names and slots at a function's first statement, after these statics.
+    pub fn enter(&mut self, function: &'a Function) -> Result<(), AllocError>
+        ensures { OnOk result (self.new ≡ entry_layout self.old.known (function_tree function.now)) }
+    {
+        self.slots = SlotCounts {
+            numbers: 0,
+            references: 1,
+            statics: counted(self.known.len())?,
+            field_ids: 0,
+            buffers: 0,
+        };
+        self.declare_parameters(&function.parameters)?;
+        let slot = Slot {
+            sort: Sort::Reference,
+            index: 0,
+        };
+        self.known.declare(&function.class_name, slot)
+    }
+
+    /// Declares parameters, of which the first is known as the latest: so it takes the slots of each before the next one's, and
+    /// declares it after that. It calls itself once for each.
+    fn declare_parameters(&mut self, parameters: &'a [Parameter]) -> Result<(), AllocError>
+        ensures known { OnOk result (self.new.known ≡ parameter_slots (map parameter_tree parameters.now) self.old.slots.numbers self.old.slots.references ++ self.old.known) }
+        ensures slots { OnOk result (self.new.slots ≡ record (self.old.slots) { numbers = numbers_of (map parameter_tree parameters.now) self.old.slots.numbers; references = references_of (map parameter_tree parameters.now) self.old.slots.references }) }
+    {
+        match parameters {
+            [] => Ok(()),
+            [parameter, parameters @ ..] => {
+                let sort = parameter_sort(parameter.kind);
+                let slot = self.new_slot(sort);
+                self.slots = slots_after(self.slots, sort)?;
+                self.declare_parameters(parameters)?;
+                self.known.declare(&parameter.name, slot)
+            }
+        }
     }
 
     /// The slot of the latest declaration of a name.
     pub fn slot_of(&self, name: &Name) -> Option<Slot>
         ensures { option_map slot_view result ≡ lookup name.now self.now.known }
     {
-        let found = latest(self.statics, name, None);
-        latest(&self.known, name, found)
+        self.known.get(name)
     }
 
     /// The slot of a name that is declared next.
@@ -121,29 +143,25 @@ impl<'a> Names<'a> {
     pub fn declare(&mut self, name: &'a Name, sort: Sort) -> Result<(), AllocError>
         ensures { OnOk result (self.new ≡ with_name name.now (sort_view sort) self.old) }
     {
-        let slot = self.new_slot(sort);
         let slots = slots_after(self.slots, sort)?;
-        self.known.push(Known { name, slot })?;
+        let slot = self.new_slot(sort);
+        self.known.declare(name, slot)?;
         self.slots = slots;
         Ok(())
     }
 
-    /// The same names and slots, for a block.
-    pub fn inside(&self, alloc: Global) -> Result<Names<'a>, AllocError>
-        ensures { IfOk result (λ inner. inner ≡ self.now) }
+    /// How many names are known.
+    pub fn len(&self) -> usize
+        ensures { result ≡ length self.now.known }
     {
-        Ok(Names {
-            statics: self.statics,
-            known: Vec::from_slice(alloc, &self.known)?,
-            slots: self.slots,
-        })
+        self.known.len()
     }
 
-    /// Takes the slots that a block has taken. The names of the block are forgotten.
-    pub fn close(&mut self, inner: &Names<'_>)
-        ensures { self.new ≡ closed self.old inner.now }
+    /// Forgets the latest names, so that this many are left. Their slots stay taken.
+    pub fn leave(&mut self, count: usize)
+        ensures { self.new ≡ record { known = drop (length self.old.known - count) self.old.known; slots = self.old.slots } }
     {
-        self.slots = inner.slots;
+        self.known.leave(count);
     }
 
     /// How many slots are taken.
@@ -154,51 +172,13 @@ impl<'a> Names<'a> {
     }
 }
 
-/// A parameter after others that took this number of slots.
-fn add_parameter<'a>(
-    known: &mut Vec<Known<'a>>,
-    numbers: &mut u32,
-    references: &mut u32,
-    parameter: &'a Parameter,
-) -> Result<(), AllocError>
-    ensures known { OnOk result (map entry_view known.new.items ≡ map entry_view known.old.items ++ (parameter.now.name, parameter_slot (parameter_type_tree parameter.now.kind) numbers.old references.old) ∷ []) }
-    ensures numbers { OnOk result (numbers.new ≡ numbers_after (parameter_type_tree parameter.now.kind) numbers.old) }
-    ensures references { OnOk result (references.new ≡ references_after (parameter_type_tree parameter.now.kind) references.old) }
+fn parameter_sort(kind: ParameterType) -> Sort
+    ensures { sort_view result ≡ parameter_sort (parameter_type_tree kind) }
 {
-    match parameter.kind {
-        ParameterType::Jint => {
-            known.push(known_as(&parameter.name, Sort::Jint, *numbers))?;
-            *numbers = one_more(*numbers)?;
-        }
-        ParameterType::Reference(_) => {
-            known.push(known_as(&parameter.name, Sort::Reference, *references))?;
-            *references = one_more(*references)?;
-        }
+    match kind {
+        ParameterType::Jint => Sort::Jint,
+        ParameterType::Reference(_) => Sort::Reference,
     }
-    Ok(())
-}
-
-fn known_as<'a>(name: &'a Name, sort: Sort, index: u32) -> Known<'a>
-    ensures slot { result.slot ≡ record { sort = sort; index = index } }
-    ensures name { result.name.now ≡ name.now }
-{
-    Known {
-        name,
-        slot: Slot { sort, index },
-    }
-}
-
-/// The latest of some names that is spelled so, or what was found before.
-fn latest(known: &[Known<'_>], name: &Name, before: Option<Slot>) -> Option<Slot>
-    ensures { option_map slot_view result ≡ latest_of name.now known.now (option_map slot_view before) }
-{
-    let mut found = before;
-    for entry in known {
-        if name.is_same(entry.name) {
-            found = Some(entry.slot);
-        }
-    }
-    found
 }
 
 /// One more, where it can be counted.

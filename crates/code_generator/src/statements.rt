@@ -26,7 +26,6 @@ use syntax::{
 /// A statement on this line, with the names that are known after it.
 #[cycle(statements)]
 pub fn emit_form<'a>(
-    alloc: Global,
     code: &mut Vec<Instr>,
     names: &mut Names<'a>,
     line: u32,
@@ -56,15 +55,15 @@ pub fn emit_form<'a>(
         Form::Perform(call) => emit_call(code, names, line, Target::Dropped, call),
         Form::PutJint(number) => emit_print(code, names, line, number),
         Form::If(test, first) => {
-            let end = emit_first(alloc, code, names, line, test, first)?;
+            let end = emit_first(code, names, line, test, first)?;
             emit_end(code, end)
         }
         Form::IfElse(test, first, second) => {
-            let end = emit_first(alloc, code, names, line, test, first)?;
-            emit_block(alloc, code, names, second)?;
+            let end = emit_first(code, names, line, test, first)?;
+            emit_block(code, names, second)?;
             emit_end(code, end)
         }
-        Form::While(test, body) => emit_loop(alloc, code, names, line, body, test),
+        Form::While(test, body) => emit_loop(code, names, line, body, test),
         Form::Return(None) => emit(code, Instr::Return),
         Form::Return(Some(value)) => emit_return(code, names, line, value),
     }
@@ -73,7 +72,6 @@ pub fn emit_form<'a>(
 /// The statements of a block, whose names are forgotten after it.
 #[cycle(statements)]
 pub fn emit_block<'a>(
-    alloc: Global,
     code: &mut Vec<Instr>,
     names: &mut Names<'a>,
     block: &'a Block,
@@ -81,18 +79,17 @@ pub fn emit_block<'a>(
     ensures code { OnOk result (code.new.items ≡ code.old.items ++ block_code names.old (block_tree block.now)) }
     ensures names { OnOk result (names.new ≡ closed names.old (block_layout names.old (block_tree block.now))) }
 {
-    let mut inner = names.inside(alloc)?;
+    let outside = names.len();
     for stmt in &block.statements {
-        emit_form(alloc, code, &mut inner, counted(stmt.line)?, &stmt.form)?;
+        emit_form(code, names, counted(stmt.line)?, &stmt.form)?;
     }
-    names.close(&inner);
+    names.leave(outside);
     Ok(())
 }
 
 /// An `if` up to the end of its first way. It answers the place of the jump there, which is not known yet.
 #[cycle(statements)]
 fn emit_first<'a>(
-    alloc: Global,
     code: &mut Vec<Instr>,
     names: &mut Names<'a>,
     line: u32,
@@ -106,7 +103,7 @@ fn emit_first<'a>(
     emit_test(code, names, line, test)?;
     let jump = code.len();
     emit(code, Instr::JumpIfFalse(0))?;
-    emit_block(alloc, code, names, first)?;
+    emit_block(code, names, first)?;
     close_first(code, jump)
 }
 
@@ -138,7 +135,6 @@ fn emit_end(code: &mut Vec<Instr>, end: usize) -> Result<(), AllocError>
 /// A loop: its test, its body, and the way back to the test.
 #[cycle(statements)]
 fn emit_loop<'a>(
-    alloc: Global,
     code: &mut Vec<Instr>,
     names: &mut Names<'a>,
     line: u32,
@@ -152,7 +148,7 @@ fn emit_loop<'a>(
     emit_expr(code, names, line, test)?;
     let jump = code.len();
     emit(code, Instr::JumpIfFalse(0))?;
-    emit_block(alloc, code, names, body)?;
+    emit_block(code, names, body)?;
     close_turn(code, start, jump)
 }
 
@@ -357,13 +353,7 @@ fn emit_call(
     push_operands(&mut operands, names, parameters, &call.arguments)?;
     let mut texts = Vec::new(alloc);
     push_texts(alloc, &mut texts, &call.arguments)?;
-    let call = instr::Call {
-        line,
-        target,
-        function,
-        operands,
-        texts,
-    };
+    let call = instr::Call::new(line, target, function, operands, texts);
     emit(code, Instr::Call(BoxedCall::of(alloc, call)?))
 }
 

@@ -27,13 +27,13 @@ fn an_instruction_takes_16_bytes_at_most(rt: HostRuntime) {
 fn code_keeps_its_instructions(rt: HostRuntime) -> Result<(), Fail> {
     let call = BoxedCall::of(
         rt.alloc(),
-        Call {
-            line: 3,
-            target: Target::Number(0),
-            function: JniFunction::GetArrayLength,
-            operands: vec![in rt.alloc(); Operand::Local(1)]?,
-            texts: Vec::new(rt.alloc()),
-        },
+        Call::new(
+            3,
+            Target::Number(0),
+            JniFunction::GetArrayLength,
+            vec![in rt.alloc(); Operand::Local(1)]?,
+            Vec::new(rt.alloc()),
+        ),
     )?;
     let instrs = vec![in rt.alloc();
         Instr::Call(call),

@@ -22,7 +22,7 @@ use Rattle.lower.specs.Lowered.{Lowered}
 use Rattle.machine.specs.declared.thread.Activation.{Activation}
 use Rattle.machine.specs.Agrees.{FieldAgrees, FieldsAgree, StaticsAgree}
 use Rattle.machine.specs.Statics.{References}
-use Rattle.machine.specs.declared.statics.Held.{Held}
+use Rattle.machine.specs.declared.references.Held.{Held}
 use Rattle.machine.proofs.HeldStatics.{static_there}
 use Rattle.machine.proofs.KeyLaws.{address_there}
 use Rattle.machine.specs.Given.{held_in, IsGiven}

@@ -28,8 +28,8 @@ use Rattle.source.specs.Variable.{StaticReference, Empty, Live, Deleted, as_stat
 use Rattle.lower.specs.Does.{ActualFits}
 use Rattle.machine.specs.Agrees.{FieldAgrees, HeldAgrees}
 use Rattle.machine.specs.Statics.{References, held_address, holds_deleted, holds_null, static_at}
-use Rattle.machine.specs.declared.statics.Held.{Held}
-use Rattle.machine.specs.declared.statics.Held.TheVariants as held
+use Rattle.machine.specs.declared.references.Held.{Held}
+use Rattle.machine.specs.declared.references.Held.TheVariants as held
 use Rattle.machine.specs.Checked.{gives_deleted, gives_null, may_be_null, some_missing, class_misfits, misfits, some_misfit, fit_together, puts_local, trap_found, fits_type_there}
 use Rattle.machine.specs.Given.{AreAddresses, AreHandles, IsGiven, ReferenceIsGiven, class_of_given, class_there, field_at, field_there, fits_there, name_there, no_field, operand_at, operand_of}
 use Rattle.machine.specs.HeapAgrees.{ReferenceAgrees, BlocksAgree}

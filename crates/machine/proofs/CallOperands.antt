@@ -22,8 +22,8 @@ use Rattle.lower.specs.Fits.{IsReferenceKind}
 use Rattle.source.specs.Value.{Int}
 use Rattle.lower.specs.Slots.{word_of}
 use Rattle.machine.specs.Statics.{References, held_address, holds_deleted, holds_null, static_at}
-use Rattle.machine.specs.declared.statics.Held.{Held}
-use Rattle.machine.specs.declared.statics.Held.TheVariants as held
+use Rattle.machine.specs.declared.references.Held.{Held}
+use Rattle.machine.specs.declared.references.Held.TheVariants as held
 use Rattle.machine.specs.Checked.{gives_deleted, gives_null, misfits, some_misfit, some_missing, may_be_null}
 use Rattle.machine.specs.Given.{operand_at, operand_of, class_there, IsGiven, field_at}
 use Rattle.machine.specs.HeapAgrees.{ReferenceAgrees, BlocksAgree, IsTable}

@@ -27,8 +27,8 @@ use Rattle.machine.specs.declared.thread.Activation.{Activation}
 use Rattle.machine.specs.Agrees.{FieldAgrees, HeldAgrees}
 use Rattle.machine.specs.Asked.{IsAsked, references_of}
 use Rattle.machine.specs.Statics.{References, held_address, static_at}
-use Rattle.machine.specs.declared.statics.Held.{Held}
-use Rattle.machine.specs.declared.statics.Held.TheVariants as held
+use Rattle.machine.specs.declared.references.Held.{Held}
+use Rattle.machine.specs.declared.references.Held.TheVariants as held
 use Rattle.machine.specs.Checked.{fit_together, gives_deleted, some_missing, some_misfit, puts_local, trap_found}
 use Rattle.machine.specs.Locals.{locals_after}
 use Rattle.tables.specs.Locals.{has_room}

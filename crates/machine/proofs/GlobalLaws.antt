@@ -10,8 +10,8 @@ use Rattle.tables.specs.References.{IsPut, address_at, references_in}
 use Rattle.machine.specs.declared.statics.StaticReference.{StaticReference}
 use Rattle.machine.specs.declared.statics.StaticReference.TheVariants as static
 use Rattle.machine.specs.Statics.{HaveKeys, all_held, held, held_at}
-use Rattle.machine.specs.declared.statics.Held.{Held}
-use Rattle.machine.specs.declared.statics.Held.TheVariants as memory
+use Rattle.machine.specs.declared.references.Held.{Held}
+use Rattle.machine.specs.declared.references.Held.TheVariants as memory
 use Rattle.machine.specs.HeapAgrees.{SlotsAgree, times}
 use Rattle.machine.specs.HeapAgrees.{NamesAgree}
 

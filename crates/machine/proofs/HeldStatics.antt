@@ -11,8 +11,8 @@ use Rattle.source.specs.Start.{null_static}
 use Rattle.source.specs.Variable.{StaticReference, Empty, Live, Deleted, Statics, assign}
 use Rattle.lower.specs.Slots.{is_empty, static_index}
 use Rattle.tables.specs.References.{address_at}
-use Rattle.machine.specs.declared.statics.Held.{Held}
-use Rattle.machine.specs.declared.statics.Held.TheVariants as held
+use Rattle.machine.specs.declared.references.Held.{Held}
+use Rattle.machine.specs.declared.references.Held.TheVariants as held
 use Rattle.machine.specs.declared.statics.StaticReference.{StaticReference as InMemory}
 use Rattle.machine.specs.declared.statics.StaticReference.TheVariants as static
 use Rattle.machine.specs.Agrees.{HeldAgrees, StaticsAgree}

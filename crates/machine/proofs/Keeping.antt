@@ -22,8 +22,8 @@ use Rattle.source.specs.Sight.{holds_null, held_reference, in_range, elements_of
 use Rattle.source.specs.Value.{outcome_then}
 use Rattle.source.specs.Variable.{StaticReference, Empty, Live, Deleted, Variable, Statics, assign}
 use Rattle.tables.specs.References.{references_in}
-use Rattle.machine.specs.declared.statics.Held.{Held}
-use Rattle.machine.specs.declared.statics.Held.TheVariants as held
+use Rattle.machine.specs.declared.references.Held.{Held}
+use Rattle.machine.specs.declared.references.Held.TheVariants as held
 use Rattle.lower.specs.Slots.{Slots, Shows, ShowsSlot, static_index, visible_to}
 use Rattle.lower.proofs.StaticLaws.{shows_still}
 use Rattle.machine.proofs.Changes.{array_of}

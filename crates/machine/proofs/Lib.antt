@@ -55,3 +55,4 @@ pub mod Effects
 pub mod ObjectsAtAddresses
 pub mod BlockObjects
 pub mod RootNames
+pub mod Unasked

@@ -18,7 +18,7 @@ use Rattle.machine.specs.declared.store.Store.{Store}
 use Rattle.machine.specs.HeapAgrees.{SlotsAgree}
 use Rattle.machine.specs.Agrees.{Keeps, StaticsAgree, StoreAgrees}
 use Rattle.machine.specs.Statics.{HaveKeys, all_held}
-use Rattle.machine.specs.declared.statics.Held.{Held}
+use Rattle.machine.specs.declared.references.Held.{Held}
 use Rattle.machine.specs.declared.statics.StaticReference.{StaticReference}
 use Rattle.machine.specs.Answers.{IsMakeable}
 use Rattle.machine.specs.HeapAgrees.{HeapAgrees, IsTable, ValueAgrees, ValuesAgree}

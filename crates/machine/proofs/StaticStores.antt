@@ -6,7 +6,7 @@ use Rattle.heap.specs.Heap.{name_at}
 use Rattle.tables.specs.References.{IsPut, address_at}
 use Rattle.machine.specs.CarriedOut.{IsFresh}
 use Rattle.machine.proofs.GlobalLaws.{address_new, slots_deleted, slots_made, helds_kept, helds_marked, key_fresh, keys_kept, keys_marked, slot_there}
-use Rattle.machine.specs.declared.statics.Held.TheVariants as memory
+use Rattle.machine.specs.declared.references.Held.TheVariants as memory
 use Rattle.source.specs.CallEffects.{without_one}
 use Rattle.tables.specs.Globals.{without}
 use Rattle.std.proofs.lemmas.List.{length-map, take_all}
@@ -30,7 +30,7 @@ use Rattle.lower.specs.Lowered.{Lowered}
 use Rattle.lower.specs.Slots as lower
 use Rattle.safety.specs.Owners.{Owners}
 use Rattle.lower.specs.Slots.{Slots, static_index, visible_to}
-use Rattle.machine.specs.declared.statics.Held.{Held}
+use Rattle.machine.specs.declared.references.Held.{Held}
 use Rattle.machine.specs.declared.statics.StaticReference.{StaticReference as InMemory}
 use Rattle.machine.specs.declared.statics.StaticReference.TheVariants as static
 use Rattle.machine.specs.declared.store.Store.{Store}

@@ -49,8 +49,8 @@ use Rattle.machine.specs.Classed.{AreClassed}
 use Rattle.machine.specs.HeapAgrees.{ReferenceAgrees, HeapAgrees, IsTable, SlotsAgree}
 use Rattle.machine.specs.Locals.{FramesAgree, KeysAgree}
 use Rattle.machine.specs.Statics.{HaveKeys, all_held}
-use Rattle.machine.specs.declared.statics.Held.{Held}
-use Rattle.machine.specs.declared.statics.Held.TheVariants as held
+use Rattle.machine.specs.declared.references.Held.{Held}
+use Rattle.machine.specs.declared.references.Held.TheVariants as held
 use Rattle.machine.specs.Stops.{trap_view}
 
 -- how a thread has ended, if it has

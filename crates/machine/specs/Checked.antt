@@ -1,5 +1,5 @@
 -- What is checked of a call before it does anything, by what is in memory.
-use Rattle.std.specs.Prelude.{ℕ, Bool, true, false, not, ◌&&◌, ◌||◌, ◌==◌, List, [], ◌∷◌, is_none, Option, Some, None}
+use Rattle.std.specs.Prelude.{ℕ, Bool, true, false, not, ◌&&◌, ◌||◌, ◌==◌, List, [], ◌∷◌, ◌++◌, is_none, Option, Some, None}
 use Rattle.std.specs.List.{list_any}
 use Rattle.classes.specs.BuiltIns.{class_class, has_own_making, string_class, number_array}
 use Rattle.classes.specs.Class.{Classes, FieldType, NumberField, ReferenceField, class_kind, is_plain, is_object_array, assignable}
@@ -56,15 +56,6 @@ class_misfits classes ObjectArray class = not (is_object_array (class_kind class
 class_misfits classes StringObject class = not (class == string_class)
 class_misfits classes p class = false
 
--- a parameter asks for objects of a kind
-abbrev pub asks_kind : ParameterKind → Bool
-asks_kind ClassObject = true
-asks_kind AnyArray = true
-asks_kind ObjectArray = true
-asks_kind StringObject = true
-asks_kind (NumberArray T) = true
-asks_kind p = false
-
 -- so is an object at an address
 abbrev pub misfits : Classes → Space → ParameterKind → Option ℕ → Bool
 misfits classes space p None = false
@@ -116,13 +107,19 @@ abbrev pub puts_local : ResultKind → Bool
 puts_local NewLocal = true
 puts_local kind = false
 
+-- what is asked of a call's arguments, in this order, each with the trap where it isn't so
+abbrev pub arguments_asked : Classes → Space → References → List (Option FieldHandle) → JniFunction → List Operand → List (Bool × Trap)
+arguments_asked classes space references fields f operands =
+    (list_any (gives_deleted references) operands, DeletedReference)
+    ∷ (some_missing references fields (prototype f).parameters operands, NullReference)
+    ∷ (some_misfit classes space references (prototype f).parameters operands || not (fit_together classes space references fields operands f), WrongObject)
+    ∷ []
+
 -- the trap of a call before it does anything
 abbrev pub trap_found : Classes → Space → (is_pending has_room : Bool) → References → List (Option FieldHandle) → JniFunction → List Operand → Option Trap
 trap_found classes space is_pending has_room references fields f operands =
     first_trap (
     (is_pending && not (is_allowed_pending f), ExceptionPending)
-    ∷ (list_any (gives_deleted references) operands, DeletedReference)
-    ∷ (some_missing references fields (prototype f).parameters operands, NullReference)
-    ∷ (some_misfit classes space references (prototype f).parameters operands || not (fit_together classes space references fields operands f), WrongObject)
-    ∷ (puts_local (prototype f).result && not has_room, NoCapacity)
+    ∷ arguments_asked classes space references fields f operands
+    ++ (puts_local (prototype f).result && not has_room, NoCapacity)
     ∷ [])

@@ -4,8 +4,8 @@ use Rattle.tables.specs.Locals.{LocalTable}
 use Rattle.tables.specs.References.{address_at}
 use Rattle.machine.specs.declared.statics.StaticReference.{StaticReference}
 use Rattle.machine.specs.declared.statics.StaticReference.TheVariants as static
-use Rattle.machine.specs.declared.statics.Held.{Held}
-use Rattle.machine.specs.declared.statics.Held.TheVariants.{Empty, At, Deleted}
+use Rattle.machine.specs.declared.references.Held.{Held}
+use Rattle.machine.specs.declared.references.Held.TheVariants.{Empty, At, Deleted}
 
 -- the references that operands can name: the keys in the slots of local references, with their table, and what the statics hold
 pub record References : Type 0 where

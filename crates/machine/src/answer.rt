@@ -19,7 +19,8 @@ ghost use Rattle.syntax.specs.Views.{element_tree};
 use crate::operands::{
     class_of_given, declaring, fits_there, handle_at, key_in, name_there, operand_of, reference_at,
 };
-use crate::statics::{References, StaticReference};
+use crate::references::References;
+use crate::statics::StaticReference;
 use class_table::built_ins::{NO_CLASS_DEF_FOUND_ERROR, NO_SUCH_FIELD_ERROR};
 use class_table::class::FieldHandle;
 use class_table::table::ClassTable;

@@ -1,31 +1,35 @@
 //! What is checked of a call before it does anything, in one order for all functions.
 
-ghost use Rattle.std.specs.Prelude.{◌≡◌, ℕ, Some, IsSome, map};
+ghost use Rattle.std.specs.Prelude.{◌≡◌, ℕ, Bool, List, ◌++◌, ◌&&◌, not, Some, IsSome, IfSome, IfNone, map, false};
 ghost use Rattle.std.specs.List.{list_any};
 ghost use Rattle.std.specs.Option.{option_map};
-ghost use Rattle.class_table.specs.FieldViews.{field_of};
+ghost use Rattle.classes.specs.Class.{Classes};
 ghost use Rattle.class_table.specs.Views.{element_view, field_type_view};
 ghost use Rattle.heap.specs.Heap.{IsAddress};
-ghost use Rattle.jni.specs.Table.{facts, facts_of, function_value, parameter_value, result_value};
-ghost use Rattle.machine.specs.Given.{field_at, operand_at, operand_of, AreAddresses, AreHandles};
+ghost use Rattle.code.specs.Call.{IsPrepared};
+ghost use Rattle.jni.specs.JniFunction.{is_allowed_pending, prototype};
+ghost use Rattle.jni.specs.Table.{function_value, parameter_value, result_value};
+ghost use Rattle.machine.specs.Given.{field_at, field_there, operand_at, operand_of, AreAddresses, AreHandles};
 ghost use Rattle.machine.specs.Locals.{locals_after};
 ghost use Rattle.tables.specs.Locals.{has_room};
-ghost use Rattle.machine.specs.Checked.{asks_kind, has_field, has_static, gives_null, gives_deleted, may_be_null, some_missing, class_misfits, misfits, some_misfit, fits_type_there, fit_together, puts_local, trap_found};
+ghost use Rattle.machine.specs.Checked.{arguments_asked, has_field, has_static, gives_null, gives_deleted, may_be_null, some_missing, class_misfits, misfits, some_misfit, fits_type_there, fit_together, puts_local, trap_found};
 ghost use Rattle.machine.specs.Stops.{trap_view};
+ghost use Rattle.source.specs.Checks.{first_trap};
 ghost use Rattle.source.specs.Heap.{holds_number, holds_reference};
+ghost use Rattle.source.specs.Value.{Trap as SourceTrap};
 
 use crate::operands::{
     class_of_given, declaring, element_type, field_in, fits_there, handle_at, is_static,
     name_there, reference_at, reference_in, type_of,
 };
-use crate::statics::{Held, References};
+use crate::references::{Held, References};
 use crate::stop::Trap;
 use class_table::built_ins::{CLASS, STRING, number_array};
 use class_table::class::{ClassKind, ElementType, FieldHandle, FieldType};
 use class_table::table::ClassTable;
 use code::instr::{Call, Operand};
 use heap::{Addr, Heap};
-use jni::{JniFunction, ParameterKind, Prototype, ResultKind};
+use jni::{JniFunction, ParameterKind, ResultKind};
 use tables::Locals;
 
 /// Whether an operand gives NULL.
@@ -109,9 +113,9 @@ fn class_misfits(classes: &ClassTable, parameter: ParameterKind, class: usize) -
     }
 }
 
-/// Whether a parameter asks for objects of a kind.
+/// Whether a parameter asks for objects of a kind. Where it doesn't, no object is looked at.
 fn asks_kind(parameter: ParameterKind) -> bool
-    ensures { result ≡ asks_kind (parameter_value parameter) }
+    ensures { result ≡ false → (classes : Classes) (class : ℕ) → class_misfits classes (parameter_value parameter) class ≡ false }
 {
     matches!(
         parameter,
@@ -205,17 +209,16 @@ fn fits_type(
     }
 }
 
-/// The field or static of operand 1.
-fn field_of(
+/// What the field or static of operand 1 holds, and numbers for NULL.
+fn asked_type(
     classes: &ClassTable,
     fields: &[Option<FieldHandle>],
     operands: &[Operand],
-) -> Option<FieldHandle>
+) -> FieldType
     requires { AreHandles classes.now fields.now operands.now }
-    ensures field { result ≡ field_at fields.now (operand_of operands.now 1) }
-    ensures there { (h : FieldHandle) → result ≡ Some h → IsSome (field_of classes.now h) }
+    ensures { field_type_view result ≡ (field_there classes.now (field_at fields.now (operand_of operands.now 1))).field.type }
 {
-    handle_at(classes, fields, operands, 1)
+    type_of(classes, handle_at(classes, fields, operands, 1))
 }
 
 /// Whether operand 0 is an object that has the field of operand 1.
@@ -230,7 +233,7 @@ fn has_field(
     requires handles { AreHandles classes.now fields.now operands.now }
     ensures { result ≡ has_field classes.now heap.now references.now fields.now operands.now }
 {
-    let field = field_of(classes, fields, operands);
+    let field = handle_at(classes, fields, operands, 1);
     let reference = reference_at(heap, references, operands, 0);
     !is_static(classes, field)
         && classes.assignable(class_of_given(heap, reference), declaring(classes, field))
@@ -248,7 +251,7 @@ fn has_static(
     requires handles { AreHandles classes.now fields.now operands.now }
     ensures { result ≡ has_static classes.now heap.now references.now fields.now operands.now }
 {
-    let field = field_of(classes, fields, operands);
+    let field = handle_at(classes, fields, operands, 1);
     let reference = reference_at(heap, references, operands, 0);
     is_static(classes, field)
         && classes.assignable(name_there(heap, reference), declaring(classes, field))
@@ -276,12 +279,12 @@ fn fit_together(
             has_field(classes, heap, references, fields, operands)
                 && holds_number(
                     element_type(element),
-                    type_of(classes, field_of(classes, fields, operands)),
+                    asked_type(classes, fields, operands),
                 )
         }
         JniFunction::GetObjectField => {
             has_field(classes, heap, references, fields, operands)
-                && holds_reference(type_of(classes, field_of(classes, fields, operands)))
+                && holds_reference(asked_type(classes, fields, operands))
         }
         JniFunction::SetObjectField => {
             let value = reference_at(heap, references, operands, 2);
@@ -290,19 +293,19 @@ fn fit_together(
                     classes,
                     heap,
                     value,
-                    type_of(classes, field_of(classes, fields, operands)),
+                    asked_type(classes, fields, operands),
                 )
         }
         JniFunction::GetStaticField(element) | JniFunction::SetStaticField(element) => {
             has_static(classes, heap, references, fields, operands)
                 && holds_number(
                     element_type(element),
-                    type_of(classes, field_of(classes, fields, operands)),
+                    asked_type(classes, fields, operands),
                 )
         }
         JniFunction::GetStaticObjectField => {
             has_static(classes, heap, references, fields, operands)
-                && holds_reference(type_of(classes, field_of(classes, fields, operands)))
+                && holds_reference(asked_type(classes, fields, operands))
         }
         JniFunction::SetStaticObjectField => {
             let value = reference_at(heap, references, operands, 2);
@@ -311,40 +314,36 @@ fn fit_together(
                     classes,
                     heap,
                     value,
-                    type_of(classes, field_of(classes, fields, operands)),
+                    asked_type(classes, fields, operands),
                 )
         }
         _ => true,
     }
 }
 
-/// The trap of a call before it does anything, by what the table says of its function. It takes no host memory.
-pub fn check(
+/// The trap of a call for its arguments.
+#[inline(never)]
+fn check_arguments(
     classes: &ClassTable,
     heap: &Heap,
-    is_pending: bool,
-    locals: &Locals,
     references: &References<'_>,
     fields: &[Option<FieldHandle>],
-    asked: &Prototype,
     function: &Call,
 ) -> Option<Trap>
-    requires asked { facts asked.now ≡ facts_of (function_value function.now.function) }
     requires objects { AreAddresses heap.now references.now function.now.operands.items }
     requires handles { AreHandles classes.now fields.now function.now.operands.items }
-    ensures { option_map trap_view result ≡ trap_found classes.now heap.now is_pending (has_room (locals_after (function_value function.now.function) locals.now)) references.now fields.now (function_value function.now.function) function.now.operands.items }
+    ensures some { IfSome result (λ t. (rest : List (Bool × SourceTrap)) → first_trap (arguments_asked classes.now heap.now references.now fields.now (function_value function.now.function) function.now.operands.items ++ rest) ≡ Some (trap_view t)) }
+    ensures none { IfNone result ((rest : List (Bool × SourceTrap)) → first_trap (arguments_asked classes.now heap.now references.now fields.now (function_value function.now.function) function.now.operands.items ++ rest) ≡ first_trap rest) }
 {
     let operands = &function.operands;
-    if is_pending && !asked.pending {
-        return Some(Trap::ExceptionPending);
-    }
+    let parameters = function.function.prototype().parameters;
     if some_deleted(references, operands) {
         return Some(Trap::DeletedReference);
     }
-    if some_missing(references, fields, asked.parameters, operands) {
+    if some_missing(references, fields, parameters, operands) {
         return Some(Trap::NullReference);
     }
-    if some_misfit(classes, heap, references, asked.parameters, operands)
+    if some_misfit(classes, heap, references, parameters, operands)
         || !fit_together(
             classes,
             heap,
@@ -356,7 +355,68 @@ pub fn check(
     {
         return Some(Trap::WrongObject);
     }
-    if puts_local(asked.result) && !has_room(locals, function.function) {
+    None
+}
+
+/// The same, without a look at arguments of which nothing is asked.
+#[tactic(auto, using(crate::proofs::Unasked::nothing_asked))]
+fn argument_trap(
+    classes: &ClassTable,
+    heap: &Heap,
+    references: &References<'_>,
+    fields: &[Option<FieldHandle>],
+    function: &Call,
+) -> Option<Trap>
+    requires prepared { IsPrepared function.now }
+    requires objects { AreAddresses heap.now references.now function.now.operands.items }
+    requires handles { AreHandles classes.now fields.now function.now.operands.items }
+    ensures some { IfSome result (λ t. (rest : List (Bool × SourceTrap)) → first_trap (arguments_asked classes.now heap.now references.now fields.now (function_value function.now.function) function.now.operands.items ++ rest) ≡ Some (trap_view t)) }
+    ensures none { IfNone result ((rest : List (Bool × SourceTrap)) → first_trap (arguments_asked classes.now heap.now references.now fields.now (function_value function.now.function) function.now.operands.items ++ rest) ≡ first_trap rest) }
+{
+    if function.asks {
+        check_arguments(classes, heap, references, fields, function)
+    } else {
+        None
+    }
+}
+
+/// Whether a pending exception keeps a function from being called.
+fn is_kept_off(is_pending: bool, function: JniFunction) -> bool
+    ensures { result ≡ (is_pending && not (is_allowed_pending (function_value function))) }
+{
+    is_pending && !function.prototype().pending
+}
+
+/// Whether a call gives a local reference for which there is no room.
+fn lacks_room(locals: &Locals, function: &Call) -> bool
+    requires { IsPrepared function.now }
+    ensures { result ≡ (puts_local (prototype (function_value function.now.function)).result && not (has_room (locals_after (function_value function.now.function) locals.now))) }
+{
+    puts_local(function.result) && !has_room(locals, function.function)
+}
+
+/// The trap of a call before it does anything. It takes no host memory.
+pub fn check(
+    classes: &ClassTable,
+    heap: &Heap,
+    is_pending: bool,
+    locals: &Locals,
+    references: &References<'_>,
+    fields: &[Option<FieldHandle>],
+    function: &Call,
+) -> Option<Trap>
+    requires prepared { IsPrepared function.now }
+    requires objects { AreAddresses heap.now references.now function.now.operands.items }
+    requires handles { AreHandles classes.now fields.now function.now.operands.items }
+    ensures { option_map trap_view result ≡ trap_found classes.now heap.now is_pending (has_room (locals_after (function_value function.now.function) locals.now)) references.now fields.now (function_value function.now.function) function.now.operands.items }
+{
+    if is_kept_off(is_pending, function.function) {
+        return Some(Trap::ExceptionPending);
+    }
+    if let Some(trap) = argument_trap(classes, heap, references, fields, function) {
+        return Some(trap);
+    }
+    if lacks_room(locals, function) {
         return Some(Trap::NoCapacity);
     }
     None

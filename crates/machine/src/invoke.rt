@@ -1,6 +1,7 @@
 //! Calls of functions of the JNI (JNI Specification, chapter 4).
 
 ghost use Rattle.std.specs.Prelude.{◌≡◌, ◌+◌, ◌<◌, ◌^◌, ℕ, List, Option, IfOk, OnErr};
+ghost use Rattle.code.specs.Call.{IsPrepared};
 ghost use Rattle.source.specs.Effect.{effect_of};
 ghost use Rattle.source.specs.Task.{Task};
 ghost use Rattle.source.specs.Thread.{BuffersInUse, Shared, Thread as SourceThread, sight_of};
@@ -13,7 +14,7 @@ use crate::answer::work_out;
 use crate::carry_out::carry_out;
 use crate::check::check;
 use crate::receive::receive;
-use crate::statics::References;
+use crate::references::References;
 use crate::stop::Trap;
 use crate::store::Store;
 use crate::thread::Activation;
@@ -42,6 +43,7 @@ pub fn invoke(
 ) -> Result<Invoked, AllocError>
     requires at_call { (p : Lowered) × (own : Owners) × (shared : Shared) × (s : SourceThread) × (task : Task) × (rest : List Task) × AtCall p world.now store.old pending.old call.old function.now own shared s task rest }
     requires place { call.old.place + 1 < 2 ^ 64 }
+    requires prepared { IsPrepared function.now }
     ensures done { IfOk result (λ done. (p : Lowered) (lent : BuffersInUse) (k : ℕ) (own : Owners) (shared : Shared) (s : SourceThread) (task : Task) (rest : List Task) → AtCall p world.now store.old pending.old call.old function.now own shared s task rest
         → Executes p world.now store.old.heap store.new lent k own shared s rest call.new pending.new (effect_of (sight_of shared s) task) (executed_as function.now.line done)) }
     ensures store { OnErr result (store.new ≡ store.old) }
@@ -54,7 +56,6 @@ pub fn invoke(
         &store.statics,
         &store.globals,
     );
-    let asked = function.function.prototype();
     let trap = check(
         world.classes(),
         &store.heap,
@@ -62,7 +63,6 @@ pub fn invoke(
         &call.locals,
         &references,
         &call.fields,
-        asked,
         function,
     );
     if let Some(trap) = trap {
@@ -77,7 +77,7 @@ pub fn invoke(
         &call.stack,
         function,
     );
-    let kind = asked.result;
+    let kind = function.result;
     let carried = carry_out(world, store, pending, &mut call.locals, kind, answer)?;
     // Here the proof takes up what is known of a table.
     let _ = call.locals.frames();

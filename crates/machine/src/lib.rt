@@ -13,6 +13,7 @@ mod make;
 mod objects;
 mod operands;
 mod receive;
+mod references;
 mod roots;
 mod rows;
 mod statics;

@@ -7,7 +7,7 @@ ghost use Rattle.heap.specs.Heap.{IsAddress};
 ghost use Rattle.machine.specs.Given.{operand_at, key_at, field_at, operand_of, class_of_given, name_there, fits_there, field_there, AreAddresses, AreHandles};
 ghost use Rattle.syntax.specs.Views.{element_tree};
 
-use crate::statics::{Held, References};
+use crate::references::{Held, References};
 use class_table::class::{ElementType, FieldHandle, FieldType};
 use class_table::table::ClassTable;
 use code::instr::Operand;

@@ -2,7 +2,7 @@
 
 ghost use Rattle.std.specs.Prelude.{◌≡◌, ◌<◌, ◌^◌, ◌+◌, [], length};
 ghost use Rattle.jni.specs.Table.{result_value};
-ghost use Rattle.machine.specs.Received.{HasTarget, HasRoom, MakesLocal, Receives, stack_with, numbers_with, references_with, fields_with, statics_with, HasNumber, HasReference, HasField, HasStatic};
+ghost use Rattle.machine.specs.Received.{HasTarget, HasRoom, MakesLocal, Receives, stack_with, numbers_with, fields_with, statics_with, HasStatic};
 
 use crate::answer::Given;
 use crate::statics::StaticReference;
@@ -31,33 +31,14 @@ pub fn receive(
 {
     call.stack.clear();
     call.place += 1;
-    put_test(&mut call.stack, target, given);
-    put_number(&mut call.numbers, target, given);
     let key = make_local(&mut call.locals, kind, given);
-    put_reference(&mut call.references, target, key);
-    put_field(&mut call.fields, target, given);
-    put_static(statics, target, given);
-}
-
-/// Puts the truth whether a number is 0 onto the stack, for the test of an `if`.
-fn put_test(stack: &mut Stack, target: Target, given: &Given)
-    requires { stack.old ≡ [] }
-    ensures { stack.new ≡ stack_with target given.now }
-{
-    match (target, *given) {
-        (Target::Test, Given::Number(word)) => stack.push(u32::from(word == 0)),
-        _ => {}
-    }
-}
-
-/// Puts a number into its slot.
-fn put_number(numbers: &mut [u32], target: Target, given: &Given)
-    requires { HasNumber target (length numbers.old) }
-    ensures { numbers.new ≡ numbers_with target given.now numbers.old }
-{
-    match (target, *given) {
-        (Target::Number(slot), Given::Number(word)) => numbers[slot as usize] = word,
-        _ => {}
+    match target {
+        Target::Dropped | Target::Buffer(_) => {}
+        Target::Number(slot) => put_number(&mut call.numbers, slot, given),
+        Target::Local(slot) => call.references[slot as usize] = key,
+        Target::FieldId(slot) => put_field(&mut call.fields, slot, given),
+        Target::Static(slot) => put_static(statics, slot, given),
+        Target::Test => put_test(&mut call.stack, given),
     }
 }
 
@@ -67,40 +48,47 @@ fn make_local(locals: &mut Locals, kind: ResultKind, given: &Given) -> Option<Lo
     ensures { MakesLocal (result_value kind) given.now locals.old result locals.new }
 {
     match (kind, *given) {
-        (ResultKind::NewLocal, Given::Reference(Some(addr))) => Some(locals.make(addr).unwrap()),
+        (ResultKind::NewLocal, Given::Reference(Some(addr))) => Some(locals.make_in_room(addr)),
         _ => None,
     }
 }
 
-/// Puts the key of a reference into its slot.
-fn put_reference(references: &mut [Option<Local>], target: Target, key: Option<Local>)
-    requires { HasReference target (length references.old) }
-    ensures { references.new ≡ references_with target key references.old }
+/// Puts the truth whether a number is 0 onto the stack, for the test of an `if`.
+fn put_test(stack: &mut Stack, given: &Given)
+    requires { stack.old ≡ [] }
+    ensures { stack.new ≡ stack_with Target.Test given.now }
 {
-    match target {
-        Target::Local(slot) => references[slot as usize] = key,
-        _ => {}
+    if let Given::Number(word) = *given {
+        stack.push(u32::from(word == 0));
+    }
+}
+
+/// Puts a number into its slot.
+fn put_number(numbers: &mut [u32], slot: u32, given: &Given)
+    requires { slot < length numbers.old }
+    ensures { numbers.new ≡ numbers_with (Target.Number slot) given.now numbers.old }
+{
+    if let Given::Number(word) = *given {
+        numbers[slot as usize] = word;
     }
 }
 
 /// Puts a field ID into its slot.
-fn put_field(fields: &mut [Option<FieldHandle>], target: Target, given: &Given)
-    requires { HasField target (length fields.old) }
-    ensures { fields.new ≡ fields_with target given.now fields.old }
+fn put_field(fields: &mut [Option<FieldHandle>], slot: u32, given: &Given)
+    requires { slot < length fields.old }
+    ensures { fields.new ≡ fields_with (Target.FieldId slot) given.now fields.old }
 {
-    match (target, *given) {
-        (Target::FieldId(slot), Given::FieldId(field)) => fields[slot as usize] = field,
-        _ => {}
+    if let Given::FieldId(field) = *given {
+        fields[slot as usize] = field;
     }
 }
 
 /// Puts a global reference into its static. One that the static held stays.
-fn put_static(statics: &mut [StaticReference], target: Target, given: &Given)
-    requires { HasStatic target (length statics.old) }
-    ensures { statics.new ≡ statics_with target given.now statics.old }
+fn put_static(statics: &mut [StaticReference], slot: u32, given: &Given)
+    requires { slot < length statics.old }
+    ensures { statics.new ≡ statics_with (Target.Static slot) given.now statics.old }
 {
-    match (target, *given) {
-        (Target::Static(slot), Given::Global(reference)) => statics[slot as usize] = reference,
-        _ => {}
+    if let Given::Global(reference) = *given {
+        statics[slot as usize] = reference;
     }
 }

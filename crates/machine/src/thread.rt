@@ -15,7 +15,7 @@ ghost use Rattle.machine.specs.Entry.{IsReady, Begins};
 
 use crate::entry::begin;
 use crate::invoke::{Invoked, invoke};
-use crate::statics::References;
+use crate::references::References;
 use crate::stop::{Trap, trap_of};
 use crate::store::Store;
 use crate::variable::{is_null, set_null};

@@ -3,7 +3,8 @@
 ghost use Rattle.std.specs.Prelude.{◌≡◌, length};
 ghost use Rattle.machine.specs.Variables.{is_null, HasSlot, nulled_references, nulled_fields, nulled_statics};
 
-use crate::statics::{Held, References, StaticReference};
+use crate::references::{Held, References};
+use crate::statics::StaticReference;
 use class_table::class::FieldHandle;
 use code::instr::NullableVariable;
 use tables::Local;

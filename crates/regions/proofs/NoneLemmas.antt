@@ -1,16 +1,15 @@
 -- A statement uses and reads no name about which the answer is yes, where there is none.
-use Rattle.std.proofs.Common.{◌≡◌, Bool, true, false, ◌&&◌, ◌||◌, if◌then◌else◌, List, [], ◌∷◌, Option, Some, None, refl, sym, ap, ◌∙◌}
+use Rattle.std.proofs.Common.{◌≡◌, Bool, true, false, ◌||◌, if◌then◌else◌, List, [], ◌∷◌, Option, Some, None, refl, ◌∙◌}
 use Rattle.std.specs.List.{list_any}
 use Rattle.std.specs.Str.{bytes_eq}
 use Rattle.base.specs.Bytes.{Identifier, lookup}
 use Rattle.syntax.specs.Parts.{names_in, elements_in}
-use Rattle.syntax.specs.Tree.{Expr, Argument, Value, Text, AddressOf, Call, RightSide, FromExpr, FromCall, Test, TestExpr, TestCall, Stmt, Declare, DeclareBuffer, DeclareChars, DeclareArray, Assign, AssignElement, Perform, PutJint, If, IfElse, While, Return, ReturnValue}
-use Rattle.types.specs.Uses.{expr_uses, argument_uses, call_uses, right_uses, test_uses, uses}
-use Rattle.regions.specs.Reads.{expr_reads, argument_reads, call_reads, right_reads, test_reads, reads}
+use Rattle.syntax.specs.Tree.{Expr, Argument, Value, Text, AddressOf, RightSide, FromExpr, FromCall, Test, TestExpr, TestCall, Stmt, Declare, DeclareBuffer, DeclareChars, DeclareArray, Assign, AssignElement, Perform, PutJint, If, IfElse, While, Return, ReturnValue}
+use Rattle.types.specs.Uses.{expr_uses, argument_uses, right_uses, test_uses, uses}
+use Rattle.regions.specs.Reads.{expr_reads, argument_reads, right_reads, test_reads, reads}
 use Rattle.regions.specs.RegionStates.{RegionState, VariableState}
-use Rattle.regions.specs.StatesInMemory.{asks, any_asked, condition_holds, variable_state, variables_value}
+use Rattle.regions.specs.StatesInMemory.{asks, any_asked, condition_holds}
 use Rattle.regions.specs.SameStates.{NamedState}
-use Rattle.regions.specs.declared.states.Variable.{Variable}
 use Rattle.regions.specs.declared.states.Condition.{Condition}
 use Rattle.regions.specs.declared.states.Condition.TheVariants as condition
 

@@ -1,5 +1,6 @@
 -- The walk over the ways in memory is that of the definitions.
 use Rattle.std.proofs.Common.{◌≡◌, ℕ, zero, suc, ◌+◌, ◌<◌, ◌≤◌, true, false, not, List, [], ◌∷◌, length, get_or, drop, Some, None, Result, Ok, Err, refl, sym, ap, ap₂, ◌∙◌, subst, arith, add-one, drop-cons}
+use Rattle.std.specs.Prelude.{IfOk}
 use Rattle.syntax.specs.declared.stmt.Form.{Form as FormInMemory}
 use Rattle.syntax.specs.declared.stmt.Form.TheVariants as form
 use Rattle.syntax.specs.declared.stmt.Stmt.{Stmt as StmtInMemory}
@@ -23,11 +24,16 @@ use Rattle.regions.proofs.StateLemmas.{own_is}
 
 -- ---- answers along equations
 
-pub Goes-along : (r : Result WayInMemory CheckFault) (a b : Result Way Fault) → a ≡ b → Goes r b → Goes r a
-Goes-along r a b e h = subst (λ x. Goes r x) (sym e) h
+pub Goes-along : (r : Result WayInMemory CheckFault) (after : RegionState) (a b : Result Way Fault) → a ≡ b → Goes r after b → Goes r after a
+Goes-along r after a b e h = subst (λ x. Goes r after x) (sym e) h
 
 pub Stops-along : (e : CheckFault) (a b : Result Way Fault) → a ≡ b → Stops e b → Stops e a
 Stops-along e a b h k = subst (λ x. Stops e x) (sym h) k
+
+-- a weaker fact of an answer
+pub if_ok_weaker : {A B : Type 0} {P Q : A → Type 0} (r : Result A B) → ((x : A) → P x → Q x) → IfOk r P → IfOk r Q
+if_ok_weaker (Ok x) f h = f x h
+if_ok_weaker (Err e) f h = h
 
 -- ---- statements
 
@@ -45,17 +51,18 @@ way_is before (ReturnValue line e) = refl
 way_is before s = refl
 
 -- the statement's own fault, and the way after it where it has none
-pub stmt_fault : (r : Result WayInMemory CheckFault) (before : RegionState) (s : StmtInMemory) (rule : RegionRule) → Some rule ≡ first_broken before (stmt_tree s) → Goes r (Err (s.line, rule)) → Goes r (way_of before (stmt_tree s))
-stmt_fault r before s rule h k =
-    Goes-along r _ _ (way_is before (stmt_tree s) ∙ ap (λ o. own_way o (line_of (stmt_tree s)) (inner_way before (stmt_tree s))) (sym h) ∙ ap (λ n. Err (n, rule)) (line_is s.line s.form)) k
+pub stmt_fault : (r : Result WayInMemory CheckFault) (after before : RegionState) (s : StmtInMemory) (rule : RegionRule) → Some rule ≡ first_broken before (stmt_tree s) → Goes r after (Err (s.line, rule)) → Goes r after (way_of before (stmt_tree s))
+stmt_fault r after before s rule h k =
+    Goes-along r after _ _ (way_is before (stmt_tree s) ∙ ap (λ o. own_way o (line_of (stmt_tree s)) (inner_way before (stmt_tree s))) (sym h) ∙ ap (λ n. Err (n, rule)) (line_is s.line s.form)) k
 
-pub stmt_goes : (r : Result WayInMemory CheckFault) (before : RegionState) (s : StmtInMemory) → None ≡ first_broken before (stmt_tree s) → Goes r (inner_way before (stmt_tree s)) → Goes r (way_of before (stmt_tree s))
-stmt_goes r before s h k =
-    Goes-along r _ _ (way_is before (stmt_tree s) ∙ ap (λ o. own_way o (line_of (stmt_tree s)) (inner_way before (stmt_tree s))) (sym h)) k
+pub stmt_goes : (r : Result WayInMemory CheckFault) (after before : RegionState) (s : StmtInMemory) → None ≡ first_broken before (stmt_tree s) → Goes r after (inner_way before (stmt_tree s)) → Goes r after (way_of before (stmt_tree s))
+stmt_goes r after before s h k =
+    Goes-along r after _ _ (way_is before (stmt_tree s) ∙ ap (λ o. own_way o (line_of (stmt_tree s)) (inner_way before (stmt_tree s))) (sym h)) k
 
 -- ---- blocks
 
-stmt_next : (items : List StmtInMemory) (i : ℕ) (s : StmtInMemory) → i < length items → s ≡ get_or items i s → drop i items ≡ s ∷ drop (i + 1) items
+-- the statements from the next one on
+pub stmt_next : (items : List StmtInMemory) (i : ℕ) (s : StmtInMemory) → i < length items → s ≡ get_or items i s → drop i items ≡ s ∷ drop (i + 1) items
 stmt_next items i s h e = rw add-one (drop-cons items i s h ∙ ap (λ x. x ∷ drop (suc i) items) (sym e))
 
 pub go_rest : (outer : RegionState) (w : Way) (items : List StmtInMemory) (i : ℕ) (s : StmtInMemory) (end_line : ℕ) → i < length items → s ≡ get_or items i s
@@ -71,8 +78,8 @@ go_fault outer before s rest Memory h = tt
 go_fault outer before s rest (Broken f) h = ap (λ r. way_after r (λ m. way_of_block outer m rest) (returned_before rest)) h
 
 -- a statement after a return
-pub go_after : (r : Result WayInMemory CheckFault) (outer : RegionState) (s : StmtInMemory) (rest : Block) → Goes r (Err (s.line, NoReturn)) → Goes r (go_on outer Returned (Next (stmt_tree s) rest))
-go_after r outer s rest k = Goes-along r _ _ (ap (λ n. Err (n, NoReturn)) (line_is s.line s.form)) k
+pub go_after : (r : Result WayInMemory CheckFault) (after outer : RegionState) (s : StmtInMemory) (rest : Block) → Goes r after (Err (s.line, NoReturn)) → Goes r after (go_on outer Returned (Next (stmt_tree s) rest))
+go_after r after outer s rest k = Goes-along r after _ _ (ap (λ n. Err (n, NoReturn)) (line_is s.line s.form)) k
 
 -- after its end a list has nothing
 pub past : {A : Type 0} (i : ℕ) (xs : List A) → length xs ≤ i → drop i xs ≡ []
@@ -109,8 +116,8 @@ pub end_line_is : (b : BlockInMemory) → end_line_of (block_tree b) ≡ (out-Bl
 end_line_is b = ap end_line_of (block_is b) ∙ end_is (out-Block b).statements.items (out-Block b).end_line
 
 -- an error that is passed on
-pub goes_err : (r : Result WayInMemory CheckFault) (e : CheckFault) (x : Result Way Fault) → r ≡ Err e → Stops e x → Goes r x
-goes_err r e x was h = subst (λ y. Goes y x) (sym was) h
+pub goes_err : (r : Result WayInMemory CheckFault) (after : RegionState) (e : CheckFault) (x : Result Way Fault) → r ≡ Err e → Stops e x → Goes r after x
+goes_err r after e x was h = subst (λ y. Goes y after x) (sym was) h
 
 -- ---- ends of blocks
 

@@ -1,5 +1,5 @@
 -- The changes of what is known, as they lie in memory.
-use Rattle.std.specs.Prelude.{ℕ, Bool, true, List, Option, Some, None, bytes_eq, if◌then◌else◌}
+use Rattle.std.specs.Prelude.{ℕ, Bool, true, List, Option, Some, None}
 use Rattle.std.specs.Option.{option_map}
 use Rattle.std.specs.Borrow.{Bor}
 use Rattle.base.specs.Bytes.{Identifier}
@@ -11,7 +11,7 @@ use Rattle.regions.specs.declared.changes.Change.{Change}
 use Rattle.regions.specs.declared.changes.Change.TheVariants as change
 use Rattle.regions.specs.declared.changes.NullTest.{NullTest}
 use Rattle.regions.specs.declared.changes.NullTest.TheVariants as tested
-use Rattle.regions.specs.RegionStates.{VariableState, RegionState, with_changed, made_free, killed, killed_from}
+use Rattle.regions.specs.RegionStates.{VariableState, RegionState, with_changed, made_free, killed}
 use Rattle.regions.specs.Regions.{made_usable}
 use Rattle.regions.specs.Judgements.{set_from}
 use Rattle.jni.specs.Table.{access_value}
@@ -20,17 +20,12 @@ use Rattle.jni.specs.Table.{access_value}
 abbrev pub get_value : AccessInMemory × Option (Bor (List ℕ)) → Access × Option Identifier
 get_value g = (access_value g.0, option_map (λ x. x.now) g.1)
 
--- a change in memory, of each variable
-abbrev pub change_value : Change → Identifier → VariableState → VariableState
-change_value (change.Free x) = λ y old. if bytes_eq x.now y then made_free old else old
-change_value (change.Usable x) = λ y old. if bytes_eq x.now y then made_usable old else old
-change_value (change.Kill x) = λ y old. if bytes_eq x.now y then killed old else old
-change_value (change.KillFrom level) = λ y old. killed_from level old
-change_value (change.Set x get) = λ y old. if bytes_eq x.now y then set_from (option_map get_value get) old else old
-
--- a variable with what is known of it after a change
-abbrev pub changed_named : Change → Identifier × VariableState → Identifier × VariableState
-changed_named made v = (v.0, change_value made v.0 v.1)
+-- a change in memory
+abbrev pub change_value : Change → VariableState → VariableState
+change_value change.Free = made_free
+change_value change.Usable = made_usable
+change_value change.Kill = killed
+change_value (change.Set get) = set_from (option_map get_value get)
 
 -- ---- tests for NULL
 

@@ -1,15 +1,14 @@
 -- What is known of variables, as it lies in memory.
-use Rattle.std.specs.Prelude.{Some, Bool, List, map, Option, bytes_eq}
+use Rattle.std.specs.Prelude.{◌≡◌, Some, Bool, List, ◌++◌, reverse, length, map, Option, bytes_eq}
 use Rattle.std.specs.Option.{option_and_then}
-use Rattle.std.specs.List.{list_any}
+use Rattle.std.specs.List.{list_any, zip}
 use Rattle.base.specs.Bytes.{Identifier, ByName}
 use Rattle.base.specs.Options.{some_passes}
 use Rattle.jni.specs.Access.{Access, is_critical}
 use Rattle.jni.specs.Table.{access_value}
 use Rattle.regions.specs.declared.states.VariableState.{VariableState as VariableStateInMemory}
 use Rattle.regions.specs.declared.states.VariableState.TheVariants as known
-use Rattle.regions.specs.declared.states.Variable.{Variable}
-use Rattle.regions.specs.declared.states.StaticState.{StaticState}
+use Rattle.regions.specs.declared.states.Facts.{Facts}
 use Rattle.regions.specs.declared.states.Condition.{Condition}
 use Rattle.regions.specs.declared.states.Condition.TheVariants as condition
 use Rattle.regions.specs.RegionStates.{VariableState, ReferenceAt, BufferIn, Free, Untested, Usable, RegionState, state_of, buffer_of, held_by}
@@ -22,17 +21,25 @@ variable_state known.Free = BufferIn Free
 variable_state (known.Untested a x) = BufferIn (Untested (access_value a) x.now)
 variable_state (known.Usable a x) = BufferIn (Usable (access_value a) x.now)
 
--- a variable with what is known of it
-abbrev pub named_value : Variable → Identifier × VariableState
-named_value v = (v.name.now, variable_state v.known)
+-- variables of these names, the oldest first, with what is known of each
+abbrev pub variables_value : List Identifier → List VariableStateInMemory → ByName VariableState
+variables_value names variables = reverse (zip names (map variable_state variables))
 
--- the variables with what is known of each
-abbrev pub variables_value : List Variable → ByName VariableState
-variables_value variables = map named_value variables
+-- the state of variables of these names
+abbrev pub state_value : List Identifier → Facts → RegionState
+state_value names facts = record { variables = variables_value names facts.variables.items; frames = facts.frames }
 
--- the state
-abbrev pub state_value : StaticState → RegionState
-state_value s = record { variables = variables_value s.variables.items; frames = s.frames }
+-- the names of the variables, the oldest first
+abbrev pub names_of : RegionState → List Identifier
+names_of state = reverse (map (λ v. v.0) state.variables)
+
+-- there are more variables, after those that there were
+abbrev pub Grows : RegionState → RegionState → Type 0
+Grows old new = (own : List Identifier) × (names_of new ≡ names_of old ++ own)
+
+-- what was saved of a state: with its names it is the state
+abbrev pub IsSaved : Facts → RegionState → Type 0
+IsSaved facts state = (length facts.variables.items ≡ length (names_of state)) × (state_value (names_of state) facts ≡ state)
 
 -- what a question asks
 abbrev pub condition_holds : Condition → Option VariableState → Bool
@@ -55,8 +62,12 @@ abbrev pub held_in : VariableState → Option (Access × Identifier)
 held_in v = option_and_then held_by (buffer_of v)
 
 -- a held buffer of which this holds
+abbrev pub is_holder : (Access × Identifier → Bool) → VariableState → Bool
+is_holder asked v = some_passes asked (held_in v)
+
+-- some variable is one
 abbrev pub any_holder : (Access × Identifier → Bool) → RegionState → Bool
-any_holder asked state = list_any (λ v. some_passes asked (held_in v.1)) state.variables
+any_holder asked state = list_any (λ v. is_holder asked v.1) state.variables
 
 -- a critical buffer is held
 abbrev pub holds_critical : RegionState → Bool

@@ -10,27 +10,26 @@ use Rattle.regions.specs.Findings.{fault_of}
 use Rattle.regions.specs.RegionRules.{is_held}
 use Rattle.regions.specs.RegionStates.{RegionState, state_after}
 use Rattle.regions.specs.Regions.{Way, On, Returned, has_variable, where_true, where_false}
-use Rattle.regions.specs.StatesInMemory.{state_value}
 use Rattle.regions.specs.Ways.{Fault, way_after, returned_before, join_ways, turn_way, way_of_block}
 
 -- a buffer that is not of the outer state is held
 abbrev pub holds_other : RegionState → RegionState → Bool
 holds_other outer state = list_any (λ v. not (has_variable outer v.0) && is_held (Some v.1)) state.variables
 
--- the way of the definitions
-abbrev pub way_value : WayInMemory → Way
-way_value (way.On state) = On (state_value state)
-way_value way.Returned = Returned
+-- the way of the definitions, where this is the state after it
+abbrev pub way_value : WayInMemory → RegionState → Way
+way_value way.On state = On state
+way_value way.Returned state = Returned
 
 -- memory ran out, or this is the fault
 abbrev pub Stops : CheckFault → Result Way Fault → Type 0
 Stops Memory expected = Unit {0}
 Stops (Broken f) expected = expected ≡ Err (fault_of f)
 
--- this is the way or the fault, unless memory ran out
-abbrev pub Goes : Result WayInMemory CheckFault → Result Way Fault → Type 0
-Goes (Ok w) expected = expected ≡ Ok (way_value w)
-Goes (Err e) expected = Stops e expected
+-- this is the way, with this state after it, or the fault, unless memory ran out
+abbrev pub Goes : Result WayInMemory CheckFault → RegionState → Result Way Fault → Type 0
+Goes (Ok w) after expected = expected ≡ Ok (way_value w after)
+Goes (Err e) after expected = Stops e expected
 
 -- the way through the rest of a block, after this way so far
 abbrev pub go_on : RegionState → Way → Block → Result Way Fault

@@ -1,35 +1,34 @@
 //! The state after a statement, and on the ways of a test.
 
-ghost use Rattle.std.specs.Prelude.{◌≡◌, ℕ, true, OnOk, IsTrue};
+ghost use Rattle.std.specs.Prelude.{◌≡◌, ℕ, true, map, OnOk};
 ghost use Rattle.std.specs.Option.{option_map};
 ghost use Rattle.syntax.specs.Views.{expr_tree, binary_tree, test_tree, form_tree};
 ghost use Rattle.types.specs.Sorts.{is_null};
 ghost use Rattle.regions.specs.Regions.{made_usable, where_true, where_false};
-ghost use Rattle.regions.specs.RegionStates.{BufferIn, with_each, with_new, with_some_changed, after_pop, after_release, made_free, killed, killed_from, buffer_from, state_after};
-ghost use Rattle.regions.specs.StatesInMemory.{variable_state, named_value, state_value};
+ghost use Rattle.regions.specs.RegionStates.{BufferIn, with_changed, with_some_changed, after_pop, after_release, made_free, killed, killed_from, buffer_from, state_after};
+ghost use Rattle.regions.specs.StatesInMemory.{variable_state, names_of};
+ghost use Rattle.regions.specs.NewNames.{own_names, AreNew};
 ghost use Rattle.regions.specs.StateEffects.{made_value, release_value};
 ghost use Rattle.regions.specs.Judgements.{set_from, effected, settled};
-ghost use Rattle.regions.specs.Changes.{get_value, change_value, changed_named, variable_of, tested_by, null_test_of, test_value, taught_true, taught_false};
+ghost use Rattle.regions.specs.Changes.{get_value, change_value, variable_of, tested_by, null_test_of, test_value, taught_true, taught_false};
 
 use crate::calls::{MadeCall, Release, called, deleted, got, popped, released};
-use crate::states::{StaticState, Variable, VariableState, is_same};
+use crate::states::{StaticState, VariableState, add, frames};
 use jni::Access;
 use std::alloc::AllocError;
 use syntax::{BinaryOp, Constant, Expr, Form, Test, VariableType};
 
-/// A change of what is known.
+/// A change of what is known of a variable.
 #[derive(Clone, Copy)]
 pub(crate) enum Change<'a> {
     /// A buffer becomes free.
-    Free(&'a [u8]),
+    Free,
     /// An untested buffer becomes usable.
-    Usable(&'a [u8]),
+    Usable,
     /// A reference dies.
-    Kill(&'a [u8]),
-    /// The references of this level and of higher ones die.
-    KillFrom(usize),
-    /// A variable is set; a buffer to what a Get with this access and array gives, or else to NULL.
-    Set(&'a [u8], Option<(Access, Option<&'a [u8]>)>),
+    Kill,
+    /// It is set; a buffer to what a Get with this access and array gives, or else to NULL.
+    Set(Option<(Access, Option<&'a [u8]>)>),
 }
 
 /// A test of a variable for NULL.
@@ -111,80 +110,51 @@ fn set_to<'a>(
 }
 
 /// What is known of a variable after a change.
-fn known_after<'a>(name: &[u8], old: VariableState<'a>, change: Change<'a>) -> VariableState<'a>
-    ensures { variable_state result ≡ change_value change.entry name.now (variable_state old.entry) }
+fn known_after<'a>(old: VariableState<'a>, change: Change<'a>) -> VariableState<'a>
+    ensures { variable_state result ≡ change_value change.entry (variable_state old.entry) }
 {
     match change {
-        Change::Free(x) => {
-            if is_same(x, name) {
-                return freed(old);
-            }
-            old
-        }
-        Change::Usable(x) => {
-            if is_same(x, name) {
-                return made_usable(old);
-            }
-            old
-        }
-        Change::Kill(x) => {
-            if is_same(x, name) {
-                return killed(old);
-            }
-            old
-        }
-        Change::KillFrom(level) => killed_from(level, old),
-        Change::Set(x, get) => {
-            if is_same(x, name) {
-                return set_to(old, get);
-            }
-            old
-        }
+        Change::Free => freed(old),
+        Change::Usable => made_usable(old),
+        Change::Kill => killed(old),
+        Change::Set(get) => set_to(old, get),
     }
 }
 
-/// A variable after a change.
-fn changed<'a>(v: Variable<'a>, change: Change<'a>) -> Variable<'a>
-    ensures { named_value result ≡ changed_named change.entry (named_value v.entry) }
+/// A change of one variable, if it is one.
+fn change_one<'a>(state: &mut StaticState<'a>, name: &[u8], change: Change<'a>)
+    ensures { state.new ≡ with_changed state.old name.now (change_value change.entry) }
 {
-    Variable {
-        name: v.name,
-        known: known_after(v.name, v.known, change),
+    match state.names.number_of(name) {
+        Some(number) => {
+            let known = known_after(state.facts.variables[number], change);
+            state.facts.variables[number] = known;
+        }
+        None => {}
     }
 }
 
-/// What is known of all variables after a change.
-fn change_each<'a>(state: &mut StaticState<'a>, change: Change<'a>)
-    ensures { state_value state.new ≡ with_each (state_value state.old) (change_value change.entry) }
+/// The references of this level and of higher ones die.
+fn kill_from(variables: &mut Vec<VariableState>, level: usize)
+    ensures { map variable_state variables.new.items ≡ map (killed_from level) (map variable_state variables.old.items) }
 {
-    for i in 0..state.variables.len() {
-        state.variables[i] = changed(state.variables[i], change);
+    for i in 0..variables.len() {
+        variables[i] = killed_from(level, variables[i]);
     }
-}
-
-/// One variable more.
-fn add<'a>(
-    state: &mut StaticState<'a>,
-    name: &'a [u8],
-    known: VariableState<'a>,
-) -> Result<(), AllocError>
-    ensures { OnOk result (state_value state.new ≡ with_new (state_value state.old) name.now (variable_state known.entry)) }
-{
-    state.variables.insert(0, Variable { name, known })?;
-    Ok(())
 }
 
 /// A frame ends, with its references.
 fn pop(state: &mut StaticState)
-    ensures { state_value state.new ≡ after_pop (state_value state.old) }
+    ensures { state.new ≡ after_pop state.old }
 {
-    change_each(state, Change::KillFrom(state.frames));
-    state.frames = state.frames.saturating_sub(1);
+    let level = state.facts.frames;
+    kill_from(&mut state.facts.variables, level);
+    state.facts.frames = level.saturating_sub(1);
 }
 
 /// A release frees its buffer, but not a copy that is committed.
 fn release<'a>(state: &mut StaticState<'a>, release: Option<Release<'a>>)
-    ensures { state_value state.new ≡ after_release (state_value state.old) (option_map release_value release.entry) }
+    ensures { state.new ≡ after_release state.old (option_map release_value release.entry) }
 {
     match release {
         Some(r) => {
@@ -192,7 +162,7 @@ fn release<'a>(state: &mut StaticState<'a>, release: Option<Release<'a>>)
                 return;
             }
             match r.buffer {
-                Some(x) => change_each(state, Change::Free(x)),
+                Some(x) => change_one(state, x, Change::Free),
                 None => {}
             }
         }
@@ -201,17 +171,17 @@ fn release<'a>(state: &mut StaticState<'a>, release: Option<Release<'a>>)
 }
 
 fn kill<'a>(state: &mut StaticState<'a>, name: Option<&'a [u8]>)
-    ensures { state_value state.new ≡ with_some_changed (state_value state.old) (option_map (λ x. x.now) name.entry) killed }
+    ensures { state.new ≡ with_some_changed state.old (option_map (λ x. x.now) name.entry) killed }
 {
     match name {
-        Some(x) => change_each(state, Change::Kill(x)),
+        Some(x) => change_one(state, x, Change::Kill),
         None => {}
     }
 }
 
 /// What a call leaves.
 fn take_effect<'a>(state: &mut StaticState<'a>, call: Option<MadeCall<'a>>)
-    ensures { state_value state.new ≡ effected (state_value state.old) (option_map made_value call.entry) }
+    ensures { state.new ≡ effected state.old (option_map made_value call.entry) }
 {
     if popped(call) {
         pop(state);
@@ -227,7 +197,8 @@ fn settle<'a>(
     form: &'a Form,
     call: Option<MadeCall<'a>>,
 ) -> Result<(), AllocError>
-    ensures { OnOk result ((line : ℕ) → state_value state.new ≡ settled (state_value state.old) (form_tree line form.now) (option_map made_value call.entry)) }
+    requires { (line : ℕ) → AreNew (names_of state.old) (own_names (form_tree line form.now)) }
+    ensures { OnOk result ((line : ℕ) → state.new ≡ settled state.old (form_tree line form.now) (option_map made_value call.entry)) }
 {
     match form {
         Form::Declare(t, x, _) => match t {
@@ -235,7 +206,7 @@ fn settle<'a>(
                 add(
                     state,
                     x.as_bytes(),
-                    VariableState::Reference(state.frames, true),
+                    VariableState::Reference(frames(state), true),
                 )
             }
             VariableType::Uint32 => Ok(()),
@@ -247,7 +218,7 @@ fn settle<'a>(
         Form::DeclareBuffer(_, x, _) => add(state, x.as_bytes(), buffer_after(got(call))),
         Form::DeclareChars(x, _) => add(state, x.as_bytes(), buffer_after(got(call))),
         Form::Assign(x, _) => {
-            change_each(state, Change::Set(x.as_bytes(), got(call)));
+            change_one(state, x.as_bytes(), Change::Set(got(call)));
             Ok(())
         }
         Form::Return(None) => Ok(()),
@@ -264,7 +235,8 @@ fn settle<'a>(
 
 /// The state after a statement without blocks.
 pub(crate) fn pass<'a>(state: &mut StaticState<'a>, form: &'a Form) -> Result<(), AllocError>
-    ensures { OnOk result ((line : ℕ) → state_value state.new ≡ state_after (state_value state.old) (form_tree line form.now)) }
+    requires { (line : ℕ) → AreNew (names_of state.old) (own_names (form_tree line form.now)) }
+    ensures { OnOk result ((line : ℕ) → state.new ≡ state_after state.old (form_tree line form.now)) }
 {
     let call = called(form);
     take_effect(state, call);
@@ -336,29 +308,29 @@ fn null_test(e: &Expr) -> Option<NullTest<'_>>
 
 /// What is known where the test holds.
 fn learn_true<'a>(state: &mut StaticState<'a>, tested: Option<NullTest<'a>>)
-    ensures { state_value state.new ≡ taught_true (state_value state.old) (option_map test_value tested.entry) }
+    ensures { state.new ≡ taught_true state.old (option_map test_value tested.entry) }
 {
     match tested {
-        Some(NullTest::Is(x)) => change_each(state, Change::Free(x)),
-        Some(NullTest::IsNot(x)) => change_each(state, Change::Usable(x)),
+        Some(NullTest::Is(x)) => change_one(state, x, Change::Free),
+        Some(NullTest::IsNot(x)) => change_one(state, x, Change::Usable),
         None => {}
     }
 }
 
 /// What is known where it does not.
 fn learn_false<'a>(state: &mut StaticState<'a>, tested: Option<NullTest<'a>>)
-    ensures { state_value state.new ≡ taught_false (state_value state.old) (option_map test_value tested.entry) }
+    ensures { state.new ≡ taught_false state.old (option_map test_value tested.entry) }
 {
     match tested {
-        Some(NullTest::Is(x)) => change_each(state, Change::Usable(x)),
-        Some(NullTest::IsNot(x)) => change_each(state, Change::Free(x)),
+        Some(NullTest::Is(x)) => change_one(state, x, Change::Usable),
+        Some(NullTest::IsNot(x)) => change_one(state, x, Change::Free),
         None => {}
     }
 }
 
 /// The state on the way where the test holds. More frames than can be counted are a want of memory.
 pub(crate) fn take_true<'a>(state: &mut StaticState<'a>, test: &'a Test) -> Result<(), AllocError>
-    ensures { OnOk result (state_value state.new ≡ where_true (state_value state.old) (test_tree test.now)) }
+    ensures { OnOk result (state.new ≡ where_true state.old (test_tree test.now)) }
 {
     match test {
         Test::Expr(e) => {
@@ -366,10 +338,10 @@ pub(crate) fn take_true<'a>(state: &mut StaticState<'a>, test: &'a Test) -> Resu
             Ok(())
         }
         Test::Call(_) => {
-            if state.frames == usize::MAX {
+            if state.facts.frames == usize::MAX {
                 return Err(AllocError);
             }
-            state.frames += 1;
+            state.facts.frames += 1;
             Ok(())
         }
     }
@@ -377,7 +349,7 @@ pub(crate) fn take_true<'a>(state: &mut StaticState<'a>, test: &'a Test) -> Resu
 
 /// The state on the way where it does not.
 pub(crate) fn take_false<'a>(state: &mut StaticState<'a>, test: &'a Test)
-    ensures { state_value state.new ≡ where_false (state_value state.old) (test_tree test.now) }
+    ensures { state.new ≡ where_false state.old (test_tree test.now) }
 {
     match test {
         Test::Expr(e) => learn_false(state, null_test(e)),

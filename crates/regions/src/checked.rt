@@ -63,7 +63,8 @@ impl Checked {
 }
 
 /// The unit, where each way through its functions keeps the rules. Each statement is read once, with the references and
-/// buffers in scope; what is known of these is copied for each way of an `if` and for a loop's body.
+/// buffers in scope, among which a name is found in constant time; what is known of these is copied once for each `if`
+/// and each loop.
 pub fn check(alloc: Global, typed: Typed) -> Result<Checked, CheckFault>
     // A unit that is answered is the one given, and it is accepted.
     ensures same { IfOk result (λ c. c ≡ typed) }

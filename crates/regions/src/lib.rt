@@ -7,6 +7,7 @@ mod checked;
 mod fault;
 mod names;
 mod rules;
+mod scope;
 mod states;
 mod walk;
 

@@ -2,7 +2,7 @@
 
 ghost use Rattle.std.specs.Prelude.{◌≡◌, ℕ};
 ghost use Rattle.syntax.specs.Views.{expr_tree, argument_tree, call_tree, right_side_tree, test_tree, form_tree};
-ghost use Rattle.regions.specs.StatesInMemory.{state_value, asks};
+ghost use Rattle.regions.specs.StatesInMemory.{asks};
 ghost use Rattle.types.specs.Uses.{expr_uses, argument_uses, call_uses, right_uses, test_uses, uses};
 ghost use Rattle.regions.specs.Reads.{expr_reads, argument_reads, call_reads, right_reads, test_reads, reads};
 
@@ -11,7 +11,7 @@ use syntax::{Argument, Call, Expr, Form, RightSide, Test};
 
 /// Whether some name of an expression is so.
 fn expr_uses(state: &StaticState, condition: Condition, e: &Expr) -> bool
-    ensures { result ≡ expr_uses (asks condition (state_value state.now)) (expr_tree e.now) }
+    ensures { result ≡ expr_uses (asks condition state.now) (expr_tree e.now) }
 {
     match e {
         Expr::Number { .. } | Expr::Named(_) => false,
@@ -28,7 +28,7 @@ fn expr_uses(state: &StaticState, condition: Condition, e: &Expr) -> bool
 
 /// Whether an argument uses a name that is so.
 fn argument_uses(state: &StaticState, condition: Condition, argument: &Argument) -> bool
-    ensures { result ≡ argument_uses (asks condition (state_value state.now)) (argument_tree argument.now) }
+    ensures { result ≡ argument_uses (asks condition state.now) (argument_tree argument.now) }
 {
     match argument {
         Argument::Value(e) => expr_uses(state, condition, e),
@@ -39,7 +39,7 @@ fn argument_uses(state: &StaticState, condition: Condition, argument: &Argument)
 
 /// Whether an argument of a call does.
 fn call_uses(state: &StaticState, condition: Condition, call: &Call) -> bool
-    ensures { result ≡ call_uses (asks condition (state_value state.now)) (call_tree call.now) }
+    ensures { result ≡ call_uses (asks condition state.now) (call_tree call.now) }
 {
     for argument in &call.arguments {
         if argument_uses(state, condition, argument) {
@@ -50,7 +50,7 @@ fn call_uses(state: &StaticState, condition: Condition, call: &Call) -> bool
 }
 
 fn right_uses(state: &StaticState, condition: Condition, right: &RightSide) -> bool
-    ensures { result ≡ right_uses (asks condition (state_value state.now)) (right_side_tree right.now) }
+    ensures { result ≡ right_uses (asks condition state.now) (right_side_tree right.now) }
 {
     match right {
         RightSide::Expr(e) => expr_uses(state, condition, e),
@@ -59,7 +59,7 @@ fn right_uses(state: &StaticState, condition: Condition, right: &RightSide) -> b
 }
 
 fn test_uses(state: &StaticState, condition: Condition, test: &Test) -> bool
-    ensures { result ≡ test_uses (asks condition (state_value state.now)) (test_tree test.now) }
+    ensures { result ≡ test_uses (asks condition state.now) (test_tree test.now) }
 {
     match test {
         Test::Expr(e) => expr_uses(state, condition, e),
@@ -69,7 +69,7 @@ fn test_uses(state: &StaticState, condition: Condition, test: &Test) -> bool
 
 /// The same, looked for in the statement.
 fn form_uses(state: &StaticState, condition: Condition, form: &Form) -> bool
-    ensures { (line : ℕ) → result ≡ uses (asks condition (state_value state.now)) (form_tree line form.now) }
+    ensures { (line : ℕ) → result ≡ uses (asks condition state.now) (form_tree line form.now) }
 {
     match form {
         Form::Declare(_, _, r) => right_uses(state, condition, r),
@@ -94,7 +94,7 @@ fn form_uses(state: &StaticState, condition: Condition, form: &Form) -> bool
 
 /// Whether an expression reads an element of a name that is so.
 fn expr_reads(state: &StaticState, condition: Condition, e: &Expr) -> bool
-    ensures { result ≡ expr_reads (asks condition (state_value state.now)) (expr_tree e.now) }
+    ensures { result ≡ expr_reads (asks condition state.now) (expr_tree e.now) }
 {
     match e {
         Expr::Number { .. } | Expr::Named(_) | Expr::Variable(_) => false,
@@ -109,7 +109,7 @@ fn expr_reads(state: &StaticState, condition: Condition, e: &Expr) -> bool
 }
 
 fn argument_reads(state: &StaticState, condition: Condition, argument: &Argument) -> bool
-    ensures { result ≡ argument_reads (asks condition (state_value state.now)) (argument_tree argument.now) }
+    ensures { result ≡ argument_reads (asks condition state.now) (argument_tree argument.now) }
 {
     match argument {
         Argument::Value(e) => expr_reads(state, condition, e),
@@ -119,7 +119,7 @@ fn argument_reads(state: &StaticState, condition: Condition, argument: &Argument
 }
 
 fn call_reads(state: &StaticState, condition: Condition, call: &Call) -> bool
-    ensures { result ≡ call_reads (asks condition (state_value state.now)) (call_tree call.now) }
+    ensures { result ≡ call_reads (asks condition state.now) (call_tree call.now) }
 {
     for argument in &call.arguments {
         if argument_reads(state, condition, argument) {
@@ -130,7 +130,7 @@ fn call_reads(state: &StaticState, condition: Condition, call: &Call) -> bool
 }
 
 fn right_reads(state: &StaticState, condition: Condition, right: &RightSide) -> bool
-    ensures { result ≡ right_reads (asks condition (state_value state.now)) (right_side_tree right.now) }
+    ensures { result ≡ right_reads (asks condition state.now) (right_side_tree right.now) }
 {
     match right {
         RightSide::Expr(e) => expr_reads(state, condition, e),
@@ -139,7 +139,7 @@ fn right_reads(state: &StaticState, condition: Condition, right: &RightSide) -> 
 }
 
 fn test_reads(state: &StaticState, condition: Condition, test: &Test) -> bool
-    ensures { result ≡ test_reads (asks condition (state_value state.now)) (test_tree test.now) }
+    ensures { result ≡ test_reads (asks condition state.now) (test_tree test.now) }
 {
     match test {
         Test::Expr(e) => expr_reads(state, condition, e),
@@ -149,7 +149,7 @@ fn test_reads(state: &StaticState, condition: Condition, test: &Test) -> bool
 
 /// The same, looked for in the statement.
 fn form_reads(state: &StaticState, condition: Condition, form: &Form) -> bool
-    ensures { (line : ℕ) → result ≡ reads (asks condition (state_value state.now)) (form_tree line form.now) }
+    ensures { (line : ℕ) → result ≡ reads (asks condition state.now) (form_tree line form.now) }
 {
     match form {
         Form::Declare(_, _, r) => right_reads(state, condition, r),
@@ -176,7 +176,7 @@ fn form_reads(state: &StaticState, condition: Condition, form: &Form) -> bool
 /// Where no name is so, the statement isn't looked at.
 #[tactic(auto, using(crate::proofs::NoneLemmas::none_uses))]
 pub(crate) fn uses(state: &StaticState, condition: Condition, form: &Form) -> bool
-    ensures { (line : ℕ) → result ≡ uses (asks condition (state_value state.now)) (form_tree line form.now) }
+    ensures { (line : ℕ) → result ≡ uses (asks condition state.now) (form_tree line form.now) }
 {
     is_any(state, condition) && form_uses(state, condition, form)
 }
@@ -185,7 +185,7 @@ pub(crate) fn uses(state: &StaticState, condition: Condition, form: &Form) -> bo
 /// Where no name is so, the statement isn't looked at.
 #[tactic(auto, using(crate::proofs::NoneLemmas::none_reads))]
 pub(crate) fn reads(state: &StaticState, condition: Condition, form: &Form) -> bool
-    ensures { (line : ℕ) → result ≡ reads (asks condition (state_value state.now)) (form_tree line form.now) }
+    ensures { (line : ℕ) → result ≡ reads (asks condition state.now) (form_tree line form.now) }
 {
     is_any(state, condition) && form_reads(state, condition, form)
 }

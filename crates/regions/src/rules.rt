@@ -8,7 +8,7 @@ ghost use Rattle.syntax.specs.Views.{form_tree};
 ghost use Rattle.regions.specs.FirstFaults.{first_broken};
 ghost use Rattle.regions.specs.RegionRules.{CallWhileCritical, ReturnWithBuffer, HeldBuffer, UntestedBuffer, WrongBuffer, ReturnInFrame, PopLastFrame, DeadReference, ArrayInUse, WrongLevel, is_return, is_put_jint, is_level, is_mismatched};
 ghost use Rattle.regions.specs.RegionStates.{state_of};
-ghost use Rattle.regions.specs.StatesInMemory.{variable_state, state_value, asks, held_in};
+ghost use Rattle.regions.specs.StatesInMemory.{variable_state, is_holder, asks};
 ghost use Rattle.regions.specs.StateEffects.{made_value, release_value, got};
 ghost use Rattle.regions.specs.Findings.{rule_of};
 ghost use Rattle.regions.specs.Judgements.{judged, first_judged, is_wrong_release, is_other_level, frames_after, has_young_array, pops_array, gets_elsewhere};
@@ -17,8 +17,8 @@ use crate::calls::{MadeCall, Release, called, deleted, got, is_forbidden, popped
 use crate::fault::RegionRule;
 use crate::names::{reads, uses};
 use crate::states::{
-    Condition, StaticState, Variable, VariableState, held_of, holds_buffer, holds_critical,
-    is_level, is_same, is_some_in_use, known_of, meets, some_meets,
+    Condition, StaticState, VariableState, frames, held_of, holds_buffer, holds_critical, is_level,
+    is_same, is_some_in_use, known_of, meets, some_meets,
 };
 use syntax::Form;
 
@@ -86,13 +86,13 @@ pub(crate) fn assigned_name(form: &Form) -> Option<&[u8]>
 }
 
 fn breaks_critical(state: &StaticState, form: &Form, call: Option<MadeCall>) -> bool
-    ensures { (line : ℕ) → result ≡ judged CallWhileCritical (state_value state.now) (form_tree line form.now) (option_map made_value call.entry) }
+    ensures { (line : ℕ) → result ≡ judged CallWhileCritical state.now (form_tree line form.now) (option_map made_value call.entry) }
 {
     holds_critical(state) && (is_put_jint(form) || is_forbidden(call))
 }
 
 fn breaks_return(state: &StaticState, form: &Form, call: Option<MadeCall>) -> bool
-    ensures { (line : ℕ) → result ≡ judged ReturnWithBuffer (state_value state.now) (form_tree line form.now) (option_map made_value call.entry) }
+    ensures { (line : ℕ) → result ≡ judged ReturnWithBuffer state.now (form_tree line form.now) (option_map made_value call.entry) }
 {
     is_return(form) && holds_buffer(state)
 }
@@ -108,14 +108,14 @@ fn gets(call: Option<MadeCall>) -> bool
 }
 
 fn breaks_held(state: &StaticState, form: &Form, call: Option<MadeCall>) -> bool
-    ensures { (line : ℕ) → result ≡ judged HeldBuffer (state_value state.now) (form_tree line form.now) (option_map made_value call.entry) }
+    ensures { (line : ℕ) → result ≡ judged HeldBuffer state.now (form_tree line form.now) (option_map made_value call.entry) }
 {
     gets(call) && some_meets(state, Condition::Held, assigned_name(form))
 }
 
 /// Whether an untested buffer is released.
 fn releases_untested(state: &StaticState, release: Option<Release>) -> bool
-    ensures { result ≡ some_passes (λ release. some_passes (asks Condition.Untested (state_value state.now)) release.buffer) (option_map release_value release.entry) }
+    ensures { result ≡ some_passes (λ release. some_passes (asks Condition.Untested state.now) release.buffer) (option_map release_value release.entry) }
 {
     match release {
         Some(r) => some_meets(state, Condition::Untested, r.buffer),
@@ -124,7 +124,7 @@ fn releases_untested(state: &StaticState, release: Option<Release>) -> bool
 }
 
 fn breaks_untested(state: &StaticState, form: &Form, call: Option<MadeCall>) -> bool
-    ensures { (line : ℕ) → result ≡ judged UntestedBuffer (state_value state.now) (form_tree line form.now) (option_map made_value call.entry) }
+    ensures { (line : ℕ) → result ≡ judged UntestedBuffer state.now (form_tree line form.now) (option_map made_value call.entry) }
 {
     reads(state, Condition::Untested, form) || releases_untested(state, released(call))
 }
@@ -158,7 +158,7 @@ fn is_mismatched(release: Release, known: Option<VariableState>) -> bool
 
 /// Whether the variable that is released wants another release.
 fn mismatches(state: &StaticState, release: Release) -> bool
-    ensures { result ≡ some_passes (λ x. is_mismatched (release_value release.entry) (state_of (state_value state.now) x)) (option_map (λ x. x.now) release.entry.buffer) }
+    ensures { result ≡ some_passes (λ x. is_mismatched (release_value release.entry) (state_of state.now x)) (option_map (λ x. x.now) release.entry.buffer) }
 {
     match release.buffer {
         Some(x) => is_mismatched(release, known_of(state, x)),
@@ -167,13 +167,13 @@ fn mismatches(state: &StaticState, release: Release) -> bool
 }
 
 fn is_wrong_release(state: &StaticState, release: Release) -> bool
-    ensures { result ≡ is_wrong_release (state_value state.now) (release_value release.entry) }
+    ensures { result ≡ is_wrong_release state.now (release_value release.entry) }
 {
     (release.commits && release.access.is_critical()) || mismatches(state, release)
 }
 
 fn releases_wrongly(state: &StaticState, release: Option<Release>) -> bool
-    ensures { result ≡ some_passes (is_wrong_release (state_value state.now)) (option_map release_value release.entry) }
+    ensures { result ≡ some_passes (is_wrong_release state.now) (option_map release_value release.entry) }
 {
     match release {
         Some(r) => is_wrong_release(state, r),
@@ -182,45 +182,45 @@ fn releases_wrongly(state: &StaticState, release: Option<Release>) -> bool
 }
 
 fn breaks_wrong(state: &StaticState, form: &Form, call: Option<MadeCall>) -> bool
-    ensures { (line : ℕ) → result ≡ judged WrongBuffer (state_value state.now) (form_tree line form.now) (option_map made_value call.entry) }
+    ensures { (line : ℕ) → result ≡ judged WrongBuffer state.now (form_tree line form.now) (option_map made_value call.entry) }
 {
     uses(state, Condition::Free, form) || releases_wrongly(state, released(call))
 }
 
 fn breaks_frame(state: &StaticState, form: &Form, call: Option<MadeCall>) -> bool
-    ensures { (line : ℕ) → result ≡ judged ReturnInFrame (state_value state.now) (form_tree line form.now) (option_map made_value call.entry) }
+    ensures { (line : ℕ) → result ≡ judged ReturnInFrame state.now (form_tree line form.now) (option_map made_value call.entry) }
 {
-    is_return(form) && state.frames > 1
+    is_return(form) && frames(state) > 1
 }
 
 fn breaks_pop(state: &StaticState, form: &Form, call: Option<MadeCall>) -> bool
-    ensures { (line : ℕ) → result ≡ judged PopLastFrame (state_value state.now) (form_tree line form.now) (option_map made_value call.entry) }
+    ensures { (line : ℕ) → result ≡ judged PopLastFrame state.now (form_tree line form.now) (option_map made_value call.entry) }
 {
-    popped(call) && state.frames <= 1
+    popped(call) && frames(state) <= 1
 }
 
 fn breaks_dead(state: &StaticState, form: &Form, call: Option<MadeCall>) -> bool
-    ensures { (line : ℕ) → result ≡ judged DeadReference (state_value state.now) (form_tree line form.now) (option_map made_value call.entry) }
+    ensures { (line : ℕ) → result ≡ judged DeadReference state.now (form_tree line form.now) (option_map made_value call.entry) }
 {
     uses(state, Condition::Dead, form)
 }
 
 /// Whether the array variable of a held buffer is of the level of the youngest frame.
-fn is_array_young(state: &StaticState, v: &Variable) -> bool
-    ensures { result ≡ some_passes (λ held. is_level state.now.frames (state_of (state_value state.now) held.1)) (held_in (variable_state v.now.known)) }
+fn is_array_young(state: &StaticState, known: VariableState) -> bool
+    ensures { result ≡ is_holder (λ held. is_level state.now.frames (state_of state.now held.1)) (variable_state known.entry) }
 {
-    match held_of(v.known) {
-        Some((_, array)) => is_level(state.frames, known_of(state, array)),
+    match held_of(known) {
+        Some((_, array)) => is_level(frames(state), known_of(state, array)),
         None => false,
     }
 }
 
 /// Whether the array variable of some held buffer is.
 fn has_young_array(state: &StaticState) -> bool
-    ensures { result ≡ has_young_array (state_value state.now) }
+    ensures { result ≡ has_young_array state.now }
 {
-    for v in &state.variables {
-        if is_array_young(state, v) {
+    for v in &state.facts.variables {
+        if is_array_young(state, *v) {
             return true;
         }
     }
@@ -228,14 +228,14 @@ fn has_young_array(state: &StaticState) -> bool
 }
 
 fn pops_array(state: &StaticState, call: Option<MadeCall>) -> bool
-    ensures { result ≡ pops_array (state_value state.now) (option_map made_value call.entry) }
+    ensures { result ≡ pops_array state.now (option_map made_value call.entry) }
 {
     popped(call) && has_young_array(state)
 }
 
 /// Whether a Get is of something else than a local variable.
 fn gets_elsewhere(state: &StaticState, call: Option<MadeCall>) -> bool
-    ensures { result ≡ gets_elsewhere (state_value state.now) (option_map made_value call.entry) }
+    ensures { result ≡ gets_elsewhere state.now (option_map made_value call.entry) }
 {
     match got(call) {
         Some((_, array)) => !some_meets(state, Condition::Reference, array),
@@ -244,7 +244,7 @@ fn gets_elsewhere(state: &StaticState, call: Option<MadeCall>) -> bool
 }
 
 fn breaks_array(state: &StaticState, form: &Form, call: Option<MadeCall>) -> bool
-    ensures { (line : ℕ) → result ≡ judged ArrayInUse (state_value state.now) (form_tree line form.now) (option_map made_value call.entry) }
+    ensures { (line : ℕ) → result ≡ judged ArrayInUse state.now (form_tree line form.now) (option_map made_value call.entry) }
 {
     is_some_in_use(state, assigned_name(form))
         || is_some_in_use(state, deleted(call))
@@ -254,24 +254,24 @@ fn breaks_array(state: &StaticState, form: &Form, call: Option<MadeCall>) -> boo
 
 /// The number of frames after a call.
 fn frames_after(state: &StaticState, call: Option<MadeCall>) -> usize
-    ensures { result ≡ frames_after (state_value state.now) (option_map made_value call.entry) }
+    ensures { result ≡ frames_after state.now (option_map made_value call.entry) }
 {
     if popped(call) {
-        state.frames.saturating_sub(1)
+        frames(state).saturating_sub(1)
     } else {
-        state.frames
+        frames(state)
     }
 }
 
 /// Whether a variable is a reference of another level.
 fn is_other_level(state: &StaticState, frames: usize, name: &[u8]) -> bool
-    ensures { result ≡ is_other_level frames (state_of (state_value state.now) name.now) }
+    ensures { result ≡ is_other_level frames (state_of state.now name.now) }
 {
     meets(state, Condition::Reference, name) && !is_level(frames, known_of(state, name))
 }
 
 fn breaks_level(state: &StaticState, form: &Form, call: Option<MadeCall>) -> bool
-    ensures { (line : ℕ) → result ≡ judged WrongLevel (state_value state.now) (form_tree line form.now) (option_map made_value call.entry) }
+    ensures { (line : ℕ) → result ≡ judged WrongLevel state.now (form_tree line form.now) (option_map made_value call.entry) }
 {
     match assigned_name(form) {
         Some(x) => is_other_level(state, frames_after(state, call), x),
@@ -285,7 +285,7 @@ pub(crate) fn first_judged(
     form: &Form,
     call: Option<MadeCall>,
 ) -> Option<RegionRule>
-    ensures { (line : ℕ) → option_map rule_of result ≡ first_judged (state_value state.now) (form_tree line form.now) (option_map made_value call.entry) }
+    ensures { (line : ℕ) → option_map rule_of result ≡ first_judged state.now (form_tree line form.now) (option_map made_value call.entry) }
 {
     if breaks_critical(state, form, call) {
         return Some(RegionRule::CallWhileCritical);
@@ -322,7 +322,7 @@ pub(crate) fn first_judged(
 
 /// The rule of least number that a statement breaks by itself.
 pub(crate) fn first_broken(state: &StaticState, form: &Form) -> Option<RegionRule>
-    ensures { (line : ℕ) → option_map rule_of result ≡ first_broken (state_value state.now) (form_tree line form.now) }
+    ensures { (line : ℕ) → option_map rule_of result ≡ first_broken state.now (form_tree line form.now) }
 {
     first_judged(state, form, called(form))
 }

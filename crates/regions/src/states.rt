@@ -1,16 +1,24 @@
 //! What is known of buffers, references and frames at a point of a function.
 
-ghost use Rattle.std.specs.Prelude.{◌≡◌, bytes_eq, Some, IfOk};
+ghost use Rattle.std.specs.Prelude.{◌≡◌, ◌≤◌, false, [], bytes_eq, map, drop, length, Some, OnOk, IfOk};
+ghost use Rattle.std.specs.List.{list_any};
 ghost use Rattle.std.specs.Option.{option_map};
 ghost use Rattle.base.specs.Options.{some_passes};
 ghost use Rattle.jni.specs.Access.{is_critical};
 ghost use Rattle.jni.specs.Table.{access_value};
-ghost use Rattle.regions.specs.RegionStates.{state_of};
+ghost use Rattle.regions.specs.RegionStates.{RegionState, state_of, with_new};
+ghost use Rattle.regions.specs.Regions.{left};
 ghost use Rattle.regions.specs.RegionRules.{holds_buffer, is_level};
-ghost use Rattle.regions.specs.StatesInMemory.{any_asked, variable_state, state_value, condition_holds, asks, held_in, holds_critical, holds_of};
+ghost use lib.Pointwise.{pointwise};
+ghost use Rattle.regions.specs.SameStates.{same_variable, same_state};
+ghost use Rattle.regions.specs.StatesInMemory.{any_asked, variable_state, names_of, Grows, IsSaved, condition_holds, asks, held_in, is_holder, holds_critical, holds_of};
+ghost use Rattle.regions.specs.Walks.{holds_other};
 
+use crate::scope::Names;
 use jni::Access;
 use std::alloc::{AllocError, Global};
+use std::marker::Model;
+use std::mem::replace;
 
 /// What is known of a reference or a buffer. A buffer that is not free has an access, and the variable of its array or
 /// string.
@@ -23,18 +31,32 @@ pub(crate) enum VariableState<'a> {
     Usable(Access, &'a [u8]),
 }
 
-/// A variable, and what is known of it.
-#[derive(Clone, Copy)]
-pub(crate) struct Variable<'a> {
-    pub name: &'a [u8],
-    pub known: VariableState<'a>,
+/// What is known of the variables, by their numbers, and the number of frames.
+#[derive(Drop)]
+pub(crate) struct Facts<'a> {
+    pub variables: Vec<VariableState<'a>>,
+    pub frames: usize,
 }
 
-/// The references and buffers in scope, the youngest first, and the number of frames.
+/// The references and buffers in scope, what is known of each, and the number of frames. What is known of a name is found, and changed, in constant time.
 #[derive(Drop)]
 pub(crate) struct StaticState<'a> {
-    pub variables: Vec<Variable<'a>>,
-    pub frames: usize,
+    pub names: Names<'a>,
+    pub facts: Facts<'a>,
+}
+
+impl<'a> Model for StaticState<'a> {
+    ghost use Rattle.std.specs.Prelude.{◌≡◌, bytes_eq, length};
+    ghost use Rattle.std.specs.List.{IsDistinct};
+    ghost use Rattle.regions.specs.RegionStates.{RegionState};
+
+    ghost Value = { RegionState };
+
+    ghost use Rattle.regions.specs.StatesInMemory.{state_value};
+
+    ghost view = { λ s. state_value s.names s.facts };
+
+    ghost invariant = { λ s. (length s.facts.variables.items ≡ length s.names) × IsDistinct bytes_eq s.names };
 }
 
 /// A question about a variable.
@@ -71,16 +93,50 @@ pub(crate) fn held_of<'a>(known: VariableState<'a>) -> Option<(Access, &'a [u8])
     }
 }
 
+/// Nothing is in scope, and there is one frame.
+pub(crate) fn nothing<'a>(alloc: Global) -> StaticState<'a>
+    ensures { result ≡ record { variables = []; frames = 1 } }
+{
+    StaticState {
+        names: Names::new(alloc),
+        facts: Facts {
+            variables: Vec::new(alloc),
+            frames: 1,
+        },
+    }
+}
+
+/// Nothing is in scope any more. The memory stays, for another function.
+pub(crate) fn clear(state: &mut StaticState)
+    ensures { state.new ≡ record { variables = []; frames = 1 } }
+{
+    state.names.truncate(0);
+    state.facts.variables.truncate(0);
+    state.facts.frames = 1;
+}
+
+/// The number of frames.
+pub(crate) fn frames(state: &StaticState) -> usize
+    ensures { result ≡ state.now.frames }
+{
+    state.facts.frames
+}
+
+/// The number of variables.
+pub(crate) fn count(state: &StaticState) -> usize
+    ensures { result ≡ length (names_of state.now) }
+{
+    state.names.len()
+}
+
 /// What is known of a variable.
 pub(crate) fn known_of<'a>(state: &StaticState<'a>, name: &[u8]) -> Option<VariableState<'a>>
-    ensures { option_map variable_state result ≡ state_of (state_value state.now) name.now }
+    ensures { option_map variable_state result ≡ state_of state.now name.now }
 {
-    for v in &state.variables {
-        if is_same(name, v.name) {
-            return Some(v.known);
-        }
+    match state.names.number_of(name) {
+        Some(number) => Some(state.facts.variables[number]),
+        None => None,
     }
-    None
 }
 
 /// The answer to a question.
@@ -104,28 +160,43 @@ fn holds(condition: Condition, known: Option<VariableState>) -> bool
     }
 }
 
-/// Whether the answer to a question is yes about some variable.
-pub(crate) fn is_any(state: &StaticState, condition: Condition) -> bool
-    ensures { result ≡ any_asked condition (state_value state.now) }
+/// Whether the answer to a question is yes about one of these.
+fn is_one(variables: &[VariableState], condition: Condition) -> bool
+    ensures { result ≡ list_any (λ v. condition_holds condition (Some v)) (map variable_state variables.now) }
 {
-    for v in &state.variables {
-        if holds(condition, Some(v.known)) {
+    for v in variables {
+        if holds(condition, Some(*v)) {
             return true;
         }
     }
     false
 }
 
+/// The same of those after the first `count`.
+fn is_one_after(variables: &[VariableState], count: usize, condition: Condition) -> bool
+    requires { count ≤ length variables.now }
+    ensures { result ≡ list_any (λ v. condition_holds condition (Some v)) (map variable_state (drop count variables.now)) }
+{
+    is_one(&variables[count..], condition)
+}
+
+/// Whether the answer to a question is yes about some variable.
+pub(crate) fn is_any(state: &StaticState, condition: Condition) -> bool
+    ensures { result ≡ any_asked condition state.now }
+{
+    is_one(&state.facts.variables, condition)
+}
+
 /// The answer to a question about a variable.
 pub(crate) fn meets(state: &StaticState, condition: Condition, name: &[u8]) -> bool
-    ensures { result ≡ asks condition (state_value state.now) name.now }
+    ensures { result ≡ asks condition state.now name.now }
 {
     holds(condition, known_of(state, name))
 }
 
 /// The answer to a question about a variable, where there is one.
 pub(crate) fn some_meets(state: &StaticState, condition: Condition, name: Option<&[u8]>) -> bool
-    ensures { result ≡ some_passes (asks condition (state_value state.now)) (option_map (λ x. x.now) name.entry) }
+    ensures { result ≡ some_passes (asks condition state.now) (option_map (λ x. x.now) name.entry) }
 {
     match name {
         Some(x) => meets(state, condition, x),
@@ -146,72 +217,82 @@ pub(crate) fn is_level(level: usize, known: Option<VariableState>) -> bool
     }
 }
 
-/// Whether a variable is a buffer that is held.
-pub(crate) fn is_held(v: &Variable) -> bool
-    ensures { result ≡ condition_holds Condition.Held (Some (variable_state v.now.known)) }
-{
-    holds(Condition::Held, Some(v.known))
-}
-
 /// Whether a buffer is held.
 pub(crate) fn holds_buffer(state: &StaticState) -> bool
-    ensures { result ≡ holds_buffer (state_value state.now) }
+    ensures { result ≡ holds_buffer state.now }
 {
-    for v in &state.variables {
-        if is_held(v) {
-            return true;
-        }
-    }
-    false
+    is_any(state, Condition::Held)
+}
+
+/// Whether a buffer of a block itself is held, where the block began with this many variables.
+pub(crate) fn holds_own(state: &StaticState, count: usize) -> bool
+    requires { count ≤ length (names_of state.now) }
+    ensures { (outer : RegionState) → count ≡ length (names_of outer) → Grows outer state.now → result ≡ holds_other outer state.now }
+{
+    is_one_after(&state.facts.variables, count, Condition::Held)
 }
 
 /// Whether a variable is a critical buffer.
-fn is_held_critical(v: &Variable) -> bool
-    ensures { result ≡ some_passes (λ held. is_critical held.0) (held_in (variable_state v.now.known)) }
+fn is_held_critical(known: VariableState) -> bool
+    ensures { result ≡ is_holder (λ held. is_critical held.0) (variable_state known.entry) }
 {
-    match held_of(v.known) {
+    match held_of(known) {
         Some((access, _)) => access.is_critical(),
         None => false,
     }
 }
 
-/// Whether a critical buffer is held.
-pub(crate) fn holds_critical(state: &StaticState) -> bool
-    ensures { result ≡ holds_critical (state_value state.now) }
+/// Whether one of these is.
+fn has_critical(variables: &[VariableState]) -> bool
+    ensures { result ≡ list_any (is_holder (λ held. is_critical held.0)) (map variable_state variables.now) }
 {
-    for v in &state.variables {
-        if is_held_critical(v) {
+    for v in variables {
+        if is_held_critical(*v) {
             return true;
         }
     }
     false
 }
 
-/// Whether a variable is a held buffer of this array variable.
-fn is_held_of(v: &Variable, name: &[u8]) -> bool
-    ensures { result ≡ some_passes (λ held. bytes_eq held.1 name.now) (held_in (variable_state v.now.known)) }
+/// Whether a critical buffer is held.
+pub(crate) fn holds_critical(state: &StaticState) -> bool
+    ensures { result ≡ holds_critical state.now }
 {
-    match held_of(v.known) {
+    has_critical(&state.facts.variables)
+}
+
+/// Whether a variable is a held buffer of this array variable.
+fn is_held_of(known: VariableState, name: &[u8]) -> bool
+    ensures { result ≡ is_holder (λ held. bytes_eq held.1 name.now) (variable_state known.entry) }
+{
+    match held_of(known) {
         Some((_, array)) => is_same(array, name),
         None => false,
     }
 }
 
-/// Whether a variable is the array of a held buffer.
-pub(crate) fn is_array_in_use(state: &StaticState, name: &[u8]) -> bool
-    ensures { result ≡ holds_of name.now (state_value state.now) }
+/// Whether one of these is.
+fn has_held_of(variables: &[VariableState], name: &[u8]) -> bool
+    ensures { result ≡ list_any (is_holder (λ held. bytes_eq held.1 name.now)) (map variable_state variables.now) }
 {
-    for v in &state.variables {
-        if is_held_of(v, name) {
+    for v in variables {
+        if is_held_of(*v, name) {
             return true;
         }
     }
     false
 }
 
+/// Whether a variable is the array of a held buffer.
+pub(crate) fn is_array_in_use(state: &StaticState, name: &[u8]) -> bool
+    ensures { result ≡ holds_of name.now state.now }
+{
+    has_held_of(&state.facts.variables, name)
+}
+
 /// The same where there is a variable.
 pub(crate) fn is_some_in_use(state: &StaticState, name: Option<&[u8]>) -> bool
-    ensures { result ≡ some_passes (λ x. holds_of x (state_value state.now)) (option_map (λ x. x.now) name.entry) }
+    ensures { result ≡ some_passes (λ x. holds_of x state.now) (option_map (λ x. x.now) name.entry) }
 {
     match name {
         Some(x) => is_array_in_use(state, x),
@@ -219,19 +300,97 @@ pub(crate) fn is_some_in_use(state: &StaticState, name: Option<&[u8]>) -> bool
     }
 }
 
-/// The same state once more.
-pub(crate) fn copy<'a>(
-    alloc: Global,
-    state: &StaticState<'a>,
-) -> Result<StaticState<'a>, AllocError>
-    ensures { IfOk result (λ other. state_value other ≡ state_value state.now) }
+/// One variable more, of a name that no other has.
+pub(crate) fn add<'a>(
+    state: &mut StaticState<'a>,
+    name: &'a [u8],
+    known: VariableState<'a>,
+) -> Result<(), AllocError>
+    requires { list_any (bytes_eq name.now) (names_of state.old) ≡ false }
+    ensures { OnOk result (state.new ≡ with_new state.old name.now (variable_state known.entry)) }
 {
-    let mut variables = Vec::with_capacity(alloc, state.variables.len())?;
-    for v in &state.variables {
-        variables.push(*v)?;
+    state.facts.variables.push(known)?;
+    match state.names.add(name) {
+        Ok(()) => Ok(()),
+        Err(_) => {
+            state.facts.variables.pop();
+            Err(AllocError)
+        }
     }
-    Ok(StaticState {
+}
+
+/// The first `count` variables alone are left.
+pub(crate) fn leave(state: &mut StaticState, count: usize)
+    ensures left { (outer : RegionState) → count ≡ length (names_of outer) → Grows outer state.old → state.new ≡ left outer state.old }
+    ensures names { (outer : RegionState) → count ≡ length (names_of outer) → Grows outer state.old → names_of state.new ≡ names_of outer }
+{
+    state.names.truncate(count);
+    state.facts.variables.truncate(count);
+}
+
+/// What is known now, to come back to.
+pub(crate) fn save<'a>(alloc: Global, state: &StaticState<'a>) -> Result<Facts<'a>, AllocError>
+    ensures { IfOk result (λ facts. IsSaved facts state.now) }
+{
+    let variables = Vec::from_slice(alloc, &state.facts.variables)?;
+    Ok(Facts {
         variables,
-        frames: state.frames,
+        frames: state.facts.frames,
     })
+}
+
+/// Other facts on the same variables. Those that they replace are answered.
+pub(crate) fn exchange<'a>(state: &mut StaticState<'a>, facts: Facts<'a>) -> Facts<'a>
+    requires { length facts.variables.items ≡ length (names_of state.old) }
+    ensures after { (other : RegionState) → IsSaved facts.entry other → names_of other ≡ names_of state.old → state.new ≡ other }
+    ensures before { IsSaved result state.old }
+{
+    replace(&mut state.facts, facts)
+}
+
+/// Whether the same is known of two variables.
+fn is_same_known(a: VariableState, b: VariableState) -> bool
+    ensures { result ≡ same_variable (variable_state a.entry) (variable_state b.entry) }
+{
+    match a {
+        VariableState::Reference(level, live) => match b {
+            VariableState::Reference(other, is_live) => level == other && live == is_live,
+            VariableState::Free => false,
+            VariableState::Untested(..) => false,
+            VariableState::Usable(..) => false,
+        },
+        VariableState::Free => matches!(b, VariableState::Free),
+        VariableState::Untested(access, array) => match b {
+            VariableState::Untested(other, name) => access.is_same(other) && is_same(array, name),
+            VariableState::Reference(..) => false,
+            VariableState::Free => false,
+            VariableState::Usable(..) => false,
+        },
+        VariableState::Usable(access, array) => match b {
+            VariableState::Usable(other, name) => access.is_same(other) && is_same(array, name),
+            VariableState::Reference(..) => false,
+            VariableState::Free => false,
+            VariableState::Untested(..) => false,
+        },
+    }
+}
+
+/// Whether the same is known of these variables, in the same order.
+fn are_same(a: &[VariableState], b: &[VariableState]) -> bool
+    ensures { result ≡ pointwise same_variable (map variable_state a.now) (map variable_state b.now) }
+{
+    match a {
+        [] => b.is_empty(),
+        [first, rest @ ..] => match b {
+            [] => false,
+            [other, others @ ..] => is_same_known(*first, *other) && are_same(rest, others),
+        },
+    }
+}
+
+/// Whether a state is the same as the one that was saved.
+pub(crate) fn is_as_saved(saved: &Facts, state: &StaticState) -> bool
+    ensures { (other : RegionState) → IsSaved saved.now other → names_of other ≡ names_of state.now → result ≡ same_state other state.now }
+{
+    are_same(&saved.variables, &state.facts.variables) && saved.frames == state.facts.frames
 }

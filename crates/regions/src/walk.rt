@@ -1,170 +1,86 @@
 //! The ways through a function.
 
-ghost use Rattle.std.specs.Prelude.{◌≡◌, ℕ, not, ◌&&◌, bytes_eq, Some, Ok, Err, filter, map, IfOk, IsTrue};
-ghost use Rattle.std.specs.List.{list_all};
-ghost use lib.Pointwise.{pointwise};
-ghost use Rattle.syntax.specs.Parts.{statements_of, statements_within};
+ghost use Rattle.std.specs.Prelude.{◌≡◌, ◌≤◌, ◌++◌, ℕ, Ok, Err, map, length, OnOk, IfOk};
+ghost use Rattle.std.specs.List.{AllByRecursion};
 ghost use Rattle.syntax.specs.Tree.{End};
 ghost use Rattle.syntax.specs.Views.{block_tree, stmt_tree, test_tree, form_tree, function_tree, item_tree};
-ghost use Rattle.regions.specs.RegionStates.{state_at_entry, state_after};
-ghost use Rattle.regions.specs.RegionRules.{is_held};
-ghost use Rattle.regions.specs.Regions.{On, left, has_variable, where_true, where_false};
-ghost use Rattle.regions.specs.SameStates.{same_variable, same_named, same_state};
+ghost use Rattle.regions.specs.RegionStates.{RegionState, state_at_entry, state_after};
+ghost use Rattle.regions.specs.Regions.{On, where_true, where_false};
 ghost use Rattle.regions.specs.Ways.{join_ways, turn_way, way_of, way_of_block};
-ghost use Rattle.regions.specs.StatesInMemory.{variable_state, variables_value, state_value};
+ghost use Rattle.regions.specs.StatesInMemory.{names_of, Grows, IsSaved};
+ghost use Rattle.regions.specs.NewNames.{own_names, AreNew, DeclaresNew, DeclareNew, DeclaresOnce, ItemOnce};
 ghost use Rattle.regions.specs.Findings.{rule_of, Finds, function_fault, item_fault, items_fault};
-ghost use Rattle.regions.specs.Walks.{holds_other, way_value, Goes, inner_way};
+ghost use Rattle.regions.specs.Walks.{way_value, Goes, go_on, inner_way};
 
 use crate::changes::{pass, take_false, take_true};
 use crate::fault::{CheckFault, RegionFault, RegionRule};
 use crate::rules::first_broken;
-use crate::states::{StaticState, Variable, VariableState, copy, is_held, is_same};
+use crate::states::{
+    Facts, StaticState, VariableState, add, clear, count, exchange, holds_own, is_as_saved, leave,
+    nothing, save,
+};
 use std::alloc::{AllocError, Global};
 use syntax::{Block, Form, Function, Item, ParameterType, Stmt, Test};
 
 /// How a way goes on after a statement: with a state, or not at all.
-#[derive(Drop)]
-pub(crate) enum Way<'a> {
-    On(StaticState<'a>),
+#[derive(Clone, Copy)]
+pub(crate) enum Way {
+    On,
     Returned,
 }
 
-/// Whether the same is known of two variables.
-fn same_known(a: VariableState, b: VariableState) -> bool
-    ensures { result ≡ same_variable (variable_state a.entry) (variable_state b.entry) }
-{
-    match a {
-        VariableState::Reference(level, live) => match b {
-            VariableState::Reference(other, is_live) => level == other && live == is_live,
-            VariableState::Free => false,
-            VariableState::Untested(..) => false,
-            VariableState::Usable(..) => false,
-        },
-        VariableState::Free => matches!(b, VariableState::Free),
-        VariableState::Untested(access, array) => match b {
-            VariableState::Untested(other, name) => access.is_same(other) && is_same(array, name),
-            VariableState::Reference(..) => false,
-            VariableState::Free => false,
-            VariableState::Usable(..) => false,
-        },
-        VariableState::Usable(access, array) => match b {
-            VariableState::Usable(other, name) => access.is_same(other) && is_same(array, name),
-            VariableState::Reference(..) => false,
-            VariableState::Free => false,
-            VariableState::Untested(..) => false,
-        },
-    }
-}
-
-/// Whether two variables have one name, and the same is known of them.
-fn same_named(a: &Variable, b: &Variable) -> bool
-    ensures { result ≡ (bytes_eq a.now.name.now b.now.name.now && same_variable (variable_state a.now.known) (variable_state b.now.known)) }
-{
-    is_same(a.name, b.name) && same_known(a.known, b.known)
-}
-
-/// Whether these are the same variables in the same order.
-fn same_variables(a: &[Variable], b: &[Variable]) -> bool
-    ensures { result ≡ pointwise same_named (variables_value a.now) (variables_value b.now) }
-{
-    match a {
-        [] => b.is_empty(),
-        [first, rest @ ..] => match b {
-            [] => false,
-            [other, others @ ..] => same_named(first, other) && same_variables(rest, others),
-        },
-    }
-}
-
-/// Whether two states are the same.
-fn same_state(a: &StaticState, b: &StaticState) -> bool
-    ensures { result ≡ same_state (state_value a.now) (state_value b.now) }
-{
-    same_variables(&a.variables, &b.variables) && a.frames == b.frames
-}
-
-/// Whether a variable is one of a state.
-fn has_variable(state: &StaticState, name: &[u8]) -> bool
-    ensures { result ≡ has_variable (state_value state.now) name.now }
-{
-    for v in &state.variables {
-        if is_same(v.name, name) {
-            return true;
-        }
-    }
-    false
-}
-
-/// Whether a variable is a held buffer that is not of the outer state.
-fn is_own_held(outer: &StaticState, v: &Variable) -> bool
-    ensures { result ≡ (not (has_variable (state_value outer.now) v.now.name.now) && is_held (Some (variable_state v.now.known))) }
-{
-    !has_variable(outer, v.name) && is_held(v)
-}
-
-/// Whether a buffer of the block itself is held.
-fn holds_own(outer: &StaticState, state: &StaticState) -> bool
-    ensures { result ≡ holds_other (state_value outer.now) (state_value state.now) }
-{
-    for v in &state.variables {
-        if is_own_held(outer, v) {
-            return true;
-        }
-    }
-    false
-}
-
-/// The variables of the outer state alone.
-fn retain_outer(outer: &StaticState, variables: &mut Vec<Variable>)
-    ensures { variables.new.items ≡ filter (λ v. has_variable (state_value outer.now) v.name.now) variables.old.items }
-{
-    variables.retain(|v| has_variable(outer, v.name));
-}
-
-/// The variables of the outer state alone are left.
-fn leave(outer: &StaticState, state: &mut StaticState)
-    ensures { state_value state.new ≡ left (state_value outer.now) (state_value state.old) }
-{
-    retain_outer(outer, &mut state.variables);
-}
-
 /// The fault of a rule on this line.
-fn refuse<'a>(rule: RegionRule, line: usize) -> Result<Way<'a>, CheckFault>
-    ensures { Goes result (Err (line, rule_of rule)) }
+fn refuse(rule: RegionRule, line: usize) -> Result<Way, CheckFault>
+    ensures fault { (after : RegionState) → Goes result after (Err (line, rule_of rule)) }
+    ensures never { IfOk result (λ _. ⊥) }
 {
     Err(CheckFault::Broken(RegionFault { rule, line }))
 }
 
-/// A block's end on this line.
-fn end<'a>(
-    outer: &StaticState<'a>,
-    mut state: StaticState<'a>,
-    line: usize,
-) -> Result<Way<'a>, CheckFault>
-    ensures { Goes result (way_of_block (state_value outer.now) (state_value state.entry) (End line)) }
+/// A block's end on this line, where the block began with this many variables and its way so far is this one.
+fn end(state: &mut StaticState, count: usize, way: Way, line: usize) -> Result<Way, CheckFault>
+    requires { count ≤ length (names_of state.old) }
+    ensures goes { (outer : RegionState) → count ≡ length (names_of outer) → Grows outer state.old → Goes result state.new (go_on outer (way_value way state.old) (End line)) }
+    ensures names { (outer : RegionState) → count ≡ length (names_of outer) → Grows outer state.old → IfOk result (λ _. names_of state.new ≡ names_of outer) }
 {
-    if holds_own(outer, &state) {
-        return refuse(RegionRule::HeldBuffer, line);
+    match way {
+        Way::On => {
+            if holds_own(state, count) {
+                return refuse(RegionRule::HeldBuffer, line);
+            }
+            leave(state, count);
+            Ok(Way::On)
+        }
+        Way::Returned => {
+            leave(state, count);
+            Ok(Way::Returned)
+        }
     }
-    leave(outer, &mut state);
-    Ok(Way::On(state))
 }
 
-/// Two ways become one.
+/// Two ways become one: the first, after which this is known, and the second, which came to this state.
 pub(crate) fn join_ways<'a>(
+    state: &mut StaticState<'a>,
     line: usize,
-    first: Way<'a>,
-    second: Way<'a>,
-) -> Result<Way<'a>, CheckFault>
-    ensures { Goes result (join_ways line (Ok (way_value first.entry)) (Ok (way_value second.entry))) }
+    first: Way,
+    known: Facts<'a>,
+    second: Way,
+) -> Result<Way, CheckFault>
+    requires { length known.variables.items ≡ length (names_of state.old) }
+    ensures goes { (a : RegionState) → IsSaved known.entry a → names_of a ≡ names_of state.old → Goes result state.new (join_ways line (Ok (way_value first a)) (Ok (way_value second state.old))) }
+    ensures names { (a : RegionState) → IsSaved known.entry a → names_of a ≡ names_of state.old → IfOk result (λ _. names_of state.new ≡ names_of state.old) }
 {
     match first {
         Way::Returned => Ok(second),
-        Way::On(a) => match second {
-            Way::Returned => Ok(Way::On(a)),
-            Way::On(b) => {
-                if same_state(&a, &b) {
-                    return Ok(Way::On(a));
+        Way::On => match second {
+            Way::Returned => {
+                exchange(state, known);
+                Ok(Way::On)
+            }
+            Way::On => {
+                if is_as_saved(&known, state) {
+                    exchange(state, known);
+                    return Ok(Way::On);
                 }
                 refuse(RegionRule::WaysDiffer, line)
             }
@@ -172,143 +88,143 @@ pub(crate) fn join_ways<'a>(
     }
 }
 
-/// The way after a loop, whose body comes back to the state in which it began.
-fn turn_way<'a>(line: usize, before: StaticState<'a>, turn: Way<'a>) -> Result<Way<'a>, CheckFault>
-    ensures { Goes result (turn_way line (state_value before.entry) (Ok (way_value turn.entry))) }
+/// The way after a loop, whose body comes back to the state in which it began: what was known then was saved.
+fn turn_way<'a>(
+    state: &mut StaticState<'a>,
+    line: usize,
+    before: Facts<'a>,
+    turn: Way,
+) -> Result<Way, CheckFault>
+    requires { length before.variables.items ≡ length (names_of state.old) }
+    ensures goes { (s : RegionState) → IsSaved before.entry s → names_of s ≡ names_of state.old → Goes result state.new (turn_way line s (Ok (way_value turn state.old))) }
+    ensures names { (s : RegionState) → IsSaved before.entry s → names_of s ≡ names_of state.old → IfOk result (λ _. names_of state.new ≡ names_of state.old) }
 {
     match turn {
-        Way::Returned => Ok(Way::On(before)),
-        Way::On(after) => {
-            if same_state(&after, &before) {
-                return Ok(Way::On(before));
+        Way::Returned => {
+            exchange(state, before);
+            Ok(Way::On)
+        }
+        Way::On => {
+            if is_as_saved(&before, state) {
+                exchange(state, before);
+                return Ok(Way::On);
             }
             refuse(RegionRule::WaysDiffer, line)
         }
     }
 }
 
-/// The state where a test holds.
-fn state_true<'a>(
-    alloc: Global,
-    state: &StaticState<'a>,
-    test: &'a Test,
-) -> Result<StaticState<'a>, AllocError>
-    ensures { IfOk result (λ s. state_value s ≡ where_true (state_value state.now) (test_tree test.now)) }
-{
-    let mut inside = copy(alloc, state)?;
-    take_true(&mut inside, test)?;
-    Ok(inside)
-}
-
-/// The state where it does not.
-fn state_false<'a>(
-    alloc: Global,
-    state: &StaticState<'a>,
-    test: &'a Test,
-) -> Result<StaticState<'a>, AllocError>
-    ensures { IfOk result (λ s. state_value s ≡ where_false (state_value state.now) (test_tree test.now)) }
-{
-    let mut inside = copy(alloc, state)?;
-    take_false(&mut inside, test);
-    Ok(inside)
-}
-
 /// The way after a statement without blocks.
-fn pass_way<'a>(mut before: StaticState<'a>, form: &'a Form) -> Result<Way<'a>, CheckFault>
-    ensures { (line : ℕ) → Goes result (Ok (On (state_after (state_value before.entry) (form_tree line form.now)))) }
+fn pass_way<'a>(state: &mut StaticState<'a>, form: &'a Form) -> Result<Way, CheckFault>
+    requires { (line : ℕ) → AreNew (names_of state.old) (own_names (form_tree line form.now)) }
+    ensures goes { (line : ℕ) → Goes result state.new (Ok (On (state_after state.old (form_tree line form.now)))) }
+    ensures names { (line : ℕ) → IfOk result (λ _. names_of state.new ≡ names_of state.old ++ own_names (form_tree line form.now)) }
 {
-    pass(&mut before, form)?;
-    Ok(Way::On(before))
+    pass(state, form)?;
+    Ok(Way::On)
 }
 
 /// The way through the block after a test that holds.
 #[cycle(walk)]
 fn then_way<'a>(
     alloc: Global,
-    before: &StaticState<'a>,
+    state: &mut StaticState<'a>,
     test: &'a Test,
     then: &'a Block,
-) -> Result<Way<'a>, CheckFault>
-    ensures { Goes result (way_of_block (state_value before.now) (where_true (state_value before.now) (test_tree test.now)) (block_tree then.now)) }
+) -> Result<Way, CheckFault>
+    requires { DeclareNew (names_of state.old) (block_tree then.now) }
+    ensures goes { Goes result state.new (way_of_block state.old (where_true state.old (test_tree test.now)) (block_tree then.now)) }
+    ensures names { IfOk result (λ _. names_of state.new ≡ names_of state.old) }
 {
-    let inside = state_true(alloc, before, test)?;
-    block_way(alloc, before, inside, then)
+    take_true(state, test)?;
+    block_way(alloc, state, then)
 }
 
 /// The way through the block after a test that does not.
 #[cycle(walk)]
 fn else_way<'a>(
     alloc: Global,
-    before: &StaticState<'a>,
+    state: &mut StaticState<'a>,
     test: &'a Test,
     otherwise: &'a Block,
-) -> Result<Way<'a>, CheckFault>
-    ensures { Goes result (way_of_block (state_value before.now) (where_false (state_value before.now) (test_tree test.now)) (block_tree otherwise.now)) }
+) -> Result<Way, CheckFault>
+    requires { DeclareNew (names_of state.old) (block_tree otherwise.now) }
+    ensures goes { Goes result state.new (way_of_block state.old (where_false state.old (test_tree test.now)) (block_tree otherwise.now)) }
+    ensures names { IfOk result (λ _. names_of state.new ≡ names_of state.old) }
 {
-    let inside = state_false(alloc, before, test)?;
-    block_way(alloc, before, inside, otherwise)
+    take_false(state, test);
+    block_way(alloc, state, otherwise)
 }
 
 /// The way after an `if` without `else`.
 #[cycle(walk)]
 fn if_way<'a>(
     alloc: Global,
-    before: StaticState<'a>,
+    state: &mut StaticState<'a>,
     line: usize,
     test: &'a Test,
     then: &'a Block,
-) -> Result<Way<'a>, CheckFault>
-    ensures { Goes result (join_ways line (way_of_block (state_value before.entry) (where_true (state_value before.entry) (test_tree test.now)) (block_tree then.now)) (Ok (On (where_false (state_value before.entry) (test_tree test.now))))) }
+) -> Result<Way, CheckFault>
+    requires { DeclareNew (names_of state.old) (block_tree then.now) }
+    ensures goes { Goes result state.new (join_ways line (way_of_block state.old (where_true state.old (test_tree test.now)) (block_tree then.now)) (Ok (On (where_false state.old (test_tree test.now))))) }
+    ensures names { IfOk result (λ _. names_of state.new ≡ names_of state.old) }
 {
-    let way = then_way(alloc, &before, test, then)?;
-    let mut passed = before;
-    take_false(&mut passed, test);
-    join_ways(line, way, Way::On(passed))
+    let before = save(alloc, state)?;
+    let first = then_way(alloc, state, test, then)?;
+    let known = exchange(state, before);
+    take_false(state, test);
+    join_ways(state, line, first, known, Way::On)
 }
 
 /// The way after a `while`.
 #[cycle(walk)]
 fn while_way<'a>(
     alloc: Global,
-    before: StaticState<'a>,
+    state: &mut StaticState<'a>,
     line: usize,
     body: &'a Block,
-) -> Result<Way<'a>, CheckFault>
-    ensures { Goes result (turn_way line (state_value before.entry) (way_of_block (state_value before.entry) (state_value before.entry) (block_tree body.now))) }
+) -> Result<Way, CheckFault>
+    requires { DeclareNew (names_of state.old) (block_tree body.now) }
+    ensures goes { Goes result state.new (turn_way line state.old (way_of_block state.old state.old (block_tree body.now))) }
+    ensures names { IfOk result (λ _. names_of state.new ≡ names_of state.old) }
 {
-    let inside = copy(alloc, &before)?;
-    let turn = block_way(alloc, &before, inside, body)?;
-    turn_way(line, before, turn)
+    let before = save(alloc, state)?;
+    let turn = block_way(alloc, state, body)?;
+    turn_way(state, line, before, turn)
 }
 
 /// The way after a statement on this line that keeps the rules itself.
 #[cycle(walk)]
 fn inner_way<'a>(
     alloc: Global,
-    before: StaticState<'a>,
+    state: &mut StaticState<'a>,
     line: usize,
     form: &'a Form,
-) -> Result<Way<'a>, CheckFault>
-    ensures { Goes result (inner_way (state_value before.entry) (form_tree line form.now)) }
+) -> Result<Way, CheckFault>
+    requires { DeclaresNew (names_of state.old) (form_tree line form.now) }
+    ensures goes { Goes result state.new (inner_way state.old (form_tree line form.now)) }
+    ensures names { IfOk result (λ _. names_of state.new ≡ names_of state.old ++ own_names (form_tree line form.now)) }
 {
     match form {
-        Form::If(test, b) => if_way(alloc, before, line, test, b),
+        Form::If(test, b) => if_way(alloc, state, line, test, b),
         Form::IfElse(test, b, d) => {
-            let first = then_way(alloc, &before, test, b)?;
-            let second = else_way(alloc, &before, test, d)?;
-            join_ways(line, first, second)
+            let before = save(alloc, state)?;
+            let first = then_way(alloc, state, test, b)?;
+            let known = exchange(state, before);
+            let second = else_way(alloc, state, test, d)?;
+            join_ways(state, line, first, known, second)
         }
-        Form::While(_, b) => while_way(alloc, before, line, b),
+        Form::While(_, b) => while_way(alloc, state, line, b),
         Form::Return(None) => Ok(Way::Returned),
         Form::Return(Some(_)) => Ok(Way::Returned),
-        Form::Declare(..) => pass_way(before, form),
-        Form::DeclareBuffer(..) => pass_way(before, form),
-        Form::DeclareChars(..) => pass_way(before, form),
-        Form::DeclareArray(..) => pass_way(before, form),
-        Form::Assign(..) => pass_way(before, form),
-        Form::AssignElement(..) => pass_way(before, form),
-        Form::Perform(_) => pass_way(before, form),
-        Form::PutJint(_) => pass_way(before, form),
+        Form::Declare(..) => pass_way(state, form),
+        Form::DeclareBuffer(..) => pass_way(state, form),
+        Form::DeclareChars(..) => pass_way(state, form),
+        Form::DeclareArray(..) => pass_way(state, form),
+        Form::Assign(..) => pass_way(state, form),
+        Form::AssignElement(..) => pass_way(state, form),
+        Form::Perform(_) => pass_way(state, form),
+        Form::PutJint(_) => pass_way(state, form),
     }
 }
 
@@ -316,72 +232,71 @@ fn inner_way<'a>(
 #[cycle(walk)]
 fn stmt_way<'a>(
     alloc: Global,
-    before: StaticState<'a>,
+    state: &mut StaticState<'a>,
     stmt: &'a Stmt,
-) -> Result<Way<'a>, CheckFault>
-    ensures { Goes result (way_of (state_value before.entry) (stmt_tree stmt.now)) }
+) -> Result<Way, CheckFault>
+    requires { DeclaresNew (names_of state.old) (stmt_tree stmt.now) }
+    ensures goes { Goes result state.new (way_of state.old (stmt_tree stmt.now)) }
+    ensures names { IfOk result (λ _. names_of state.new ≡ names_of state.old ++ own_names (stmt_tree stmt.now)) }
 {
-    match first_broken(&before, &stmt.form) {
+    match first_broken(state, &stmt.form) {
         Some(rule) => refuse(rule, stmt.line),
-        None => inner_way(alloc, before, stmt.line, &stmt.form),
+        None => inner_way(alloc, state, stmt.line, &stmt.form),
     }
 }
 
-/// The way through a block, where the variables of the outer state are not its own. After a return there is nothing.
+/// The way through a block, where the variables that were there before it are not its own. After a return there is nothing.
 #[cycle(walk)]
 fn block_way<'a>(
     alloc: Global,
-    outer: &StaticState<'a>,
-    before: StaticState<'a>,
+    state: &mut StaticState<'a>,
     block: &'a Block,
-) -> Result<Way<'a>, CheckFault>
-    ensures { Goes result (way_of_block (state_value outer.now) (state_value before.entry) (block_tree block.now)) }
+) -> Result<Way, CheckFault>
+    requires { DeclareNew (names_of state.old) (block_tree block.now) }
+    ensures goes { (outer : RegionState) → names_of outer ≡ names_of state.old → Goes result state.new (way_of_block outer state.old (block_tree block.now)) }
+    ensures names { IfOk result (λ _. names_of state.new ≡ names_of state.old) }
 {
-    let mut way = Way::On(before);
+    let count = count(state);
+    let mut way = Way::On;
     for stmt in &block.statements {
         match way {
-            Way::On(state) => way = stmt_way(alloc, state, stmt)?,
+            Way::On => way = stmt_way(alloc, state, stmt)?,
             Way::Returned => return refuse(RegionRule::NoReturn, stmt.line),
         }
     }
-    match way {
-        Way::On(state) => end(outer, state, block.end_line),
-        Way::Returned => Ok(Way::Returned),
-    }
+    end(state, count, way, block.end_line)
 }
 
 /// What is known at a function's beginning: the class and its references are live, in one frame.
-fn entry_state<'a>(alloc: Global, f: &'a Function) -> Result<StaticState<'a>, AllocError>
-    ensures { IfOk result (λ s. state_value s ≡ state_at_entry (function_tree f.now)) }
+fn enter<'a>(state: &mut StaticState<'a>, f: &'a Function) -> Result<(), AllocError>
+    requires { DeclaresOnce (function_tree f.now) }
+    ensures { OnOk result (state.new ≡ state_at_entry (function_tree f.now)) }
 {
-    let mut variables = Vec::new(alloc);
+    clear(state);
     let known = VariableState::Reference(1, true);
-    variables.push(Variable {
-        name: f.class_name.as_bytes(),
-        known,
-    })?;
-    for p in &f.parameters {
+    let mut left = f.parameters.len();
+    while left > 0 {
+        left -= 1;
+        let p = &f.parameters[left];
         if let ParameterType::Reference(_) = p.kind {
-            variables.push(Variable {
-                name: p.name.as_bytes(),
-                known,
-            })?;
+            add(state, p.name.as_bytes(), known)?;
         }
     }
-    Ok(StaticState {
-        variables,
-        frames: 1,
-    })
+    add(state, f.class_name.as_bytes(), known)
 }
 
-/// The ways through a function.
-fn check_function(alloc: Global, f: &Function) -> Result<(), CheckFault>
+/// The ways through a function. What the state was before is forgotten.
+fn check_function<'a>(
+    alloc: Global,
+    state: &mut StaticState<'a>,
+    f: &'a Function,
+) -> Result<(), CheckFault>
+    requires { DeclaresOnce (function_tree f.now) }
     ensures { Finds result (function_fault (function_tree f.now)) }
 {
-    let outer = entry_state(alloc, f)?;
-    let before = copy(alloc, &outer)?;
-    match block_way(alloc, &outer, before, &f.body)? {
-        Way::On(_) => Err(CheckFault::Broken(RegionFault {
+    enter(state, f)?;
+    match block_way(alloc, state, &f.body)? {
+        Way::On => Err(CheckFault::Broken(RegionFault {
             rule: RegionRule::NoReturn,
             line: f.body.end_line,
         })),
@@ -390,22 +305,29 @@ fn check_function(alloc: Global, f: &Function) -> Result<(), CheckFault>
 }
 
 /// The ways through an item.
-fn check_item(alloc: Global, item: &Item) -> Result<(), CheckFault>
+fn check_item<'a>(
+    alloc: Global,
+    state: &mut StaticState<'a>,
+    item: &'a Item,
+) -> Result<(), CheckFault>
+    requires { ItemOnce (item_tree item.now) }
     ensures { Finds result (item_fault (item_tree item.now)) }
 {
     match item {
         Item::Static(_) => Ok(()),
-        Item::Function(f) => check_function(alloc, f),
+        Item::Function(f) => check_function(alloc, state, f),
     }
 }
 
-/// The ways through the functions of a unit.
+/// The ways through the functions of a unit. All share one state, so the memory is taken once.
 #[tactic(auto, using(crate::proofs::UnitLemmas::finds_rules))]
-pub(crate) fn check_items(alloc: Global, items: &[Item]) -> Result<(), CheckFault>
+pub(crate) fn check_items<'a>(alloc: Global, items: &'a [Item]) -> Result<(), CheckFault>
+    requires { AllByRecursion ItemOnce (map item_tree items.now) }
     ensures { Finds result (items_fault (map item_tree items.now)) }
 {
+    let mut state = nothing(alloc);
     for item in items {
-        check_item(alloc, item)?;
+        check_item(alloc, &mut state, item)?;
     }
     Ok(())
 }

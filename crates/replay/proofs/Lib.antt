@@ -1,3 +1,4 @@
+mod NamesOnce
 mod PlainTasks
 mod ThreadLemmas
 mod RootLemmas

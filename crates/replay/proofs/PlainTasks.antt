@@ -192,16 +192,16 @@ statement-plain (tree.Return line) built = tt
 statement-plain (tree.ReturnValue line e) built = tt
 
 task-plain : (t : TaskInMemory) → TaskInRange t → IsPlain (task_view t)
-task-plain (task.Print line e) h = tt
-task-plain (task.Set line x e) h = tt
-task-plain (task.SetElement line x i e) h = tt
+task-plain (task.Print e) h = tt
+task-plain (task.Set a) h = tt
+task-plain (task.SetElement a) h = tt
 task-plain (task.SetNull to) h = tt
 task-plain (task.MakeArray T x n) h = tt
 task-plain (task.Invoke i) h = h.1
 task-plain (task.Branch c) h = tt
-task-plain (task.Loop line test e body) h = tt
+task-plain (task.Loop i) h = tt
 task-plain task.Return h = tt
-task-plain (task.ReturnValue line e) h = tt
+task-plain (task.ReturnValue e) h = tt
 
 end-plain : (e : End) → IsPlain (end_view e)
 end-plain end.If = tt

@@ -16,8 +16,7 @@ use Rattle.tasks.specs.declared.activation.Activation.{Activation}
 use Rattle.tasks.specs.Frames.{references_in}
 use Rattle.terms.specs.declared.variable.Content.{Content}
 use Rattle.terms.specs.declared.variable.Content.TheVariants as content
-use Rattle.terms.specs.declared.variable.Variable.{Variable as VariableInMemory}
-use Rattle.terms.specs.Views.{content_view, variable_view, variables_view}
+use Rattle.terms.specs.Views.{Contents, content_view, variable_view, variables_view}
 use Rattle.replay.specs.declared.state.State.{State as StateInMemory}
 use Rattle.replay.specs.declared.thread.Thread.{Thread as ThreadInMemory}
 use Rattle.replay.specs.Rows.{thread_names, activation_names}
@@ -36,16 +35,16 @@ content_viewless (content.Array T numbers) = refl
 abbrev views_in : Variables → List ℕ
 views_in vs = flat_map (λ (v : Identifier × Variable). viewed v.1) vs
 
-variables_viewless : (vs : List VariableInMemory) → views_in (variables_view vs) ≡ []
+variables_viewless : (vs : Contents) → views_in (variables_view vs) ≡ []
 variables_viewless [] = refl
 variables_viewless (v ∷ vs) =
     flat_map-cons (λ (x : Identifier × Variable). viewed x.1) (variable_view v) (variables_view vs)
-    ∙ ap (λ (l : List ℕ). l ++ views_in (variables_view vs)) (content_viewless v.content)
+    ∙ ap (λ (l : List ℕ). l ++ views_in (variables_view vs)) (content_viewless v.1)
     ∙ variables_viewless vs
 
 viewless : (o : Option Activation) (s : Thread) → WorkStands o s → viewed_by s ≡ []
 viewless None s h = ap views_in h.0
-viewless (Some a) s h = ap views_in h.0 ∙ variables_viewless a.variables.items
+viewless (Some a) s h = ap views_in h.0 ∙ variables_viewless a.variables
 
 -- ---- what a thread refers to
 

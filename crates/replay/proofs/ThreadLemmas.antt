@@ -110,7 +110,7 @@ module _ (unit : SourceUnit) (classes : Classes) (lent : BuffersInUse) (k : ℕ)
   -- the entry into the next call
   pub enters : (shared : Shared) (t : ThreadInMemory) (call : Invocation) (rest : List Invocation) (f : Function) (class : ℕ) (a : Activation) (s : Thread)
       → t.activation ≡ None → t.calls.now ≡ call ∷ rest → function_at unit call.function ≡ Some f → class_of_function classes f ≡ Some class
-      → tasks_left a ≡ tasks_of f.body → variables_view a.variables.items ≡ (f.class_name, LocalRef 1 (Some class)) ∷ parameter_variables (zip f.parameters call.arguments) → a.frames ≡ entry_frame (class ∷ filter_map named_object call.arguments) ∷ [] → a.pending ≡ None → ThreadStands unit classes t s
+      → tasks_left a ≡ tasks_of f.body → variables_view a.variables ≡ (f.class_name, LocalRef 1 (Some class)) ∷ parameter_variables (zip f.parameters call.arguments) → a.frames ≡ entry_frame (class ∷ filter_map named_object call.arguments) ∷ [] → a.pending ≡ None → ThreadStands unit classes t s
       → (after : Bor (List Invocation)) → after.now ≡ rest
       → Leaves unit classes shared (record t { calls = after; activation = Some a }) Quiet (thread_step unit classes lent k shared s false)
   enters shared t call rest f class a s idle calls found its_class tasks variables frames none h after is = record {

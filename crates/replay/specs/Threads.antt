@@ -29,7 +29,7 @@ tasks_in (Some a) = Some (tasks_left a)
 -- what the call in progress has beside its tasks; where there is none, there is nothing
 abbrev pub WorkStands : Option Activation → Thread → Type 0
 WorkStands None s = (s.variables ≡ []) × (s.frames ≡ []) × (s.pending ≡ None)
-WorkStands (Some a) s = (s.variables ≡ variables_view a.variables.items) × (s.frames ≡ a.frames) × (s.pending ≡ a.pending)
+WorkStands (Some a) s = (s.variables ≡ variables_view a.variables) × (s.frames ≡ a.frames) × (s.pending ≡ a.pending)
 
 abbrev pub WorkInRange : Option Activation → Type 0
 WorkInRange None = Unit {0}

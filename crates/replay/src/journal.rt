@@ -1,9 +1,10 @@
 //! Replays of journals.
 
-ghost use Rattle.std.specs.Prelude.{◌≡◌, IfOk, IfErr, OnOk, IsTrue};
+ghost use Rattle.std.specs.Prelude.{◌≡◌, ◌<◌, ◌^◌, IfOk, IfErr, OnOk, IsTrue, length};
 ghost use Rattle.syntax.specs.Limits.{IsTree};
 ghost use Rattle.syntax.specs.Views.{unit_tree};
 ghost use Rattle.types.specs.BuiltCalls.{calls_are_built};
+ghost use Rattle.types.specs.SortRules.{IsSorted};
 ghost use Rattle.report.specs.Sink.{CanFail};
 ghost use Rattle.replay.specs.Replays.{Replayed, IsRefused, WritesRun, IsStoppedBy, IsReplayable, IsFromOutside, EndsBy};
 
@@ -27,7 +28,9 @@ fn run<'a>(
     journal: &[Entry],
 ) -> Result<State<'a>, ReplayFault>
     requires tree { IsTree (unit_tree items.now) }
+    requires sorted { IsSorted (unit_tree items.now) }
     requires calls { IsTrue (calls_are_built (unit_tree items.now)) }
+    requires few { length journal.now < 2 ^ 31 }
     ensures end { IfOk result (Replayed (unit_tree items.now) world.now journal.now) }
     ensures refused { IfErr result (IsRefused (unit_tree items.now) world.now journal.now) }
 {
@@ -56,7 +59,9 @@ pub fn replay<W: Sink>(
     journal: &[Entry],
     out: &mut W,
 ) -> Result<Option<TrapAt>, ReplayFault>
-    requires { CanFail (W.written out.old) }
+    requires sink { CanFail (W.written out.old) }
+    // Each entry makes at most one object, and objects are named by numbers below 2 ^ 32.
+    requires few { length journal.now < 2 ^ 31 }
     ensures ok { OnOk result (WritesRun (unit_tree checked.now) world.now journal.now (W.written out.old) (W.written out.new)) }
     ensures trap { IfOk result (EndsBy (unit_tree checked.now) world.now journal.now) }
     ensures none_waits { OnOk result ((W.written out.new).waiting ≡ 0) }

@@ -1,7 +1,8 @@
 //! The state in which a replay begins.
 
-ghost use Rattle.std.specs.Prelude.{◌≡◌, IfOk, IfErr, map, [], None};
+ghost use Rattle.std.specs.Prelude.{◌≡◌, ◌<◌, ◌^◌, IfOk, IfErr, length, map, [], None};
 ghost use Rattle.syntax.specs.Views.{unit_tree, function_tree, parameter_tree};
+ghost use Rattle.types.specs.SortRules.{IsSorted};
 ghost use Rattle.world.specs.Views.{object_value_view};
 ghost use Rattle.source.specs.Load.{call_loads, fits_parameter, fit_parameters, is_callable, first_load_fault};
 ghost use Rattle.source.specs.Start.{start};
@@ -117,7 +118,9 @@ fn waiting_threads<'a>(alloc: Global, world: &'a World) -> Result<Vec<Thread<'a>
 /// What all threads share before the first entry: the objects that are made at load, statics that are all NULL, and no global
 /// reference.
 fn loaded<'a>(alloc: Global, items: &'a [Item], world: &World) -> Result<Shared<'a>, AllocError>
-    ensures { IfOk result (λ shared. shared_view shared ≡ (start (unit_tree items.entry.now) world.now).shared) }
+    requires { IsSorted (unit_tree items.now) }
+    ensures loaded { IfOk result (λ shared. shared_view shared ≡ (start (unit_tree items.entry.now) world.now).shared) }
+    ensures few { IfOk result (λ shared. length shared.store < 2 ^ 20) }
 {
     Ok(Shared {
         store: loaded_store(alloc, world)?,
@@ -132,8 +135,10 @@ pub(crate) fn start<'a>(
     items: &'a [Item],
     world: &'a World,
 ) -> Result<State<'a>, ReplayFault>
+    requires { IsSorted (unit_tree items.now) }
     ensures stands { IfOk result (λ m. Stands (unit_tree items.now) world.now m (start (unit_tree items.now) world.now)) }
     ensures range { IfOk result (λ m. AreInRange m.threads.items) }
+    ensures few { IfOk result (λ m. length m.shared.store < 2 ^ 20) }
     ensures fits { IfOk result (λ _. first_load_fault (unit_tree items.now) world.now ≡ None) }
     ensures fault { IfErr result (IsLoadFault (unit_tree items.now) world.now) }
 {

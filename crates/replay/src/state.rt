@@ -4,11 +4,13 @@ ghost use Rattle.std.specs.Prelude.{◌≡◌, IfOk, IsTrue, false, map};
 ghost use Rattle.syntax.specs.Limits.{IsTree};
 ghost use Rattle.syntax.specs.Views.{unit_tree};
 ghost use Rattle.types.specs.BuiltCalls.{calls_are_built};
+ghost use Rattle.types.specs.SortRules.{IsSorted};
 ghost use Rattle.source.specs.declared.journal.Entry.TheVariants as journal;
 ghost use Rattle.replay.specs.States.{AreInRange, TakesEntry, shown_stop, IsNoted, is_possible, standing_in, standings_in};
 ghost use Rattle.replay.specs.Threads.{ending_view};
 ghost use Rattle.report.specs.ThreadStatus.{standing_view};
 ghost use Rattle.source.specs.ReportOf.{standing_by_ending};
+ghost use Rattle.tasks.specs.Stores.{HasRoom, MakesAtMostOne};
 
 use crate::thread::{Ending, Step, Thread, is_unfinished, take_step};
 use crate::trap_at::TrapAt;
@@ -70,10 +72,13 @@ pub(crate) fn take_entry<'a>(
     entry: Entry,
 ) -> Result<bool, AllocError>
     requires tree { IsTree (unit_tree items.now) }
+    requires sorted { IsSorted (unit_tree items.now) }
     requires calls { IsTrue (calls_are_built (unit_tree items.now)) }
     requires range { AreInRange state.old.threads.items }
+    requires room { HasRoom state.old.shared.store }
     ensures step { IfOk result (λ possible. TakesEntry (unit_tree items.now) state.old entry possible state.new) }
     ensures range { IfOk result (λ _. AreInRange state.new.threads.items) }
+    ensures made { IfOk result (λ _. MakesAtMostOne state.old.shared.store state.new.shared.store) }
 {
     match entry {
         Entry::Step { thread, refused } => take_turn(alloc, items, state, thread, refused),
@@ -89,10 +94,13 @@ fn take_turn<'a>(
     refused: bool,
 ) -> Result<bool, AllocError>
     requires tree { IsTree (unit_tree items.now) }
+    requires sorted { IsSorted (unit_tree items.now) }
     requires calls { IsTrue (calls_are_built (unit_tree items.now)) }
     requires range { AreInRange state.old.threads.items }
+    requires room { HasRoom state.old.shared.store }
     ensures step { IfOk result (λ possible. TakesEntry (unit_tree items.now) state.old (journal.Step k refused) possible state.new) }
     ensures range { IfOk result (λ _. AreInRange state.new.threads.items) }
+    ensures made { IfOk result (λ _. MakesAtMostOne state.old.shared.store state.new.shared.store) }
 {
     if state.stop.is_some() {
         return Ok(false);

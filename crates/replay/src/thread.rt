@@ -5,6 +5,7 @@ ghost use Rattle.std.specs.Option.{option_map};
 ghost use Rattle.syntax.specs.Limits.{IsTree};
 ghost use Rattle.syntax.specs.Views.{function_tree, parameter_tree, unit_tree};
 ghost use Rattle.types.specs.BuiltCalls.{calls_are_built};
+ghost use Rattle.types.specs.SortRules.{IsSorted};
 ghost use Rattle.world.specs.Views.{object_value_view};
 ghost use Rattle.source.specs.Activation.{function_at, parameter_variables, class_of_function, named_object, entry_frame, ending_after, calls_after};
 ghost use Rattle.source.specs.Step.{is_unfinished};
@@ -12,13 +13,14 @@ ghost use Rattle.source.specs.Thread.{Shared as SharedOfThreads};
 ghost use Rattle.source.specs.Variable.{LocalRef};
 ghost use Rattle.replay.specs.Threads.{argument_content, ending_view, TakesStep, WorkInRange, step_of};
 ghost use Rattle.tasks.specs.Shares.{shared_view};
-ghost use Rattle.terms.specs.Views.{content_view, variables_view};
+ghost use Rattle.tasks.specs.Stores.{HasRoom, MakesAtMostOne};
+ghost use Rattle.terms.specs.Views.{assign_all, content_view, variables_view};
 
 use classes::mangling::unmangle;
 use std::alloc::{AllocError, Global};
 use syntax::{Function, Item, Parameter};
 use tasks::{Activation, Frames, Names, Outcome, Shared, Store, advance, class_named};
-use terms::{Content, Trap, Value, Variable};
+use terms::{Content, Trap, Value, Variables};
 use world::{Call, ObjectValue, World};
 
 /// How a thread has ended, if it has.
@@ -87,24 +89,20 @@ fn content_of<'a>(argument: ObjectValue) -> Content<'a>
 }
 
 /// Adds the variables of parameters, each with its argument.
-#[tactic(auto, using(terms::proofs::VariableLemmas::added_rules))]
 fn add_parameters<'a>(
-    variables: &mut Vec<Variable<'a>>,
+    variables: &mut Variables<'a>,
     parameters: &'a [Parameter],
     arguments: &[ObjectValue],
 ) -> Result<(), AllocError>
-    ensures { IfOk result (λ _. variables_view variables.new.items ≡ variables_view variables.old.items
-        ++ parameter_variables (zip (map parameter_tree parameters.entry.now) (map object_value_view arguments.entry.now))) }
+    ensures { IfOk result (λ _. variables_view variables.new
+        ≡ assign_all (parameter_variables (zip (map parameter_tree parameters.entry.now) (map object_value_view arguments.entry.now))) (variables_view variables.old)) }
 {
     match parameters {
         [] => Ok(()),
         [parameter, parameters @ ..] => match arguments {
             [] => Ok(()),
             [argument, arguments @ ..] => {
-                variables.push(Variable {
-                    name: &parameter.name,
-                    content: content_of(*argument),
-                })?;
+                variables.set(&parameter.name, content_of(*argument))?;
                 add_parameters(variables, parameters, arguments)
             }
         },
@@ -125,21 +123,18 @@ pub(crate) fn class_of(
     }
 }
 
-/// The variables with which a call begins: the class, and the parameters.
+/// The variables with which a call begins: the class, and the parameters. In an accepted unit no two have one name.
 fn entry_variables<'a>(
     alloc: Global,
     function: &'a Function,
     class: u32,
     arguments: &[ObjectValue],
-) -> Result<Vec<Variable<'a>>, AllocError>
-    ensures { IfOk result (λ variables. variables_view variables.items
-        ≡ (function.entry.now.class_name, LocalRef 1 (Some class)) ∷ parameter_variables (zip (function_tree function.entry.now).parameters (map object_value_view arguments.now))) }
+) -> Result<Variables<'a>, AllocError>
+    ensures { IfOk result (λ variables. variables_view variables
+        ≡ assign_all ((function.entry.now.class_name, LocalRef 1 (Some class)) ∷ parameter_variables (zip (function_tree function.entry.now).parameters (map object_value_view arguments.now))) []) }
 {
-    let mut variables = Vec::new(alloc);
-    variables.push(Variable {
-        name: &function.class_name,
-        content: Content::Reference(1, Some(class)),
-    })?;
+    let mut variables = Variables::new(alloc);
+    variables.set(&function.class_name, Content::Reference(1, Some(class)))?;
     add_parameters(&mut variables, &function.parameters, arguments)?;
     Ok(variables)
 }
@@ -188,6 +183,7 @@ fn enter<'a>(
     thread: &mut Thread<'a>,
 ) -> Result<Step, AllocError>
     requires tree { IsTree (unit_tree items.now) }
+    requires sorted { IsSorted (unit_tree items.now) }
     requires calls { IsTrue (calls_are_built (unit_tree items.now)) }
     requires idle { thread.old.activation ≡ None }
     ensures step { IfOk result (λ took. (shared : SharedOfThreads) → TakesStep (unit_tree items.now) world.now.classes refused shared thread.old took shared thread.new) }
@@ -275,10 +271,13 @@ pub(crate) fn take_step<'a>(
     thread: &mut Thread<'a>,
 ) -> Result<Step, AllocError>
     requires tree { IsTree (unit_tree items.now) }
+    requires sorted { IsSorted (unit_tree items.now) }
     requires calls { IsTrue (calls_are_built (unit_tree items.now)) }
     requires range { WorkInRange thread.old.activation }
+    requires room { HasRoom shared.old.store }
     ensures step { IfOk result (λ took. TakesStep (unit_tree items.now) world.now.classes refused (shared_view shared.old) thread.old took (shared_view shared.new) thread.new) }
     ensures range { IfOk result (λ _. WorkInRange thread.new.activation) }
+    ensures made { IfOk result (λ _. MakesAtMostOne shared.old.store shared.new.store) }
 {
     let Some(activation) = &mut thread.activation else {
         return enter(alloc, items, world, refused, thread);

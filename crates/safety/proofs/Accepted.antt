@@ -17,7 +17,7 @@ use Rattle.safety.specs.StepSafe.{AcceptedIsSafe}
 use Rattle.safety.specs.Wanted.{GoesOn}
 use Rattle.safety.proofs.EntryPoints.{entry_scope, entry_point, SeesStatics, HasNamesOnce}
 use Rattle.safety.proofs.NameLaws.{front_same}
-use Rattle.safety.proofs.PlaceLists.{AreUnbroken, first_empty, second_empty, front_unbroken, back_unbroken, none_broken, first_false, second_false}
+use Rattle.regions.proofs.PlaceLists.{AreUnbroken, first_empty, second_empty, front_unbroken, back_unbroken, none_broken, first_false, second_false}
 use Rattle.safety.proofs.Runs.{Enters, runs_are_safe}
 
 -- ---- heads

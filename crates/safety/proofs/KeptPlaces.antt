@@ -10,7 +10,7 @@ use Rattle.syntax.specs.Tree.{ResultType, Stmt, If, IfElse, While}
 use Rattle.jni.specs.JniFunction.{function_named}
 use Rattle.types.specs.Sorts.{Scope, call_arguments_fit}
 use Rattle.types.specs.SortRules.{SortRule, UnknownName, DeclaredTwice, SortMisfit, UnknownFunction, ArgumentCount, ReferenceCopied, BadMode, ReadOnlyWrite, sort_rules, Place, StatementForm, has_name, is_formed, statement_fits, has_wrong_count, has_wrong_mode, copies_reference, set_sort, breaks, broken_at, places_within, places_of}
-use Rattle.safety.proofs.PlaceLists.{AreUnbroken, first_empty, second_empty, none_broken, first_false, second_false}
+use Rattle.regions.proofs.PlaceLists.{AreUnbroken, first_empty, second_empty, none_broken, first_false, second_false}
 
 -- what a statement that breaks no rule is known for
 pub record IsKept (known : Scope) (taken : List Identifier) (returns : ResultType) (s : Stmt) : Type 0 where

@@ -24,7 +24,7 @@ use Rattle.safety.proofs.ExpressionFits.{expression_fits}
 use Rattle.safety.proofs.KeptPlaces.{IsKept, own_kept, inside_kept}
 use Rattle.safety.proofs.KnownPoints.{IsKnown, Covers, known_more, Kin, kin_same, known_changed, IsWithin, end_point, known_end, closes_end}
 use Rattle.safety.proofs.NameLaws.{front_other}
-use Rattle.safety.proofs.PlaceLists.{AreUnbroken, front_unbroken, back_unbroken}
+use Rattle.regions.proofs.PlaceLists.{AreUnbroken, front_unbroken, back_unbroken}
 
 -- ---- taken names
 

@@ -197,6 +197,14 @@ impl Locals {
         if !self.has_room() {
             return Err(TableFault::Full);
         }
+        Ok(self.make_in_room(addr))
+    }
+
+    /// The same where `has_room` is known to say yes.
+    pub fn make_in_room(&mut self, addr: Addr) -> Local
+        requires { has_room self.old ≡ true }
+        ensures { IsMade self.old result addr self.new }
+    {
         let current = self.levels.len() - 1;
         let free = self.levels[current].free;
         let slot = Slot {
@@ -207,7 +215,7 @@ impl Locals {
         if free.count == 0 {
             let place = self.slots.len();
             self.slots.push(slot).unwrap();
-            return Ok(Local { place });
+            return Local { place };
         }
         let place = free.first;
         self.levels[current].free = Free {
@@ -215,7 +223,7 @@ impl Locals {
             count: free.count - 1,
         };
         self.slots[place] = slot;
-        Ok(Local { place })
+        Local { place }
     }
 
     /// Ends a reference, of any frame (JNI Specification, chapter 4, `DeleteLocalRef`).

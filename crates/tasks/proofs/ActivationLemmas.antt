@@ -1,7 +1,6 @@
 -- A call in progress takes the step of its first task.
 use Rattle.std.proofs.Common.{◌≡◌, ℕ, Bool, true, false, List, [], ◌∷◌, ◌++◌, Option, Some, None, refl, sym, ap, ◌∙◌, subst, append_assoc, length}
 use Rattle.std.specs.Borrow.{Bor}
-use Rattle.std.specs.Global.{Vec}
 use Rattle.syntax.specs.declared.expr.Expr.{Expr}
 use Rattle.syntax.specs.declared.stmt.Block.{Block}
 use Rattle.syntax.specs.declared.stmt.Stmt.{Stmt}
@@ -23,17 +22,15 @@ use Rattle.tasks.specs.declared.outcome.End.TheVariants as end
 use Rattle.tasks.specs.declared.outcome.Outcome.{Outcome}
 use Rattle.tasks.specs.declared.outcome.Outcome.TheVariants as outcome
 use Rattle.tasks.specs.declared.task.Task.{Task as TaskInMemory}
-use Rattle.tasks.specs.declared.task.Task.TheVariants as task
 use Rattle.source.specs.Variable.{Statics}
 use Rattle.terms.specs.declared.term.Term.{Term}
 use Rattle.terms.specs.declared.term.Term.TheVariants as term
 use Rattle.terms.specs.declared.value.Value.TheVariants as value
-use Rattle.terms.specs.declared.variable.Variable.{Variable as VariableInMemory}
 use Rattle.tasks.specs.Activations.{tasks_from, tasks_around, tasks_after, tasks_left, thread_in, scene_of, advance_by, Advances, KeepsScene, AreSet, BegunInRange, OuterInRange, IsInRange}
 use Rattle.tasks.specs.Outcomes.{variable_step, Holds, LeavesVariables, LeavesIf}
 use Rattle.tasks.specs.Steps.{Scene, Sees, Does, in_frames, left_by, scene_with}
-use Rattle.tasks.specs.Tasks.{branch_task, task_view, end_view, tasks_of_statements, EndInRange, StatementsInRange, TaskInRange, OutcomeInRange}
-use Rattle.terms.specs.Views.{variables_view, trap_view, term_view}
+use Rattle.tasks.specs.Tasks.{branch_task, loop_task, task_view, end_view, tasks_of_statements, EndInRange, StatementsInRange, TaskInRange, OutcomeInRange}
+use Rattle.terms.specs.Views.{Contents, variables_view, trap_view, term_view}
 
 -- ---- blocks around the one in progress
 
@@ -57,13 +54,13 @@ left_is a o rest os begun rest_of outer =
     ∙ ap (λ (ps : List Outer). tasks_from o (tasks_after rest ps)) outer
 
 -- a thread with other tasks, and what it has of the call
-thread_is : (s : Shared) (t : Thread) (a : Activation) (event : Event) (tasks : List Task) (vs : List VariableInMemory) → tasks_left a ≡ tasks → a.variables.items ≡ vs → t.frames ≡ a.frames → t.pending ≡ a.pending
+thread_is : (s : Shared) (t : Thread) (a : Activation) (event : Event) (tasks : List Task) (vs : Contents) → tasks_left a ≡ tasks → a.variables ≡ vs → t.frames ≡ a.frames → t.pending ≡ a.pending
     → thread.Advances s (record t { tasks = Some tasks; variables = variables_view vs }) event ≡ thread.Advances s (thread_in t a) event
 thread_is s t a event tasks vs left same frames pending =
     ap (λ (ts : List Task). let u : Thread = record t { tasks = Some ts; variables = variables_view vs } in thread.Advances s u event) (sym left)
-    ∙ ap (λ (us : List VariableInMemory). let u : Thread = record t { tasks = Some (tasks_left a); variables = variables_view us } in thread.Advances s u event) (sym same)
-    ∙ ap (λ (fs : List Frame). let u : Thread = record t { tasks = Some (tasks_left a); variables = variables_view a.variables.items; frames = fs } in thread.Advances s u event) frames
-    ∙ ap (λ (r : Reference). let u : Thread = record t { tasks = Some (tasks_left a); variables = variables_view a.variables.items; frames = a.frames; pending = r } in thread.Advances s u event) pending
+    ∙ ap (λ (us : Contents). let u : Thread = record t { tasks = Some (tasks_left a); variables = variables_view us } in thread.Advances s u event) (sym same)
+    ∙ ap (λ (fs : List Frame). let u : Thread = record t { tasks = Some (tasks_left a); variables = variables_view a.variables; frames = fs } in thread.Advances s u event) frames
+    ∙ ap (λ (r : Reference). let u : Thread = record t { tasks = Some (tasks_left a); variables = variables_view a.variables; frames = a.frames; pending = r } in thread.Advances s u event) pending
 
 -- what is shared after a step, and what was before where it isn't possible
 abbrev shared_of : Shared → Advance → Shared
@@ -79,7 +76,7 @@ with_event event NoAdvance = NoAdvance
 -- a thread that is so is so then too
 pub seen_begun : (classes : Classes) (s : Shared) (old begun : Activation) → KeepsScene old begun → (t : Thread) → Sees (scene_of classes s old) t → Sees (scene_of classes s begun) t
 seen_begun classes s old begun kept t sees = record {
-  variables = sees.variables ∙ ap (λ (v : Vec VariableInMemory). variables_view v.items) (sym kept.variables);
+  variables = sees.variables ∙ ap (variables_view) (sym kept.variables);
   frames = sees.frames ∙ sym kept.frames;
   pending = sees.pending ∙ sym kept.pending;
 }
@@ -95,7 +92,7 @@ begun_before classes refused s old begun took after new tasks kept does = λ uni
 
 -- ---- the step of a task
 
-module _ (classes : Classes) (refused : Bool) (shared stepped' : Shared) (statics : Statics) (old begun : Activation) (begun_task after : TaskInMemory) (variables : Vec VariableInMemory) (frames : List Frame) (pending : Option ℕ) (new : Activation)
+module _ (classes : Classes) (refused : Bool) (shared stepped' : Shared) (statics : Statics) (old begun : Activation) (begun_task after : TaskInMemory) (variables : Contents) (frames : List Frame) (pending : Option ℕ) (new : Activation)
     (tasks : tasks_left begun ≡ tasks_left old) (kept : KeepsScene old begun) (is : begun.task ≡ Some begun_task) where
   abbrev rest : List Task
   rest = tasks_after begun.rest.now begun.outer.items
@@ -108,7 +105,7 @@ module _ (classes : Classes) (refused : Bool) (shared stepped' : Shared) (static
   scene = scene_of classes shared begun
 
   abbrev scene' : Scene
-  scene' = scene_with classes stepped' begun.variables.items frames pending
+  scene' = scene_with classes stepped' begun.variables frames pending
 
   -- the call in progress with what the step did to its frames, its pending exception and its variables
   abbrev stood : Activation
@@ -120,10 +117,10 @@ module _ (classes : Classes) (refused : Bool) (shared stepped' : Shared) (static
 
   -- what a step does to the variables and the statics
   abbrev OnVariables : Outcome → Type 0
-  OnVariables took = LeavesVariables (length frames) stepped'.statics begun.variables.items (variable_step took) statics variables.items
+  OnVariables took = LeavesVariables (length frames) stepped'.statics begun.variables (variable_step took) statics variables
 
   abbrev Never : Outcome → Type 0
-  Never took = LeavesIf (length frames) stepped'.statics begun.variables.items (variable_step took) false statics variables.items
+  Never took = LeavesIf (length frames) stepped'.statics begun.variables (variable_step took) false statics variables
 
   first : tasks_left old ≡ task_view begun_task ∷ rest
   first = sym tasks ∙ ap (λ (o : Option TaskInMemory). tasks_from o rest) is
@@ -131,7 +128,7 @@ module _ (classes : Classes) (refused : Bool) (shared stepped' : Shared) (static
   seen : (t : Thread) → Sees (scene_of classes shared old) t → Sees scene t
   seen = seen_begun classes shared old begun kept
 
-  holds : (t : Thread) (ts : List Task) → Sees scene t → Holds (length frames) stepped'.statics begun.variables.items stepped' (with_tasks (within t) ts)
+  holds : (t : Thread) (ts : List Task) → Sees scene t → Holds (length frames) stepped'.statics begun.variables stepped' (with_tasks (within t) ts)
   holds t ts sees = record { variables = sees.variables; frames = refl; statics = refl }
 
   stepped : (took : Outcome) → Does refused scene begun_task took scene' after
@@ -164,17 +161,17 @@ module _ (classes : Classes) (refused : Bool) (shared stepped' : Shared) (static
 
   module _ (k : ℕ) (t : Thread) (sees : Sees scene t) where
     -- all but the tasks is as before
-    left_alone : (event : Event) (ts : List Task) → LeavesVariables (length frames) stepped'.statics begun.variables.items (λ s' t'. thread.Advances s' t' Quiet) statics variables.items → tasks_left new ≡ ts → KeepsScene stood new
+    left_alone : (event : Event) (ts : List Task) → LeavesVariables (length frames) stepped'.statics begun.variables (λ s' t'. thread.Advances s' t' Quiet) statics variables → tasks_left new ≡ ts → KeepsScene stood new
         → thread.Advances stepped' (with_tasks (within t) ts) event ≡ thread.Advances shared' (thread_in t new) event
     left_alone event ts leaves left same =
         ap (with_event event) (leaves stepped' (with_tasks (within t) ts) (holds t ts sees))
-        ∙ thread_is shared' (within t) new event ts variables.items left (ap (λ (v : Vec VariableInMemory). v.items) same.variables) (sym same.frames) (sym same.pending)
+        ∙ thread_is shared' (within t) new event ts variables left same.variables (sym same.frames) (sym same.pending)
 
     set : (took : Outcome) → OnVariables took → tasks_left new ≡ rest → KeepsScene stood new
         → variable_step took stepped' (with_tasks (within t) rest) ≡ thread.Advances shared' (thread_in t new) Quiet
     set took leaves left same =
         leaves stepped' (with_tasks (within t) rest) (holds t rest sees)
-        ∙ thread_is shared' (within t) new Quiet rest variables.items left (ap (λ (v : Vec VariableInMemory). v.items) same.variables) (sym same.frames) (sym same.pending)
+        ∙ thread_is shared' (within t) new Quiet rest variables left same.variables (sym same.frames) (sym same.pending)
 
     -- a step that leaves the call does not change the statics
     returned : OnVariables outcome.Returned → (u : Thread) → return_step k stepped' u ≡ return_step k shared' u
@@ -219,7 +216,7 @@ module _ (classes : Classes) (refused : Bool) (shared stepped' : Shared) (static
 
 -- ---- what is known of accepted programs
 
-module _ (begun new : Activation) (after : TaskInMemory) (variables : Vec VariableInMemory) (frames : List Frame) (pending : Option ℕ) (known : IsInRange begun) (known_after : TaskInRange after) where
+module _ (begun new : Activation) (after : TaskInMemory) (variables : Contents) (frames : List Frame) (pending : Option ℕ) (known : IsInRange begun) (known_after : TaskInRange after) where
   built : (o : Option TaskInMemory) (rest_of : Bor (List Stmt)) (os : List Outer) → new.task ≡ o → new.rest ≡ rest_of → new.outer.items ≡ os → BegunInRange o → StatementsInRange rest_of.now → OuterInRange os → IsInRange new
   built o rest_of os same_task same_rest same_outer task' rest' outer' = record {
     begun = subst BegunInRange (sym same_task) task';
@@ -277,7 +274,7 @@ module _ (classes : Classes) (shared_then : Shared) (old new : Activation) (idle
     goes : (tasks : List Task) (t : Thread) → Sees (scene_of classes shared_then old) t → tasks_left new ≡ tasks → thread.Advances shared_then (with_tasks t tasks) Quiet ≡ thread.Advances shared_then (thread_in t new) Quiet
     goes tasks t sees left =
         ap (λ us. let u : Thread = record t { tasks = Some tasks; variables = us } in thread.Advances shared_then u Quiet) sees.variables
-        ∙ thread_is shared_then t new Quiet tasks old.variables.items left (ap (λ (v : Vec VariableInMemory). v.items) kept.variables)
+        ∙ thread_is shared_then t new Quiet tasks old.variables left kept.variables
         (sees.frames ∙ sym kept.frames) (sees.pending ∙ sym kept.pending)
 
     left : (p : Option TaskInMemory) → new.task ≡ p → tasks_left new ≡ tasks_from p after
@@ -290,9 +287,9 @@ module _ (classes : Classes) (shared_then : Shared) (old new : Activation) (idle
         ∙ goes after t sees (left None none)
 
     -- at a loop's test
-    pub turn_over : (line : ℕ) (test : Bor Expr) (term : Term) (body : Bor Block) → o.end ≡ end.Turn line test body → new.task ≡ Some (task.Loop line test term body) → term_view term ≡ term_of (expr_tree test.now)
+    pub turn_over : (line : ℕ) (test : Bor Expr) (term : Term) (body : Bor Block) → o.end ≡ end.Turn line test body → new.task ≡ Some (loop_task line test term body) → term_view term ≡ term_of (expr_tree test.now)
         → Advances classes false shared_then old outcome.Stays shared_then new
     turn_over line test term body is begun begins = λ unit lent k t sees has.
         ap (λ (ts : List Task). step_within unit classes lent k shared_then t false (Some ts)) (at_end ∙ ap (λ (e : End). end_view e ∷ after) is)
         ∙ ap (λ (u : tree.Term). let ts : List Task = Loop line (expr_tree test.now) u (block_tree body.now) ∷ after in thread.Advances shared_then (with_tasks t ts) Quiet) (sym begins)
-        ∙ goes (task_view (task.Loop line test term body) ∷ after) t sees (left (Some (task.Loop line test term body)) begun)
+        ∙ goes (task_view (loop_task line test term body) ∷ after) t sees (left (Some (loop_task line test term body)) begun)

@@ -33,7 +33,6 @@ use Rattle.tasks.specs.declared.outcome.Purpose.TheVariants as purposes
 use Rattle.tasks.specs.declared.outcome.Target.TheVariants as target
 use Rattle.tasks.specs.declared.task.Task.{Task as TaskInMemory}
 use Rattle.terms.specs.declared.trap.Trap.{Trap as TrapInMemory}
-use Rattle.terms.specs.declared.variable.Variable.{Variable as VariableInMemory}
 use Rattle.tasks.specs.Answers.{Answer, Gives, Writes, Makes, Raises, Ensures, Pushes, RefusesFrames, Pops, DeletesLocal, MakesGlobal, DeletesGlobal, effect_as, frames_after, frames_with, given_after, given_view, makes_object, pending_after, shared_after, without_global, zero_result}
 use Rattle.tasks.specs.Calls.{MakesCall}
 use Rattle.tasks.specs.Checked.{fit_together, trap_found}
@@ -42,7 +41,7 @@ use Rattle.tasks.specs.Outcomes.{outcome_for, purpose_view}
 use Rattle.tasks.specs.Steps.{Scene, Sees, in_frames, left_by, scene_with}
 use Rattle.tasks.specs.Tasks.{task_view}
 use Rattle.tasks.specs.WorkedOut.{ensured, found_class, found_field, global_deleted, local_deleted, made_global, pushed, worked_out}
-use Rattle.terms.specs.Views.{trap_view, variables_view}
+use Rattle.terms.specs.Views.{Contents, trap_view, variables_view}
 use Rattle.tasks.proofs.TaskLemmas.{same_frames, same_thread}
 
 pub if_ok : {A E : Type 0} {P Q : A → Type 0} → (r : Result A E) → ((a : A) → P a → Q a) → IfOk r P → IfOk r Q
@@ -218,7 +217,7 @@ module _ (classes : Classes) (lent : BuffersInUse) (k : ℕ) (s : Shared) (t : T
 
 -- ---- the call of a function that is built
 
-module _ (classes : Classes) (s : Shared) (vs : List VariableInMemory) (frames : List Frame) (pending : Reference) (line : ℕ) (purpose : PurposeInMemory) (f : JniFunction) (args : List Actual) (built : is_built_function f ≡ true) where
+module _ (classes : Classes) (s : Shared) (vs : Contents) (frames : List Frame) (pending : Reference) (line : ℕ) (purpose : PurposeInMemory) (f : JniFunction) (args : List Actual) (built : is_built_function f ≡ true) where
   abbrev scene : Scene
   scene = scene_with classes s vs frames pending
 

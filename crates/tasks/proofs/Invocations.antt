@@ -26,13 +26,12 @@ use Rattle.terms.specs.declared.reduction.Reduction.TheVariants as reduction
 use Rattle.terms.specs.declared.term.Term.{Term}
 use Rattle.terms.specs.declared.term.Term.TheVariants as term
 use Rattle.terms.specs.declared.value.Value.{Value}
-use Rattle.terms.specs.declared.variable.Variable.{Variable as VariableInMemory}
 use Rattle.tasks.specs.Calls.{MakesCall, ReducesFirst, ReducesOne}
 use Rattle.tasks.specs.Outcomes.{purpose_view}
 use Rattle.tasks.specs.Shares.{sight_in}
 use Rattle.tasks.specs.Steps.{Scene, Sees, Does, HasEffect, reduced, scene_with}
 use Rattle.tasks.specs.Tasks.{operand_view, task_view}
-use Rattle.terms.specs.Views.{term_view, Reduces}
+use Rattle.terms.specs.Views.{Contents, term_view, Reduces}
 use Rattle.tasks.proofs.TaskLemmas.{sees_so}
 
 -- ---- the first number that isn't worked out
@@ -157,7 +156,7 @@ module _ (vs : Variables) (ss : Statics) where
 
 -- ---- with its object refused, or not
 
-module _ (classes : Classes) (s : Shared) (variables : List VariableInMemory) (frames : List Frame) (pending : Reference) where
+module _ (classes : Classes) (s : Shared) (variables : Contents) (frames : List Frame) (pending : Reference) where
   abbrev scene : Scene
   scene = scene_with classes s variables frames pending
 

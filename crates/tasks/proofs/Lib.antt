@@ -3,6 +3,7 @@ mod Lists
 mod ClassLemmas
 mod FittingFrames
 mod LoadedLemmas
+mod StoreLemmas
 mod FieldLemmas
 mod FrameLemmas
 pub mod TaskLemmas

@@ -1,28 +1,24 @@
 -- What tasks do to variables is what they do to those of a thread.
-use Rattle.std.proofs.Common.{◌≡◌, ℕ, ℤ, Bool, true, false, cond, List, length, Option, Some, None, refl, sym, ap, ◌∙◌}
-use Rattle.std.specs.Prelude.{position, slice_get, slice_set}
+use Rattle.std.proofs.Common.{◌≡◌, ℕ, ℤ, Bool, true, false, cond, [], ◌∷◌, length, Option, Some, None, refl, sym, ap, ◌∙◌}
+use Rattle.std.specs.Prelude.{slice_set}
 use Rattle.std.specs.Borrow.{Bor}
 use Rattle.std.specs.Str.{bytes_eq}
+use Rattle.std.proofs.lemmas.Slice.Eq.{bytes_eq-Decides}
 use Rattle.base.specs.Bytes.{Identifier, lookup}
-use Rattle.syntax.specs.Views.{element_tree}
 use Rattle.source.specs.CallEffects.{CallResult}
 use Rattle.source.specs.CallStep.{blank, filled, static_result, put_assigned, put}
 use Rattle.source.specs.Task.{VariableKind, Declared, Assigned}
 use Rattle.source.specs.Thread.{Thread, Shared, Quiet, Advances, NoAdvance}
 use Rattle.source.specs.ThreadStep.{set_variable, set_element}
 use Rattle.source.specs.Value.{convert}
-use Rattle.source.specs.Variable.{Variable, LocalArray, Variables, Statics, assign}
+use Rattle.source.specs.Variable.{Variable, Scalar, LocalRef, FieldHandle, Elements, NoBuffer, Copy, View, LocalArray, Variables, Statics, assign}
 use Rattle.tasks.specs.declared.outcome.Outcome.TheVariants as outcome
-use Rattle.terms.specs.declared.variable.Content.{Content}
-use Rattle.terms.specs.declared.variable.Content.TheVariants as content
-use Rattle.terms.specs.declared.variable.Variable.{Variable as VariableInMemory}
 use Rattle.tasks.specs.Outcomes.{variable_step, Holds, LeavesVariables, LeavesIf}
-use Rattle.terms.specs.Views.{content_view, variables_view, written}
-use Rattle.terms.proofs.VariableLemmas.{assigned_there, variable_found}
+use Rattle.terms.specs.Views.{Contents, variables_view, HasNoElements, WritesElement}
 
 -- ---- steps
 
-module _ (count : ℕ) (ss : Statics) (old new : List VariableInMemory) where
+module _ (count : ℕ) (ss : Statics) (old new : Contents) where
   with_variables : (s : Shared) (t : Thread) (vs us : Variables) → Holds count ss old s t → vs ≡ us → Advances s (record t { variables = vs }) Quiet ≡ Advances (record s { statics = ss }) (record t { variables = us }) Quiet
   with_variables s t vs us h same =
       ap (λ (ws : Variables). let u : Thread = record t { variables = ws } in Advances s u Quiet) same
@@ -45,37 +41,28 @@ module _ (count : ℕ) (ss : Statics) (old new : List VariableInMemory) where
       ∙ ap (put_assigned x given s t) there
       ∙ with_variables s t (assign x (filled v given) t.variables) (variables_view new) h (ap (assign x (filled v given)) h.variables ∙ sym is)
 
-  -- an element is set, where the variable is an array
-  array_set : (x : Identifier) (i : ℕ) (z : ℤ) (c : Content) (v : Variable) → written i z (content_view c) ≡ Some v → (s : Shared) (t : Thread) → set_element s t x i z (Some (content_view c)) ≡ set_variable s t x v
-  array_set x i z (content.Number n) v is s t = absurd (cc)
-  array_set x i z (content.Reference level r) v is s t = absurd (cc)
-  array_set x i z (content.Field f) v is s t = absurd (cc)
-  array_set x i z (content.Buffer T) v is s t = absurd (cc)
-  array_set x i z (content.Array T numbers) v is s t =
-      let same : LocalArray (element_tree T) (slice_set numbers.items i (convert (element_tree T) z)) ≡ v = cc in ap (set_variable s t x) same
-
-  no_array : (x : Identifier) (i : ℕ) (z : ℤ) (c : Content) → written i z (content_view c) ≡ None → (s : Shared) (t : Thread) → set_element s t x i z (Some (content_view c)) ≡ NoAdvance
-  no_array x i z (content.Number n) is s t = refl
-  no_array x i z (content.Reference level r) is s t = refl
-  no_array x i z (content.Field f) is s t = refl
-  no_array x i z (content.Buffer T) is s t = refl
-  no_array x i z (content.Array T numbers) is s t = absurd (cc)
-
   module _ (x : Bor Identifier) (i : ℕ) (z : ℤ) where
     looked_up : (o : Option Variable) → lookup x.now (variables_view old) ≡ o → (s : Shared) (t : Thread) → Holds count ss old s t → variable_step (outcome.SetsElement x i z) s t ≡ set_element s t x.now i z o
     looked_up o there s t h = ap (λ (vs : Variables). set_element s t x.now i z (lookup x.now vs)) h.variables ∙ ap (set_element s t x.now i z) there
 
-    pub element_leaves : (c after : Content) (b : Bool) → lookup x.now (variables_view old) ≡ Some (content_view c) → written i z (content_view c) ≡ cond b (Some (content_view after)) None
-        → variables_view new ≡ assign x.now (content_view after) (variables_view old) → LeavesIf count ss old (variable_step (outcome.SetsElement x i z)) b ss new
-    element_leaves c after true there is set = λ s t h.
-        looked_up (Some (content_view c)) there s t h ∙ array_set x.now i z c (content_view after) is s t ∙ set_leaves x.now (content_view after) set s t h
-    element_leaves c after false there is set = λ s t h. looked_up (Some (content_view c)) there s t h ∙ no_array x.now i z c is s t
+    no_elements : (o : Option Variable) → HasNoElements o → (s : Shared) (t : Thread) → set_element s t x.now i z o ≡ NoAdvance
+    no_elements None has s t = refl
+    no_elements (Some (Scalar v)) has s t = refl
+    no_elements (Some (LocalRef level r)) has s t = refl
+    no_elements (Some (FieldHandle f)) has s t = refl
+    no_elements (Some (Elements T NoBuffer)) has s t = refl
+    no_elements (Some (Elements T (Copy n zs))) has s t = absurd has
+    no_elements (Some (Elements T (View n))) has s t = absurd has
+    no_elements (Some (LocalArray T zs)) has s t = absurd has
 
-    pub element_missing : lookup x.now (variables_view old) ≡ None → LeavesIf count ss old (variable_step (outcome.SetsElement x i z)) false ss new
-    element_missing none = λ s t h. looked_up None none s t h
+    -- an element is set, where the variable is an array
+    pub element_leaves : (b : Bool) → WritesElement (variables_view old) x.now i z b (variables_view new) → LeavesIf count ss old (variable_step (outcome.SetsElement x i z)) b ss new
+    element_leaves true w = λ s t h.
+        looked_up (Some (LocalArray w.kind w.numbers)) w.there s t h ∙ set_leaves x.now (LocalArray w.kind (slice_set w.numbers i (convert w.kind z))) w.set s t h
+    element_leaves false none = λ s t h. looked_up (lookup x.now (variables_view old)) refl s t h ∙ no_elements (lookup x.now (variables_view old)) none s t
 
 -- a static is set
-pub static_leaves : (count : ℕ) (ss ss' : Statics) (old : List VariableInMemory) (x : Identifier) (given : CallResult) → lookup x (variables_view old) ≡ None → ss' ≡ assign x (static_result given) ss
+pub static_leaves : (count : ℕ) (ss ss' : Statics) (old : Contents) (x : Identifier) (given : CallResult) → lookup x (variables_view old) ≡ None → ss' ≡ assign x (static_result given) ss
     → LeavesVariables count ss old (put (Assigned x) given) ss' old
 static_leaves count ss ss' old x given none is = λ s t h.
     ap (λ (vs : Variables). put_assigned x given s t (lookup x vs)) h.variables
@@ -84,19 +71,21 @@ static_leaves count ss ss' old x given none is = λ s t h.
     ∙ ap (λ (vs : Variables). let r : Shared = record s { statics = ss' } in let u : Thread = record t { variables = vs } in Advances r u Quiet) h.variables
 
 -- nothing is done
-pub none_leaves : (count : ℕ) (ss : Statics) (old : List VariableInMemory) → LeavesVariables count ss old (λ s t. Advances s t Quiet) ss old
+pub none_leaves : (count : ℕ) (ss : Statics) (old : Contents) → LeavesVariables count ss old (λ s t. Advances s t Quiet) ss old
 none_leaves count ss old = λ s t h.
     ap (λ (vs : Variables). let u : Thread = record t { variables = vs } in Advances s u Quiet) h.variables
     ∙ ap (λ (q : Statics). let r : Shared = record s { statics = q } in let u : Thread = record t { variables = variables_view old } in Advances r u Quiet) h.statics
 
--- the first variable of a name has another content
-pub content_set : (x : Identifier) (vs : List VariableInMemory) (i : ℕ) (v : VariableInMemory) (c : Content) → position (λ (u : VariableInMemory). bytes_eq x u.name.now) vs ≡ Some i → slice_get vs i ≡ Some v
-    → variables_view (slice_set vs i (record v { content = c })) ≡ assign x (content_view c) (variables_view vs)
-content_set x vs i v c at there =
-    assigned_there x (content_view c) vs i (record v { content = c }) at (ap (λ (y : Identifier). (y, content_view c)) (variable_found x (content_view c) vs i v at there).1)
+-- what a variable holds already is assigned
+pub assigned_again : (x : Identifier) (v : Variable) (vs : Variables) → lookup x vs ≡ Some v → assign x v vs ≡ vs
+assigned_again x v [] there = absurd (cc)
+assigned_again x v ((y, w) ∷ vs) there = first (bytes_eq x y) refl there (assigned_again x v vs)
+  where
+    first : (b : Bool) → bytes_eq x y ≡ b → cond b (Some w) (lookup x vs) ≡ Some v → (lookup x vs ≡ Some v → assign x v vs ≡ vs) → cond b ((x, v) ∷ vs) ((y, w) ∷ assign x v vs) ≡ (y, w) ∷ vs
+    first true same at further =
+        let is : v ≡ w = cc in ap (λ (u : Variable). (x, u) ∷ vs) is ∙ ap (λ (z : Identifier). (z, w) ∷ vs) ((bytes_eq-Decides x y).0 same)
+    first false other at further = ap (λ (l : Variables). (y, w) ∷ l) (further at)
 
-pub ruleset put_rules = (content_set, declared_leaves, assigned_leaves, static_leaves)
+pub ruleset put_rules = (declared_leaves, assigned_leaves, static_leaves)
 
-pub ruleset element_rules = (content_set, element_leaves, element_missing)
-
-pub ruleset variable_rules = (set_leaves, none_leaves)
+pub ruleset variable_rules = (set_leaves, none_leaves, element_leaves)

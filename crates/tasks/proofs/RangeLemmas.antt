@@ -1,12 +1,14 @@
 -- What is known of a tree's statements: their numbers are in range, and they call what can be called.
-use Rattle.std.proofs.Common.{◌≡◌, ℕ, zero, suc, Bool, true, false, List, [], ◌∷◌, ◌++◌, cond, length, map, take, drop, slice_get, ◌-◌, ◌<◌, ◌≤◌, arith, Option, Some, refl, ap, ◌∙◌, sym, subst}
-use Rattle.std.specs.Prelude.{find, slice_set, IsTrue}
+use Rattle.std.proofs.Common.{◌≡◌, ℕ, zero, suc, Bool, true, false, List, [], ◌∷◌, ◌++◌, cond, length, map, take, drop, get_or, append_assoc, slice_get, ◌-◌, ◌<◌, ◌≤◌, arith, Option, Some, refl, ap, ◌∙◌, sym, subst}
+use Rattle.std.specs.Prelude.{find, slice_set, zip, IsTrue}
 use Rattle.std.specs.Str.{bytes_eq}
 use Rattle.std.specs.List.{flat_map, list_all}
 use Rattle.std.proofs.lemmas.Bool.{and_parts}
-use Rattle.std.proofs.lemmas.List.{take_all}
+use Rattle.std.proofs.lemmas.List.{map-append, take_all}
 use Rattle.std.proofs.lemmas.List.Concat.{flat_map-cons}
 use Rattle.std.proofs.lemmas.List.Folds.{list_all-append}
+use Rattle.jni.specs.declared.kinds.ParameterKind.{ParameterKind}
+use Rattle.jni.specs.Table.{parameter_value}
 use Rattle.syntax.specs.declared.call.Argument.{Argument as ArgumentInMemory}
 use Rattle.syntax.specs.declared.stmt.Block.{Block as BlockInMemory, out-Block}
 use Rattle.syntax.specs.declared.stmt.Stmt.{Stmt}
@@ -20,9 +22,9 @@ use Rattle.syntax.specs.Views.{argument_tree, stmt_tree, block_tree, statements_
 use Rattle.syntax.proofs.Blocks.{block_is}
 use Rattle.types.specs.BuiltCalls.{calls_are_built}
 use Rattle.source.specs.Activation.{function_at}
-use Rattle.source.specs.Task.{Task, task_of, tasks_of}
+use Rattle.source.specs.Task.{Task, operand, task_of, tasks_of}
 use Rattle.tasks.specs.declared.task.Operand.{Operand}
-use Rattle.tasks.specs.Tasks.{ArgumentsInRange, OperandInRange, OperandsInRange, tasks_of_statements, has_numbers_in_range, calls_built, BlockInRange, InsideInRange, StatementsInRange}
+use Rattle.tasks.specs.Tasks.{operand_view, ArgumentsInRange, OperandInRange, OperandsInRange, tasks_of_statements, has_numbers_in_range, calls_built, BlockInRange, InsideInRange, StatementsInRange}
 
 -- the tasks of statements, by their tree
 pub tasks_of-statements : (statements : List Stmt) (end_line : ℕ) → tasks_of_statements statements ≡ tasks_of (statements_tree statements end_line)
@@ -135,6 +137,26 @@ operand_set (p ∷ os) (suc i) o h new = (h.0, operand_set os i o h.1 new)
 -- the arguments after the first
 rest_is : {A : Type 0} (x : A) (xs : List A) → take (length (x ∷ xs) - 1) (drop 1 (x ∷ xs)) ≡ xs
 rest_is x xs = take_all (length (x ∷ xs) - 1) xs (omega arith)
+
+-- a list without its first element
+abbrev pub after_first : {A : Type 0} → List A → List A
+after_first xs = take (length xs - 1) (drop 1 xs)
+
+pub first_is : {A : Type 0} (xs : List A) (d : A) → 1 ≤ length xs → get_or xs 0 d ∷ after_first xs ≡ xs
+first_is [] d low = absurd (omega arith)
+first_is (x ∷ xs) d low = ap (λ l. x ∷ l) (rest_is x xs)
+
+-- an operand, and then those of the further arguments
+pub operand_first : (before : List Operand) (o : Operand) (p : ParameterKind) (a : ArgumentInMemory) (ps : List ParameterKind) (arguments : List ArgumentInMemory)
+    → operand_view o ≡ operand (parameter_value p, argument_tree a) → p ∷ after_first ps ≡ ps → a ∷ after_first arguments ≡ arguments
+    → map operand_view (before ++ o ∷ []) ++ map operand (zip (map parameter_value (after_first ps)) (map argument_tree (after_first arguments)))
+    ≡ map operand_view before ++ map operand (zip (map parameter_value ps) (map argument_tree arguments))
+operand_first before o p a ps arguments is parameters_are arguments_are =
+    let more = map operand (zip (map parameter_value (after_first ps)) (map argument_tree (after_first arguments))) in
+    ap (λ l. l ++ more) (map-append operand_view before (o ∷ []))
+    ∙ append_assoc (map operand_view before) (operand_view o ∷ []) more
+    ∙ ap (λ v. map operand_view before ++ v ∷ more) is
+    ∙ (λ i. map operand_view before ++ map operand (zip (map parameter_value (parameters_are i)) (map argument_tree (arguments_are i))))
 
 pub shorter : {A : Type 0} (xs : List A) → 1 ≤ length xs → length (take (length xs - 1) (drop 1 xs)) < length xs
 shorter {A = A} [] low = absurd (omega arith)

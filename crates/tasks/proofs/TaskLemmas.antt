@@ -32,8 +32,7 @@ use Rattle.terms.specs.declared.value.Value.{Value as ValueInMemory}
 use Rattle.terms.specs.declared.value.Value.TheVariants as value
 use Rattle.tasks.specs.declared.task.Task.{Task as TaskInMemory}
 use Rattle.tasks.specs.Steps.{effect_by, HasEffect, Scene, Sees, in_frames, left_by, Does, reduced}
-use Rattle.tasks.specs.declared.task.Task.TheVariants as task
-use Rattle.tasks.specs.Tasks.{task_view, branch_task, tasks_of_statements}
+use Rattle.tasks.specs.Tasks.{task_view, branch_task, element_task, loop_task, print_task, return_task, value_task, tasks_of_statements}
 use Rattle.tasks.specs.Outcomes.{else_tree}
 use Rattle.tasks.specs.Shares.{sight_in}
 use Rattle.terms.specs.Views.{value_view, indexed_view, term_view, trap_view, place_in, variables_view, Reduces}
@@ -180,7 +179,7 @@ constant_returned sight line constant.Null = refl
 pub ruleset return_rules = (constant_returned)
 
 -- all else but a name is evaluated
-no_name_returned : (sight : Sight) (line : ℕ) (t : Term) → ((v : ValueInMemory) → t ≡ term.Done v → ⊥) → ((c : Constant) → t ≡ term.Named c → ⊥) → ((x : List ℕ) → t ≡ term.Read x → ⊥)
+no_name_returned : (sight : Sight) (line : ℕ) (t : Term) → ((v : ValueInMemory) → t ≡ term.Done v → ⊥) → ((c : Constant) → t ≡ term.Named c → ⊥) → ((x : Bor Identifier) → t ≡ term.Read x → ⊥)
     → return_effect sight line (term_view t) ≡ goes_on line (ReturnValue line) (reduce sight (term_view t))
 no_name_returned sight line (term.Done v) none no_constant no_name = absurd (none v refl)
 no_name_returned sight line (term.Number n unsigned) none no_constant no_name = refl
@@ -196,21 +195,21 @@ no_name_returned sight line (term.Binary' op p s q t) none no_constant no_name =
 -- ---- tasks at terms
 
 module _ (vs : Variables) (ss : Statics) (line : ℕ) (old new : Term) (took : Reduction) (none : (v : ValueInMemory) → old ≡ term.Done v → ⊥) (step : Reduces vs ss old took new) where
-  pub print_reduces : HasEffect vs ss (task.Print line old) (reduced line took) (task.Print line new)
-  print_reduces = reduces vs ss line (task.Print line) (Print line) (λ t. refl) old new took (λ heap. no_value old none (seen vs ss heap) line print_effect (Print line)) step
+  pub print_reduces : HasEffect vs ss (print_task line old) (reduced line took) (print_task line new)
+  print_reduces = reduces vs ss line (print_task line) (Print line) (λ t. refl) old new took (λ heap. no_value old none (seen vs ss heap) line print_effect (Print line)) step
 
-  pub set_reduces : (x : Bor Identifier) → HasEffect vs ss (task.Set line x old) (reduced line took) (task.Set line x new)
-  set_reduces x = reduces vs ss line (task.Set line x) (SetScalar line x.now) (λ t. refl) old new took (λ heap. no_value old none (seen vs ss heap) line (Sets x.now) (SetScalar line x.now)) step
+  pub set_reduces : (x : Bor Identifier) → HasEffect vs ss (value_task line x old) (reduced line took) (value_task line x new)
+  set_reduces x = reduces vs ss line (value_task line x) (SetScalar line x.now) (λ t. refl) old new took (λ heap. no_value old none (seen vs ss heap) line (Sets x.now) (SetScalar line x.now)) step
 
-  pub index_reduces : (x : Bor Identifier) (t : Term) → HasEffect vs ss (task.SetElement line x old t) (reduced line took) (task.SetElement line x new t)
+  pub index_reduces : (x : Bor Identifier) (t : Term) → HasEffect vs ss (element_task line x old t) (reduced line took) (element_task line x new t)
   index_reduces x t =
-      reduces vs ss line (λ u. task.SetElement line x u t) (λ u. SetElement line x.now u (term_view t)) (λ u. refl) old new took
+      reduces vs ss line (λ u. element_task line x u t) (λ u. SetElement line x.now u (term_view t)) (λ u. refl) old new took
       (λ heap. no_value old none (seen vs ss heap) line
       (λ v. with_value (seen vs ss heap) line (element_effect (seen vs ss heap) line x.now v) (SetElement line x.now (tree.Done v)) (term_view t)) (λ u. SetElement line x.now u (term_view t))) step
 
-  pub element_reduces : (x : Bor Identifier) (i : ValueInMemory) → HasEffect vs ss (task.SetElement line x (term.Done i) old) (reduced line took) (task.SetElement line x (term.Done i) new)
+  pub element_reduces : (x : Bor Identifier) (i : ValueInMemory) → HasEffect vs ss (element_task line x (term.Done i) old) (reduced line took) (element_task line x (term.Done i) new)
   element_reduces x i =
-      reduces vs ss line (task.SetElement line x (term.Done i)) (SetElement line x.now (tree.Done (value_view i))) (λ u. refl) old new took
+      reduces vs ss line (element_task line x (term.Done i)) (SetElement line x.now (tree.Done (value_view i))) (λ u. refl) old new took
       (λ heap. no_value old none (seen vs ss heap) line (element_effect (seen vs ss heap) line x.now (value_view i)) (SetElement line x.now (tree.Done (value_view i)))) step
 
   pub branch_reduces : (b : Bor BlockInMemory) (other : Option (Bor BlockInMemory)) → HasEffect vs ss (branch_task line old b other) (reduced line took) (branch_task line new b other)
@@ -218,11 +217,11 @@ module _ (vs : Variables) (ss : Statics) (line : ℕ) (old new : Term) (took : R
       reduces vs ss line (λ u. branch_task line u b other) (λ u. Branch line u (block_tree b.now) (else_tree line other)) (λ u. refl) old new took
       (λ heap. no_value old none (seen vs ss heap) line (branch_effect (block_tree b.now) (else_tree line other)) (λ u. Branch line u (block_tree b.now) (else_tree line other))) step
 
-  pub loop_reduces : (test : Bor ExprInMemory) (body : Bor BlockInMemory) → HasEffect vs ss (task.Loop line test old body) (reduced line took) (task.Loop line test new body)
+  pub loop_reduces : (test : Bor ExprInMemory) (body : Bor BlockInMemory) → HasEffect vs ss (loop_task line test old body) (reduced line took) (loop_task line test new body)
   loop_reduces test body =
-      reduces vs ss line (λ u. task.Loop line test u body) (λ u. Loop line (expr_tree test.now) u (block_tree body.now)) (λ u. refl) old new took
+      reduces vs ss line (λ u. loop_task line test u body) (λ u. Loop line (expr_tree test.now) u (block_tree body.now)) (λ u. refl) old new took
       (λ heap. no_value old none (seen vs ss heap) line (loop_effect line (expr_tree test.now) (block_tree body.now)) (λ u. Loop line (expr_tree test.now) u (block_tree body.now))) step
 
-  pub return_reduces : ((c : Constant) → old ≡ term.Named c → ⊥) → ((x : List ℕ) → old ≡ term.Read x → ⊥) → HasEffect vs ss (task.ReturnValue line old) (reduced line took) (task.ReturnValue line new)
+  pub return_reduces : ((c : Constant) → old ≡ term.Named c → ⊥) → ((x : Bor Identifier) → old ≡ term.Read x → ⊥) → HasEffect vs ss (return_task line old) (reduced line took) (return_task line new)
   return_reduces no_constant no_name =
-      reduces vs ss line (task.ReturnValue line) (ReturnValue line) (λ t. refl) old new took (λ heap. no_name_returned (seen vs ss heap) line old none no_constant no_name) step
+      reduces vs ss line (return_task line) (ReturnValue line) (λ t. refl) old new took (λ heap. no_name_returned (seen vs ss heap) line old none no_constant no_name) step

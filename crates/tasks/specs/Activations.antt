@@ -56,11 +56,11 @@ pub record IsInRange (a : Activation) : Type 0 where
 
 -- the thread with a call in progress
 abbrev pub thread_in : Thread → Activation → Thread
-thread_in t a = record t { tasks = Some (tasks_left a); variables = variables_view a.variables.items; frames = a.frames; pending = a.pending }
+thread_in t a = record t { tasks = Some (tasks_left a); variables = variables_view a.variables; frames = a.frames; pending = a.pending }
 
 -- what its step depends on, but its tasks
 abbrev pub scene_of : Classes → Shared → Activation → Scene
-scene_of classes s a = scene_with classes s a.variables.items a.frames a.pending
+scene_of classes s a = scene_with classes s a.variables a.frames a.pending
 
 -- what a step leaves of thread k, whose call is then as it is in memory
 abbrev pub advance_by : (k : ℕ) → Shared → Thread → Activation → Outcome → Advance

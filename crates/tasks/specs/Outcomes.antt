@@ -1,5 +1,5 @@
 -- What a step of a task does to the variables.
-use Rattle.std.specs.Prelude.{◌≡◌, ℕ, true, false, Bool, pos, List, length, replicate, Option, Some, None}
+use Rattle.std.specs.Prelude.{◌≡◌, ℕ, true, false, Bool, pos, length, replicate, Option, Some, None}
 use Rattle.std.specs.Borrow.{Bor}
 use Rattle.base.specs.Bytes.{lookup}
 use Rattle.syntax.specs.declared.stmt.Block.{Block as BlockInMemory}
@@ -21,8 +21,7 @@ use Rattle.tasks.specs.declared.outcome.Purpose.TheVariants as purpose
 use Rattle.tasks.specs.declared.outcome.VariableKind.{VariableKind as KindInMemory}
 use Rattle.tasks.specs.declared.outcome.VariableKind.TheVariants as kind
 use Rattle.tasks.specs.Answers.{given_view}
-use Rattle.terms.specs.declared.variable.Variable.{Variable as VariableInMemory}
-use Rattle.terms.specs.Views.{value_view, variables_view}
+use Rattle.terms.specs.Views.{Contents, value_view, variables_view}
 
 abbrev pub kind_view : KindInMemory → VariableKind
 kind_view kind.Number = ScalarKind
@@ -60,17 +59,17 @@ variable_step (outcome.Makes T x n) s t = set_variable s t x.now (LocalArray (el
 variable_step took s t = Advances s t Quiet
 
 -- a thread with this number of frames has these variables, and these are the statics
-pub record Holds (count : ℕ) (ss : Statics) (vs : List VariableInMemory) (s : Shared) (t : Thread) : Type 0 where
+pub record Holds (count : ℕ) (ss : Statics) (vs : Contents) (s : Shared) (t : Thread) : Type 0 where
   pub variables : t.variables ≡ variables_view vs
   pub frames : length t.frames ≡ count
   pub statics : s.statics ≡ ss
 
 -- a step leaves each such thread with the new variables, and these statics
-abbrev pub LeavesVariables : ℕ → Statics → List VariableInMemory → (Shared → Thread → Advance) → Statics → List VariableInMemory → Type 0
+abbrev pub LeavesVariables : ℕ → Statics → Contents → (Shared → Thread → Advance) → Statics → Contents → Type 0
 LeavesVariables frames ss old step ss' new =
     (s : Shared) (t : Thread) → Holds frames ss old s t → step s t ≡ Advances (record s { statics = ss' }) (record t { variables = variables_view new }) Quiet
 
 -- the same if it is possible
-abbrev pub LeavesIf : ℕ → Statics → List VariableInMemory → (Shared → Thread → Advance) → (possible : Bool) → Statics → List VariableInMemory → Type 0
+abbrev pub LeavesIf : ℕ → Statics → Contents → (Shared → Thread → Advance) → (possible : Bool) → Statics → Contents → Type 0
 LeavesIf frames ss old step true ss' new = LeavesVariables frames ss old step ss' new
 LeavesIf frames ss old step false ss' new = (s : Shared) (t : Thread) → Holds frames ss old s t → step s t ≡ NoAdvance

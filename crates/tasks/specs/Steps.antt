@@ -21,8 +21,7 @@ use Rattle.terms.specs.declared.reduction.Reduction.TheVariants as reduction
 use Rattle.tasks.specs.declared.task.Task.{Task as TaskInMemory}
 use Rattle.tasks.specs.Outcomes.{else_tree, target_view, variable_step}
 use Rattle.tasks.specs.Tasks.{task_view, end_view, tasks_of_statements}
-use Rattle.terms.specs.declared.variable.Variable.{Variable as VariableInMemory}
-use Rattle.terms.specs.Views.{value_view, variables_view, trap_view}
+use Rattle.terms.specs.Views.{Contents, value_view, variables_view, trap_view}
 
 -- what a step does that reduces a term, which has no value yet
 abbrev pub reduced : ℕ → ReductionInMemory → Outcome
@@ -57,11 +56,11 @@ HasEffect vs ss old took new = (heap : Heap) → effect_of (seen vs ss heap) (ta
 pub record Scene : Type 0 where
   pub classes : Classes
   pub shared : Shared
-  pub variables : List VariableInMemory
+  pub variables : Contents
   pub frames : List Frame
   pub pending : Reference
 
-abbrev pub scene_with : Classes → Shared → List VariableInMemory → List Frame → Reference → Scene
+abbrev pub scene_with : Classes → Shared → Contents → List Frame → Reference → Scene
 scene_with classes s vs frames pending = record { classes = classes; shared = s; variables = vs; frames = frames; pending = pending }
 
 -- a thread has these variables, these frames and this pending exception

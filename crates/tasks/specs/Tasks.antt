@@ -2,7 +2,9 @@
 use Rattle.std.specs.Prelude.{ℕ, Bool, not, List, [], ◌∷◌, Option, Some, None, IsTrue, map, flat_map}
 use Rattle.std.specs.List.{list_all}
 use Rattle.std.specs.Borrow.{Bor}
+use Rattle.base.specs.Bytes.{Identifier}
 use Rattle.base.specs.Options.{some_passes}
+use Rattle.syntax.specs.declared.expr.Expr.{Expr as ExprInMemory}
 use Rattle.syntax.specs.declared.stmt.Block.{Block as BlockInMemory}
 use Rattle.syntax.specs.declared.stmt.Stmt.{Stmt as StmtInMemory}
 use Rattle.syntax.specs.Limits.{numbers_in_range}
@@ -32,16 +34,16 @@ operand_view (operands.Number t) = NumberOperand (term_view t)
 operand_view (operands.Given a) = Given (argument_tree a.now)
 
 abbrev pub task_view : TaskInMemory → Task
-task_view (task.Print line t) = Print line (term_view t)
-task_view (task.Set line x t) = SetScalar line x.now (term_view t)
-task_view (task.SetElement line x i t) = SetElement line x.now (term_view i) (term_view t)
+task_view (task.Print e) = Print e.line (term_view e.term)
+task_view (task.Set a) = SetScalar a.line a.name.now (term_view a.term)
+task_view (task.SetElement a) = SetElement a.line a.name.now (term_view a.index) (term_view a.number)
 task_view (task.SetNull to) = SetNull (target_view to)
 task_view (task.MakeArray T x n) = MakeArray (element_tree T) x.now n
 task_view (task.Invoke i) = Invoke i.line (purpose_view i.line i.purpose) (function_value i.function) (map operand_view i.operands.items)
 task_view (task.Branch c) = Branch c.line (term_view c.test) (block_tree c.block.now) (else_tree c.line c.otherwise)
-task_view (task.Loop line test t body) = Loop line (expr_tree test.now) (term_view t) (block_tree body.now)
+task_view (task.Loop i) = Loop i.line (expr_tree i.test.now) (term_view i.term) (block_tree i.body.now)
 task_view task.Return = Return
-task_view (task.ReturnValue line t) = ReturnValue line (term_view t)
+task_view (task.ReturnValue e) = ReturnValue e.line (term_view e.term)
 
 -- it is no call
 abbrev pub IsPlain : TaskInMemory → Type 0
@@ -51,6 +53,22 @@ IsPlain t = Unit {0}
 abbrev pub end_view : EndInMemory → Task
 end_view end.If = EndIf
 end_view (end.Turn line test body) = EndTurn line (expr_tree test.now) (block_tree body.now)
+
+-- tasks by their terms
+abbrev pub print_task : ℕ → TermInMemory → TaskInMemory
+print_task line t = task.Print (record { line = line; term = t })
+
+abbrev pub return_task : ℕ → TermInMemory → TaskInMemory
+return_task line t = task.ReturnValue (record { line = line; term = t })
+
+abbrev pub value_task : ℕ → Bor Identifier → TermInMemory → TaskInMemory
+value_task line x t = task.Set (record { line = line; name = x; term = t })
+
+abbrev pub element_task : ℕ → Bor Identifier → (index number : TermInMemory) → TaskInMemory
+element_task line x i t = task.SetElement (record { line = line; name = x; index = i; number = t })
+
+abbrev pub loop_task : ℕ → Bor ExprInMemory → TermInMemory → Bor BlockInMemory → TaskInMemory
+loop_task line test t body = task.Loop (record { line = line; test = test; term = t; body = body })
 
 -- an `if` with its test's term
 abbrev pub branch_task : ℕ → TermInMemory → Bor BlockInMemory → Option (Bor BlockInMemory) → TaskInMemory
@@ -134,16 +152,16 @@ PurposeInRange (purpose.Test b other) = BlockInRange (block_tree b.now) × ElseI
 
 -- the same of tasks, of what comes at the end of a block, and of what a step leads into
 abbrev pub TaskInRange : TaskInMemory → Type 0
-TaskInRange (task.Print line t) = NumbersInRange t
-TaskInRange (task.Set line x t) = NumbersInRange t
-TaskInRange (task.SetElement line x i t) = NumbersInRange i × NumbersInRange t
+TaskInRange (task.Print e) = NumbersInRange e.term
+TaskInRange (task.Set a) = NumbersInRange a.term
+TaskInRange (task.SetElement a) = NumbersInRange a.index × NumbersInRange a.number
 TaskInRange (task.SetNull to) = Unit {0}
 TaskInRange (task.MakeArray T x n) = Unit {0}
 TaskInRange (task.Invoke i) = OperandsInRange i.operands.items × IsTrue (is_built_function (function_value i.function)) × PurposeInRange i.purpose
 TaskInRange (task.Branch c) = NumbersInRange c.test × BlockInRange (block_tree c.block.now) × ElseInRange c.otherwise
-TaskInRange (task.Loop line test t body) = ExprInRange (expr_tree test.now) × NumbersInRange t × BlockInRange (block_tree body.now)
+TaskInRange (task.Loop i) = ExprInRange (expr_tree i.test.now) × NumbersInRange i.term × BlockInRange (block_tree i.body.now)
 TaskInRange task.Return = Unit {0}
-TaskInRange (task.ReturnValue line t) = NumbersInRange t
+TaskInRange (task.ReturnValue e) = NumbersInRange e.term
 
 abbrev pub EndInRange : EndInMemory → Type 0
 EndInRange end.If = Unit {0}

@@ -6,17 +6,18 @@ ghost use Rattle.classes.specs.Grown.{IsGrown};
 ghost use Rattle.source.specs.Thread.{Shared as SharedOfThreads};
 ghost use Rattle.tasks.specs.Activations.{tasks_left, IsInRange, AreSet, Advances, KeepsScene};
 ghost use Rattle.tasks.specs.Shares.{shared_view};
+ghost use Rattle.tasks.specs.Stores.{HasRoom, MakesAtMostOne};
 
 use crate::frame::Frames;
 use crate::outcome::{End, Outcome};
 use crate::put::set_variables;
 use crate::shared::Shared;
 use crate::step::step;
-use crate::task::{Choice, Task, task_of};
+use crate::task::{Choice, Iteration, Task, task_of};
 use class_table::table::ClassTable;
 use std::alloc::{AllocError, Global};
 use syntax::Stmt;
-use terms::{Term, Value, Variable, term_of};
+use terms::{Term, Value, Variables, term_of};
 
 /// What is still to do around a block: what comes at the block's end, and the statements after it.
 #[derive(Clone, Copy)]
@@ -33,7 +34,7 @@ pub struct Activation<'a> {
     pub task: Option<Task<'a>>,
     pub rest: &'a [Stmt],
     pub outer: Vec<Outer<'a>>,
-    pub variables: Vec<Variable<'a>>,
+    pub variables: Variables<'a>,
     pub frames: Frames,
     pub pending: Option<u32>,
 }
@@ -88,10 +89,13 @@ fn leave_block<'a>(
         End::If => Ok(Outcome::Ends),
         End::Turn(line, test, body) => {
             let term = term_of(alloc, test)?;
-            put_task(
-                &mut activation.task,
-                Some(Task::Loop(line, test, term, body)),
-            );
+            let iteration = Iteration {
+                line,
+                test,
+                term,
+                body,
+            };
+            put_task(&mut activation.task, Some(Task::Loop(iteration)));
             Ok(Outcome::Stays)
         }
     }
@@ -140,8 +144,10 @@ pub fn advance<'a>(
 ) -> Result<Outcome<'a>, AllocError>
     requires range { IsInRange activation.old }
     requires grown { IsGrown classes.now }
+    requires room { HasRoom shared.old.store }
     ensures step { IfOk result (λ o. Advances classes.now refused (shared_view shared.old) activation.old o (shared_view shared.new) activation.new) }
     ensures range { IfOk result (λ _. IsInRange activation.new) }
+    ensures made { IfOk result (λ _. MakesAtMostOne shared.old.store shared.new.store) }
 {
     begin(alloc, activation)?;
     let Some(task) = &mut activation.task else {

@@ -23,7 +23,7 @@ use class_table::fields::FieldId;
 use jni::{JniFunction, ParameterKind};
 use std::alloc::{AllocError, Global};
 use syntax::{Argument, Constant, Expr, Name};
-use terms::{Content, StaticReference, Term, Value, Variable, content_named, content_of};
+use terms::{Content, StaticReference, Term, Value, Variables};
 
 /// How a buffer of copied elements is released (JNI Specification, chapter 4, "Release<PrimitiveType>ArrayElements
 /// Routines").
@@ -54,7 +54,7 @@ pub enum Actual<'a> {
 pub(crate) fn actuals<'a>(
     alloc: Global,
     shared: &Shared<'_>,
-    variables: &[Variable<'a>],
+    variables: &Variables<'a>,
     function: JniFunction,
     operands: &[Operand<'a>],
 ) -> Result<Vec<Actual<'a>>, AllocError>
@@ -75,7 +75,7 @@ pub(crate) fn actuals<'a>(
 fn push_actuals<'a>(
     actuals: &mut Vec<Actual<'a>>,
     shared: &Shared<'_>,
-    variables: &[Variable<'a>],
+    variables: &Variables<'a>,
     parameters: &[ParameterKind],
     operands: &[Operand<'a>],
 ) -> Result<(), AllocError>
@@ -97,7 +97,7 @@ fn push_actuals<'a>(
 /// What an argument for this parameter is.
 fn look_up<'a>(
     shared: &Shared<'_>,
-    variables: &[Variable<'a>],
+    variables: &Variables<'a>,
     parameter: ParameterKind,
     operand: &Operand<'a>,
 ) -> Actual<'a>
@@ -110,7 +110,7 @@ fn look_up<'a>(
 }
 
 /// A number that is worked out.
-fn number_argument<'a>(t: &Term) -> Actual<'a>
+fn number_argument<'a>(t: &Term<'_>) -> Actual<'a>
     ensures { (sight : Sight) (p : Kind) → actual_view result ≡ look_up sight (p, NumberOperand (term_view t.now)) }
 {
     match t {
@@ -122,7 +122,7 @@ fn number_argument<'a>(t: &Term) -> Actual<'a>
 /// An argument that is given as it is written.
 fn given_argument<'a>(
     shared: &Shared<'_>,
-    variables: &[Variable<'a>],
+    variables: &Variables<'a>,
     parameter: ParameterKind,
     argument: &'a Argument,
 ) -> Actual<'a>
@@ -138,7 +138,7 @@ fn given_argument<'a>(
 /// An argument that is neither number nor text.
 fn look_up_expression<'a>(
     shared: &Shared<'_>,
-    variables: &[Variable<'a>],
+    variables: &Variables<'a>,
     parameter: ParameterKind,
     e: &'a Expr,
 ) -> Actual<'a>
@@ -176,7 +176,7 @@ fn mode_of(e: &Expr) -> ReleaseMode
 }
 
 /// A name or NULL where a field ID is asked for.
-fn field_argument<'a>(variables: &[Variable<'a>], e: &'a Expr) -> Actual<'a>
+fn field_argument<'a>(variables: &Variables<'a>, e: &'a Expr) -> Actual<'a>
     ensures { (shared : SharedOfThreads) → actual_view result ≡ field_argument (sight_in shared variables.now) (expr_tree e.now) }
 {
     match e {
@@ -186,10 +186,10 @@ fn field_argument<'a>(variables: &[Variable<'a>], e: &'a Expr) -> Actual<'a>
 }
 
 /// What a field ID holds.
-fn field_of<'a>(variables: &[Variable<'a>], name: &Name) -> Option<FieldId<'a>>
+fn field_of<'a>(variables: &Variables<'a>, name: &Name) -> Option<FieldId<'a>>
     ensures { option_map field_id_view result ≡ held_field (lookup name.now (variables_view variables.now)) }
 {
-    match content_of(variables, name) {
+    match variables.content_of(name) {
         None => None,
         Some(content) => match content {
             Content::Field(field) => *field,
@@ -200,11 +200,7 @@ fn field_of<'a>(variables: &[Variable<'a>], name: &Name) -> Option<FieldId<'a>>
 }
 
 /// A name or NULL where a reference is asked for.
-fn reference_argument<'a>(
-    shared: &Shared<'_>,
-    variables: &[Variable<'a>],
-    e: &'a Expr,
-) -> Actual<'a>
+fn reference_argument<'a>(shared: &Shared<'_>, variables: &Variables<'a>, e: &'a Expr) -> Actual<'a>
     ensures { actual_view result ≡ reference_argument (sight_in (shared_view shared.now) variables.now) (expr_tree e.now) }
 {
     match e {
@@ -214,10 +210,10 @@ fn reference_argument<'a>(
 }
 
 /// What a local reference or a static holds.
-fn held_by(shared: &Shared<'_>, variables: &[Variable<'_>], name: &Name) -> StaticReference
+fn held_by(shared: &Shared<'_>, variables: &Variables<'_>, name: &Name) -> StaticReference
     ensures { held_view result ≡ held_reference (lookup name.now (variables_view variables.now)) (lookup name.now shared.now.statics) }
 {
-    match content_of(variables, name) {
+    match variables.content_of(name) {
         None => match shared.statics.held(name) {
             Some(held) => held,
             None => StaticReference::Empty,
@@ -232,10 +228,10 @@ fn held_by(shared: &Shared<'_>, variables: &[Variable<'_>], name: &Name) -> Stat
 }
 
 /// The level of the local reference of this name; 0 where there is none.
-pub(crate) fn level_of(variables: &[Variable<'_>], name: &[u8]) -> usize
+pub(crate) fn level_of(variables: &Variables<'_>, name: &[u8]) -> usize
     ensures { result ≡ level_of (lookup name.now (variables_view variables.now)) }
 {
-    match content_named(variables, name) {
+    match variables.content_named(name) {
         None => 0,
         Some(content) => match content {
             Content::Reference(level, _) => *level,

@@ -29,7 +29,7 @@ use class_table::built_ins::{NO_CLASS_DEF_FOUND_ERROR, NO_SUCH_FIELD_ERROR};
 use class_table::fields::FieldId;
 use class_table::table::ClassTable;
 use jni::JniFunction;
-use terms::{Variable, convert};
+use terms::{Variables, convert};
 use world::ObjectValue;
 
 /// What a call does.
@@ -63,7 +63,7 @@ pub(crate) enum Answer<'a> {
 pub(crate) fn work_out<'a>(
     classes: &'a ClassTable,
     store: &Store,
-    variables: &[Variable<'_>],
+    variables: &Variables<'_>,
     frames: &Frames,
     function: JniFunction,
     actuals: &[Actual<'a>],
@@ -213,7 +213,7 @@ fn made_global<'a>(reference: Option<u32>) -> Answer<'a>
 }
 
 /// The reference of argument 0 is deleted, unless it is NULL.
-fn local_deleted<'a>(variables: &[Variable<'_>], actuals: &[Actual<'_>]) -> Answer<'a>
+fn local_deleted<'a>(variables: &Variables<'_>, actuals: &[Actual<'_>]) -> Answer<'a>
     ensures { answer_view result ≡ local_deleted (level_of (lookup (variable_given (map actual_view actuals.now) 0) (variables_view variables.now))) (reference_given (map actual_view actuals.now) 0) }
 {
     match reference_given(actuals, 0) {

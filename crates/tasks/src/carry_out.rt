@@ -8,6 +8,7 @@ ghost use Rattle.source.specs.Heap.{next_name};
 ghost use Rattle.source.specs.World.{fresh_object};
 ghost use Rattle.tasks.specs.Answers.{FitsFrames, answer_view, frames_after, frames_with, given_after, given_view, makes_object, pending_after, shared_after};
 ghost use Rattle.tasks.specs.Shares.{shared_view};
+ghost use Rattle.tasks.specs.Stores.{HasRoom};
 
 use crate::answer::Answer;
 use crate::frame::Frames;
@@ -30,7 +31,8 @@ pub(crate) fn carry_out<'a>(
     kind: ResultKind,
     answer: Answer<'a>,
 ) -> Result<Given<'a>, AllocError>
-    requires { FitsFrames frames.old (answer_view answer) }
+    requires frames { FitsFrames frames.old (answer_view answer) }
+    requires room { HasRoom shared.old.store }
     ensures shared { IfOk result (λ _. shared_view shared.new ≡ shared_after classes.now (shared_view shared.old) (answer_view answer.entry)) }
     ensures frames { IfOk result (λ _. frames.new ≡ frames_after frames.old (answer_view answer.entry)) }
     ensures pending { IfOk result (λ _. pending.new ≡ pending_after classes.now shared.old.store pending.old (answer_view answer.entry)) }
@@ -90,6 +92,7 @@ fn make(
     store: &mut Store,
     class: u32,
 ) -> Result<u32, AllocError>
+    requires { HasRoom store.old }
     ensures store { IfOk result (λ _. store.new ≡ store.old ++ fresh_object classes.now class ∷ []) }
     ensures name { IfOk result (λ name. name ≡ next_name store.old) }
 {

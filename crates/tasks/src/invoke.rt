@@ -10,6 +10,7 @@ ghost use Rattle.tasks.specs.Calls.{MakesCall, ReducesFirst, ReducesOne};
 ghost use Rattle.tasks.specs.Outcomes.{outcome_for};
 ghost use Rattle.tasks.specs.Steps.{Does, scene_with};
 ghost use Rattle.tasks.specs.Shares.{shared_view};
+ghost use Rattle.tasks.specs.Stores.{HasRoom, MakesAtMostOne};
 ghost use Rattle.tasks.specs.Tasks.{OperandInRange, OperandsInRange, OutcomeInRange, PurposeInRange};
 ghost use Rattle.terms.specs.Views.{variables_view};
 
@@ -26,7 +27,7 @@ use crate::task::{Invocation, Operand};
 use class_table::table::ClassTable;
 use jni::JniFunction;
 use std::alloc::{AllocError, Global};
-use terms::{Reduction, Statics, Term, Variable, reduce};
+use terms::{Reduction, Statics, Term, Variables, reduce};
 
 /// The step of a call: the first of its numbers that isn't worked out takes a step, or else the call is made. With its object
 /// refused it is possible only where it makes one.
@@ -34,7 +35,7 @@ pub(crate) fn invoke<'a>(
     alloc: Global,
     classes: &'a ClassTable,
     shared: &mut Shared<'a>,
-    variables: &[Variable<'a>],
+    variables: &Variables<'a>,
     frames: &mut Frames,
     pending: &mut Option<u32>,
     refused: bool,
@@ -44,12 +45,14 @@ pub(crate) fn invoke<'a>(
     requires built { IsTrue (is_built_function (function_value i.old.function)) }
     requires ways { PurposeInRange i.old.purpose }
     requires grown { IsGrown classes.now }
+    requires room { HasRoom shared.old.store }
     ensures step { IfOk result (λ o. Does refused (scene_with classes.now (shared_view shared.old) variables.now frames.old pending.old) (task.Invoke i.old) o
         (scene_with classes.now (shared_view shared.new) variables.now frames.new pending.new) (task.Invoke i.new)) }
     ensures numbers { IfOk result (λ _. OperandsInRange i.new.operands.items) }
     ensures function { i.new.function ≡ i.old.function }
     ensures purpose { i.new.purpose ≡ i.old.purpose }
     ensures range { IfOk result OutcomeInRange }
+    ensures made { IfOk result (λ _. MakesAtMostOne shared.old.store shared.new.store) }
 {
     let (line, purpose, function) = (i.line, i.purpose, i.function);
     if let Some(reduction) = reduce_number(&shared.statics, variables, i) {
@@ -68,7 +71,7 @@ pub(crate) fn invoke<'a>(
 /// Lets the first number of a call that isn't worked out take a step; none where each is.
 fn reduce_number(
     statics: &Statics<'_>,
-    variables: &[Variable<'_>],
+    variables: &Variables<'_>,
     i: &mut Invocation<'_>,
 ) -> Option<Reduction>
     requires { OperandsInRange i.old.operands.items }
@@ -84,7 +87,7 @@ fn reduce_number(
 /// Lets the first of these numbers that isn't worked out take a step; none where each is.
 fn reduce_first(
     statics: &Statics<'_>,
-    variables: &[Variable<'_>],
+    variables: &Variables<'_>,
     operands: &mut [Operand<'_>],
 ) -> Option<Reduction>
     requires { OperandsInRange operands.old }
@@ -103,7 +106,7 @@ fn reduce_first(
 /// Lets a number that isn't worked out take a step; none where there is nothing to work out.
 fn reduce_one(
     statics: &Statics<'_>,
-    variables: &[Variable<'_>],
+    variables: &Variables<'_>,
     operand: &mut Operand<'_>,
 ) -> Option<Reduction>
     requires { OperandInRange operand.old }
@@ -138,7 +141,7 @@ fn call<'a>(
     alloc: Global,
     classes: &'a ClassTable,
     shared: &mut Shared<'a>,
-    variables: &[Variable<'a>],
+    variables: &Variables<'a>,
     frames: &mut Frames,
     pending: &mut Option<u32>,
     refused: bool,
@@ -150,9 +153,11 @@ fn call<'a>(
     requires built { IsTrue (is_built_function (function_value function)) }
     requires ways { PurposeInRange purpose }
     requires grown { IsGrown classes.now }
+    requires room { HasRoom shared.old.store }
     ensures step { IfOk result (λ o. MakesCall refused (scene_with classes.now (shared_view shared.old) variables.now frames.old pending.old) line purpose.entry (function_value function) (map actual_view actuals.now) o
         (scene_with classes.now (shared_view shared.new) variables.now frames.new pending.new)) }
     ensures range { IfOk result OutcomeInRange }
+    ensures made { IfOk result (λ _. MakesAtMostOne shared.old.store shared.new.store) }
 {
     let is_pending = pending.is_some();
     if let Some(trap) = check(

@@ -1,6 +1,6 @@
 //! The objects that are there when a run begins.
 
-ghost use Rattle.std.specs.Prelude.{◌≡◌, ◌≤◌, ◌+◌, [], IfOk, OnOk, length, map, take};
+ghost use Rattle.std.specs.Prelude.{◌≡◌, ◌<◌, ◌≤◌, ◌+◌, ◌^◌, [], IfOk, OnOk, length, map, take};
 ghost use Rattle.class_table.specs.Views.{field_type_view, field_view};
 ghost use Rattle.classes.specs.Fields.{layout};
 ghost use Rattle.source.specs.World.{initial, loaded_objects};
@@ -24,7 +24,9 @@ pub fn made_before(world: &World) -> usize
 /// The store with the objects that are made before the first step: the class objects, the OutOfMemoryError object and the
 /// world's, in this order.
 pub fn loaded_store(alloc: Global, world: &World) -> Result<Store, AllocError>
-    ensures { IfOk result (λ store. store ≡ loaded_objects world.now) }
+    ensures objects { IfOk result (λ store. store ≡ loaded_objects world.now) }
+    // They have their cells, of which a world has at most 2 ^ 20.
+    ensures few { IfOk result (λ store. length store < 2 ^ 20) }
 {
     let mut store = Store::new(alloc);
     make_class_objects(alloc, &mut store, world)?;

@@ -1,9 +1,8 @@
 //! What tasks do to variables and statics.
 
-ghost use Rattle.std.specs.Prelude.{◌≡◌, ℕ, IfOk};
+ghost use Rattle.std.specs.Prelude.{◌≡◌, IfNone, IfOk, IfSome};
 ghost use Rattle.source.specs.CallStep.{blank, filled, put};
-ghost use Rattle.source.specs.Variable.{Statics as StaticsOfUnit, assign};
-ghost use Rattle.tasks.specs.declared.outcome.Outcome.TheVariants as outcome;
+ghost use Rattle.source.specs.Variable.{assign};
 ghost use Rattle.tasks.specs.Answers.{given_view};
 ghost use Rattle.tasks.specs.Outcomes.{kind_view, target_view, variable_step, LeavesVariables, LeavesIf};
 ghost use Rattle.terms.specs.Views.{content_view, variables_view};
@@ -12,7 +11,7 @@ use crate::given::{Given, static_result};
 use crate::outcome::{Outcome, Target, VariableKind};
 use std::alloc::{AllocError, Global};
 use syntax::Name;
-use terms::{Content, Statics, Value, Variable, assign, place_of, write_content, zeros};
+use terms::{Content, Statics, Value, Variables, zeros};
 
 /// A variable as its declaration makes it, where there are this many frames.
 fn blank<'a>(kind: VariableKind, frames: usize) -> Content<'a>
@@ -26,43 +25,47 @@ fn blank<'a>(kind: VariableKind, frames: usize) -> Content<'a>
     }
 }
 
-/// Puts what a call gave, or NULL, into a variable. In accepted programs they fit.
-fn fill<'a>(content: &mut Content<'a>, given: Given<'a>)
-    ensures { content_view content.new ≡ filled (content_view content.old) (given_view given.entry) }
+/// What a variable holds after what a call gave, or NULL, was put into it; none where it is as it was. In accepted programs they
+/// fit.
+fn filled<'a>(content: &Content<'a>, given: Given<'a>) -> Option<Content<'a>>
+    ensures some { IfSome result (λ c. content_view c ≡ filled (content_view content.now) (given_view given.entry)) }
+    ensures none { IfNone result (filled (content_view content.now) (given_view given.entry) ≡ content_view content.now) }
 {
     match content {
-        Content::Number(value) => match given {
-            Given::Number(z) => *value = Value::Int(z),
-            Given::Flag(b) => *value = Value::Flag(b),
-            _ => {}
+        Content::Number(_) => match given {
+            Given::Number(z) => Some(Content::Number(Value::Int(z))),
+            Given::Flag(b) => Some(Content::Number(Value::Flag(b))),
+            _ => None,
         },
-        Content::Reference(_, object) => match given {
-            Given::Null => *object = None,
-            Given::Reference(reference) => *object = reference,
-            _ => {}
+        Content::Reference(level, _) => match given {
+            Given::Null => Some(Content::Reference(*level, None)),
+            Given::Reference(reference) => Some(Content::Reference(*level, reference)),
+            _ => None,
         },
-        Content::Field(field) => match given {
-            Given::Null => *field = None,
-            Given::Field(found) => *field = found,
-            _ => {}
+        Content::Field(_) => match given {
+            Given::Null => Some(Content::Field(None)),
+            Given::Field(found) => Some(Content::Field(found)),
+            _ => None,
         },
-        Content::Buffer(_) | Content::Array(_, _) => {}
+        Content::Buffer(_) | Content::Array(_, _) => None,
     }
 }
 
 /// Declares a variable with what is given.
 fn declare<'a>(
     frames: usize,
-    variables: &mut Vec<Variable<'a>>,
+    variables: &mut Variables<'a>,
     kind: VariableKind,
     name: &'a Name,
     given: Given<'a>,
 ) -> Result<(), AllocError>
-    ensures { IfOk result (λ _. variables_view variables.new.items ≡ assign name.entry.now (filled (blank (kind_view kind) frames) (given_view given.entry)) (variables_view variables.old.items)) }
+    ensures { IfOk result (λ _. variables_view variables.new ≡ assign name.entry.now (filled (blank (kind_view kind) frames) (given_view given.entry)) (variables_view variables.old)) }
 {
-    let mut content = blank(kind, frames);
-    fill(&mut content, given);
-    assign(variables, name, content)
+    let content = blank(kind, frames);
+    match filled(&content, given) {
+        Some(content) => variables.set(name, content),
+        None => variables.set(name, content),
+    }
 }
 
 /// Puts what a call gave, or NULL, where it belongs.
@@ -70,42 +73,22 @@ fn declare<'a>(
 fn put<'a>(
     statics: &mut Statics<'a>,
     frames: usize,
-    variables: &mut Vec<Variable<'a>>,
+    variables: &mut Variables<'a>,
     target: Target<'a>,
     given: Given<'a>,
 ) -> Result<(), AllocError>
-    ensures { IfOk result (λ _. LeavesVariables frames statics.old variables.old.items (put (target_view target.entry) (given_view given.entry)) statics.new variables.new.items) }
+    ensures { IfOk result (λ _. LeavesVariables frames statics.old variables.old (put (target_view target.entry) (given_view given.entry)) statics.new variables.new) }
 {
     match target {
         Target::Declared(kind, name) => declare(frames, variables, kind, name, given),
-        Target::Assigned(name) => match place_of(variables, name) {
-            Some(place) => {
-                let variable = &mut variables[place];
-                fill(&mut variable.content, given);
-                Ok(())
-            }
+        Target::Assigned(name) => match variables.content_of(name) {
+            Some(content) => match filled(content, given) {
+                Some(content) => variables.set(name, content),
+                None => Ok(()),
+            },
             None => statics.set(name.as_bytes(), static_result(given)),
         },
         Target::Dropped => Ok(()),
-    }
-}
-
-/// Writes an element of the array of this name, if it is one.
-#[tactic(auto, using(crate::proofs::PutLemmas::element_rules))]
-fn set_element<'a>(
-    variables: &mut Vec<Variable<'a>>,
-    name: &'a Name,
-    index: usize,
-    number: i32,
-) -> bool
-    ensures { (frames : ℕ) (statics : StaticsOfUnit) → LeavesIf frames statics variables.old.items (variable_step (outcome.SetsElement name.entry index number)) result statics variables.new.items }
-{
-    match place_of(variables, name) {
-        Some(place) => {
-            let variable = &mut variables[place];
-            write_content(&mut variable.content, index, number)
-        }
-        None => false,
     }
 }
 
@@ -116,20 +99,20 @@ pub(crate) fn set_variables<'a>(
     alloc: Global,
     statics: &mut Statics<'a>,
     frames: usize,
-    variables: &mut Vec<Variable<'a>>,
+    variables: &mut Variables<'a>,
     outcome: Outcome<'a>,
 ) -> Result<bool, AllocError>
-    ensures { IfOk result (λ done. LeavesIf frames statics.old variables.old.items (variable_step outcome.entry) done statics.new variables.new.items) }
+    ensures { IfOk result (λ done. LeavesIf frames statics.old variables.old (variable_step outcome.entry) done statics.new variables.new) }
 {
     match outcome {
-        Outcome::Sets(name, value) => assign(variables, name, Content::Number(value))?,
+        Outcome::Sets(name, value) => variables.set(name, Content::Number(value))?,
         Outcome::SetsNull(target) => put(statics, frames, variables, target, Given::Null)?,
         Outcome::Gives(target, given) => put(statics, frames, variables, target, given)?,
         Outcome::Makes(kind, name, size) => {
-            assign(variables, name, Content::Array(kind, zeros(alloc, size)?))?;
+            variables.set(name, Content::Array(kind, zeros(alloc, size)?))?;
         }
         Outcome::SetsElement(name, index, number) => {
-            return Ok(set_element(variables, name, index, number));
+            return Ok(variables.write(name, index, number));
         }
         Outcome::Stays | Outcome::Printed(_) | Outcome::Enters(_, _) | Outcome::Ends => {}
         Outcome::Tests(_, _, _, _) => {}

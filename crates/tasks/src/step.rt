@@ -10,7 +10,8 @@ ghost use Rattle.terms.specs.declared.term.Term.TheVariants as term;
 ghost use Rattle.tasks.specs.Outcomes.{else_tree};
 ghost use Rattle.tasks.specs.Steps.{HasEffect, Does, reduced, scene_with};
 ghost use Rattle.tasks.specs.Shares.{shared_view};
-ghost use Rattle.tasks.specs.Tasks.{branch_task, tasks_of_statements, ExprInRange, BlockInRange, ElseInRange, StatementsInRange, TaskInRange, OutcomeInRange, IsPlain};
+ghost use Rattle.tasks.specs.Stores.{HasRoom, MakesAtMostOne};
+ghost use Rattle.tasks.specs.Tasks.{branch_task, element_task, loop_task, print_task, return_task, value_task, tasks_of_statements, ExprInRange, BlockInRange, ElseInRange, StatementsInRange, TaskInRange, OutcomeInRange, IsPlain};
 ghost use Rattle.terms.specs.Views.{NumbersInRange, variables_view};
 
 use crate::frame::Frames;
@@ -22,7 +23,7 @@ use class_table::table::ClassTable;
 use std::alloc::{AllocError, Global};
 use syntax::{Block, Expr, Name, Stmt};
 use terms::{
-    Evaluated, Indexed, Reduction, Statics, Term, Value, Variable, constant, number_in, place_in,
+    Evaluated, Indexed, Reduction, Statics, Term, Value, Variables, constant, number_in, place_in,
     put_term, reduce,
 };
 
@@ -41,12 +42,12 @@ pub(crate) fn reduced<'a>(line: usize, reduction: Reduction) -> Outcome<'a>
 /// Evaluates a number by one step, or prints it.
 fn print<'a>(
     statics: &Statics<'_>,
-    variables: &[Variable<'_>],
+    variables: &Variables<'_>,
     line: usize,
-    t: &mut Term,
+    t: &mut Term<'_>,
 ) -> Outcome<'a>
     requires { NumbersInRange t.old }
-    ensures step { HasEffect (variables_view variables.now) statics.now (task.Print line t.old) result (task.Print line t.new) }
+    ensures step { HasEffect (variables_view variables.now) statics.now (print_task line t.old) result (print_task line t.new) }
     ensures numbers { NumbersInRange t.new }
     ensures range { OutcomeInRange result }
 {
@@ -62,13 +63,13 @@ fn print<'a>(
 /// Evaluates an expression by one step, or sets a variable to its value.
 fn set<'a>(
     statics: &Statics<'_>,
-    variables: &[Variable<'_>],
+    variables: &Variables<'_>,
     line: usize,
     name: &'a Name,
-    t: &mut Term,
+    t: &mut Term<'_>,
 ) -> Outcome<'a>
     requires { NumbersInRange t.old }
-    ensures step { HasEffect (variables_view variables.now) statics.now (task.Set line name.entry t.old) result (task.Set line name.entry t.new) }
+    ensures step { HasEffect (variables_view variables.now) statics.now (value_task line name.entry t.old) result (value_task line name.entry t.new) }
     ensures numbers { NumbersInRange t.new }
     ensures range { OutcomeInRange result }
 {
@@ -80,13 +81,13 @@ fn set<'a>(
 
 /// Sets an element whose index and number have their values.
 fn write<'a>(
-    variables: &[Variable<'_>],
+    variables: &Variables<'_>,
     line: usize,
     name: &'a Name,
     index: Value,
     number: Value,
 ) -> Outcome<'a>
-    ensures step { (statics : StaticsOfUnit) → HasEffect (variables_view variables.now) statics (task.SetElement line name.entry (term.Done index) (term.Done number)) result (task.SetElement line name.entry (term.Done index) (term.Done number)) }
+    ensures step { (statics : StaticsOfUnit) → HasEffect (variables_view variables.now) statics (element_task line name.entry (term.Done index) (term.Done number)) result (element_task line name.entry (term.Done index) (term.Done number)) }
     ensures range { OutcomeInRange result }
 {
     match number {
@@ -102,14 +103,14 @@ fn write<'a>(
 /// Evaluates the number of an element by one step, or sets the element at this index.
 fn set_at<'a>(
     statics: &Statics<'_>,
-    variables: &[Variable<'_>],
+    variables: &Variables<'_>,
     line: usize,
     name: &'a Name,
     index: Value,
-    t: &mut Term,
+    t: &mut Term<'_>,
 ) -> Outcome<'a>
     requires { NumbersInRange t.old }
-    ensures step { HasEffect (variables_view variables.now) statics.now (task.SetElement line name.entry (term.Done index) t.old) result (task.SetElement line name.entry (term.Done index) t.new) }
+    ensures step { HasEffect (variables_view variables.now) statics.now (element_task line name.entry (term.Done index) t.old) result (element_task line name.entry (term.Done index) t.new) }
     ensures number { NumbersInRange t.new }
     ensures range { OutcomeInRange result }
 {
@@ -122,15 +123,15 @@ fn set_at<'a>(
 /// Evaluates the index or the number of an element by one step, or sets it.
 fn set_element<'a>(
     statics: &Statics<'_>,
-    variables: &[Variable<'_>],
+    variables: &Variables<'_>,
     line: usize,
     name: &'a Name,
-    i: &mut Term,
-    t: &mut Term,
+    i: &mut Term<'_>,
+    t: &mut Term<'_>,
 ) -> Outcome<'a>
     requires index { NumbersInRange i.old }
     requires number { NumbersInRange t.old }
-    ensures step { HasEffect (variables_view variables.now) statics.now (task.SetElement line name.entry i.old t.old) result (task.SetElement line name.entry i.new t.new) }
+    ensures step { HasEffect (variables_view variables.now) statics.now (element_task line name.entry i.old t.old) result (element_task line name.entry i.new t.new) }
     ensures index { NumbersInRange i.new }
     ensures number { NumbersInRange t.new }
     ensures range { OutcomeInRange result }
@@ -156,9 +157,9 @@ fn statements_of<'a>(block: Option<&'a Block>) -> &'a [Stmt]
 /// Evaluates the test of an `if` by one step, or takes a way.
 fn branch<'a>(
     statics: &Statics<'_>,
-    variables: &[Variable<'_>],
+    variables: &Variables<'_>,
     line: usize,
-    t: &mut Term,
+    t: &mut Term<'_>,
     block: &'a Block,
     otherwise: Option<&'a Block>,
 ) -> Outcome<'a>
@@ -182,16 +183,16 @@ fn branch<'a>(
 /// Evaluates the test of a loop by one step, or takes a turn, or goes on after it.
 fn turn<'a>(
     statics: &Statics<'_>,
-    variables: &[Variable<'_>],
+    variables: &Variables<'_>,
     line: usize,
     test: &'a Expr,
-    t: &mut Term,
+    t: &mut Term<'_>,
     body: &'a Block,
 ) -> Outcome<'a>
     requires test { ExprInRange (expr_tree test.now) }
     requires numbers { NumbersInRange t.old }
     requires body { BlockInRange (block_tree body.now) }
-    ensures step { HasEffect (variables_view variables.now) statics.now (task.Loop line test.entry t.old body.entry) result (task.Loop line test.entry t.new body.entry) }
+    ensures step { HasEffect (variables_view variables.now) statics.now (loop_task line test.entry t.old body.entry) result (loop_task line test.entry t.new body.entry) }
     ensures numbers { NumbersInRange t.new }
     ensures range { OutcomeInRange result }
 {
@@ -211,12 +212,12 @@ fn turn<'a>(
 #[tactic(auto, using(crate::proofs::TaskLemmas::return_rules))]
 fn return_value<'a>(
     statics: &Statics<'_>,
-    variables: &[Variable<'_>],
+    variables: &Variables<'_>,
     line: usize,
-    t: &mut Term,
+    t: &mut Term<'_>,
 ) -> Outcome<'a>
     requires { NumbersInRange t.old }
-    ensures step { HasEffect (variables_view variables.now) statics.now (task.ReturnValue line t.old) result (task.ReturnValue line t.new) }
+    ensures step { HasEffect (variables_view variables.now) statics.now (return_task line t.old) result (return_task line t.new) }
     ensures numbers { NumbersInRange t.new }
     ensures range { OutcomeInRange result }
 {
@@ -243,7 +244,7 @@ fn return_value<'a>(
 /// Lets a task that is no call take its next step.
 fn plain_step<'a>(
     statics: &Statics<'_>,
-    variables: &[Variable<'a>],
+    variables: &Variables<'a>,
     task: &mut Task<'a>,
 ) -> Outcome<'a>
     requires range { TaskInRange task.old }
@@ -253,18 +254,27 @@ fn plain_step<'a>(
     ensures range { OutcomeInRange result }
 {
     match task {
-        Task::Print(line, t) => print(statics, variables, *line, t),
-        Task::Set(line, name, t) => set(statics, variables, *line, name, t),
-        Task::SetElement(line, name, i, t) => set_element(statics, variables, *line, name, i, t),
+        Task::Print(e) => print(statics, variables, e.line, &mut e.term),
+        Task::Set(a) => {
+            let (line, name) = (a.line, a.name);
+            set(statics, variables, line, name, &mut a.term)
+        }
+        Task::SetElement(a) => {
+            let (line, name) = (a.line, a.name);
+            set_element(statics, variables, line, name, &mut a.index, &mut a.number)
+        }
         Task::SetNull(target) => Outcome::SetsNull(*target),
         Task::MakeArray(kind, name, size) => Outcome::Makes(*kind, name, *size),
         Task::Branch(c) => {
             let (line, block, otherwise) = (c.line, c.block, c.otherwise);
             branch(statics, variables, line, &mut c.test, block, otherwise)
         }
-        Task::Loop(line, test, t, body) => turn(statics, variables, *line, test, t, body),
+        Task::Loop(i) => {
+            let (line, test, body) = (i.line, i.test, i.body);
+            turn(statics, variables, line, test, &mut i.term, body)
+        }
         Task::Return => Outcome::Returned,
-        Task::ReturnValue(line, t) => return_value(statics, variables, *line, t),
+        Task::ReturnValue(e) => return_value(statics, variables, e.line, &mut e.term),
         Task::Invoke(_) => unreachable!(),
     }
 }
@@ -274,7 +284,7 @@ pub(crate) fn step<'a>(
     alloc: Global,
     classes: &'a ClassTable,
     shared: &mut Shared<'a>,
-    variables: &[Variable<'a>],
+    variables: &Variables<'a>,
     frames: &mut Frames,
     pending: &mut Option<u32>,
     refused: bool,
@@ -282,10 +292,12 @@ pub(crate) fn step<'a>(
 ) -> Result<Outcome<'a>, AllocError>
     requires range { TaskInRange task.old }
     requires grown { IsGrown classes.now }
+    requires room { HasRoom shared.old.store }
     ensures step { IfOk result (λ o. Does refused (scene_with classes.now (shared_view shared.old) variables.now frames.old pending.old) task.old o
         (scene_with classes.now (shared_view shared.new) variables.now frames.new pending.new) task.new) }
     ensures task { IfOk result (λ _. TaskInRange task.new) }
     ensures range { IfOk result OutcomeInRange }
+    ensures made { IfOk result (λ _. MakesAtMostOne shared.old.store shared.new.store) }
 {
     if let Task::Invoke(i) = task {
         return invoke(

@@ -3,7 +3,7 @@
 ghost use Rattle.std.specs.Prelude.{◌≡◌, ◌<◌, ◌^◌, ◌++◌, ◌∷◌, [], IfOk, IfSome, length, map, slice_set};
 ghost use Rattle.std.specs.Option.{option_map};
 ghost use Rattle.source.specs.Heap.{object_at, class_of, value_at, values_of, with_value_at};
-ghost use Rattle.tasks.specs.Stores.{object_view};
+ghost use Rattle.tasks.specs.Stores.{HasRoom, object_view};
 ghost use Rattle.world.specs.Views.{object_value_view};
 
 use std::alloc::{AllocError, Global};
@@ -117,15 +117,12 @@ impl Store {
         }
     }
 
-    /// Makes the next object. There are at most `u32::MAX`, since a name is a `u32`: one more is refused, as if the host had no
-    /// memory for it.
+    /// Makes the next object.
     pub fn add(&mut self, class: u32, values: Vec<ObjectValue>) -> Result<(), AllocError>
-        requires { length values.items < 2 ^ 31 }
+        requires room { HasRoom self.old }
+        requires short { length values.items < 2 ^ 31 }
         ensures { IfOk result (λ _. self.new ≡ self.old ++ record { class = class; values = map object_value_view values.items } ∷ []) }
     {
-        if self.objects.len() >= u32::MAX as usize {
-            return Err(AllocError);
-        }
         self.objects.push(Object { class, values })?;
         Ok(())
     }

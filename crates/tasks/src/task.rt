@@ -33,7 +33,7 @@ pub struct Invocation<'a> {
 /// An argument of a call: a number on the way to its value, or one that is looked up in the call's own step.
 #[derive(Drop)]
 pub enum Operand<'a> {
-    Number(Term),
+    Number(Term<'a>),
     Given(&'a Argument),
 }
 
@@ -41,27 +41,57 @@ pub enum Operand<'a> {
 #[derive(Drop)]
 pub struct Choice<'a> {
     pub line: usize,
-    pub test: Term,
+    pub test: Term<'a>,
     pub block: &'a Block,
     pub otherwise: Option<&'a Block>,
+}
+
+/// An expression whose value is printed or returned.
+#[derive(Drop)]
+pub struct Evaluation<'a> {
+    pub line: usize,
+    pub term: Term<'a>,
+}
+
+/// A value for a variable.
+#[derive(Drop)]
+pub struct Assignment<'a> {
+    pub line: usize,
+    pub name: &'a Name,
+    pub term: Term<'a>,
+}
+
+/// A loop, with its test, the test's term, and the body.
+#[derive(Drop)]
+pub struct Iteration<'a> {
+    pub line: usize,
+    pub test: &'a Expr,
+    pub term: Term<'a>,
+    pub body: &'a Block,
+}
+
+/// A number for an element of an array, after the element's index.
+#[derive(Drop)]
+pub struct ElementAssignment<'a> {
+    pub line: usize,
+    pub name: &'a Name,
+    pub index: Term<'a>,
+    pub number: Term<'a>,
 }
 
 /// A statement still to do, with its line.
 #[derive(Drop)]
 pub enum Task<'a> {
-    Print(usize, Term),
-    /// A value for a variable.
-    Set(usize, &'a Name, Term),
-    /// A number for an element, after its index.
-    SetElement(usize, &'a Name, Term, Term),
+    Print(Evaluation<'a>),
+    Set(Assignment<'a>),
+    SetElement(ElementAssignment<'a>),
     SetNull(Target<'a>),
     MakeArray(ElementType, &'a Name, u32),
     Invoke(Invocation<'a>),
     Branch(Choice<'a>),
-    /// A loop, with its test, the test's term, and the body.
-    Loop(usize, &'a Expr, Term, &'a Block),
+    Loop(Iteration<'a>),
     Return,
-    ReturnValue(usize, Term),
+    ReturnValue(Evaluation<'a>),
 }
 
 /// The task that gives a variable the value of an expression.
@@ -79,7 +109,8 @@ fn value_task<'a>(
     if let Expr::Named(Constant::Null) = e {
         return Ok(Task::SetNull(target));
     }
-    Ok(Task::Set(line, name, term_of(alloc, e)?))
+    let term = term_of(alloc, e)?;
+    Ok(Task::Set(Assignment { line, name, term }))
 }
 
 /// The task of a call, of a function that is there.
@@ -214,26 +245,32 @@ fn element_task<'a>(
     alloc: Global,
     line: usize,
     name: &'a Name,
-    index: &Expr,
-    e: &Expr,
+    index: &'a Expr,
+    e: &'a Expr,
 ) -> Result<Task<'a>, AllocError>
     requires index { ExprInRange (expr_tree index.now) }
     requires number { ExprInRange (expr_tree e.now) }
-    ensures view { IfOk result (λ t. task_view t ≡ SetElement line name.entry.now (term_of (expr_tree index.now)) (term_of (expr_tree e.now))) }
+    ensures view { IfOk result (λ t. task_view t ≡ SetElement line name.entry.now (term_of (expr_tree index.entry.now)) (term_of (expr_tree e.entry.now))) }
     ensures range { IfOk result TaskInRange }
 {
     let index = term_of(alloc, index)?;
     let number = term_of(alloc, e)?;
-    Ok(Task::SetElement(line, name, index, number))
+    Ok(Task::SetElement(ElementAssignment {
+        line,
+        name,
+        index,
+        number,
+    }))
 }
 
 /// The task that prints a number.
-fn print_task<'a>(alloc: Global, line: usize, e: &Expr) -> Result<Task<'a>, AllocError>
+fn print_task<'a>(alloc: Global, line: usize, e: &'a Expr) -> Result<Task<'a>, AllocError>
     requires { ExprInRange (expr_tree e.now) }
-    ensures view { IfOk result (λ t. task_view t ≡ Print line (term_of (expr_tree e.now))) }
+    ensures view { IfOk result (λ t. task_view t ≡ Print line (term_of (expr_tree e.entry.now))) }
     ensures range { IfOk result TaskInRange }
 {
-    Ok(Task::Print(line, term_of(alloc, e)?))
+    let term = term_of(alloc, e)?;
+    Ok(Task::Print(Evaluation { line, term }))
 }
 
 /// The task of a loop.
@@ -248,16 +285,23 @@ fn loop_task<'a>(
     ensures view { IfOk result (λ t. task_view t ≡ Loop line (expr_tree test.entry.now) (term_of (expr_tree test.entry.now)) (block_tree body.entry.now)) }
     ensures range { IfOk result TaskInRange }
 {
-    Ok(Task::Loop(line, test, term_of(alloc, test)?, body))
+    let term = term_of(alloc, test)?;
+    Ok(Task::Loop(Iteration {
+        line,
+        test,
+        term,
+        body,
+    }))
 }
 
 /// The task that returns a value.
-fn return_task<'a>(alloc: Global, line: usize, e: &Expr) -> Result<Task<'a>, AllocError>
+fn return_task<'a>(alloc: Global, line: usize, e: &'a Expr) -> Result<Task<'a>, AllocError>
     requires { ExprInRange (expr_tree e.now) }
-    ensures view { IfOk result (λ t. task_view t ≡ ReturnValue line (term_of (expr_tree e.now))) }
+    ensures view { IfOk result (λ t. task_view t ≡ ReturnValue line (term_of (expr_tree e.entry.now))) }
     ensures range { IfOk result TaskInRange }
 {
-    Ok(Task::ReturnValue(line, term_of(alloc, e)?))
+    let term = term_of(alloc, e)?;
+    Ok(Task::ReturnValue(Evaluation { line, term }))
 }
 
 /// The task that a statement begins as.

@@ -2,4 +2,3 @@ mod TermLemmas
 pub mod ByNameLemmas
 pub mod VariableLemmas
 pub mod SightLemmas
-pub mod StaticLemmas

@@ -1,47 +1,32 @@
--- A variable is assigned at the first place of its name.
-use Rattle.std.proofs.Common.{◌≡◌, ℕ, Bool, List, [], ◌∷◌, ◌++◌, Some, None, ap, ◌∙◌, append_assoc, get_or}
-use Rattle.std.specs.Prelude.{position, slice_get, slice_set}
-use Rattle.std.specs.Str.{bytes_eq}
-use Rattle.std.proofs.lemmas.List.{map-append}
+-- Elements of variables in memory.
+use Rattle.std.proofs.Common.{◌≡◌, ℕ, ℤ, Bool, true, false, cond, Some, None, ap, ◌∙◌}
+use Rattle.std.specs.Prelude.{slice_set}
 use Rattle.base.specs.Bytes.{Identifier, lookup}
-use Rattle.source.specs.Variable.{Variable as Content, Variables, assign}
-use Rattle.terms.specs.Views.{content_view, variable_view, variables_view}
-use Rattle.terms.specs.declared.variable.Variable.{Variable}
-use Rattle.terms.proofs.ByNameLemmas as by_name
+use Rattle.syntax.specs.Views.{element_tree}
+use Rattle.source.specs.Value.{convert}
+use Rattle.source.specs.Variable.{Variable, LocalArray, Variables, assign}
+use Rattle.terms.specs.Views.{content_view, written, HasNoElements, WritesElement}
+use Rattle.terms.specs.declared.variable.Content.{Content}
+use Rattle.terms.specs.declared.variable.Content.TheVariants as content
 
-abbrev name_of : Variable → Identifier
-name_of v = v.name.now
+module _ (old new : Variables) (x : Identifier) (i : ℕ) (z : ℤ) where
+  array_written : (c : Content) (v : Variable) → lookup x old ≡ Some (content_view c) → written i z (content_view c) ≡ Some v → new ≡ assign x v old → WritesElement old x i z true new
+  array_written (content.Number n) v there is set = absurd (cc)
+  array_written (content.Reference level r) v there is set = absurd (cc)
+  array_written (content.Field f) v there is set = absurd (cc)
+  array_written (content.Buffer T) v there is set = absurd (cc)
+  array_written (content.Array T numbers) v there is set =
+      let same : v ≡ LocalArray (element_tree T) (slice_set numbers.items i (convert (element_tree T) z)) = cc in
+      record { kind = element_tree T; numbers = numbers.items; there = there; set = set ∙ ap (λ (w : Variable). assign x w old) same }
 
-abbrev value_of : Variable → Content
-value_of v = content_view v.content
+  no_array : (c : Content) → written i z (content_view c) ≡ None → HasNoElements (Some (content_view c))
+  no_array (content.Number n) is = tt
+  no_array (content.Reference level r) is = tt
+  no_array (content.Field f) is = tt
+  no_array (content.Buffer T) is = tt
+  no_array (content.Array T numbers) is = absurd (cc)
 
-module _ (x : Identifier) (content : Content) where
-  abbrev named : Variable → Bool
-  named v = bytes_eq x v.name.now
-
-  pub assigned_there : (vs : List Variable) (i : ℕ) (v : Variable) → position named vs ≡ Some i → variable_view v ≡ (x, content) → variables_view (slice_set vs i v) ≡ assign x content (variables_view vs)
-  assigned_there = by_name.assigned_there name_of value_of x content
-
-  -- what the variable at the place of the name holds, and its name
-  pub variable_found : (vs : List Variable) (i : ℕ) (w : Variable) → position named vs ≡ Some i → slice_get vs i ≡ Some w → (lookup x (variables_view vs) ≡ Some (content_view w.content)) × (w.name.now ≡ x)
-  variable_found = by_name.variable_found name_of value_of x content
-
-  -- no variable has the name
-  pub variable_missing : (vs : List Variable) → position named vs ≡ None → lookup x (variables_view vs) ≡ None
-  variable_missing = by_name.variable_missing name_of value_of x content
-
-  -- the variable at the place of the name
-  pub variable_at : (vs : List Variable) (i : ℕ) (w : Variable) → position named vs ≡ Some i → w ≡ get_or vs i w → slice_get vs i ≡ Some w
-  variable_at = by_name.variable_at name_of value_of x content
-
-  pub assigned_new : (vs : List Variable) (v : Variable) → position named vs ≡ None → variable_view v ≡ (x, content) → variables_view (vs ++ v ∷ []) ≡ assign x content (variables_view vs)
-  assigned_new = by_name.assigned_new name_of value_of x content
-
-pub ruleset assigned_rules = (assigned_there, assigned_new)
-
--- one variable, and then those after it
-pub added : (old new : List Variable) (v : Variable) (rest : Variables) → variables_view new ≡ variables_view (old ++ v ∷ []) ++ rest → variables_view new ≡ variables_view old ++ variable_view v ∷ rest
-added old new v rest is =
-    is ∙ ap (λ (l : Variables). l ++ rest) (map-append variable_view old (v ∷ [])) ∙ append_assoc (variables_view old) (variable_view v ∷ []) rest
-
-pub ruleset added_rules = (added)
+  -- what was written of the content is written of the variable
+  pub content_written : (c after : Content) (b : Bool) → lookup x old ≡ Some (content_view c) → written i z (content_view c) ≡ cond b (Some (content_view after)) None → new ≡ assign x (content_view after) old → WritesElement old x i z b new
+  content_written c after true there is set = array_written c (content_view after) there is set
+  content_written c after false there is set = rw there (no_array c is)

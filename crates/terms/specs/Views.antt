@@ -1,7 +1,9 @@
 -- Values, terms and variables that lie in memory, as those of the language.
-use Rattle.std.specs.Prelude.{◌≡◌, ◌<◌, ℕ, ℤ, Bool, not, List, map, slice_get, slice_set, Option, Some, None}
+use Rattle.std.specs.Prelude.{◌≡◌, ◌<◌, ℕ, ℤ, Bool, true, false, not, List, [], ◌∷◌, map, slice_get, slice_set, Option, Some, None}
 use Rattle.std.specs.Option.{option_map}
-use Rattle.base.specs.Bytes.{Identifier}
+use Rattle.std.specs.Borrow.{Bor}
+use Rattle.base.specs.Bytes.{Identifier, ByName, lookup}
+use Rattle.base.specs.Element.{ElementType}
 use Rattle.syntax.specs.Tree.{BinaryOp}
 use Rattle.syntax.specs.Views.{constant_tree, element_tree, prefix_tree, binary_tree}
 use Rattle.syntax.specs.Limits.{number_limit}
@@ -10,12 +12,11 @@ use Rattle.source.specs.Heap.{Heap}
 use Rattle.source.specs.Sight.{seen, in_range}
 use Rattle.source.specs.Term.{Term, Done, Number, Named, Read, Element, IsNull, Prefix, And, Or, Binary, Reduction, binary_term, done, reduce}
 use Rattle.source.specs.Value.{Value, Word, Int, Flag, Truth, Trap, DivisionByZero, ShiftTooFar, OutOfRange, NullReference, ExceptionPending, WrongObject, DeletedReference, NoCapacity, Outcome, Gives, Traps, Stuck, outcome_then, outcome_map, convert}
-use Rattle.source.specs.Variable.{Variable, Scalar, LocalRef, FieldHandle, Elements, LocalArray, NoBuffer, StaticReference, Empty, Live, Deleted, Variables, Statics}
+use Rattle.source.specs.Variable.{Variable, Scalar, LocalRef, FieldHandle, Elements, LocalArray, NoBuffer, Copy, View, StaticReference, Empty, Live, Deleted, Variables, Statics, assign}
 use Rattle.terms.specs.declared.reduction.Reduction.{Reduction as ReductionInMemory}
 use Rattle.terms.specs.declared.reduction.Reduction.TheVariants as reduction
 use Rattle.terms.specs.declared.sight.Indexed.{Indexed}
 use Rattle.terms.specs.declared.sight.Indexed.TheVariants as indexed
-use Rattle.terms.specs.declared.statics.Static.{Static as StaticInMemory}
 use Rattle.terms.specs.declared.statics.StaticReference.{StaticReference as HeldInMemory}
 use Rattle.terms.specs.declared.statics.StaticReference.TheVariants as held
 use Rattle.terms.specs.declared.trap.Trap.{Trap as TrapInMemory}
@@ -28,7 +29,6 @@ use Rattle.terms.specs.declared.term.Term.{Term as TermInMemory}
 use Rattle.terms.specs.declared.term.Term.TheVariants as term
 use Rattle.terms.specs.declared.variable.Content.{Content}
 use Rattle.terms.specs.declared.variable.Content.TheVariants as content
-use Rattle.terms.specs.declared.variable.Variable.{Variable as VariableInMemory}
 
 abbrev pub trap_view : TrapInMemory → Trap
 trap_view trap.DivisionByZero = DivisionByZero
@@ -65,11 +65,18 @@ content_view (content.Field f) = FieldHandle (option_map field_id_view f)
 content_view (content.Buffer T) = Elements (element_tree T) NoBuffer
 content_view (content.Array T numbers) = LocalArray (element_tree T) numbers.items
 
--- a variable with its name
-abbrev pub variable_view : VariableInMemory → Identifier × Variable
-variable_view v = (v.name.now, content_view v.content)
+-- the entries of a hash map, by name
+abbrev pub by_name : {A : Type 0} → List (Bor Identifier × A) → ByName A
+by_name entries = map (λ e. (e.0.now, e.1)) entries
 
-abbrev pub variables_view : List VariableInMemory → Variables
+-- what variables hold in memory
+abbrev pub Contents : Type 0
+Contents = ByName Content
+
+abbrev pub variable_view : Identifier × Content → Identifier × Variable
+variable_view v = (v.0, content_view v.1)
+
+abbrev pub variables_view : Contents → Variables
 variables_view vs = map variable_view vs
 
 -- what a static holds
@@ -78,9 +85,16 @@ held_view held.Empty = Empty
 held_view (held.Live n) = Live n
 held_view held.Deleted = Deleted
 
--- a static with its name
-abbrev pub static_view : StaticInMemory → Identifier × StaticReference
-static_view s = (s.name.now, held_view s.held)
+abbrev pub static_view : Identifier × HeldInMemory → Identifier × StaticReference
+static_view s = (s.0, held_view s.1)
+
+abbrev pub statics_view : ByName HeldInMemory → Statics
+statics_view ss = map static_view ss
+
+-- the values with those of a list at their names, one after another
+abbrev pub assign_all : {A : Type 0} → ByName A → ByName A → ByName A
+assign_all [] values = values
+assign_all ((x, v) ∷ more) values = assign_all more (assign x v values)
 
 -- what is there, or nothing fits
 abbrev pub if_there : {A : Type 0} → Option A → Outcome A
@@ -96,15 +110,34 @@ abbrev pub written : ℕ → ℤ → Variable → Option Variable
 written i z (LocalArray T zs) = Some (LocalArray T (slice_set zs i (convert T z)))
 written i z v = None
 
+-- the array of a name has this number, converted to its type, at this index
+pub record IsWritten (old : Variables) (x : Identifier) (i : ℕ) (z : ℤ) (new : Variables) : Type 0 where
+  pub kind : ElementType
+  pub numbers : List ℤ
+  pub there : lookup x old ≡ Some (LocalArray kind numbers)
+  pub set : new ≡ assign x (LocalArray kind (slice_set numbers i (convert kind z))) old
+
+-- it is no variable whose elements can be written
+abbrev pub HasNoElements : Option Variable → Type 0
+HasNoElements (Some (LocalArray kind numbers)) = ⊥
+HasNoElements (Some (Elements kind (Copy n numbers))) = ⊥
+HasNoElements (Some (Elements kind (View n))) = ⊥
+HasNoElements v = Unit {0}
+
+-- an element was written, or the variable has none
+abbrev pub WritesElement : Variables → Identifier → ℕ → ℤ → (done : Bool) → Variables → Type 0
+WritesElement old x i z true new = IsWritten old x i z new
+WritesElement old x i z false new = HasNoElements (lookup x old)
+
 -- ---- terms
 
 abbrev pub term_view : TermInMemory → Term
 term_view (term.Done v) = Done (value_view v)
 term_view (term.Number n unsigned) = Number n unsigned
 term_view (term.Named c) = Named (constant_tree c)
-term_view (term.Read x) = Read x
-term_view (term.Element' x p i) = Element x (term_view i)
-term_view (term.IsNull wanted x) = IsNull wanted x
+term_view (term.Read x) = Read x.now
+term_view (term.Element' x p i) = Element x.now (term_view i)
+term_view (term.IsNull wanted x) = IsNull wanted x.now
 term_view (term.Prefix' op p t) = Prefix (prefix_tree op) (term_view t)
 term_view (term.And' p s q t) = And (term_view s) (term_view t)
 term_view (term.Or' p s q t) = Or (term_view s) (term_view t)

@@ -15,6 +15,4 @@ pub use statics::{StaticReference, Statics, null_statics};
 pub use term::{Term, put_term, term_of};
 pub use trap::{Trap, trap_number};
 pub use value::{Evaluated, Value, constant, convert};
-pub use variable::{
-    Content, Variable, assign, content_named, content_of, place_of, write_content, zeros,
-};
+pub use variable::{Content, Variables, zeros};

@@ -11,7 +11,7 @@ use crate::statics::Statics;
 use crate::term::{Term, put_term};
 use crate::trap::Trap;
 use crate::value::{Evaluated, Value, binary_value, constant, literal, prefix_value};
-use crate::variable::Variable;
+use crate::variable::Variables;
 use std::mem;
 
 /// What a step of a term did.
@@ -26,7 +26,7 @@ pub enum Reduction {
 }
 
 /// The term, out of its place.
-fn take(term: &mut Term) -> Term
+fn take<'a>(term: &mut Term<'a>) -> Term<'a>
     ensures { result ≡ term.old }
 {
     mem::replace(term, Term::Done(Value::Truth(false)))
@@ -55,7 +55,7 @@ fn or_else(left: Value) -> Option<Evaluated>
 }
 
 /// Puts a value in the place of a term.
-fn replace(term: &mut Term, value: Evaluated) -> Reduction
+fn replace(term: &mut Term<'_>, value: Evaluated) -> Reduction
     ensures { IsReplaced term.old value result term.new }
 {
     match value {
@@ -69,7 +69,7 @@ fn replace(term: &mut Term, value: Evaluated) -> Reduction
 }
 
 /// The value of a part without parts.
-fn leaf_value(statics: &Statics<'_>, variables: &[Variable<'_>], term: &Term) -> Evaluated
+fn leaf_value(statics: &Statics<'_>, variables: &Variables<'_>, term: &Term<'_>) -> Evaluated
     requires { NumbersInRange term.now }
     ensures { IsLeaf term.now → (heap : Heap) → reduce (seen (variables_view variables.now) (statics.now) heap) (term_view term.now) ≡ done (evaluated_view result) }
 {
@@ -84,7 +84,7 @@ fn leaf_value(statics: &Statics<'_>, variables: &[Variable<'_>], term: &Term) ->
 }
 
 /// The value of a term whose parts have theirs; none where its right side decides.
-fn value_of(statics: &Statics<'_>, variables: &[Variable<'_>], term: &Term) -> Option<Evaluated>
+fn value_of(statics: &Statics<'_>, variables: &Variables<'_>, term: &Term<'_>) -> Option<Evaluated>
     requires { NumbersInRange term.now }
     ensures { HasValues term.now → (heap : Heap) → reduce (seen (variables_view variables.now) (statics.now) heap) (term_view term.now) ≡ decided result (right_side (term_view term.now)) }
 {
@@ -120,18 +120,25 @@ fn value_of(statics: &Statics<'_>, variables: &[Variable<'_>], term: &Term) -> O
 }
 
 /// Puts the right side of `&&` or `||` in its place.
-fn replace_by_right(term: &mut Term)
+fn replace_by_right(term: &mut Term<'_>)
     ensures view { term_view term.new ≡ right_side (term_view term.old) }
     ensures numbers { NumbersInRange term.old → NumbersInRange term.new }
 {
-    if let Term::And(_, b) | Term::Or(_, b) = term {
-        let right = take(b);
-        put_term(term, right);
+    match term {
+        Term::And(_, b) => {
+            let right = take(b);
+            put_term(term, right);
+        }
+        Term::Or(_, b) => {
+            let right = take(b);
+            put_term(term, right);
+        }
+        _ => {}
     }
 }
 
 /// Replaces a term whose parts have their values.
-fn settle(statics: &Statics<'_>, variables: &[Variable<'_>], term: &mut Term) -> Reduction
+fn settle(statics: &Statics<'_>, variables: &Variables<'_>, term: &mut Term<'_>) -> Reduction
     requires numbers { NumbersInRange term.old }
     requires values { HasValues term.old }
     ensures step { Reduces (variables_view variables.now) (statics.now) term.old result term.new }
@@ -148,7 +155,7 @@ fn settle(statics: &Statics<'_>, variables: &[Variable<'_>], term: &mut Term) ->
 
 /// Replaces the leftmost part that can be reduced by its value, or by the right side of `&&` or `||`.
 /// It walks to that part, through at most as many terms as the tree is high.
-pub fn reduce(statics: &Statics<'_>, variables: &[Variable<'_>], term: &mut Term) -> Reduction
+pub fn reduce(statics: &Statics<'_>, variables: &Variables<'_>, term: &mut Term<'_>) -> Reduction
     requires { NumbersInRange term.old }
     ensures step { Reduces (variables_view variables.now) (statics.now) term.old result term.new }
     ensures numbers { NumbersInRange term.new }
@@ -170,10 +177,13 @@ pub fn reduce(statics: &Statics<'_>, variables: &[Variable<'_>], term: &mut Term
             Term::Done(_) => settle(statics, variables, term),
             a => reduce(statics, variables, a),
         },
-        Term::Binary(_, a, b) => match &mut **a {
-            Term::Done(_) => match &mut **b {
-                Term::Done(_) => settle(statics, variables, term),
-                b => reduce(statics, variables, b),
+        Term::Binary(_, a, _) => match &mut **a {
+            Term::Done(_) => match term {
+                Term::Binary(_, _, b) => match &mut **b {
+                    Term::Done(_) => settle(statics, variables, term),
+                    b => reduce(statics, variables, b),
+                },
+                _ => unreachable!(),
             },
             a => reduce(statics, variables, a),
         },

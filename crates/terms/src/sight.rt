@@ -13,14 +13,14 @@ ghost use Rattle.terms.specs.Views.{value_view, evaluated_view, indexed_view, co
 use crate::statics::{Statics, is_empty};
 use crate::trap::Trap;
 use crate::value::{Evaluated, Value, truth};
-use crate::variable::{Content, Variable, content_of};
+use crate::variable::{Content, Variables};
 use syntax::Name;
 
 /// The value of a number variable.
-pub fn number_in(variables: &[Variable<'_>], name: &Name) -> Evaluated
+pub fn number_in(variables: &Variables<'_>, name: &Name) -> Evaluated
     ensures { evaluated_view result ≡ scalar (lookup name.now (variables_view variables.now)) }
 {
-    match content_of(variables, name) {
+    match variables.content_of(name) {
         None => Evaluated::Stuck,
         Some(content) => match content {
             Content::Number(value) => Evaluated::Gives(*value),
@@ -54,10 +54,10 @@ fn negated(value: Evaluated) -> Evaluated
 }
 
 /// Whether a variable or a static holds NULL, as a truth.
-fn null_of(statics: &Statics<'_>, variables: &[Variable<'_>], name: &Name) -> Evaluated
+fn null_of(statics: &Statics<'_>, variables: &Variables<'_>, name: &Name) -> Evaluated
     ensures { evaluated_view result ≡ outcome_map Truth (holds_null (lookup name.now (variables_view variables.now)) (lookup name.now (statics.now))) }
 {
-    match content_of(variables, name) {
+    match variables.content_of(name) {
         Some(content) => is_null(content),
         None => match statics.held(name) {
             Some(held) => truth(is_empty(held)),
@@ -70,7 +70,7 @@ fn null_of(statics: &Statics<'_>, variables: &[Variable<'_>], name: &Name) -> Ev
 #[tactic(auto, using(crate::proofs::SightLemmas::null_rules))]
 pub(crate) fn null_value(
     statics: &Statics<'_>,
-    variables: &[Variable<'_>],
+    variables: &Variables<'_>,
     wanted: bool,
     name: &Name,
 ) -> Evaluated
@@ -107,10 +107,10 @@ fn index_of(v: Value) -> Indexed
 }
 
 /// The numbers of the array of this name.
-fn numbers_in<'v>(variables: &'v [Variable<'_>], name: &Name) -> Option<&'v [i32]>
+fn numbers_in<'v>(variables: &'v Variables<'_>, name: &Name) -> Option<&'v [i32]>
     ensures { (heap : Heap) → if_there (option_map (λ n. n.now) result) ≡ elements_of heap (lookup name.now (variables_view variables.now)) }
 {
-    match content_of(variables, name) {
+    match variables.content_of(name) {
         None => None,
         Some(content) => match content {
             Content::Array(_, numbers) => Some(numbers.as_slice()),
@@ -122,7 +122,7 @@ fn numbers_in<'v>(variables: &'v [Variable<'_>], name: &Name) -> Option<&'v [i32
 
 /// The place of an element of the array of this name.
 #[tactic(auto, using(crate::proofs::SightLemmas::place_rules))]
-pub fn place_in(variables: &[Variable<'_>], name: &Name, v: Value) -> Indexed
+pub fn place_in(variables: &Variables<'_>, name: &Name, v: Value) -> Indexed
     ensures { (heap : Heap) → indexed_view result ≡ place_in (elements_of heap (lookup name.now (variables_view variables.now))) (index_of (value_view v)) }
 {
     match index_of(v) {
@@ -143,7 +143,7 @@ pub fn place_in(variables: &[Variable<'_>], name: &Name, v: Value) -> Indexed
 
 /// An element of the array of this name.
 #[tactic(auto, using(crate::proofs::SightLemmas::element_rules))]
-pub(crate) fn element_in(variables: &[Variable<'_>], name: &Name, v: Value) -> Evaluated
+pub(crate) fn element_in(variables: &Variables<'_>, name: &Name, v: Value) -> Evaluated
     ensures { (statics : Statics) (heap : Heap) → evaluated_view result ≡ element_value (seen (variables_view variables.now) statics heap) name.now (value_view v) }
 {
     match index_of(v) {

@@ -14,25 +14,25 @@ use syntax::{BinaryOp, Constant, Expr, Name, PrefixOp};
 
 /// An expression of which some parts have their values; parentheses are dropped.
 #[derive(Drop)]
-pub enum Term {
+pub enum Term<'a> {
     Done(Value),
     Number { value: u32, unsigned: bool },
     Named(Constant),
     /// A number variable.
-    Read(Name),
+    Read(&'a Name),
     /// An element of an array.
-    Element(Name, Box<Term>),
+    Element(&'a Name, Box<Term<'a>>),
     /// `x == NULL`, or `x != NULL` where it is false.
-    IsNull(bool, Name),
-    Prefix(PrefixOp, Box<Term>),
-    And(Box<Term>, Box<Term>),
-    Or(Box<Term>, Box<Term>),
-    Binary(BinaryOp, Box<Term>, Box<Term>),
+    IsNull(bool, &'a Name),
+    Prefix(PrefixOp, Box<Term<'a>>),
+    And(Box<Term<'a>>, Box<Term<'a>>),
+    Or(Box<Term<'a>>, Box<Term<'a>>),
+    Binary(BinaryOp, Box<Term<'a>>, Box<Term<'a>>),
 }
 
 /// Puts a term in the place of another.
-pub fn put_term(place: &mut Term, term: Term)
-    ensures { place.new ≡ term }
+pub fn put_term<'a>(place: &mut Term<'a>, term: Term<'a>)
+    ensures { place.new ≡ term.entry }
 {
     *place = term;
 }
@@ -59,10 +59,15 @@ fn null_test<'a>(op: BinaryOp, a: &'a Expr, b: &Expr) -> Option<(bool, &'a Name)
 
 /// The term of an operator between two terms.
 #[tactic(auto, using(crate::proofs::TermLemmas::operator_rules))]
-fn binary_term(alloc: Global, op: BinaryOp, a: Term, b: Term) -> Result<Term, AllocError>
+fn binary_term<'a>(
+    alloc: Global,
+    op: BinaryOp,
+    a: Term<'a>,
+    b: Term<'a>,
+) -> Result<Term<'a>, AllocError>
     requires a { NumbersInRange a }
     requires b { NumbersInRange b }
-    ensures view { IfOk result (λ t. term_view t ≡ binary_term (binary_tree op) None (term_view a) (term_view b)) }
+    ensures view { IfOk result (λ t. term_view t ≡ binary_term (binary_tree op) None (term_view a.entry) (term_view b.entry)) }
     ensures numbers { IfOk result NumbersInRange }
 {
     let left = Box::new(alloc, a)?;
@@ -74,15 +79,8 @@ fn binary_term(alloc: Global, op: BinaryOp, a: Term, b: Term) -> Result<Term, Al
     }
 }
 
-/// A copy of a name.
-fn copy_of(alloc: Global, name: &Name) -> Result<Name, AllocError>
-    ensures { IfOk result (λ copy. copy ≡ name.now) }
-{
-    Name::new(alloc, name.as_bytes())
-}
-
-/// The term that an expression begins as.
-pub fn term_of(alloc: Global, e: &Expr) -> Result<Term, AllocError>
+/// The term that an expression begins as. Its names are those of the tree.
+pub fn term_of(alloc: Global, e: &Expr) -> Result<Term<'_>, AllocError>
     requires { IsTrue (numbers_in_range (expr_tree e.now)) }
     ensures view { IfOk result (λ t. term_view t ≡ term_of (expr_tree e.now)) }
     ensures numbers { IfOk result NumbersInRange }
@@ -93,14 +91,14 @@ pub fn term_of(alloc: Global, e: &Expr) -> Result<Term, AllocError>
             unsigned: *unsigned,
         },
         Expr::Named(c) => Term::Named(*c),
-        Expr::Variable(name) => Term::Read(copy_of(alloc, name)?),
+        Expr::Variable(name) => Term::Read(name),
         Expr::Element(name, i) => {
             let index = Box::new(alloc, term_of(alloc, i)?)?;
-            Term::Element(copy_of(alloc, name)?, index)
+            Term::Element(name, index)
         }
         Expr::Prefix(op, a) => Term::Prefix(*op, Box::new(alloc, term_of(alloc, a)?)?),
         Expr::Binary(op, a, b) => match null_test(*op, a, b) {
-            Some((wanted, name)) => Term::IsNull(wanted, copy_of(alloc, name)?),
+            Some((wanted, name)) => Term::IsNull(wanted, name),
             None => {
                 let left = term_of(alloc, a)?;
                 let right = term_of(alloc, b)?;

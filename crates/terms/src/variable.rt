@@ -1,17 +1,18 @@
 //! The variables of a call in progress.
 
-ghost use Rattle.std.specs.Prelude.{◌≡◌, IfOk, Some, None, pos, position, replicate, slice_set, if◌then◌else◌};
+ghost use Rattle.std.specs.Prelude.{◌≡◌, [], IfOk, Some, None, pos, replicate, slice_set, if◌then◌else◌};
 ghost use Rattle.std.specs.Option.{option_map};
-ghost use Rattle.std.specs.Str.{bytes_eq};
 ghost use Rattle.base.specs.Bytes.{lookup};
 ghost use Rattle.syntax.specs.Views.{element_tree};
 ghost use Rattle.source.specs.Value.{convert};
 ghost use Rattle.source.specs.Variable.{assign};
-ghost use Rattle.terms.specs.Views.{content_view, written, variables_view};
+ghost use Rattle.terms.specs.Views.{content_view, variables_view, written, WritesElement};
 
 use crate::value::{Value, convert};
 use class_table::fields::FieldId;
+use indexmap::IndexMap;
 use std::alloc::{AllocError, Global};
+use std::marker::Model;
 use syntax::{ElementType, Name};
 
 /// What a variable holds.
@@ -28,59 +29,60 @@ pub enum Content<'a> {
     Array(ElementType, Vec<i32>),
 }
 
-/// A variable with its name.
+/// The variables of a call in progress, in the order in which they came to be, seen as a list of what each holds by its name. A
+/// name is found in constant time.
 #[derive(Drop)]
-pub struct Variable<'a> {
-    pub name: &'a Name,
-    pub content: Content<'a>,
+pub struct Variables<'a> {
+    contents: IndexMap<&'a [u8], Content<'a>>,
 }
 
-/// The place of the first variable of this name. It compares the name with each: a function knows 256 names at most.
-pub fn place_of(variables: &[Variable<'_>], name: &Name) -> Option<usize>
-    ensures { result ≡ position (λ v. bytes_eq name.now v.name.now) variables.now }
-{
-    variables
-        .iter()
-        .position(|variable| name.as_bytes() == variable.name.as_bytes())
+impl<'a> Model for Variables<'a> {
+    ghost use Rattle.terms.specs.Views.{Contents, by_name};
+
+    ghost Value = { Contents };
+
+    ghost view = { λ v. by_name v.contents.entries };
 }
 
-/// What the variable of this name holds. It compares the name with each.
-pub fn content_of<'v, 'a>(variables: &'v [Variable<'a>], name: &Name) -> Option<&'v Content<'a>>
-    ensures { option_map (λ c. content_view c.now) result ≡ lookup name.now (variables_view variables.now) }
-{
-    content_named(variables, name.as_bytes())
-}
-
-/// The same, by a name that may be none of the unit's.
-pub fn content_named<'v, 'a>(variables: &'v [Variable<'a>], name: &[u8]) -> Option<&'v Content<'a>>
-    ensures { option_map (λ c. content_view c.now) result ≡ lookup name.now (variables_view variables.now) }
-{
-    for variable in variables {
-        if name == variable.name.as_bytes() {
-            return Some(&variable.content);
+impl<'a> Variables<'a> {
+    /// No variables.
+    pub fn new(alloc: Global) -> Variables<'a>
+        ensures { result ≡ [] }
+    {
+        Variables {
+            contents: IndexMap::new(alloc),
         }
     }
-    None
-}
 
-/// Sets the variable of this name, which is new where there is none.
-#[tactic(auto, using(crate::proofs::VariableLemmas::assigned_rules))]
-pub fn assign<'a>(
-    variables: &mut Vec<Variable<'a>>,
-    name: &'a Name,
-    content: Content<'a>,
-) -> Result<(), AllocError>
-    ensures { IfOk result (λ _. variables_view variables.new.items ≡ assign name.entry.now (content_view content.entry) (variables_view variables.old.items)) }
-{
-    let variable = Variable { name, content };
-    match place_of(variables, name) {
-        Some(place) => {
-            variables[place] = variable;
-            Ok(())
-        }
-        None => {
-            variables.push(variable)?;
-            Ok(())
+    /// What the variable of this name holds.
+    pub fn content_of(&self, name: &Name) -> Option<&Content<'a>>
+        ensures { option_map (λ c. content_view c.now) result ≡ lookup name.now (variables_view self.now) }
+    {
+        self.content_named(name.as_bytes())
+    }
+
+    /// The same, by a name that may be none of the unit's.
+    pub fn content_named(&self, name: &[u8]) -> Option<&Content<'a>>
+        ensures { option_map (λ c. content_view c.now) result ≡ lookup name.now (variables_view self.now) }
+    {
+        self.contents.get(name)
+    }
+
+    /// Sets the variable of this name. Where there is none, it is new and comes last.
+    pub fn set(&mut self, name: &'a Name, content: Content<'a>) -> Result<(), AllocError>
+        ensures { IfOk result (λ _. variables_view self.new ≡ assign name.now (content_view content.entry) (variables_view self.old)) }
+    {
+        self.contents.insert(name.as_bytes(), content)?;
+        Ok(())
+    }
+
+    /// Writes an element of the array of this name, if it is one.
+    pub fn write(&mut self, name: &Name, index: usize, number: i32) -> bool
+        ensures { WritesElement (variables_view self.old) name.now index number result (variables_view self.new) }
+    {
+        match self.contents.get_index_of(name.as_bytes()) {
+            Some(place) => write_content(&mut self.contents[place], index, number),
+            None => false,
         }
     }
 }
@@ -104,7 +106,7 @@ fn write(kind: ElementType, numbers: &mut [i32], index: usize, number: i32)
 }
 
 /// Writes an element of what a variable holds; false where it is no array.
-pub fn write_content(content: &mut Content<'_>, index: usize, number: i32) -> bool
+fn write_content(content: &mut Content<'_>, index: usize, number: i32) -> bool
     ensures { written index number (content_view content.old) ≡ if result then Some (content_view content.new) else None }
 {
     match content {

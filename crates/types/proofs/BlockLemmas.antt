@@ -1,13 +1,13 @@
 -- The statements of a block in memory, one after the other.
-use Rattle.std.proofs.Common.{◌≡◌, ℕ, suc, ◌+◌, ◌-◌, ◌<◌, List, [], ◌∷◌, ◌++◌, drop, length, get_or, refl, sym, ap, ap₂, ◌∙◌, add-one, append_assoc, length-append, arith, drop-cons}
+use Rattle.std.proofs.Common.{◌≡◌, ℕ, suc, ◌+◌, ◌-◌, ◌<◌, Result, Ok, Err, OnOk, List, [], ◌∷◌, ◌++◌, drop, length, get_or, refl, sym, ap, ap₂, ◌∙◌, add-one, append_assoc, length-append, arith, drop-cons}
 use Rattle.std.proofs.Math.Seq.{drop-append_seam}
 use Rattle.std.proofs.lemmas.List.Elements.{filter_map-append}
-use Rattle.base.specs.Bytes.{Identifier}
+use Rattle.base.specs.Bytes.{Identifier, ByName}
 use Rattle.syntax.specs.declared.stmt.Stmt.{Stmt as StmtInMemory}
 use Rattle.syntax.specs.Parts.{statements_of, statements_within, names_declared, declared_name}
 use Rattle.syntax.specs.Tree.{ResultType}
 use Rattle.syntax.specs.Views.{stmt_tree, statements_tree}
-use Rattle.types.specs.declared.scope.Known.{Known}
+use Rattle.types.specs.declared.sort.Sort.{Sort as SortInMemory}
 use Rattle.types.specs.Sorts.{Scope}
 use Rattle.types.specs.SortRules.{places_of, with_declared}
 use Rattle.types.specs.BuiltCalls.{refused_at}
@@ -36,13 +36,20 @@ declared-rest taken items i s end_line h e =
 
 -- ---- names that are known
 
-pub above-none : (known : List Known) → IsAbove known known
+pub above-none : (known : ByName SortInMemory) → IsAbove known known
 above-none known = record { above = []; joined = refl }
 
-pub above-more : (more all below : List Known) → IsAbove more all → IsAbove all below → IsAbove more below
+pub above-one : (x : Identifier × SortInMemory) (more all below : ByName SortInMemory) → more ≡ x ∷ all → IsAbove all below → IsAbove more below
+above-one x more all below e h = record { above = x ∷ h.above; joined = e ∙ ap (λ xs. x ∷ xs) h.joined }
+
+pub above-declared : {A E : Type 0} (r : Result A E) (x : Identifier × SortInMemory) (more all below : ByName SortInMemory) → OnOk r (more ≡ x ∷ all) → IsAbove all below → OnOk r (IsAbove more below)
+above-declared (Ok y) x more all below e h = above-one x more all below e h
+above-declared (Err y) x more all below e h = tt
+
+pub above-more : (more all below : ByName SortInMemory) → IsAbove more all → IsAbove all below → IsAbove more below
 above-more more all below h k = record { above = h.above ++ k.above; joined = h.joined ∙ ap (λ xs. h.above ++ xs) k.joined ∙ sym (append_assoc h.above k.above below) }
 
-pub forgotten : (all below : List Known) → IsAbove all below → drop (length all - length below) all ≡ below
+pub forgotten : (all below : ByName SortInMemory) → IsAbove all below → drop (length all - length below) all ≡ below
 forgotten all below h =
     let k : length all - length below ≡ length h.above = omega (arith, length-append h.above below, ap length h.joined) in
     ap₂ (λ n xs. drop n xs) k h.joined ∙ drop-append_seam h.above below

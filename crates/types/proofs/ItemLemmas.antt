@@ -1,7 +1,7 @@
 -- What is refused at an item, and at the items after it.
 use Rattle.std.proofs.Common.{◌≡◌, ℕ, suc, ◌+◌, ◌<◌, not, ◌||◌, List, [], ◌∷◌, ◌++◌, Option, Some, None, map, drop, length, get_or, refl, sym, ap, ap₂, ◌∙◌, add-one, append-nil, drop-cons}
 use Rattle.std.specs.Option.{is_some, is_none}
-use Rattle.base.specs.Bytes.{Identifier}
+use Rattle.base.specs.Bytes.{Identifier, ByName}
 use Rattle.classes.specs.Mangling.{unmangle}
 use Rattle.syntax.specs.declared.unit.Parameter.{Parameter as ParameterInMemory}
 use Rattle.syntax.specs.declared.unit.Function.{Function as FunctionInMemory}
@@ -10,7 +10,7 @@ use Rattle.syntax.specs.declared.unit.Item.{Item as ItemInMemory}
 use Rattle.syntax.specs.Parts.{parameter_names, item_name}
 use Rattle.syntax.specs.Tree.{Void, Item, StaticItem, FunctionItem}
 use Rattle.syntax.specs.Views.{parameter_type_tree, parameter_tree, function_tree, static_tree, item_tree, result_tree, block_tree}
-use Rattle.types.specs.declared.scope.Known.{Known}
+use Rattle.types.specs.declared.sort.Sort.{Sort as SortInMemory}
 use Rattle.types.specs.Sorts.{Sort, Ref, Scope}
 use Rattle.types.specs.SortRules.{Place, StaticForm, HeadForm, UnknownName, DeclaredTwice, has_name, has_repeated, parameter_sort, places_of, function_places, item_places}
 use Rattle.types.specs.BuiltCalls.{refuses, refused_at}
@@ -20,9 +20,9 @@ use Rattle.types.proofs.PlaceLemmas.{found-none, found-append, found-next}
 
 -- ---- what is known and taken at a function's beginning
 
-known_names : (known : List Known) → map {B = Identifier} (λ v. v.0) (scope_of known) ≡ map (λ k. k.name) known
+known_names : (known : ByName SortInMemory) → map {B = Identifier} (λ v. v.0) (scope_of known) ≡ map {B = Identifier} (λ k. k.0) known
 known_names [] = refl
-known_names (k ∷ known) = ap (λ names. k.name ∷ names) (known_names known)
+known_names (k ∷ known) = ap (λ names. k.0 ∷ names) (known_names known)
 
 entry_sorts : (parameters : List ParameterInMemory) → map {B = Identifier × Sort} (λ p. (p.name, parameter_sort p.type)) (map parameter_tree parameters) ≡ map {B = Identifier × Sort} (λ p. (p.name, parameter_sort (parameter_type_tree p.kind))) parameters
 entry_sorts [] = refl
@@ -33,7 +33,7 @@ entry_names : (parameters : List ParameterInMemory) (statics : Scope)
 entry_names [] statics = refl
 entry_names (p ∷ parameters) statics = ap (λ names. p.name ∷ names) (entry_names parameters statics)
 
-taken_names : (statics : Scope) (f : FunctionInMemory) (known : List Known) → scope_of known ≡ entry_scope statics f → parameter_names (function_tree f) ++ map (λ s. s.0) statics ≡ map (λ k. k.name) known
+taken_names : (statics : Scope) (f : FunctionInMemory) (known : ByName SortInMemory) → scope_of known ≡ entry_scope statics f → parameter_names (function_tree f) ++ map (λ s. s.0) statics ≡ map {B = Identifier} (λ k. k.0) known
 taken_names statics f known e =
     sym (ap (λ names. f.class_name ∷ names) (entry_names f.parameters.items statics)) ∙ sym (ap (λ (scope : Scope). map {B = Identifier} (λ v. v.0) scope) e) ∙ known_names known
 
@@ -54,13 +54,13 @@ head taken statics f entry e =
     ∙ ap (λ xs. broken_if (not (is_some (unmangle f.name))) UnknownName f.line ++ xs) (append-nil _)
 
 -- what is refused in a function where these names are known at its beginning
-pub found-function : (taken : List Identifier) (statics : Scope) (f : FunctionInMemory) (known : List Known) → scope_of known ≡ entry_scope statics f
-    → found (function_places taken statics (function_tree f)) ≡ head_faults taken (map (λ k. k.name) known) f ++ found (places_of (result_tree f.result) (scope_of known) (map (λ k. k.name) known) (block_tree f.body))
+pub found-function : (taken : List Identifier) (statics : Scope) (f : FunctionInMemory) (known : ByName SortInMemory) → scope_of known ≡ entry_scope statics f
+    → found (function_places taken statics (function_tree f)) ≡ head_faults taken (map {B = Identifier} (λ k. k.0) known) f ++ found (places_of (result_tree f.result) (scope_of known) (map {B = Identifier} (λ k. k.0) known) (block_tree f.body))
 unfolding head_place
 found-function taken statics f known e =
     let names = taken_names statics f known e in
     found-next (head_place taken statics f) _
-    ∙ ap₂ (λ xs ys. xs ++ ys) (head taken statics f (map (λ k. k.name) known) names)
+    ∙ ap₂ (λ xs ys. xs ++ ys) (head taken statics f (map {B = Identifier} (λ k. k.0) known) names)
     (ap₂ (λ scope all. found (places_of (result_tree f.result) scope all (block_tree f.body))) (ap (λ xs. (f.class_name, Ref) ∷ xs ++ statics) (entry_sorts f.parameters.items) ∙ sym e) names)
 
 -- ---- statics

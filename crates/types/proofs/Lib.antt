@@ -11,3 +11,4 @@ pub mod ItemLemmas
 pub mod UnitLemmas
 pub mod FormedLemmas
 pub mod KnownLemmas
+pub mod KnownDeclarations

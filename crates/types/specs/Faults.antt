@@ -1,7 +1,7 @@
 -- What a check of some rules finds: the first that is broken.
 use Rattle.std.specs.Prelude.{◌≡◌, ℕ, Bool, true, false, not, ◌||◌, List, [], ◌∷◌, ◌++◌, map, flat_map, Option, Some, None, Result, Ok, Err}
 use Rattle.std.specs.Option.{is_some}
-use Rattle.base.specs.Bytes.{Identifier}
+use Rattle.base.specs.Bytes.{Identifier, ByName}
 use Rattle.classes.specs.Mangling.{unmangle}
 use Rattle.syntax.specs.declared.unit.Function.{Function as FunctionInMemory}
 use Rattle.syntax.specs.Parts.{line_of, statements_of, names_declared}
@@ -12,7 +12,6 @@ use Rattle.types.specs.declared.fault.SortRule.{SortRule as RuleInMemory}
 use Rattle.types.specs.declared.fault.SortRule.TheVariants as rules
 use Rattle.types.specs.declared.fault.TypeFault.{TypeFault}
 use Rattle.types.specs.declared.fault.TypeFault.TheVariants.{Memory, Broken}
-use Rattle.types.specs.declared.scope.Known.{Known}
 use Rattle.types.specs.declared.sort.Sort.{Sort as SortInMemory}
 use Rattle.types.specs.declared.sort.Sort.TheVariants as sorts
 use Rattle.types.specs.Sorts.{Sort, Word, Jint, Flag, Truth, Ref, Global, FieldId, Buffer, Array, Scope}
@@ -47,8 +46,8 @@ sort_value (sorts.Buffer t writable) = Buffer (element_tree t) writable
 sort_value (sorts.Array t size) = Array (element_tree t) size
 
 -- the names that are known
-abbrev pub scope_of : List Known → Scope
-scope_of known = map (λ k. (k.name, sort_value k.sort)) known
+abbrev pub scope_of : ByName SortInMemory → Scope
+scope_of known = map (λ k. (k.0, sort_value k.1)) known
 
 -- ---- what a check finds in a list of broken rules
 
@@ -119,8 +118,8 @@ head_faults taken entry f = broken_if (not (is_some (unmangle f.name))) UnknownN
 -- ---- names in memory
 
 -- the list ends with the other
-pub record IsAbove (all below : List Known) : Type 0 where
-  pub above : List Known
+pub record IsAbove (all below : ByName SortInMemory) : Type 0 where
+  pub above : ByName SortInMemory
   pub joined : all ≡ above ++ below
 
 -- what is known at a function's beginning, after these statics

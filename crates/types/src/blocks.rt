@@ -7,25 +7,26 @@ ghost use Rattle.types.specs.SortRules.{places_of, with_declared};
 ghost use Rattle.types.specs.Faults.{Finds, IsAbove, sort_value, scope_of, found, places_inside};
 
 use crate::fault::TypeFault;
-use crate::scope::{Known, declare, leave_scope, take};
+use crate::known::Known;
+use crate::scope::take;
 use crate::sort::{Sort, variable_sort};
 use crate::statements::check_statement;
 use std::alloc::{AllocError, Global};
 use syntax::{Block, ElementType, Form, Name, ResultType};
 
 /// One name more is known and taken.
-fn add(
+fn add<'a>(
     alloc: Global,
-    known: &mut Vec<Known>,
+    known: &mut Known<'a, Sort>,
     taken: &mut Vec<Name>,
-    name: &Name,
+    name: &'a Name,
     sort: Sort,
 ) -> Result<(), AllocError>
-    ensures scope { OnOk result (scope_of known.new.items ≡ (name.now, sort_value sort) ∷ scope_of known.old.items) }
-    ensures above { OnOk result (IsAbove known.new.items known.old.items) }
+    ensures scope { OnOk result (scope_of known.new ≡ (name.now, sort_value sort) ∷ scope_of known.old) }
+    ensures above { OnOk result (IsAbove known.new known.old) }
     ensures taken { OnOk result (taken.new.items ≡ taken.old.items ++ name.now ∷ []) }
 {
-    declare(alloc, known, name, sort)?;
+    known.declare(name, sort)?;
     take(alloc, taken, name)?;
     Ok(())
 }
@@ -33,16 +34,16 @@ fn add(
 /// The blocks inside a statement, and the name that it declares.
 #[tactic(auto, using(crate::proofs::PlaceLemmas::place_rules))]
 #[cycle(blocks)]
-fn check_inside(
+fn check_inside<'a>(
     alloc: Global,
-    known: &mut Vec<Known>,
+    known: &mut Known<'a, Sort>,
     taken: &mut Vec<Name>,
     returns: ResultType,
-    form: &Form,
+    form: &'a Form,
 ) -> Result<(), TypeFault>
-    ensures finds { (line : ℕ) → Finds result (found (places_inside (result_tree returns) (scope_of known.old.items) taken.old.items (form_tree line form.now))) }
-    ensures scope { OnOk result ((line : ℕ) → scope_of known.new.items ≡ with_declared (scope_of known.old.items) (form_tree line form.now)) }
-    ensures above { OnOk result (IsAbove known.new.items known.old.items) }
+    ensures finds { (line : ℕ) → Finds result (found (places_inside (result_tree returns) (scope_of known.old) taken.old.items (form_tree line form.now))) }
+    ensures scope { OnOk result ((line : ℕ) → scope_of known.new ≡ with_declared (scope_of known.old) (form_tree line form.now)) }
+    ensures above { OnOk result (IsAbove known.new known.old) }
     ensures taken { OnOk result ((line : ℕ) → taken.new.items ≡ taken.old.items ++ names_declared (statements_within (form_tree line form.now))) }
 {
     match form {
@@ -76,15 +77,15 @@ fn check_inside(
 /// A block of a function with this result, where these names are known and these are taken. After it the names that it
 /// declares are known no more, and stay taken.
 #[cycle(blocks)]
-pub(crate) fn check_block(
+pub(crate) fn check_block<'a>(
     alloc: Global,
-    known: &mut Vec<Known>,
+    known: &mut Known<'a, Sort>,
     taken: &mut Vec<Name>,
     returns: ResultType,
-    block: &Block,
+    block: &'a Block,
 ) -> Result<(), TypeFault>
-    ensures finds { Finds result (found (places_of (result_tree returns) (scope_of known.old.items) taken.old.items (block_tree block.now))) }
-    ensures restored { OnOk result (known.new.items ≡ known.old.items) }
+    ensures finds { Finds result (found (places_of (result_tree returns) (scope_of known.old) taken.old.items (block_tree block.now))) }
+    ensures restored { OnOk result (known.new ≡ known.old) }
     ensures taken { OnOk result (taken.new.items ≡ taken.old.items ++ names_declared (statements_of (block_tree block.now))) }
 {
     let outside = known.len();
@@ -92,6 +93,6 @@ pub(crate) fn check_block(
         check_statement(known, taken, returns, stmt)?;
         check_inside(alloc, known, taken, returns, &stmt.form)?;
     }
-    leave_scope(known, outside);
+    known.leave(outside);
     Ok(())
 }

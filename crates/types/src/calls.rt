@@ -14,7 +14,8 @@ ghost use Rattle.types.specs.Faults.{scope_of, sort_value};
 ghost use Rattle.types.specs.Uses.{argument_uses, call_uses};
 
 use crate::expressions::{has_unknown, is_formed, is_null, name_sort, sort_of};
-use crate::scope::{Known, is_unknown, sort_in};
+use crate::known::Known;
+use crate::scope::{is_unknown, sort_in};
 use crate::sort::{
     Sort, is_array_of, is_buffer_for, is_field, is_flag, is_global, is_jint, is_ref,
 };
@@ -22,14 +23,14 @@ use jni::{JniFunction, ParameterKind, ResultKind};
 use syntax::{Argument, Call, Constant, Expr, Name};
 
 /// Whether an expression is NULL or the bare name of a reference.
-fn is_reference(known: &[Known], e: &Expr) -> bool
+fn is_reference(known: &Known<'_, Sort>, e: &Expr) -> bool
     ensures { result ≡ (is_null (expr_tree e.now) || is_reference (name_sort (scope_of known.now) (expr_tree e.now))) }
 {
     is_null(e) || is_ref(name_sort(known, e)) || is_global(name_sort(known, e))
 }
 
 /// Whether an expression fits a parameter; a mode is judged by a rule of its own.
-fn value_fits(known: &[Known], kind: ParameterKind, e: &Expr) -> bool
+fn value_fits(known: &Known<'_, Sort>, kind: ParameterKind, e: &Expr) -> bool
     ensures { result ≡ value_fits (scope_of known.now) (parameter_value kind) (expr_tree e.now) }
 {
     match kind {
@@ -60,7 +61,7 @@ fn text_fits(kind: ParameterKind) -> bool
 }
 
 /// Whether the address of a variable may stand for a parameter.
-fn address_fits(known: &[Known], kind: ParameterKind, name: &Name) -> bool
+fn address_fits(known: &Known<'_, Sort>, kind: ParameterKind, name: &Name) -> bool
     ensures { result ≡ address_fits (scope_of known.now) (parameter_value kind) name.now }
 {
     match kind {
@@ -71,7 +72,7 @@ fn address_fits(known: &[Known], kind: ParameterKind, name: &Name) -> bool
 }
 
 /// Whether an argument fits its parameter.
-fn argument_fits(known: &[Known], kind: ParameterKind, argument: &Argument) -> bool
+fn argument_fits(known: &Known<'_, Sort>, kind: ParameterKind, argument: &Argument) -> bool
     ensures { result ≡ argument_fits (scope_of known.now) (parameter_value kind) (argument_tree argument.now) }
 {
     match argument {
@@ -83,7 +84,7 @@ fn argument_fits(known: &[Known], kind: ParameterKind, argument: &Argument) -> b
 
 /// Whether the arguments fit the parameters, as far as there are both.
 #[tactic(auto, using(crate::proofs::ArgumentLemmas::argument_rules))]
-fn arguments_fit(known: &[Known], kinds: &[ParameterKind], arguments: &[Argument]) -> bool
+fn arguments_fit(known: &Known<'_, Sort>, kinds: &[ParameterKind], arguments: &[Argument]) -> bool
     ensures { result ≡ arguments_fit (scope_of known.now) (map parameter_value kinds.now) (map argument_tree arguments.now) }
 {
     match arguments {
@@ -126,7 +127,7 @@ fn modes_fit(kinds: &[ParameterKind], arguments: &[Argument]) -> bool
 
 /// Whether a call's arguments fit its function, as far as that is known.
 pub(crate) fn call_arguments_fit(
-    known: &[Known],
+    known: &Known<'_, Sort>,
     function: Option<JniFunction>,
     call: &Call,
 ) -> bool
@@ -228,7 +229,7 @@ pub(crate) fn may_be_tested(function: Option<JniFunction>) -> bool
 }
 
 /// Whether some name of an argument is not known.
-fn argument_unknown(known: &[Known], argument: &Argument) -> bool
+fn argument_unknown(known: &Known<'_, Sort>, argument: &Argument) -> bool
     ensures { result ≡ argument_uses (is_unknown (scope_of known.now)) (argument_tree argument.now) }
 {
     match argument {
@@ -239,7 +240,7 @@ fn argument_unknown(known: &[Known], argument: &Argument) -> bool
 }
 
 /// Whether some name in a call is not known.
-pub(crate) fn call_unknown(known: &[Known], call: &Call) -> bool
+pub(crate) fn call_unknown(known: &Known<'_, Sort>, call: &Call) -> bool
     ensures { result ≡ call_uses (is_unknown (scope_of known.now)) (call_tree call.now) }
 {
     for argument in &call.arguments {
@@ -251,7 +252,7 @@ pub(crate) fn call_unknown(known: &[Known], call: &Call) -> bool
 }
 
 /// Whether each expression in a call is a bare name or constant, or has a sort.
-pub(crate) fn call_formed(known: &[Known], call: &Call) -> bool
+pub(crate) fn call_formed(known: &Known<'_, Sort>, call: &Call) -> bool
     ensures { result ≡ list_all (is_formed (scope_of known.now)) (call_expressions (call_tree call.now)) }
 {
     for argument in &call.arguments {

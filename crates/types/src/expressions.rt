@@ -10,7 +10,8 @@ ghost use Rattle.types.specs.SortRules.{is_formed};
 ghost use Rattle.types.specs.Faults.{sort_value, scope_of};
 ghost use Rattle.types.specs.Uses.{expr_uses};
 
-use crate::scope::{Known, is_unknown, sort_in};
+use crate::known::Known;
+use crate::scope::{is_unknown, sort_in};
 use crate::sort::{
     Sort, has_elements, is_castable, is_flag, is_index, is_jint, is_nullable, is_truth, is_word,
 };
@@ -78,7 +79,7 @@ pub(crate) fn is_null(e: &Expr) -> bool
 }
 
 /// The sort of a bare name.
-pub(crate) fn name_sort(known: &[Known], e: &Expr) -> Option<Sort>
+pub(crate) fn name_sort(known: &Known<'_, Sort>, e: &Expr) -> Option<Sort>
     ensures { option_map sort_value result ≡ name_sort (scope_of known.now) (expr_tree e.now) }
 {
     match e {
@@ -88,7 +89,7 @@ pub(crate) fn name_sort(known: &[Known], e: &Expr) -> Option<Sort>
 }
 
 /// Whether an operator compares a bare name with NULL.
-fn is_null_test(known: &[Known], op: BinaryOp, left: &Expr, right: &Expr) -> bool
+fn is_null_test(known: &Known<'_, Sort>, op: BinaryOp, left: &Expr, right: &Expr) -> bool
     ensures { result ≡ is_some (null_test_sort (scope_of known.now) (null_tested (Binary (binary_tree op) (expr_tree left.now) (expr_tree right.now)))) }
 {
     matches!(op, BinaryOp::Equal | BinaryOp::NotEqual)
@@ -97,7 +98,7 @@ fn is_null_test(known: &[Known], op: BinaryOp, left: &Expr, right: &Expr) -> boo
 }
 
 /// The sort of an expression, if it has one.
-pub(crate) fn sort_of(known: &[Known], e: &Expr) -> Option<Sort>
+pub(crate) fn sort_of(known: &Known<'_, Sort>, e: &Expr) -> Option<Sort>
     ensures { option_map sort_value result ≡ sort_of (scope_of known.now) (expr_tree e.now) }
 {
     match e {
@@ -120,7 +121,7 @@ pub(crate) fn sort_of(known: &[Known], e: &Expr) -> Option<Sort>
 }
 
 /// Whether an expression is a bare name or constant, or has a sort.
-pub(crate) fn is_formed(known: &[Known], e: &Expr) -> bool
+pub(crate) fn is_formed(known: &Known<'_, Sort>, e: &Expr) -> bool
     ensures { result ≡ is_formed (scope_of known.now) (expr_tree e.now) }
 {
     match e {
@@ -130,7 +131,7 @@ pub(crate) fn is_formed(known: &[Known], e: &Expr) -> bool
 }
 
 /// Whether some name of an expression is not known.
-pub(crate) fn has_unknown(known: &[Known], e: &Expr) -> bool
+pub(crate) fn has_unknown(known: &Known<'_, Sort>, e: &Expr) -> bool
     ensures { result ≡ expr_uses (is_unknown (scope_of known.now)) (expr_tree e.now) }
 {
     match e {

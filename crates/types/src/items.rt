@@ -8,7 +8,8 @@ ghost use Rattle.types.specs.Faults.{Finds, scope_of, found, head_faults, own_pl
 
 use crate::blocks::check_block;
 use crate::fault::{SortRule, TypeFault, refuse_if};
-use crate::scope::{Known, declare, has_name, has_repeated, known_at_entry, names_of};
+use crate::known::Known;
+use crate::scope::{enter, has_name, has_repeated};
 use crate::sort::Sort;
 use classes::mangling::is_mangled;
 use std::alloc::Global;
@@ -30,36 +31,40 @@ fn check_head(names: &[Name], entry: &[Name], f: &Function) -> Result<(), TypeFa
     )
 }
 
-/// A function after items of these names and these statics.
-fn check_function(
+/// A function after items of these names, where these statics are known, as they are again after it.
+fn check_function<'a>(
     alloc: Global,
     names: &[Name],
-    statics: &[Known],
-    f: &Function,
+    known: &mut Known<'a, Sort>,
+    f: &'a Function,
 ) -> Result<(), TypeFault>
-    ensures { Finds result (found (function_places names.now (scope_of statics.now) (function_tree f.now))) }
+    ensures finds { Finds result (found (function_places names.now (scope_of known.old) (function_tree f.now))) }
+    ensures restored { OnOk result (known.new ≡ known.old) }
 {
-    let mut known = known_at_entry(alloc, statics, f)?;
-    let mut taken = names_of(alloc, &known)?;
+    let outside = known.len();
+    enter(known, f)?;
+    let mut taken = known.names(alloc)?;
     check_head(names, &taken, f)?;
-    check_block(alloc, &mut known, &mut taken, f.result, &f.body)
+    let checked: Result<(), TypeFault> = check_block(alloc, known, &mut taken, f.result, &f.body);
+    known.leave(outside);
+    checked
 }
 
 /// An item after items of these names and these statics, which become more by it.
-fn check_item(
+fn check_item<'a>(
     alloc: Global,
     names: &mut Vec<Name>,
-    statics: &mut Vec<Known>,
-    item: &Item,
+    statics: &mut Known<'a, Sort>,
+    item: &'a Item,
 ) -> Result<(), TypeFault>
-    ensures finds { Finds result (found (own_places names.old.items (scope_of statics.old.items) (item_tree item.now))) }
+    ensures finds { Finds result (found (own_places names.old.items (scope_of statics.old) (item_tree item.now))) }
     ensures names { OnOk result (names.new.items ≡ item_name (item_tree item.now) ∷ names.old.items) }
-    ensures statics { OnOk result (scope_of statics.new.items ≡ with_static (scope_of statics.old.items) (item_tree item.now)) }
+    ensures statics { OnOk result (scope_of statics.new ≡ with_static (scope_of statics.old) (item_tree item.now)) }
 {
     match item {
         Item::Static(s) => {
             refuse_if(has_name(names, &s.name), SortRule::DeclaredTwice, s.line)?;
-            declare(alloc, statics, &s.name, Sort::Global)?;
+            statics.declare(&s.name, Sort::Global)?;
             names.insert(0, Name::new(alloc, s.name.as_bytes())?)?;
         }
         Item::Function(f) => {
@@ -75,7 +80,7 @@ pub(crate) fn check_items(alloc: Global, items: &[Item]) -> Result<(), TypeFault
     ensures { Finds result (found (item_places [] [] (map item_tree items.now))) }
 {
     let mut names = Vec::new(alloc);
-    let mut statics = Vec::new(alloc);
+    let mut statics = Known::new(alloc);
     for item in items {
         check_item(alloc, &mut names, &mut statics, item)?;
     }

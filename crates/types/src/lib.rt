@@ -6,11 +6,13 @@ mod calls;
 mod expressions;
 mod fault;
 mod items;
+mod known;
 mod scope;
 mod sort;
 mod statements;
 mod typed;
 
 pub use fault::{Fault, SortRule, TypeFault};
+pub use known::Known;
 pub use statements::own_call;
 pub use typed::{Typed, type_unit};

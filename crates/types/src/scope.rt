@@ -1,21 +1,16 @@
 //! The names that are known at a place of a function, and those that are taken.
 
-ghost use Rattle.std.specs.Prelude.{◌≡◌, ◌-◌, [], ◌∷◌, ◌++◌, IfOk, OnOk, map, drop, length, bytes_eq};
+ghost use Rattle.std.specs.Prelude.{◌≡◌, [], ◌∷◌, ◌++◌, OnOk, map, bytes_eq};
 ghost use Rattle.std.specs.Option.{option_map};
 ghost use Rattle.types.specs.Sorts.{sort_in, is_unknown};
-ghost use Rattle.types.specs.SortRules.{has_name, has_repeated};
+ghost use Rattle.types.specs.SortRules.{has_name, has_repeated, parameter_sort};
+ghost use Rattle.syntax.specs.Views.{parameter_type_tree};
 ghost use Rattle.types.specs.Faults.{IsAbove, scope_of, sort_value, entry_scope};
 
+use crate::known::Known;
 use crate::sort::{Sort, parameter_sort};
 use std::alloc::{AllocError, Global};
-use syntax::{Function, Name};
-
-/// A name that is known, and its sort.
-#[derive(Drop)]
-pub(crate) struct Known {
-    pub name: Name,
-    pub sort: Sort,
-}
+use syntax::{Function, Name, Parameter};
 
 /// Whether two names are spelled alike.
 fn is_same(a: &Name, b: &Name) -> bool
@@ -25,19 +20,14 @@ fn is_same(a: &Name, b: &Name) -> bool
 }
 
 /// The sort of a known name.
-pub(crate) fn sort_in(known: &[Known], name: &Name) -> Option<Sort>
+pub(crate) fn sort_in(known: &Known<'_, Sort>, name: &Name) -> Option<Sort>
     ensures { option_map sort_value result ≡ sort_in (scope_of known.now) name.now }
 {
-    for k in known {
-        if is_same(name, &k.name) {
-            return Some(k.sort);
-        }
-    }
-    None
+    known.get(name)
 }
 
 /// Whether a name is not known.
-pub(crate) fn is_unknown(known: &[Known], name: &Name) -> bool
+pub(crate) fn is_unknown(known: &Known<'_, Sort>, name: &Name) -> bool
     ensures { result ≡ is_unknown (scope_of known.now) name.now }
 {
     sort_in(known, name).is_none()
@@ -70,65 +60,28 @@ pub(crate) fn take(alloc: Global, taken: &mut Vec<Name>, name: &Name) -> Result<
     Ok(())
 }
 
-/// One name more is known. The youngest stand first.
-pub(crate) fn declare(
-    alloc: Global,
-    known: &mut Vec<Known>,
-    name: &Name,
-    sort: Sort,
+/// What is known at a function's beginning, after the statics that are known.
+pub(crate) fn enter<'a>(known: &mut Known<'a, Sort>, f: &'a Function) -> Result<(), AllocError>
+    ensures scope { OnOk result (scope_of known.new ≡ entry_scope (scope_of known.old) f.now) }
+    ensures above { OnOk result (IsAbove known.new known.old) }
+{
+    declare_parameters(known, &f.parameters)?;
+    known.declare(&f.class_name, Sort::Ref)
+}
+
+/// Declares parameters, of which the first is known as the latest. It calls itself once for each.
+fn declare_parameters<'a>(
+    known: &mut Known<'a, Sort>,
+    parameters: &'a [Parameter],
 ) -> Result<(), AllocError>
-    ensures scope { OnOk result (scope_of known.new.items ≡ (name.now, sort_value sort) ∷ scope_of known.old.items) }
-    ensures above { OnOk result (IsAbove known.new.items known.old.items) }
+    ensures scope { OnOk result (scope_of known.new ≡ map (λ p. (p.name, parameter_sort (parameter_type_tree p.kind))) parameters.now ++ scope_of known.old) }
+    ensures above { OnOk result (IsAbove known.new known.old) }
 {
-    let name = Name::new(alloc, name.as_bytes())?;
-    known.insert(0, Known { name, sort })?;
-    Ok(())
-}
-
-/// Only this many of the names stay known, the oldest.
-pub(crate) fn leave_scope(known: &mut Vec<Known>, count: usize)
-    ensures { known.new.items ≡ drop (length known.old.items - count) known.old.items }
-{
-    while known.len() > count {
-        known.remove(0);
+    match parameters {
+        [] => Ok(()),
+        [p, parameters @ ..] => {
+            declare_parameters(known, parameters)?;
+            known.declare(&p.name, parameter_sort(p.kind))
+        }
     }
-}
-
-/// What is known at a function's beginning, after these statics.
-pub(crate) fn known_at_entry(
-    alloc: Global,
-    statics: &[Known],
-    f: &Function,
-) -> Result<Vec<Known>, AllocError>
-    ensures { IfOk result (λ known. scope_of known.items ≡ entry_scope (scope_of statics.now) f.now) }
-{
-    let mut known = Vec::new(alloc);
-    known.push(Known {
-        name: Name::new(alloc, f.class_name.as_bytes())?,
-        sort: Sort::Ref,
-    })?;
-    for p in &f.parameters {
-        known.push(Known {
-            name: Name::new(alloc, p.name.as_bytes())?,
-            sort: parameter_sort(p.kind),
-        })?;
-    }
-    for k in statics {
-        known.push(Known {
-            name: Name::new(alloc, k.name.as_bytes())?,
-            sort: k.sort,
-        })?;
-    }
-    Ok(known)
-}
-
-/// The names that these give.
-pub(crate) fn names_of(alloc: Global, known: &[Known]) -> Result<Vec<Name>, AllocError>
-    ensures { IfOk result (λ names. names.items ≡ map (λ k. k.name) known.now) }
-{
-    let mut names = Vec::new(alloc);
-    for k in known {
-        take(alloc, &mut names, &k.name)?;
-    }
-    Ok(names)
 }

@@ -22,7 +22,8 @@ use crate::calls::{
 };
 use crate::expressions::{has_unknown, is_null, name_sort, sort_of};
 use crate::fault::{SortRule, TypeFault, refuse_if};
-use crate::scope::{Known, has_name, is_unknown, sort_in};
+use crate::known::Known;
+use crate::scope::{has_name, is_unknown, sort_in};
 use crate::sort::{
     Sort, has_elements, is_flag, is_index, is_jint, is_read_only, is_ref, is_truth, is_word,
     variable_sort,
@@ -57,7 +58,7 @@ fn function_called(form: &Form) -> Option<JniFunction>
 }
 
 /// Whether some name of a right side is not known.
-fn right_unknown(known: &[Known], right: &RightSide) -> bool
+fn right_unknown(known: &Known<'_, Sort>, right: &RightSide) -> bool
     ensures { result ≡ right_uses (is_unknown (scope_of known.now)) (right_side_tree right.now) }
 {
     match right {
@@ -67,7 +68,7 @@ fn right_unknown(known: &[Known], right: &RightSide) -> bool
 }
 
 /// Whether some name of a test is not known.
-fn test_unknown(known: &[Known], test: &Test) -> bool
+fn test_unknown(known: &Known<'_, Sort>, test: &Test) -> bool
     ensures { result ≡ test_uses (is_unknown (scope_of known.now)) (test_tree test.now) }
 {
     match test {
@@ -77,7 +78,7 @@ fn test_unknown(known: &[Known], test: &Test) -> bool
 }
 
 /// Whether some name that a statement uses is not known.
-fn uses_unknown(known: &[Known], form: &Form) -> bool
+fn uses_unknown(known: &Known<'_, Sort>, form: &Form) -> bool
     ensures { (line : ℕ) → result ≡ uses (is_unknown (scope_of known.now)) (form_tree line form.now) }
 {
     match form {
@@ -100,7 +101,7 @@ fn uses_unknown(known: &[Known], form: &Form) -> bool
 }
 
 /// Whether a statement sets a name that is not known.
-fn assigns_unknown(known: &[Known], form: &Form) -> bool
+fn assigns_unknown(known: &Known<'_, Sort>, form: &Form) -> bool
     ensures { (line : ℕ) → result ≡ some_passes (is_unknown (scope_of known.now)) (assigned_name (form_tree line form.now)) }
 {
     match form {
@@ -123,7 +124,7 @@ fn assigns_unknown(known: &[Known], form: &Form) -> bool
 /// Whether some name that a statement uses or sets is not known. A statement that fits and calls nothing has sorts for all of
 /// them, so it isn't looked at again.
 #[tactic(auto, using(crate::proofs::StatementLemmas::unknown_names, crate::proofs::KnownLemmas::none_unknown))]
-fn names_unknown(known: &[Known], returns: ResultType, form: &Form, misfits: bool) -> bool
+fn names_unknown(known: &Known<'_, Sort>, returns: ResultType, form: &Form, misfits: bool) -> bool
     requires { (line : ℕ) → misfits ≡ breaks_sort_rule SortMisfit (scope_of known.now) [] (result_tree returns) (form_tree line form.now) }
     ensures { (line : ℕ) → result ≡ breaks_sort_rule UnknownName (scope_of known.now) [] Void (form_tree line form.now) }
 {
@@ -155,7 +156,7 @@ fn declares_taken(taken: &[Name], form: &Form) -> bool
 }
 
 /// Whether a variable of a sort may be set to an expression. Of a known name in a local reference another rule speaks.
-fn value_sets(known: &[Known], sort: Option<Sort>, e: &Expr) -> bool
+fn value_sets(known: &Known<'_, Sort>, sort: Option<Sort>, e: &Expr) -> bool
     ensures { result ≡ value_sets (scope_of known.now) (option_map sort_value sort) (expr_tree e.now) }
 {
     match sort {
@@ -174,7 +175,7 @@ fn value_sets(known: &[Known], sort: Option<Sort>, e: &Expr) -> bool
 
 /// Whether a variable of a sort may be set to a right side.
 fn right_side_sets(
-    known: &[Known],
+    known: &Known<'_, Sort>,
     sort: Option<Sort>,
     right: &RightSide,
     function: Option<JniFunction>,
@@ -200,7 +201,7 @@ fn buffer_begins(sort: Sort, right: &RightSide, function: Option<JniFunction>) -
 }
 
 /// Whether an `if` may test this.
-fn test_fits(known: &[Known], test: &Test, function: Option<JniFunction>) -> bool
+fn test_fits(known: &Known<'_, Sort>, test: &Test, function: Option<JniFunction>) -> bool
     requires { option_map function_value function ≡ function_in (call_of_test (test_tree test.now)) }
     ensures { result ≡ test_fits (scope_of known.now) (test_tree test.now) }
 {
@@ -211,7 +212,7 @@ fn test_fits(known: &[Known], test: &Test, function: Option<JniFunction>) -> boo
 }
 
 /// Whether a function may return this.
-fn return_fits(known: &[Known], returns: ResultType, e: &Expr) -> bool
+fn return_fits(known: &Known<'_, Sort>, returns: ResultType, e: &Expr) -> bool
     ensures { result ≡ return_fits (scope_of known.now) (result_tree returns) (expr_tree e.now) }
 {
     match returns {
@@ -222,7 +223,7 @@ fn return_fits(known: &[Known], returns: ResultType, e: &Expr) -> bool
 }
 
 /// Whether an element of a named buffer or array may be set.
-fn element_fits(known: &[Known], name: &Name, index: &Expr, value: &Expr) -> bool
+fn element_fits(known: &Known<'_, Sort>, name: &Name, index: &Expr, value: &Expr) -> bool
     ensures { result ≡ (has_elements (sort_in (scope_of known.now) name.now) && is_index (sort_of (scope_of known.now) (expr_tree index.now)) && is_jint (sort_of (scope_of known.now) (expr_tree value.now))) }
 {
     has_elements(sort_in(known, name))
@@ -232,7 +233,7 @@ fn element_fits(known: &[Known], name: &Name, index: &Expr, value: &Expr) -> boo
 
 /// Whether the parts of a statement fit one another, its call's arguments aside.
 fn statement_fits(
-    known: &[Known],
+    known: &Known<'_, Sort>,
     returns: ResultType,
     form: &Form,
     function: Option<JniFunction>,
@@ -260,7 +261,7 @@ fn statement_fits(
 }
 
 /// Whether the arguments of a statement's call do not fit, or one of them is neither bare nor has a sort.
-fn call_misfits(known: &[Known], form: &Form, function: Option<JniFunction>) -> bool
+fn call_misfits(known: &Known<'_, Sort>, form: &Form, function: Option<JniFunction>) -> bool
     requires { (line : ℕ) → option_map function_value function ≡ function_in (own_call (form_tree line form.now)) }
     ensures { (line : ℕ) → result ≡ some_passes (λ c. not (list_all (is_formed (scope_of known.now)) (call_expressions c)) || not (call_arguments_fit (scope_of known.now) c (function_named c.function))) (own_call (form_tree line form.now)) }
 {
@@ -271,7 +272,12 @@ fn call_misfits(known: &[Known], form: &Form, function: Option<JniFunction>) -> 
 }
 
 /// Whether a statement does not fit. Where it fits, each of its expressions beside a call's arguments is bare or has a sort.
-fn misfits(known: &[Known], returns: ResultType, form: &Form, function: Option<JniFunction>) -> bool
+fn misfits(
+    known: &Known<'_, Sort>,
+    returns: ResultType,
+    form: &Form,
+    function: Option<JniFunction>,
+) -> bool
     requires { (line : ℕ) → option_map function_value function ≡ function_in (own_call (form_tree line form.now)) }
     ensures { (line : ℕ) → result ≡ breaks_sort_rule SortMisfit (scope_of known.now) [] (result_tree returns) (form_tree line form.now) }
 {
@@ -313,7 +319,7 @@ fn has_bad_mode(form: &Form, function: Option<JniFunction>) -> bool
 }
 
 /// Whether a known name is copied into a variable of a sort that is a local reference.
-fn copies(known: &[Known], sort: Option<Sort>, right: &RightSide) -> bool
+fn copies(known: &Known<'_, Sort>, sort: Option<Sort>, right: &RightSide) -> bool
     ensures { result ≡ copies_reference (scope_of known.now) (option_map sort_value sort) (Some (right_side_tree right.now)) }
 {
     match right {
@@ -323,7 +329,7 @@ fn copies(known: &[Known], sort: Option<Sort>, right: &RightSide) -> bool
 }
 
 /// Whether a statement copies a known name into a local reference.
-fn copies_reference(known: &[Known], form: &Form) -> bool
+fn copies_reference(known: &Known<'_, Sort>, form: &Form) -> bool
     ensures { (line : ℕ) → result ≡ breaks_sort_rule ReferenceCopied (scope_of known.now) [] Void (form_tree line form.now) }
 {
     match form {
@@ -344,7 +350,7 @@ fn copies_reference(known: &[Known], form: &Form) -> bool
 }
 
 /// Whether a statement writes to a buffer that may not be written.
-fn writes_read_only(known: &[Known], form: &Form) -> bool
+fn writes_read_only(known: &Known<'_, Sort>, form: &Form) -> bool
     ensures { (line : ℕ) → result ≡ breaks_sort_rule ReadOnlyWrite (scope_of known.now) [] Void (form_tree line form.now) }
 {
     match form {
@@ -356,7 +362,7 @@ fn writes_read_only(known: &[Known], form: &Form) -> bool
 /// What a statement may not do although its sorts fit.
 #[tactic(auto, using(crate::proofs::FindsLemmas::finds_rules))]
 fn check_uses(
-    known: &[Known],
+    known: &Known<'_, Sort>,
     taken: &[Name],
     returns: ResultType,
     form: &Form,
@@ -379,7 +385,7 @@ fn check_uses(
 /// The function that a statement calls, the number of its arguments, and the rules after these.
 #[tactic(auto, using(crate::proofs::FindsLemmas::finds_rules))]
 fn check_call(
-    known: &[Known],
+    known: &Known<'_, Sort>,
     taken: &[Name],
     returns: ResultType,
     form: &Form,
@@ -401,7 +407,7 @@ fn check_call(
 /// A statement on this line, without the blocks inside it. All rules are judged, in the order of their numbers.
 #[tactic(auto, using(crate::proofs::FindsLemmas::finds_rules))]
 fn check_form(
-    known: &[Known],
+    known: &Known<'_, Sort>,
     taken: &[Name],
     returns: ResultType,
     form: &Form,
@@ -423,7 +429,7 @@ fn check_form(
 
 /// A statement of a function with this result, where these names are known and these are taken.
 pub(crate) fn check_statement(
-    known: &[Known],
+    known: &Known<'_, Sort>,
     taken: &[Name],
     returns: ResultType,
     stmt: &Stmt,

@@ -1,5 +1,6 @@
-use Rattle.std.proofs.Common.{◌≡◌, ℕ, ◌+◌, ◌-◌, List, [], ◌∷◌, ◌++◌, length, Result, Ok, Err, OnOk, ◌∙◌, sym, ap, ap₂, refl, arith, length-append}
+use Rattle.std.proofs.Common.{◌≡◌, ℕ, ◌+◌, ◌-◌, List, [], ◌∷◌, ◌++◌, length, Result, Ok, Err, OnOk, ◌∙◌, sym, ap, refl, arith, length-append}
 use Rattle.std.specs.Prelude.{slice_set, vec_len}
+use Rattle.std.proofs.Math.ListN.{drop_of_length-le}
 use Rattle.std.proofs.lemmas.List.{append-nil}
 use Rattle.syntax.specs.declared.stmt.Stmt.{Stmt as StmtInMemory}
 use Rattle.syntax.specs.declared.stmt.Block.{out-Block}
@@ -9,6 +10,7 @@ use Rattle.code.specs.declared.instr.Instr.{Instr}
 use Rattle.code.specs.declared.instr.Instr.TheVariants as instr
 use Rattle.code_generator.specs.Layout.{block_layout}
 use Rattle.code_generator.specs.Coding.{first_code, ways_code, loop_code, stmt_code, block_code}
+use Rattle.code_generator.proofs.BlockNames.{block_closed}
 use Rattle.code_generator.proofs.Jumps.{first_made, ways_made, loop_made}
 use Rattle.code_generator.proofs.statements.+statements.Goals as goal
 
@@ -94,8 +96,14 @@ emit_form-returns-in_ok-emit_block-in-IfElse-clause-code t c =
 pub emit_block-loop-stmt-init : goal.emit_block-loop-stmt-init
 emit_block-loop-stmt-init t c =
     let block = block_is c.args.block.now ∙ ap (λ (items : List StmtInMemory). statements_tree items (out-Block c.args.block.now).end_line) (sym c.deref-stmt-items.ensures.value) in
-    let names = sym c.in_ok-inner.ensures in
     record {
-      code = ap₂ (λ l b. c.args.code.now.items ++ block_code l b) names block;
-      layout = ap₂ block_layout names block;
+      code = ap (λ b. c.args.code.now.items ++ block_code c.args.names.now b) block;
+      layout = ap (block_layout c.args.names.now) block;
     }
+
+pub emit_block-returns-clause-names : goal.emit_block-returns-clause-names
+emit_block-returns-clause-names t c =
+    let inner = c.loop-stmt.names in
+    let end = (out-Block c.args.block.now).end_line in
+    let whole : block_layout c.args.names.now (block_tree c.args.block.now) ≡ inner = c.loop-stmt.invariant.layout ∙ ap (λ (items : List StmtInMemory). block_layout inner (statements_tree items end)) (drop_of_length-le _ c.loop-stmt-test.false) in
+    c.leave.ensures ∙ block_closed c.args.names.now inner (block_tree c.args.block.now) c.len-outside.result whole c.len-outside.ensures

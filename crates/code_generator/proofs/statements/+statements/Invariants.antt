@@ -7,6 +7,6 @@ use Rattle.code_generator.proofs.statements.+statements.Given as goal
 
 abbrev pub invariant-emit_block-loop-stmt : goal.invariant-emit_block-loop-stmt
 invariant-emit_block-loop-stmt l = record {
-  code : l.fn.code.items ++ block_code l.fn.names (block_tree l.block) ≡ l.code.items ++ block_code l.inner (statements_tree (drop l.stmt-index l.stmt-items) (out-Block l.block).end_line);
-  layout : block_layout l.fn.names (block_tree l.block) ≡ block_layout l.inner (statements_tree (drop l.stmt-index l.stmt-items) (out-Block l.block).end_line);
+  code : l.fn.code.items ++ block_code l.fn.names (block_tree l.block) ≡ l.code.items ++ block_code l.names (statements_tree (drop l.stmt-index l.stmt-items) (out-Block l.block).end_line);
+  layout : block_layout l.fn.names (block_tree l.block) ≡ block_layout l.names (statements_tree (drop l.stmt-index l.stmt-items) (out-Block l.block).end_line);
 }

@@ -164,8 +164,8 @@ carry_out-requires c =
     let found = told a.0 w c.args.store.now c.args.pending.now c.args.call.now c.args.function.now a.1 a.2 a.3 a.4 a.5 a.6 c.classes.result.now c.is_some.result (has_room (locals_after (function_value c.args.function.now.function) c.args.call.now.locals)) c.new-references.result c.deref-3.result.now c.check-trap.result
     c.classes.ensures.classes c.is_some.ensures refl (named_are c.args.store.now c.args.call.now c.deref.result.now c.deref-2.result.now c.new-references.result c.new-references.ensures c.deref.ensures.value c.deref-2.ensures.value) c.deref-3.ensures.value c.check-trap.ensures in
     let free = no_trap c.check-trap.result _ found c.in_default.is in
-    let kind = result_value c.prototype-asked.result.now.result in
-    let same = ap (λ (x : Facts). x.prototype.result) c.prototype-asked.ensures in
+    let kind = result_value c.args.function.now.result in
+    let same = c.requires.prepared.result in
     let lent : BuffersInUse = record { copied = 0; views = 0 } in
     let it = called a.0 w c.args.store.now c.args.pending.now c.args.call.now c.args.function.now a.1 a.2 a.3 a.4 a.5 a.6 in
     record {
@@ -192,8 +192,8 @@ receive-requires-clause-static_target c =
     let found = told a.0 w c.args.store.now c.args.pending.now c.args.call.now c.args.function.now a.1 a.2 a.3 a.4 a.5 a.6 c.classes.result.now c.is_some.result (has_room (locals_after (function_value c.args.function.now.function) c.args.call.now.locals)) c.new-references.result c.deref-3.result.now c.check-trap.result
     c.classes.ensures.classes c.is_some.ensures refl (named_are c.args.store.now c.args.call.now c.deref.result.now c.deref-2.result.now c.new-references.result c.new-references.ensures c.deref.ensures.value c.deref-2.ensures.value) c.deref-3.ensures.value c.check-trap.ensures in
     let free = no_trap c.check-trap.result _ found c.in_default.is in
-    let kind = result_value c.prototype-asked.result.now.result in
-    let same = ap (λ (x : Facts). x.prototype.result) c.prototype-asked.ensures in
+    let kind = result_value c.args.function.now.result in
+    let same = c.requires.prepared.result in
     let lent : BuffersInUse = record { copied = 0; views = 0 } in
     let it = called a.0 w c.args.store.now c.args.pending.now c.args.call.now c.args.function.now a.1 a.2 a.3 a.4 a.5 a.6 in
     let effect = call_effect w.classes lent 0 a.2 a.3 it.args it.f in
@@ -211,8 +211,8 @@ receive-requires-clause-room c =
     let found = told a.0 w c.args.store.now c.args.pending.now c.args.call.now c.args.function.now a.1 a.2 a.3 a.4 a.5 a.6 c.classes.result.now c.is_some.result (has_room (locals_after (function_value c.args.function.now.function) c.args.call.now.locals)) c.new-references.result c.deref-3.result.now c.check-trap.result
     c.classes.ensures.classes c.is_some.ensures refl (named_are c.args.store.now c.args.call.now c.deref.result.now c.deref-2.result.now c.new-references.result c.new-references.ensures c.deref.ensures.value c.deref-2.ensures.value) c.deref-3.ensures.value c.check-trap.ensures in
     let free = no_trap c.check-trap.result _ found c.in_default.is in
-    let kind = result_value c.prototype-asked.result.now.result in
-    let same = ap (λ (x : Facts). x.prototype.result) c.prototype-asked.ensures in
+    let kind = result_value c.args.function.now.result in
+    let same = c.requires.prepared.result in
     let lent : BuffersInUse = record { copied = 0; views = 0 } in
     let it = called a.0 w c.args.store.now c.args.pending.now c.args.call.now c.args.function.now a.1 a.2 a.3 a.4 a.5 a.6 in
     let effect = call_effect w.classes lent 0 a.2 a.3 it.args it.f in
@@ -234,8 +234,8 @@ returns-then-carried-clause-done c p lent k own shared s task rest h =
     let found = told p w store pending call function own shared s task rest h c.classes.result.now c.is_some.result (has_room (locals_after (function_value c.args.function.now.function) c.args.call.now.locals)) c.new-references.result c.deref-3.result.now c.check-trap.result
     c.classes.ensures.classes c.is_some.ensures refl (named_are c.args.store.now c.args.call.now c.deref.result.now c.deref-2.result.now c.new-references.result c.new-references.ensures c.deref.ensures.value c.deref-2.ensures.value) c.deref-3.ensures.value c.check-trap.ensures in
     let free = no_trap c.check-trap.result (trap_of_call w.classes shared s it.target it.f it.args) found c.in_default.is in
-    let kind = result_value c.prototype-asked.result.now.result in
-    let same : kind ≡ (prototype (function_value function.function)).result = ap (λ (x : Facts). x.prototype.result) c.prototype-asked.ensures in
+    let kind = result_value c.args.function.now.result in
+    let same : kind ≡ (prototype (function_value function.function)).result = c.requires.prepared.result in
     let effect = call_effect w.classes lent k shared s it.args it.f in
     let is = kind_is p w store pending call function own shared s task rest h kind same in
     let answer = answered p w store pending call function own shared s task rest h free c.classes.ensures.sound lent k c.classes-2.result.now c.deref-4.result.now c.new-references.result c.deref-5.result.now kind c.work_out-answer.result
@@ -261,8 +261,8 @@ returns-else-carried-clause-done c p lent k own shared s task rest h =
     let found = told p w store pending call function own shared s task rest h c.classes.result.now c.is_some.result (has_room (locals_after (function_value c.args.function.now.function) c.args.call.now.locals)) c.new-references.result c.deref-3.result.now c.check-trap.result
     c.classes.ensures.classes c.is_some.ensures refl (named_are c.args.store.now c.args.call.now c.deref.result.now c.deref-2.result.now c.new-references.result c.new-references.ensures c.deref.ensures.value c.deref-2.ensures.value) c.deref-3.ensures.value c.check-trap.ensures in
     let free = no_trap c.check-trap.result (trap_of_call w.classes shared s it.target it.f it.args) found c.in_default.is in
-    let kind = result_value c.prototype-asked.result.now.result in
-    let same : kind ≡ (prototype (function_value function.function)).result = ap (λ (x : Facts). x.prototype.result) c.prototype-asked.ensures in
+    let kind = result_value c.args.function.now.result in
+    let same : kind ≡ (prototype (function_value function.function)).result = c.requires.prepared.result in
     let effect = call_effect w.classes lent k shared s it.args it.f in
     let is = kind_is p w store pending call function own shared s task rest h kind same in
     let answer = answered p w store pending call function own shared s task rest h free c.classes.ensures.sound lent k c.classes-2.result.now c.deref-4.result.now c.new-references.result c.deref-5.result.now kind c.work_out-answer.result

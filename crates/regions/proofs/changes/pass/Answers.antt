@@ -1,11 +1,14 @@
-use Rattle.std.proofs.Common.{Option, sym, ap, ◌∙◌}
+use Rattle.std.proofs.Common.{Option, List, subst, sym, ap, ◌∙◌}
 use Rattle.std.proofs.lemmas.Result.{on_ok_weaker}
 use Rattle.std.specs.Option.{option_map}
+use Rattle.base.specs.Bytes.{Identifier}
 use Rattle.syntax.specs.Views.{form_tree}
 use Rattle.regions.specs.StateEffects.{EffectCall, made_value}
 use Rattle.regions.specs.Judgements.{settled, after_judged}
 use Rattle.regions.specs.RegionStates.{RegionState}
-use Rattle.regions.specs.StatesInMemory.{state_value}
+use Rattle.regions.specs.NewNames.{own_names, AreNew}
+use Rattle.regions.specs.StatesInMemory.{names_of}
+use Rattle.regions.proofs.NameLemmas.{effected_names}
 use Rattle.regions.proofs.JudgementLemmas.{behind_is}
 use Rattle.regions.proofs.changes.pass.Goals as goal
 
@@ -13,10 +16,17 @@ pub returns : goal.returns
 returns c =
     on_ok_weaker c.settle.result
     (λ e line.
-    let old = state_value c.args.state.now in
+    let old = c.args.state.now in
     let s = form_tree line c.args.form.now in
     e line
     ∙ ap (λ (middle : RegionState). settled middle s (option_map made_value c.called-call.result)) c.take_effect.ensures
     ∙ ap (λ (call : Option EffectCall). after_judged old s call) (c.called-call.ensures line)
     ∙ sym (behind_is old s))
     c.settle.ensures
+
+pub settle-requires : goal.settle-requires
+settle-requires c = λ line.
+    let now = c.args.state.now in
+    subst (λ (names : List Identifier). AreNew names (own_names (form_tree line c.args.form.now)))
+    (sym (ap names_of c.take_effect.ensures ∙ effected_names now (option_map made_value c.called-call.result)))
+    (c.requires line)

@@ -4,31 +4,30 @@ use Rattle.syntax.specs.Views.{form_tree}
 use Rattle.regions.specs.StateEffects.{made_value}
 use Rattle.regions.specs.Judgements.{judged}
 use Rattle.regions.specs.RegionRules.{RegionRule, CallWhileCritical, ReturnWithBuffer, HeldBuffer, UntestedBuffer, WrongBuffer, ReturnInFrame, PopLastFrame, DeadReference, ArrayInUse, WrongLevel}
-use Rattle.regions.specs.StatesInMemory.{state_value}
 use Rattle.regions.proofs.JudgementLemmas.{skip, hit}
 use Rattle.regions.proofs.rules.first_judged.Goals as goal
 
 pub returns-then-breaks_critical : goal.returns-then-breaks_critical
 returns-then-breaks_critical c = λ line.
-    let p : RegionRule → Bool = λ rule. judged rule (state_value c.args.state.now) (form_tree line c.args.form.now) (option_map made_value c.args.call) in
+    let p : RegionRule → Bool = λ rule. judged rule c.args.state.now (form_tree line c.args.form.now) (option_map made_value c.args.call) in
     hit p CallWhileCritical (ReturnWithBuffer ∷ HeldBuffer ∷ UntestedBuffer ∷ WrongBuffer ∷ ReturnInFrame ∷ PopLastFrame ∷ DeadReference ∷ ArrayInUse ∷ WrongLevel ∷ []) (c.if-breaks_critical.ensures line)
 
 pub returns-then-breaks_return : goal.returns-then-breaks_return
 returns-then-breaks_return c = λ line.
-    let p : RegionRule → Bool = λ rule. judged rule (state_value c.args.state.now) (form_tree line c.args.form.now) (option_map made_value c.args.call) in
+    let p : RegionRule → Bool = λ rule. judged rule c.args.state.now (form_tree line c.args.form.now) (option_map made_value c.args.call) in
     hit p ReturnWithBuffer (HeldBuffer ∷ UntestedBuffer ∷ WrongBuffer ∷ ReturnInFrame ∷ PopLastFrame ∷ DeadReference ∷ ArrayInUse ∷ WrongLevel ∷ []) (c.if-breaks_return.ensures line)
     ∙ skip p CallWhileCritical (ReturnWithBuffer ∷ HeldBuffer ∷ UntestedBuffer ∷ WrongBuffer ∷ ReturnInFrame ∷ PopLastFrame ∷ DeadReference ∷ ArrayInUse ∷ WrongLevel ∷ []) (c.if-breaks_critical.ensures line)
 
 pub returns-then-breaks_held : goal.returns-then-breaks_held
 returns-then-breaks_held c = λ line.
-    let p : RegionRule → Bool = λ rule. judged rule (state_value c.args.state.now) (form_tree line c.args.form.now) (option_map made_value c.args.call) in
+    let p : RegionRule → Bool = λ rule. judged rule c.args.state.now (form_tree line c.args.form.now) (option_map made_value c.args.call) in
     hit p HeldBuffer (UntestedBuffer ∷ WrongBuffer ∷ ReturnInFrame ∷ PopLastFrame ∷ DeadReference ∷ ArrayInUse ∷ WrongLevel ∷ []) (c.if-breaks_held.ensures line)
     ∙ skip p ReturnWithBuffer (HeldBuffer ∷ UntestedBuffer ∷ WrongBuffer ∷ ReturnInFrame ∷ PopLastFrame ∷ DeadReference ∷ ArrayInUse ∷ WrongLevel ∷ []) (c.if-breaks_return.ensures line)
     ∙ skip p CallWhileCritical (ReturnWithBuffer ∷ HeldBuffer ∷ UntestedBuffer ∷ WrongBuffer ∷ ReturnInFrame ∷ PopLastFrame ∷ DeadReference ∷ ArrayInUse ∷ WrongLevel ∷ []) (c.if-breaks_critical.ensures line)
 
 pub returns-then-breaks_untested : goal.returns-then-breaks_untested
 returns-then-breaks_untested c = λ line.
-    let p : RegionRule → Bool = λ rule. judged rule (state_value c.args.state.now) (form_tree line c.args.form.now) (option_map made_value c.args.call) in
+    let p : RegionRule → Bool = λ rule. judged rule c.args.state.now (form_tree line c.args.form.now) (option_map made_value c.args.call) in
     hit p UntestedBuffer (WrongBuffer ∷ ReturnInFrame ∷ PopLastFrame ∷ DeadReference ∷ ArrayInUse ∷ WrongLevel ∷ []) (c.if-breaks_untested.ensures line)
     ∙ skip p HeldBuffer (UntestedBuffer ∷ WrongBuffer ∷ ReturnInFrame ∷ PopLastFrame ∷ DeadReference ∷ ArrayInUse ∷ WrongLevel ∷ []) (c.if-breaks_held.ensures line)
     ∙ skip p ReturnWithBuffer (HeldBuffer ∷ UntestedBuffer ∷ WrongBuffer ∷ ReturnInFrame ∷ PopLastFrame ∷ DeadReference ∷ ArrayInUse ∷ WrongLevel ∷ []) (c.if-breaks_return.ensures line)
@@ -36,7 +35,7 @@ returns-then-breaks_untested c = λ line.
 
 pub returns-then-breaks_wrong : goal.returns-then-breaks_wrong
 returns-then-breaks_wrong c = λ line.
-    let p : RegionRule → Bool = λ rule. judged rule (state_value c.args.state.now) (form_tree line c.args.form.now) (option_map made_value c.args.call) in
+    let p : RegionRule → Bool = λ rule. judged rule c.args.state.now (form_tree line c.args.form.now) (option_map made_value c.args.call) in
     hit p WrongBuffer (ReturnInFrame ∷ PopLastFrame ∷ DeadReference ∷ ArrayInUse ∷ WrongLevel ∷ []) (c.if-breaks_wrong.ensures line)
     ∙ skip p UntestedBuffer (WrongBuffer ∷ ReturnInFrame ∷ PopLastFrame ∷ DeadReference ∷ ArrayInUse ∷ WrongLevel ∷ []) (c.if-breaks_untested.ensures line)
     ∙ skip p HeldBuffer (UntestedBuffer ∷ WrongBuffer ∷ ReturnInFrame ∷ PopLastFrame ∷ DeadReference ∷ ArrayInUse ∷ WrongLevel ∷ []) (c.if-breaks_held.ensures line)
@@ -45,7 +44,7 @@ returns-then-breaks_wrong c = λ line.
 
 pub returns-then-breaks_frame : goal.returns-then-breaks_frame
 returns-then-breaks_frame c = λ line.
-    let p : RegionRule → Bool = λ rule. judged rule (state_value c.args.state.now) (form_tree line c.args.form.now) (option_map made_value c.args.call) in
+    let p : RegionRule → Bool = λ rule. judged rule c.args.state.now (form_tree line c.args.form.now) (option_map made_value c.args.call) in
     hit p ReturnInFrame (PopLastFrame ∷ DeadReference ∷ ArrayInUse ∷ WrongLevel ∷ []) (c.if-breaks_frame.ensures line)
     ∙ skip p WrongBuffer (ReturnInFrame ∷ PopLastFrame ∷ DeadReference ∷ ArrayInUse ∷ WrongLevel ∷ []) (c.if-breaks_wrong.ensures line)
     ∙ skip p UntestedBuffer (WrongBuffer ∷ ReturnInFrame ∷ PopLastFrame ∷ DeadReference ∷ ArrayInUse ∷ WrongLevel ∷ []) (c.if-breaks_untested.ensures line)
@@ -55,7 +54,7 @@ returns-then-breaks_frame c = λ line.
 
 pub returns-then-breaks_pop : goal.returns-then-breaks_pop
 returns-then-breaks_pop c = λ line.
-    let p : RegionRule → Bool = λ rule. judged rule (state_value c.args.state.now) (form_tree line c.args.form.now) (option_map made_value c.args.call) in
+    let p : RegionRule → Bool = λ rule. judged rule c.args.state.now (form_tree line c.args.form.now) (option_map made_value c.args.call) in
     hit p PopLastFrame (DeadReference ∷ ArrayInUse ∷ WrongLevel ∷ []) (c.if-breaks_pop.ensures line)
     ∙ skip p ReturnInFrame (PopLastFrame ∷ DeadReference ∷ ArrayInUse ∷ WrongLevel ∷ []) (c.if-breaks_frame.ensures line)
     ∙ skip p WrongBuffer (ReturnInFrame ∷ PopLastFrame ∷ DeadReference ∷ ArrayInUse ∷ WrongLevel ∷ []) (c.if-breaks_wrong.ensures line)
@@ -66,7 +65,7 @@ returns-then-breaks_pop c = λ line.
 
 pub returns-then-breaks_dead : goal.returns-then-breaks_dead
 returns-then-breaks_dead c = λ line.
-    let p : RegionRule → Bool = λ rule. judged rule (state_value c.args.state.now) (form_tree line c.args.form.now) (option_map made_value c.args.call) in
+    let p : RegionRule → Bool = λ rule. judged rule c.args.state.now (form_tree line c.args.form.now) (option_map made_value c.args.call) in
     hit p DeadReference (ArrayInUse ∷ WrongLevel ∷ []) (c.if-breaks_dead.ensures line)
     ∙ skip p PopLastFrame (DeadReference ∷ ArrayInUse ∷ WrongLevel ∷ []) (c.if-breaks_pop.ensures line)
     ∙ skip p ReturnInFrame (PopLastFrame ∷ DeadReference ∷ ArrayInUse ∷ WrongLevel ∷ []) (c.if-breaks_frame.ensures line)
@@ -78,7 +77,7 @@ returns-then-breaks_dead c = λ line.
 
 pub returns-then-breaks_array : goal.returns-then-breaks_array
 returns-then-breaks_array c = λ line.
-    let p : RegionRule → Bool = λ rule. judged rule (state_value c.args.state.now) (form_tree line c.args.form.now) (option_map made_value c.args.call) in
+    let p : RegionRule → Bool = λ rule. judged rule c.args.state.now (form_tree line c.args.form.now) (option_map made_value c.args.call) in
     hit p ArrayInUse (WrongLevel ∷ []) (c.if-breaks_array.ensures line)
     ∙ skip p DeadReference (ArrayInUse ∷ WrongLevel ∷ []) (c.if-breaks_dead.ensures line)
     ∙ skip p PopLastFrame (DeadReference ∷ ArrayInUse ∷ WrongLevel ∷ []) (c.if-breaks_pop.ensures line)
@@ -91,7 +90,7 @@ returns-then-breaks_array c = λ line.
 
 pub returns-then-breaks_level : goal.returns-then-breaks_level
 returns-then-breaks_level c = λ line.
-    let p : RegionRule → Bool = λ rule. judged rule (state_value c.args.state.now) (form_tree line c.args.form.now) (option_map made_value c.args.call) in
+    let p : RegionRule → Bool = λ rule. judged rule c.args.state.now (form_tree line c.args.form.now) (option_map made_value c.args.call) in
     hit p WrongLevel ([]) (c.if-breaks_level.ensures line)
     ∙ skip p ArrayInUse (WrongLevel ∷ []) (c.if-breaks_array.ensures line)
     ∙ skip p DeadReference (ArrayInUse ∷ WrongLevel ∷ []) (c.if-breaks_dead.ensures line)
@@ -105,7 +104,7 @@ returns-then-breaks_level c = λ line.
 
 pub returns : goal.returns
 returns c = λ line.
-    let p : RegionRule → Bool = λ rule. judged rule (state_value c.args.state.now) (form_tree line c.args.form.now) (option_map made_value c.args.call) in
+    let p : RegionRule → Bool = λ rule. judged rule c.args.state.now (form_tree line c.args.form.now) (option_map made_value c.args.call) in
     skip p WrongLevel ([]) (c.if-breaks_level.ensures line)
     ∙ skip p ArrayInUse (WrongLevel ∷ []) (c.if-breaks_array.ensures line)
     ∙ skip p DeadReference (ArrayInUse ∷ WrongLevel ∷ []) (c.if-breaks_dead.ensures line)

@@ -1,10 +1,11 @@
-use Rattle.std.proofs.Common.{ℕ, Result, Ok, Some, sym, ap, ap₂, ◌∙◌}
-use Rattle.syntax.specs.Views.{block_tree}
+use Rattle.std.proofs.Common.{ℕ, Result, Ok, Some, sym, ap, ◌∙◌}
+use Rattle.syntax.specs.Views.{block_tree, function_tree}
 use Rattle.regions.specs.declared.walk.Way.{Way as WayInMemory}
 use Rattle.regions.specs.Findings.{end_line_of, fault_at_end}
 use Rattle.regions.specs.RegionRules.{NoReturn}
-use Rattle.regions.specs.RegionStates.{RegionState}
+use Rattle.regions.specs.RegionStates.{RegionState, state_at_entry}
 use Rattle.regions.specs.Regions.{Way}
+use Rattle.regions.specs.StatesInMemory.{names_of}
 use Rattle.regions.specs.Walks.{way_value}
 use Rattle.regions.specs.Ways.{Fault, way_of_block}
 use Rattle.regions.proofs.WayLemmas.{end_line_is}
@@ -13,7 +14,8 @@ use Rattle.regions.proofs.walk.check_function.Goals as goal
 pub returns-in-On : goal.returns-in-On
 returns-in-On c =
     let body = block_tree c.args.f.now.body in
+    let entry = state_at_entry (function_tree c.args.f.now) in
     let way =
-    ap₂ (λ (a b : RegionState). way_of_block a b body) (sym c.in_ok-outer.ensures) (sym (c.in_ok-before.ensures ∙ c.in_ok-outer.ensures))
-    ∙ c.in_ok-block_way.ensures ∙ ap (λ (w : WayInMemory). Ok (way_value w)) c.in-On.is in
+    ap (λ (s : RegionState). way_of_block entry s body) (sym c.in_ok-enter.ensures)
+    ∙ c.in_ok-block_way.ensures.goes entry (ap names_of (sym c.in_ok-enter.ensures)) ∙ ap (λ (w : WayInMemory). Ok (way_value w c.block_way.new.state)) c.in-On.is in
     ap (λ (r : Result Way Fault). fault_at_end r (end_line_of body)) way ∙ ap (λ (n : ℕ). Some (n, NoReturn)) (end_line_is c.args.f.now.body)

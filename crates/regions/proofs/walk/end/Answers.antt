@@ -1,12 +1,22 @@
 use Rattle.std.proofs.Common.{ap, sym, Ok, ◌∙◌}
+use Rattle.syntax.specs.Tree.{End}
+use Rattle.regions.specs.declared.walk.Way.{Way as WayInMemory}
 use Rattle.regions.specs.RegionStates.{RegionState}
 use Rattle.regions.specs.Regions.{On}
-use Rattle.regions.specs.StatesInMemory.{state_value}
+use Rattle.regions.specs.Walks.{way_value, go_on}
 use Rattle.regions.proofs.WayLemmas.{Goes-along, end_held, end_left}
 use Rattle.regions.proofs.walk.end.Goals as goal
 
-pub returns-then-holds_own : goal.returns-then-holds_own
-returns-then-holds_own c = Goes-along c.refuse.result _ _ (end_held (state_value c.args.outer.now) (state_value c.args.state) c.args.line c.if-holds_own.ensures) c.refuse.ensures
+pub returns-then-holds_own-clause-goes : goal.returns-then-holds_own-clause-goes
+returns-then-holds_own-clause-goes c = λ outer is grows.
+    let now = c.args.state.now in
+    Goes-along c.refuse.result now _ _
+    (ap (λ (w : WayInMemory). go_on outer (way_value w now) (End c.args.line)) c.in-On.is ∙ end_held outer now c.args.line (c.if-holds_own.ensures outer is grows))
+    (c.refuse.ensures.fault now)
 
-pub returns : goal.returns
-returns c = end_left (state_value c.args.outer.now) (state_value c.args.state) c.args.line c.if-holds_own.ensures ∙ ap (λ (s : RegionState). Ok (On s)) (sym c.leave.ensures)
+pub returns-else-holds_own-clause-goes : goal.returns-else-holds_own-clause-goes
+returns-else-holds_own-clause-goes c = λ outer is grows.
+    let now = c.args.state.now in
+    ap (λ (w : WayInMemory). go_on outer (way_value w now) (End c.args.line)) c.in-On.is
+    ∙ end_left outer now c.args.line (c.if-holds_own.ensures outer is grows)
+    ∙ ap (λ (s : RegionState). Ok (On s)) (sym (c.leave.ensures.left outer is grows))

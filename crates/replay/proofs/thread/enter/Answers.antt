@@ -1,4 +1,4 @@
-use Rattle.std.proofs.Common.{◌∷◌, ◌++◌, List, [], ap, sym, ◌∙◌, append-nil, None, Some, zip, refl, rules}
+use Rattle.std.proofs.Common.{◌∷◌, ◌++◌, List, [], map, ap, sym, ◌∙◌, append-nil, None, Some, zip, refl, rules}
 use Rattle.syntax.specs.Views.{unit_tree, function_tree}
 use Rattle.source.specs.Object.{ObjectValue}
 use Rattle.std.specs.Prelude.{filter_map}
@@ -9,6 +9,8 @@ use Rattle.tasks.specs.declared.activation.Outer.{Outer}
 use Rattle.tasks.specs.Activations.{tasks_around}
 use Rattle.tasks.specs.Tasks.{tasks_of_statements}
 use Rattle.tasks.proofs.TaskLemmas.{block_tasks}
+use Rattle.world.specs.Views.{object_value_view}
+use Rattle.replay.proofs.NamesOnce.{entry_once}
 use Rattle.replay.proofs.ThreadLemmas.{enters}
 use Rattle.tasks.proofs.RangeLemmas.{body_in_range}
 use Rattle.replay.proofs.thread.enter.Goals as goal
@@ -21,7 +23,7 @@ returns-clause-step c = rw (c.put_activation.ensures, c.if-refused.false) (λ sh
     a s c.requires.idle (search rules) (search rules)
     (sym c.in_ok-class.ensures ∙ c.in-Some-2.is)
     (ap (λ (os : List Outer). tasks_of_statements c.deref.result.now ++ tasks_around [] os) c.new.ensures.items ∙ append-nil (tasks_of_statements c.deref.result.now) ∙ ap tasks_of_statements c.deref.ensures.value ∙ block_tasks f.body)
-    (c.in_ok-variables.ensures ∙ ap (λ (vs : List ObjectValue). (f.class_name, LocalRef 1 (Some c.in-Some-2.class)) ∷ parameter_variables (zip (function_tree f).parameters vs)) c.arguments.ensures)
+    (c.in_ok-variables.ensures ∙ entry_once (unit_tree c.args.items.now) c.requires.sorted c.in-Some.call.now.function (function_tree f) (search rules) c.in-Some-2.class (map object_value_view c.arguments.result.now) ∙ ap (λ (vs : List ObjectValue). (f.class_name, LocalRef 1 (Some c.in-Some-2.class)) ∷ parameter_variables (zip (function_tree f).parameters vs)) c.arguments.ensures)
     (c.in_ok-frames.ensures ∙ ap (λ (vs : List ObjectValue). entry_frame (c.in-Some-2.class ∷ filter_map named_object vs) ∷ []) c.arguments-2.ensures) refl
     h c.in-Some.rest (search rules))
 

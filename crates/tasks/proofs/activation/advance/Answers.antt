@@ -1,8 +1,6 @@
-use Rattle.std.proofs.Common.{ℕ, Bool, true, false, List, subst}
+use Rattle.std.proofs.Common.{ℕ, Bool, true, false, subst}
 use Rattle.tasks.specs.Outcomes.{variable_step, LeavesIf}
 use Rattle.tasks.specs.Shares.{shared_view}
-use Rattle.tasks.specs.Steps.{Does, scene_with}
-use Rattle.terms.specs.declared.variable.Variable.{Variable}
 use Rattle.tasks.proofs.ActivationLemmas.{begun_before, fails, advances, range_after}
 use Rattle.tasks.proofs.CallLemmas.{if_ok}
 use Rattle.tasks.proofs.activation.advance.Goals as goal
@@ -22,9 +20,8 @@ returns-then-not-done-clause-step c =
     let shared = shared_view c.args.shared.now in
     let after = shared_view c.step.new.shared in
     let begun = c.begin.new.activation in
-    let does = subst (λ (vs : List Variable). Does c.args.refused (scene_with classes shared vs begun.frames begun.pending) c.in-Some.task c.in_ok-outcome.outcome (scene_with classes after vs c.step.new.frames c.step.new.pending) c.step.new.task)
-    c.deref.ensures.value c.in_ok-outcome.ensures.step in
-    let none = subst (λ (n : ℕ). LeavesIf n after.statics begun.variables.items (variable_step c.in_ok-outcome.outcome) false c.set_variables.new.statics c.set_variables.new.variables.items) c.len-frames.ensures (subst (λ (b : Bool). LeavesIf c.len-frames.result after.statics begun.variables.items (variable_step c.in_ok-outcome.outcome) b c.set_variables.new.statics c.set_variables.new.variables.items) c.if-not-done.true c.in_ok-done.ensures) in
+    let does = c.in_ok-outcome.ensures.step in
+    let none = subst (λ (n : ℕ). LeavesIf n after.statics begun.variables (variable_step c.in_ok-outcome.outcome) false c.set_variables.new.statics c.set_variables.new.variables) c.len-frames.ensures (subst (λ (b : Bool). LeavesIf c.len-frames.result after.statics begun.variables (variable_step c.in_ok-outcome.outcome) b c.set_variables.new.statics c.set_variables.new.variables) c.if-not-done.true c.in_ok-done.ensures) in
     fails classes c.args.refused shared after c.set_variables.new.statics c.args.activation.now begun c.in-Some.task c.step.new.task c.set_variables.new.variables c.step.new.frames c.step.new.pending begun c.in_ok-begin.ensures.tasks c.in_ok-begin.ensures.kept c.in-Some.is
     c.in_ok-outcome.outcome does none
 
@@ -34,9 +31,8 @@ returns-clause-step c =
     let shared = shared_view c.args.shared.now in
     let after = shared_view c.step.new.shared in
     let begun = c.begin.new.activation in
-    let does = subst (λ (vs : List Variable). Does c.args.refused (scene_with classes shared vs begun.frames begun.pending) c.in-Some.task c.in_ok-outcome.outcome (scene_with classes after vs c.step.new.frames c.step.new.pending) c.step.new.task)
-    c.deref.ensures.value c.in_ok-outcome.ensures.step in
-    let leaves = subst (λ (n : ℕ). LeavesIf n after.statics begun.variables.items (variable_step c.in_ok-outcome.outcome) true c.set_variables.new.statics c.set_variables.new.variables.items) c.len-frames.ensures (subst (λ (b : Bool). LeavesIf c.len-frames.result after.statics begun.variables.items (variable_step c.in_ok-outcome.outcome) b c.set_variables.new.statics c.set_variables.new.variables.items) c.if-not-done.false c.in_ok-done.ensures) in
+    let does = c.in_ok-outcome.ensures.step in
+    let leaves = subst (λ (n : ℕ). LeavesIf n after.statics begun.variables (variable_step c.in_ok-outcome.outcome) true c.set_variables.new.statics c.set_variables.new.variables) c.len-frames.ensures (subst (λ (b : Bool). LeavesIf c.len-frames.result after.statics begun.variables (variable_step c.in_ok-outcome.outcome) b c.set_variables.new.statics c.set_variables.new.variables) c.if-not-done.false c.in_ok-done.ensures) in
     advances classes c.args.refused shared after c.set_variables.new.statics c.args.activation.now begun c.in-Some.task c.step.new.task c.set_variables.new.variables c.step.new.frames c.step.new.pending c.set_tasks.new.activation c.in_ok-begin.ensures.tasks c.in_ok-begin.ensures.kept c.in-Some.is
     c.in_ok-outcome.outcome does leaves c.in_ok-set_tasks.ensures
 

@@ -9,8 +9,8 @@ use Rattle.terms.proofs.reduction.value_of.Goals as goal
 pub returns-in-Done-deref : goal.returns-in-Done-deref
 returns-in-Done-deref c = λ values heap.
     let ss = c.args.statics.now in
-    let shape : term_view c.args.term.now ≡ tree.Element c.in-Element.name (tree.Done (value_view c.in-Done-deref.i)) =
-    ap term_view c.in-Element.is ∙ ap (λ (u : Term). tree.Element c.in-Element.name (term_view u)) (sym c.deref.ensures ∙ c.in-Done-deref.is) in
+    let shape : term_view c.args.term.now ≡ tree.Element c.in-Element.name.now (tree.Done (value_view c.in-Done-deref.i)) =
+    ap term_view c.in-Element.is ∙ ap (λ (u : Term). tree.Element c.in-Element.name.now (term_view u)) (sym c.deref.ensures ∙ c.in-Done-deref.is) in
     ap (tree.reduce (seen (variables_view c.args.variables.now) ss heap)) shape ∙ ap done (sym (c.element_in.ensures ss heap))
 
 pub returns-in-Read : goal.returns-in-Read

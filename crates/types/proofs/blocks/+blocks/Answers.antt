@@ -8,7 +8,6 @@ use Rattle.syntax.specs.Tree.{Test, Block, IfElse}
 use Rattle.syntax.specs.Views.{form_tree, stmt_tree, block_tree, statements_tree, result_tree, test_tree}
 use Rattle.syntax.proofs.Blocks.{block_is}
 use Rattle.types.specs.declared.fault.TypeFault.{TypeFault}
-use Rattle.types.specs.declared.scope.Known.{Known}
 use Rattle.types.specs.SortRules.{places_of}
 use Rattle.types.specs.BuiltCalls.{refused_at}
 use Rattle.types.specs.Faults.{Faults, Finds, Refuses, scope_of, found, statement_place}
@@ -40,20 +39,20 @@ pub check_block-loop-stmt-init : goal.check_block-loop-stmt-init
 check_block-loop-stmt-init t c =
     let block = block_is c.args.block.now ∙ ap (λ items. statements_tree items (out-Block c.args.block.now).end_line) (sym c.deref-stmt-items.ensures.value) in
     record {
-      finds = ap (λ b. found (places_of (result_tree c.args.returns) (scope_of c.args.known.now.items) c.args.taken.now.items b)) block;
+      finds = ap (λ b. found (places_of (result_tree c.args.returns) (scope_of c.args.known.now) c.args.taken.now.items b)) block;
       taken = ap (λ b. c.args.taken.now.items ++ names_declared (statements_of b)) block;
-      above = above-none c.args.known.now.items;
+      above = above-none c.args.known.now;
     }
 
 pub check_block-returns-in_err-check_statement-clause-finds : goal.check_block-returns-in_err-check_statement-clause-finds
 check_block-returns-in_err-check_statement-clause-finds t c =
     let returned = result_tree c.args.returns in
-    let known = scope_of c.loop-stmt.known.items in
+    let known = scope_of c.loop-stmt.known in
     let taken = c.loop-stmt.taken.items in
     let s = c.stmt-item.result in
     let e = c.in_err-check_statement.field-0.0 in
     let given = err_from_is_err_and c.from_residual.result c.from_residual.ensures.1 in
-    let here = ap₂ (λ (k : List Known) (names : List Identifier). refused_at (statement_place returned (scope_of k) names (stmt_tree s))) c.deref.ensures.value c.deref-in-loop-stmt.ensures.value in
+    let here = ap (λ (names : List Identifier). refused_at (statement_place returned known names (stmt_tree s))) c.deref.ensures.value in
     of_statement c.from_residual.result e _ _ _ _ (given.1 ∙ ap Err given.2)
     (c.loop-stmt.invariant.finds ∙ found-rest returned known taken c.deref-stmt-items.result.now c.loop-stmt.stmt-index s (out-Block c.args.block.now).end_line c.loop-stmt-test.true c.stmt-item.is)
     (subst (λ xs. Refuses e xs) here c.in_err-check_statement.ensures)
@@ -61,12 +60,12 @@ check_block-returns-in_err-check_statement-clause-finds t c =
 pub check_block-returns-in_err-check_inside-clause-finds : goal.check_block-returns-in_err-check_inside-clause-finds
 check_block-returns-in_err-check_inside-clause-finds t c =
     let returned = result_tree c.args.returns in
-    let known = scope_of c.loop-stmt.known.items in
+    let known = scope_of c.loop-stmt.known in
     let taken = c.loop-stmt.taken.items in
     let s = c.stmt-item.result in
     let e = c.in_err-check_inside.field-0.0 in
     let given = err_from_is_err_and c.from_residual-in_err-check_inside.result c.from_residual-in_err-check_inside.ensures.1 in
-    let here = ap₂ (λ (k : List Known) (names : List Identifier). refused_at (statement_place returned (scope_of k) names (stmt_tree s))) c.deref.ensures.value c.deref-in-loop-stmt.ensures.value in
+    let here = ap (λ (names : List Identifier). refused_at (statement_place returned known names (stmt_tree s))) c.deref.ensures.value in
     of_inside c.from_residual-in_err-check_inside.result e _ _ _ _ (given.1 ∙ ap Err given.2)
     (c.loop-stmt.invariant.finds ∙ found-rest returned known taken c.deref-stmt-items.result.now c.loop-stmt.stmt-index s (out-Block c.args.block.now).end_line c.loop-stmt-test.true c.stmt-item.is)
     (sym here ∙ c.in_ok-check_statement.ensures)
@@ -75,13 +74,13 @@ check_block-returns-in_err-check_inside-clause-finds t c =
 pub check_block-loop-stmt-preserved : goal.check_block-loop-stmt-preserved
 check_block-loop-stmt-preserved t c =
     let returned = result_tree c.args.returns in
-    let known = scope_of c.loop-stmt.known.items in
+    let known = scope_of c.loop-stmt.known in
     let taken = c.loop-stmt.taken.items in
     let items = c.deref-stmt-items.result.now in
     let i = c.loop-stmt.stmt-index in
     let s = c.stmt-item.result in
     let end_line = (out-Block c.args.block.now).end_line in
-    let here = ap₂ (λ (k : List Known) (names : List Identifier). refused_at (statement_place returned (scope_of k) names (stmt_tree s))) c.deref.ensures.value c.deref-in-loop-stmt.ensures.value in
+    let here = ap (λ (names : List Identifier). refused_at (statement_place returned known names (stmt_tree s))) c.deref.ensures.value in
     let inside = c.in_ok-check_inside.ensures in
     record {
       finds =
@@ -97,7 +96,7 @@ check_block-loop-stmt-preserved t c =
 pub check_block-returns-clause-finds : goal.check_block-returns-clause-finds
 check_block-returns-clause-finds t c =
     c.loop-stmt.invariant.finds
-    ∙ ap (λ items. found (places_of (result_tree c.args.returns) (scope_of c.loop-stmt.known.items) c.loop-stmt.taken.items (statements_tree items (out-Block c.args.block.now).end_line)))
+    ∙ ap (λ items. found (places_of (result_tree c.args.returns) (scope_of c.loop-stmt.known) c.loop-stmt.taken.items (statements_tree items (out-Block c.args.block.now).end_line)))
     (past c.loop-stmt.stmt-index c.deref-stmt-items.result.now c.loop-stmt-test.false)
     ∙ found-none
 

@@ -14,7 +14,7 @@ of_static r e all own was is h = rw (was, is) h
 pub returns-in_err-refuse_if-in-Static-clause-finds : goal.returns-in_err-refuse_if-in-Static-clause-finds
 returns-in_err-refuse_if-in-Static-clause-finds c =
     let names = c.args.names.now.items in
-    let statics = scope_of c.args.statics.now.items in
+    let statics = scope_of c.args.statics.now in
     let s = c.in-Static.s in
     let given = err_from_is_err_and c.from_residual.result c.from_residual.ensures.1 in
     of_static c.from_residual.result c.in_err-refuse_if-in-Static.field-0.0 _ _ (given.1 ∙ ap Err given.2)
@@ -25,7 +25,7 @@ returns-in_err-refuse_if-in-Static-clause-finds c =
 pub returns-in_ok-insert-in-Static-clause-finds : goal.returns-in_ok-insert-in-Static-clause-finds
 returns-in_ok-insert-in-Static-clause-finds c =
     let names = c.args.names.now.items in
-    let statics = scope_of c.args.statics.now.items in
+    let statics = scope_of c.args.statics.now in
     let s = c.in-Static.s in
     ap (λ item. found (own_places names statics (item_tree item))) c.in-Static.is ∙ found-static names statics s
     ∙ ap (λ b. broken_if b DeclaredTwice s.line) (sym (c.has_name.ensures ∙ ap (λ (all : List Identifier). has_name all s.name) c.deref.ensures.value))

@@ -17,7 +17,7 @@ pub returns-in_err-check_item : goal.returns-in_err-check_item
 returns-in_err-check_item c =
     let given = err_from_is_err_and c.from_residual.result c.from_residual.ensures.1 in
     of_item c.from_residual.result c.in_err-check_item.field-0.0 _ _ _ (given.1 ∙ ap Err given.2)
-    (c.loop-item.invariant ∙ found-item c.loop-item.names.items (scope_of c.loop-item.statics.items) c.args.items.now c.loop-item.item-index c.item-item.result c.loop-item-test.true c.item-item.is)
+    (c.loop-item.invariant ∙ found-item c.loop-item.names.items (scope_of c.loop-item.statics) c.args.items.now c.loop-item.item-index c.item-item.result c.loop-item-test.true c.item-item.is)
     c.in_err-check_item.ensures.finds
 
 pub loop-item-preserved : goal.loop-item-preserved
@@ -26,7 +26,7 @@ loop-item-preserved c =
     let item = c.item-item.result in
     let rest = map item_tree (drop (i + 1) c.args.items.now) in
     let names = c.loop-item.names.items in
-    let statics = scope_of c.loop-item.statics.items in
+    let statics = scope_of c.loop-item.statics in
     c.loop-item.invariant
     ∙ found-item names statics c.args.items.now i item c.loop-item-test.true c.item-item.is
     ∙ ap (λ xs. xs ++ found (item_places (item_name (item_tree item) ∷ names) (with_static statics (item_tree item)) rest)) c.in_ok-check_item.ensures.finds
@@ -35,5 +35,5 @@ loop-item-preserved c =
 pub returns : goal.returns
 returns c =
     c.loop-item.invariant
-    ∙ ap (λ items. found (item_places c.loop-item.names.items (scope_of c.loop-item.statics.items) (map item_tree items))) (past c.loop-item.item-index c.args.items.now c.loop-item-test.false)
+    ∙ ap (λ items. found (item_places c.loop-item.names.items (scope_of c.loop-item.statics) (map item_tree items))) (past c.loop-item.item-index c.args.items.now c.loop-item-test.false)
     ∙ found-none

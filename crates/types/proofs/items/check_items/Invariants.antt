@@ -7,4 +7,4 @@ use Rattle.types.proofs.items.check_items.Given as goal
 abbrev pub invariant-loop-item : goal.invariant-loop-item
 invariant-loop-item l =
     found (item_places [] [] (map item_tree l.items))
-    ≡ found (item_places l.names.items (scope_of l.statics.items) (map item_tree (drop l.item-index l.items)))
+    ≡ found (item_places l.names.items (scope_of l.statics) (map item_tree (drop l.item-index l.items)))

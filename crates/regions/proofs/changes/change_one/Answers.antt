@@ -1,0 +1,25 @@
+use Rattle.std.proofs.Common.{List, map, sym, ap, ◌∙◌}
+use Rattle.regions.specs.Changes.{change_value}
+use Rattle.regions.specs.RegionStates.{RegionState, with_changed}
+use Rattle.regions.specs.SameStates.{NamedState}
+use Rattle.regions.specs.StatesInMemory.{variable_state}
+use Rattle.regions.proofs.ScopeLemmas.{changed_none}
+use Rattle.regions.proofs.StateLemmas.{changed_known}
+use Rattle.regions.proofs.changes.change_one.Goals as goal
+
+pub returns-in-Some : goal.returns-in-Some
+returns-in-Some c =
+    let names = c.state.inside.names in
+    let items = c.state.inside.facts.variables.items in
+    ap (λ (vs : List NamedState). let s : RegionState = record { variables = vs; frames = c.state.inside.facts.frames } in s)
+    (changed_known names items c.args.name.now (change_value c.args.change) c.in-Some.number c.index.result.now c.known_after-known.result c.state.invariant.1 c.state.invariant.0 c.in-Some.ensures c.index.ensures c.known_after-known.ensures)
+    ∙ ap (λ (s : RegionState). with_changed s c.args.name.now (change_value c.args.change)) c.state.view_is
+
+pub returns-in-None : goal.returns-in-None
+returns-in-None c =
+    let names = c.state.inside.names in
+    let items = c.state.inside.facts.variables.items in
+    sym c.state.view_is
+    ∙ ap (λ (vs : List NamedState). let s : RegionState = record { variables = vs; frames = c.state.inside.facts.frames } in s)
+    (sym (changed_none (change_value c.args.change) c.args.name.now names (map variable_state items) c.state.invariant.1 c.in-None.ensures))
+    ∙ ap (λ (s : RegionState). with_changed s c.args.name.now (change_value c.args.change)) c.state.view_is
