@@ -24,7 +24,7 @@ abbrev after_twice : List SortRule
 after_twice = SortMisfit ∷ UnknownFunction ∷ ArgumentCount ∷ ReferenceCopied ∷ BadMode ∷ ReadOnlyWrite ∷ []
 
 -- a place that breaks no rule declares nothing twice
-not_twice : (place : Place) → broken_at place ≡ [] → breaks DeclaredTwice place place.form ≡ false
+pub not_twice : (place : Place) → broken_at place ≡ [] → breaks DeclaredTwice place place.form ≡ false
 not_twice place none =
     let p : SortRule → Bool = λ rule. breaks rule place place.form in
     first_false (p DeclaredTwice) (list_any p after_twice) (second_false (p UnknownName) (list_any p (DeclaredTwice ∷ after_twice)) (none_broken p place.line sort_rules none))

@@ -1,7 +1,7 @@
 -- In an accepted unit no two statics and no two parameters of a function have one name, so each is assigned at a place of its own.
 use Rattle.std.proofs.Common.{◌≡◌, ℕ, Bool, true, false, cond, List, [], ◌∷◌, ◌++◌, map, Option, Some, None, refl, sym, ap, ◌∙◌, subst, append_assoc, append-nil}
 use Rattle.std.specs.Prelude.{find, flat_map, zip}
-use Rattle.std.specs.List.{AllByRecursion, list_any}
+use Rattle.std.specs.List.{AllByRecursion}
 use Rattle.std.specs.Str.{bytes_eq}
 use Rattle.std.proofs.lemmas.Cmp.{nat_list_eq_equiv}
 use Rattle.std.proofs.lemmas.List.{map-append}
@@ -9,13 +9,14 @@ use Rattle.base.specs.Bytes.{Identifier, ByName, lookup}
 use Rattle.syntax.specs.Parts.{functions_of, parameter_names}
 use Rattle.syntax.specs.Tree.{Void, Parameter, Function, Item, StaticItem, FunctionItem, SourceUnit}
 use Rattle.types.specs.Sorts.{Ref, Global, Scope}
-use Rattle.types.specs.SortRules.{SortRule, UnknownName, DeclaredTwice, SortMisfit, UnknownFunction, ArgumentCount, ReferenceCopied, BadMode, ReadOnlyWrite, sort_rules, Place, StaticForm, HeadForm, has_name, has_repeated, breaks, broken_at, parameter_sort, places_of, function_places, item_places, IsSorted}
+use Rattle.types.specs.SortRules.{Place, StaticForm, HeadForm, has_name, has_repeated, broken_at, parameter_sort, places_of, function_places, item_places, IsSorted}
 use Rattle.source.specs.Activation.{function_at, parameter_variables}
 use Rattle.source.specs.Object.{ObjectValue, Number, Refers}
 use Rattle.source.specs.Start.{null_statics}
 use Rattle.source.specs.Value.{Int}
 use Rattle.source.specs.Variable.{Variable, Scalar, LocalRef, Variables, StaticReference, Empty, Statics, assign}
-use Rattle.safety.proofs.PlaceLists.{AreUnbroken, first_empty, second_empty, front_unbroken, back_unbroken, none_broken, first_false, second_false}
+use Rattle.regions.proofs.OnceLemmas.{not_twice}
+use Rattle.regions.proofs.PlaceLists.{AreUnbroken, first_empty, second_empty, front_unbroken, back_unbroken, first_false, second_false}
 use Rattle.terms.specs.Views.{assign_all}
 
 -- ---- a name that is new
@@ -79,16 +80,6 @@ HasNamesOnce f = (more : List Identifier) × (has_repeated (parameter_names f ++
 abbrev body_places : List Identifier → Scope → Function → List Place
 body_places taken scope f = places_of f.result ((f.class_name, Ref) ∷ map (λ p. (p.name, parameter_sort p.type)) f.parameters ++ scope) (parameter_names f ++ map (λ s. s.0) scope) f.body
 
--- the rules after the first two
-abbrev other_rules : List SortRule
-other_rules = SortMisfit ∷ UnknownFunction ∷ ArgumentCount ∷ ReferenceCopied ∷ BadMode ∷ ReadOnlyWrite ∷ []
-
--- nothing is declared twice at a place where no rule is broken
-declared_once : (place : Place) → broken_at place ≡ [] → breaks DeclaredTwice place place.form ≡ false
-declared_once place none =
-    let p : SortRule → Bool = λ rule. breaks rule place place.form in
-    first_false (p DeclaredTwice) (list_any p other_rules) (second_false (p UnknownName) (list_any p (DeclaredTwice ∷ other_rules)) (none_broken p place.line sort_rules none))
-
 abbrev head_place : List Identifier → Scope → Function → Place
 head_place taken scope f = record { line = f.line; known = scope; taken = taken; returns = f.result; form = HeadForm f }
 
@@ -101,7 +92,7 @@ functions_once (FunctionItem f ∷ items) taken scope sorted =
     let further = item_places (f.name ∷ taken) scope items in
     let head = head_place taken scope f in
     let own = front_unbroken (function_places taken scope f) further sorted in
-    let once = declared_once head (first_empty (broken_at head) (flat_map broken_at (body_places taken scope f)) own) in (
+    let once = not_twice head (first_empty (broken_at head) (flat_map broken_at (body_places taken scope f)) own) in (
       (map (λ s. s.0) scope, second_false (has_name taken f.name) (has_repeated (parameter_names f ++ map (λ s. s.0) scope)) once),
       functions_once items (f.name ∷ taken) scope (back_unbroken (function_places taken scope f) further sorted),
     )
@@ -146,7 +137,7 @@ all_statics before [] taken scope are sorted = sym (append-nil before)
 all_statics before (StaticItem g ∷ items) taken scope are sorted =
     let place : Place = record { line = g.line; known = scope; taken = taken; returns = Void; form = StaticForm g } in
     let further = flat_map broken_at (item_places (g.name ∷ taken) ((g.name, Global) ∷ scope) items) in
-    one_more before g.name Empty (statics_in items) (are g.name (declared_once place (first_empty (broken_at place) further sorted)))
+    one_more before g.name Empty (statics_in items) (are g.name (not_twice place (first_empty (broken_at place) further sorted)))
     (all_statics (before ++ (g.name, Empty) ∷ []) items (g.name ∷ taken) ((g.name, Global) ∷ scope) (one_taken before taken g.name are) (second_empty (broken_at place) further sorted))
 all_statics before (FunctionItem f ∷ items) taken scope are sorted =
     all_statics before items (f.name ∷ taken) scope (λ x h. are x (second_false (bytes_eq x f.name) (has_name taken x) h))
