@@ -22,7 +22,6 @@ pub mod EntryKeys
 pub mod Entries
 pub mod OwnerSteps
 pub mod Steps
-pub mod Names
 pub mod LoadLemmas
 pub mod ThreadLoads
 pub mod SafeLoads

@@ -1,9 +1,9 @@
 -- Calls that load, and calls that don't.
 use Rattle.std.proofs.Common.{◌≡◌, ℕ, ℤ, pos, negsuc, suc, ◌+◌, ◌<◌, ◌≤◌, Bool, true, false, List, [], ◌∷◌, ◌++◌, length, drop, map, Option, Some, None, refl, sym, ap, ◌∙◌, subst, arith, append_assoc, append-nil, length-append}
-use Rattle.std.specs.Prelude.{slice_get, is_some, nat_le, ◌&&◌, FitsSigned}
+use Rattle.std.specs.Prelude.{IfSome, IfNone, slice_get, is_some, nat_le, ◌&&◌, FitsSigned}
 use Rattle.std.specs.Int.{w32}
 use Rattle.std.specs.List.{list_all}
-use Rattle.std.specs.Option.{option_and_then}
+use Rattle.std.specs.Option.{option_and_then, option_map}
 use Rattle.std.proofs.lemmas.Bool.{and_from}
 use Rattle.std.proofs.lemmas.List.{length-map}
 use Rattle.std.proofs.lemmas.Bool.Decides.{nat_tests}
@@ -11,7 +11,9 @@ use Rattle.std.proofs.Math.ListN.{drop_of_length-le}
 use Rattle.base.specs.Bytes.{Identifier}
 use Rattle.base.specs.Element.{JInt}
 use Rattle.base.specs.Options.{some_passes}
+use Rattle.functions.specs.declared.functions.NumberedFunction.{NumberedFunction}
 use Rattle.syntax.specs.declared.unit.Function.{Function as FunctionInMemory}
+use Rattle.syntax.specs.declared.unit.Item.{Item}
 use Rattle.syntax.specs.Tree.{SourceUnit, Function, Parameter, ParameterType, IntParameter, ReferenceParameter}
 use Rattle.syntax.specs.Limits.{IsTree}
 use Rattle.syntax.specs.Parts.{functions_of, names_declared, parameter_names, statements_of}
@@ -25,7 +27,7 @@ use Rattle.world.specs.SoundWorlds.{has_call}
 use Rattle.world.specs.Views.{object_value_view}
 use Rattle.world.specs.WorldRules.{is_in_range}
 use Rattle.world.proofs.LoadedWorlds.{class_within, passes_at}
-use Rattle.source.specs.Activation.{class_of_function}
+use Rattle.source.specs.Activation.{class_of_function, function_at}
 use Rattle.source.specs.Load.{call_loads, is_callable, fits_parameter, fit_parameters}
 use Rattle.lower.specs.Lowered.{Lowered}
 use Rattle.lower.specs.Slots.{ArgumentFits, ArgumentsFit}
@@ -34,6 +36,23 @@ use Rattle.machine.specs.Agrees.{CallAgrees, CallsAgree}
 use Rattle.machine.proofs.Lists.{drop_next}
 use Rattle.texts.proofs.WordLaws.{both_true}
 use Rattle.machine.specs.Loading.{IsNumberOf, IsCallOf, refused_calls}
+
+-- ---- functions
+
+pub numbered_found : (p : Lowered) (items : List Item) (name : Identifier) (r : Option NumberedFunction) → items ≡ p.unit → option_map (λ (f : NumberedFunction). function_tree f.function.now) r ≡ function_at (unit_tree items) name
+    → IfSome r (λ f. slice_get (functions_of (unit_tree items)) f.number ≡ Some (function_tree f.function.now)) → IfSome r (λ f. f.function.now.name ≡ name)
+    → IfSome r (λ f. IsNumberOf p name f.number f.function.now)
+numbered_found p items name None same named numbered has = tt
+numbered_found p items name (Some f) same named numbered has = record {
+  named = sym (named ∙ ap (λ (is : List Item). function_at (unit_tree is) name) same);
+  numbered = subst (λ (is : List Item). slice_get (functions_of (unit_tree is)) f.number ≡ Some (function_tree f.function.now)) same numbered;
+  has_name = has;
+}
+
+pub none_found : (p : Lowered) (items : List Item) (name : Identifier) (r : Option NumberedFunction) → items ≡ p.unit → option_map (λ (f : NumberedFunction). function_tree f.function.now) r ≡ function_at (unit_tree items) name
+    → IfNone r (function_at (unit_tree p.unit) name ≡ None)
+none_found p items name None same named = sym (named ∙ ap (λ (is : List Item). function_at (unit_tree is) name) same)
+none_found p items name (Some f) same named = tt
 
 -- ---- arguments
 

@@ -23,10 +23,11 @@ ghost use Rattle.machine.specs.Loading.{IsNumberOf, IsCallOf, IsFirstOf, refused
 use crate::fault::LoadFault;
 use crate::thread::{Ending, PendingCall, Thread};
 use classes::mangling::unmangle;
+use functions::{Functions, NumberedFunction};
 use lower::Program;
 use std::alloc::{AllocError, Global};
 use std::collections::VecDeque;
-use syntax::{Function, Item, Parameter, ParameterType};
+use syntax::{Parameter, ParameterType};
 use world::{Call, ObjectValue, World};
 
 /// The world's threads before their first calls.
@@ -40,9 +41,10 @@ pub fn load_threads(
     ensures all { OnOk result (flat_map (refused_calls (unit_tree program.now.unit) world.now.classes) world.now.threads ≡ []) }
     ensures refused { IfErr result (IsFirstOf (flat_map (refused_calls (unit_tree program.now.unit) world.now.classes) world.now.threads)) }
 {
+    let functions = Functions::of(alloc, program.items())?;
     let mut threads = Vec::new(alloc);
     for calls in world.threads() {
-        match load_thread(alloc, program, world, calls) {
+        match load_thread(alloc, program, &functions, world, calls) {
             Ok(thread) => threads.push(thread)?,
             Err(fault) => return Err(fault),
         }
@@ -54,9 +56,11 @@ pub fn load_threads(
 fn load_thread(
     alloc: Global,
     program: &Program<'_>,
+    functions: &Functions<'_>,
     world: &World,
     calls: &[Call],
 ) -> Result<Thread, LoadFault>
+    requires functions { functions.now ≡ program.now.unit }
     requires some { IsTrue (has_call calls.now) }
     requires given { IsTrue (list_all (are_arguments (length (loaded_objects world.now))) calls.now) }
     ensures agrees { IfOk result (λ thread. (space : Space) (own : Owners) (shared : Shared) → ThreadAgrees program.now world.now.classes space (length (loaded_objects world.now)) own shared thread
@@ -66,7 +70,7 @@ fn load_thread(
 {
     let mut nexts = VecDeque::new(alloc);
     for call in calls {
-        match load_call(alloc, program, world, call)? {
+        match load_call(alloc, program, functions, world, call)? {
             Some(next) => nexts.push_back(next)?,
             None => return Err(LoadFault::DoesNotFit(call.line())),
         }
@@ -83,13 +87,15 @@ fn load_thread(
 fn load_call(
     alloc: Global,
     program: &Program<'_>,
+    functions: &Functions<'_>,
     world: &World,
     call: &Call,
 ) -> Result<Option<PendingCall>, AllocError>
-    requires { IsTrue (are_arguments (length (loaded_objects world.now)) call.now) }
+    requires functions { functions.now ≡ program.now.unit }
+    requires given { IsTrue (are_arguments (length (loaded_objects world.now)) call.now) }
     ensures { IfOk result (IsCallOf program.now world.now.classes (length (loaded_objects world.now)) call.now) }
 {
-    let Some(found) = function_named(program, call.function()) else {
+    let Some(found) = function_named(program, functions, call.function()) else {
         return Ok(None);
     };
     let Some(class) = native_class_number(alloc, world, call.function())? else {
@@ -145,30 +151,18 @@ fn fits(kind: ParameterType, argument: ObjectValue) -> bool
     }
 }
 
-/// A function of a program, with its place among the program's functions.
-#[derive(Clone, Copy)]
-struct NumberedFunction<'a> {
-    number: usize,
-    function: &'a Function,
-}
-
 /// The function of a name.
-fn function_named<'a>(program: &'a Program<'_>, name: &[u8]) -> Option<NumberedFunction<'a>>
+fn function_named<'a>(
+    program: &Program<'_>,
+    functions: &Functions<'a>,
+    name: &[u8],
+) -> Option<NumberedFunction<'a>>
+    requires { functions.now ≡ program.now.unit }
     ensures found { IfSome result (λ found. IsNumberOf program.now name.now found.number found.function.now) }
     ensures unknown { IfNone result (function_at (unit_tree program.now.unit) name.now ≡ None) }
     ensures tree { IsTree (unit_tree program.now.unit) }
 {
-    let mut number = 0;
-    for item in program.items() {
-        match item {
-            Item::Static(_) => {}
-            Item::Function(function) => {
-                if function.name.as_bytes() == name {
-                    return Some(NumberedFunction { number, function });
-                }
-                number += 1;
-            }
-        }
-    }
-    None
+    // Here the proof takes up that the unit is a tree.
+    let _ = program.items();
+    functions.find(name)
 }

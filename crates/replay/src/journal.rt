@@ -13,33 +13,33 @@ use crate::load::start;
 use crate::rows::{NamedObjects, root_names};
 use crate::state::{State, shown_stop, standings_of, take_entry};
 use crate::trap_at::TrapAt;
+use functions::Functions;
 use reached::reached_rows;
 use regions::Checked;
 use std::alloc::Global;
-use syntax::Item;
 use tasks::made_before;
 use world::{Entry, Sink, World, write_run};
 
 /// The state that the journal leads to.
 fn run<'a>(
     alloc: Global,
-    items: &'a [Item],
+    functions: &Functions<'a>,
     world: &'a World,
     journal: &[Entry],
 ) -> Result<State<'a>, ReplayFault>
-    requires tree { IsTree (unit_tree items.now) }
-    requires sorted { IsSorted (unit_tree items.now) }
-    requires calls { IsTrue (calls_are_built (unit_tree items.now)) }
+    requires tree { IsTree (unit_tree functions.now) }
+    requires sorted { IsSorted (unit_tree functions.now) }
+    requires calls { IsTrue (calls_are_built (unit_tree functions.now)) }
     requires few { length journal.now < 2 ^ 31 }
-    ensures end { IfOk result (Replayed (unit_tree items.now) world.now journal.now) }
-    ensures refused { IfErr result (IsRefused (unit_tree items.now) world.now journal.now) }
+    ensures end { IfOk result (Replayed (unit_tree functions.now) world.now journal.now) }
+    ensures refused { IfErr result (IsRefused (unit_tree functions.now) world.now journal.now) }
 {
-    let mut state = match start(alloc, items, world) {
+    let mut state = match start(alloc, functions, world) {
         Ok(state) => state,
         Err(fault) => return Err(fault),
     };
     for (done, entry) in journal.iter().enumerate() {
-        if !take_entry(alloc, items, &mut state, *entry)? {
+        if !take_entry(alloc, functions, &mut state, *entry)? {
             return Err(ReplayFault::Impossible(done + 1));
         }
     }
@@ -69,8 +69,8 @@ pub fn replay<W: Sink>(
     // Faults 82 and 91 are answered only where they must be.
     ensures only { IsReplayable (unit_tree checked.now) world.now journal.now → IfErr result IsFromOutside }
 {
-    let items = checked.items();
-    let state = match run(alloc, items, world, journal) {
+    let functions = Functions::of(alloc, checked.items())?;
+    let state = match run(alloc, &functions, world, journal) {
         Ok(state) => state,
         Err(fault) => return Err(fault),
     };

@@ -13,7 +13,8 @@ ghost use Rattle.replay.specs.Replays.{IsLoadFault};
 
 use crate::fault::ReplayFault;
 use crate::state::State;
-use crate::thread::{Ending, Thread, class_of, function_at};
+use crate::thread::{Ending, Thread, class_of};
+use functions::Functions;
 use std::alloc::{AllocError, Global};
 use syntax::{Function, Item, Parameter, ParameterType};
 use tasks::{Names, Shared, loaded_store};
@@ -60,11 +61,11 @@ fn is_callable(
 }
 
 /// Whether a call's function is there, and can be called.
-fn fits(alloc: Global, items: &[Item], world: &World, call: &Call) -> Result<bool, AllocError>
-    ensures { IfOk result (λ fits. fits ≡ call_loads (unit_tree items.now) world.now.classes call.now) }
+fn fits(alloc: Global, functions: &Functions<'_>, world: &World, call: &Call) -> Result<bool, AllocError>
+    ensures { IfOk result (λ fits. fits ≡ call_loads (unit_tree functions.now) world.now.classes call.now) }
 {
-    match function_at(items, call.function()) {
-        Some(function) => is_callable(alloc, world, function, call.arguments()),
+    match functions.find(call.function()) {
+        Some(found) => is_callable(alloc, world, found.function, call.arguments()),
         None => Ok(false),
     }
 }
@@ -72,14 +73,14 @@ fn fits(alloc: Global, items: &[Item], world: &World, call: &Call) -> Result<boo
 /// The line of the first of these calls that doesn't fit.
 fn first_unfit(
     alloc: Global,
-    items: &[Item],
+    functions: &Functions<'_>,
     world: &World,
     calls: &[Call],
 ) -> Result<Option<usize>, AllocError>
-    ensures { IfOk result (λ line. line ≡ first_line (refused_calls (unit_tree items.now) world.now.classes calls.now)) }
+    ensures { IfOk result (λ line. line ≡ first_line (refused_calls (unit_tree functions.now) world.now.classes calls.now)) }
 {
     for call in calls {
-        if !fits(alloc, items, world, call)? {
+        if !fits(alloc, functions, world, call)? {
             return Ok(Some(call.line()));
         }
     }
@@ -87,11 +88,11 @@ fn first_unfit(
 }
 
 /// The line of the first call of a thread that doesn't fit.
-fn first_fault(alloc: Global, items: &[Item], world: &World) -> Result<Option<usize>, AllocError>
-    ensures { IfOk result (λ line. line ≡ first_load_fault (unit_tree items.now) world.now) }
+fn first_fault(alloc: Global, functions: &Functions<'_>, world: &World) -> Result<Option<usize>, AllocError>
+    ensures { IfOk result (λ line. line ≡ first_load_fault (unit_tree functions.now) world.now) }
 {
     for calls in world.threads() {
-        let line = first_unfit(alloc, items, world, calls)?;
+        let line = first_unfit(alloc, functions, world, calls)?;
         if line.is_some() {
             return Ok(line);
         }
@@ -132,23 +133,23 @@ fn loaded<'a>(alloc: Global, items: &'a [Item], world: &World) -> Result<Shared<
 /// The state before the first entry.
 pub(crate) fn start<'a>(
     alloc: Global,
-    items: &'a [Item],
+    functions: &Functions<'a>,
     world: &'a World,
 ) -> Result<State<'a>, ReplayFault>
-    requires { IsSorted (unit_tree items.now) }
-    ensures stands { IfOk result (λ m. Stands (unit_tree items.now) world.now m (start (unit_tree items.now) world.now)) }
+    requires { IsSorted (unit_tree functions.now) }
+    ensures stands { IfOk result (λ m. Stands (unit_tree functions.now) world.now m (start (unit_tree functions.now) world.now)) }
     ensures range { IfOk result (λ m. AreInRange m.threads.items) }
     ensures few { IfOk result (λ m. length m.shared.store < 2 ^ 20) }
-    ensures fits { IfOk result (λ _. first_load_fault (unit_tree items.now) world.now ≡ None) }
-    ensures fault { IfErr result (IsLoadFault (unit_tree items.now) world.now) }
+    ensures fits { IfOk result (λ _. first_load_fault (unit_tree functions.now) world.now ≡ None) }
+    ensures fault { IfErr result (IsLoadFault (unit_tree functions.now) world.now) }
 {
-    if let Some(line) = first_fault(alloc, items, world)? {
+    if let Some(line) = first_fault(alloc, functions, world)? {
         return Err(ReplayFault::DoesNotFit(line));
     }
     Ok(State {
         threads: waiting_threads(alloc, world)?,
         world,
-        shared: loaded(alloc, items, world)?,
+        shared: loaded(alloc, functions.items(), world)?,
         printed: Vec::new(alloc),
         stop: None,
     })

@@ -15,8 +15,8 @@ ghost use Rattle.tasks.specs.Stores.{HasRoom, MakesAtMostOne};
 use crate::thread::{Ending, Step, Thread, is_unfinished, take_step};
 use crate::trap_at::TrapAt;
 use class_table::table::ClassTable;
+use functions::Functions;
 use std::alloc::{AllocError, Global};
-use syntax::Item;
 use tasks::Shared;
 use terms::{Trap, trap_number};
 use world::{Entry, Printed, ThreadStatus, World};
@@ -67,38 +67,38 @@ fn note(state: &mut State<'_>, k: u8, step: Step) -> Result<bool, AllocError>
 /// Takes an entry; false where it isn't possible.
 pub(crate) fn take_entry<'a>(
     alloc: Global,
-    items: &'a [Item],
+    functions: &Functions<'a>,
     state: &mut State<'a>,
     entry: Entry,
 ) -> Result<bool, AllocError>
-    requires tree { IsTree (unit_tree items.now) }
-    requires sorted { IsSorted (unit_tree items.now) }
-    requires calls { IsTrue (calls_are_built (unit_tree items.now)) }
+    requires tree { IsTree (unit_tree functions.now) }
+    requires sorted { IsSorted (unit_tree functions.now) }
+    requires calls { IsTrue (calls_are_built (unit_tree functions.now)) }
     requires range { AreInRange state.old.threads.items }
     requires room { HasRoom state.old.shared.store }
-    ensures step { IfOk result (λ possible. TakesEntry (unit_tree items.now) state.old entry possible state.new) }
+    ensures step { IfOk result (λ possible. TakesEntry (unit_tree functions.now) state.old entry possible state.new) }
     ensures range { IfOk result (λ _. AreInRange state.new.threads.items) }
     ensures made { IfOk result (λ _. MakesAtMostOne state.old.shared.store state.new.shared.store) }
 {
     match entry {
-        Entry::Step { thread, refused } => take_turn(alloc, items, state, thread, refused),
+        Entry::Step { thread, refused } => take_turn(alloc, functions, state, thread, refused),
     }
 }
 
 /// Takes the step of thread `k`, its allocation refused or not; false where it isn't possible.
 fn take_turn<'a>(
     alloc: Global,
-    items: &'a [Item],
+    functions: &Functions<'a>,
     state: &mut State<'a>,
     k: u8,
     refused: bool,
 ) -> Result<bool, AllocError>
-    requires tree { IsTree (unit_tree items.now) }
-    requires sorted { IsSorted (unit_tree items.now) }
-    requires calls { IsTrue (calls_are_built (unit_tree items.now)) }
+    requires tree { IsTree (unit_tree functions.now) }
+    requires sorted { IsSorted (unit_tree functions.now) }
+    requires calls { IsTrue (calls_are_built (unit_tree functions.now)) }
     requires range { AreInRange state.old.threads.items }
     requires room { HasRoom state.old.shared.store }
-    ensures step { IfOk result (λ possible. TakesEntry (unit_tree items.now) state.old (journal.Step k refused) possible state.new) }
+    ensures step { IfOk result (λ possible. TakesEntry (unit_tree functions.now) state.old (journal.Step k refused) possible state.new) }
     ensures range { IfOk result (λ _. AreInRange state.new.threads.items) }
     ensures made { IfOk result (λ _. MakesAtMostOne state.old.shared.store state.new.shared.store) }
 {
@@ -118,7 +118,7 @@ fn take_turn<'a>(
     }
     let step = take_step(
         alloc,
-        items,
+        functions,
         state.world,
         &mut state.shared,
         refused,

@@ -7,7 +7,7 @@ ghost use Rattle.syntax.specs.Views.{function_tree, parameter_tree, unit_tree};
 ghost use Rattle.types.specs.BuiltCalls.{calls_are_built};
 ghost use Rattle.types.specs.SortRules.{IsSorted};
 ghost use Rattle.world.specs.Views.{object_value_view};
-ghost use Rattle.source.specs.Activation.{function_at, parameter_variables, class_of_function, named_object, entry_frame, ending_after, calls_after};
+ghost use Rattle.source.specs.Activation.{parameter_variables, class_of_function, named_object, entry_frame, ending_after, calls_after};
 ghost use Rattle.source.specs.Step.{is_unfinished};
 ghost use Rattle.source.specs.Thread.{Shared as SharedOfThreads};
 ghost use Rattle.source.specs.Variable.{LocalRef};
@@ -17,8 +17,9 @@ ghost use Rattle.tasks.specs.Stores.{HasRoom, MakesAtMostOne};
 ghost use Rattle.terms.specs.Views.{assign_all, content_view, variables_view};
 
 use classes::mangling::unmangle;
+use functions::Functions;
 use std::alloc::{AllocError, Global};
-use syntax::{Function, Item, Parameter};
+use syntax::{Function, Parameter};
 use tasks::{Activation, Frames, Names, Outcome, Shared, Store, advance, class_named};
 use terms::{Content, Trap, Value, Variables};
 use world::{Call, ObjectValue, World};
@@ -59,23 +60,6 @@ pub(crate) enum Step {
     Trapped(Trap, usize),
     /// It is not possible.
     Impossible,
-}
-
-/// The function of this name; it compares the name with each.
-pub(crate) fn function_at<'a>(items: &'a [Item], name: &[u8]) -> Option<&'a Function>
-    ensures { option_map (λ f. function_tree f.now) result ≡ function_at (unit_tree items.now) name.now }
-{
-    for item in items {
-        match item {
-            Item::Static(_) => {}
-            Item::Function(function) => {
-                if function.name.as_bytes() == name {
-                    return Some(function);
-                }
-            }
-        }
-    }
-    None
 }
 
 /// What a parameter holds at first.
@@ -177,16 +161,16 @@ fn put_activation<'a>(place: &mut Option<Activation<'a>>, activation: Option<Act
 /// Enters the next call.
 fn enter<'a>(
     alloc: Global,
-    items: &'a [Item],
+    functions: &Functions<'a>,
     world: &World,
     refused: bool,
     thread: &mut Thread<'a>,
 ) -> Result<Step, AllocError>
-    requires tree { IsTree (unit_tree items.now) }
-    requires sorted { IsSorted (unit_tree items.now) }
-    requires calls { IsTrue (calls_are_built (unit_tree items.now)) }
+    requires tree { IsTree (unit_tree functions.now) }
+    requires sorted { IsSorted (unit_tree functions.now) }
+    requires calls { IsTrue (calls_are_built (unit_tree functions.now)) }
     requires idle { thread.old.activation ≡ None }
-    ensures step { IfOk result (λ took. (shared : SharedOfThreads) → TakesStep (unit_tree items.now) world.now.classes refused shared thread.old took shared thread.new) }
+    ensures step { IfOk result (λ took. (shared : SharedOfThreads) → TakesStep (unit_tree functions.now) world.now.classes refused shared thread.old took shared thread.new) }
     ensures range { IfOk result (λ _. WorkInRange thread.new.activation) }
 {
     // An entry makes no object that could be refused.
@@ -196,9 +180,10 @@ fn enter<'a>(
     let Some((call, rest)) = thread.calls.split_first() else {
         return Ok(Step::Impossible);
     };
-    let Some(function) = function_at(items, call.function()) else {
+    let Some(found) = functions.find(call.function()) else {
         return Ok(Step::Impossible);
     };
+    let function = found.function;
     let Some(class) = class_of(alloc, world, function)? else {
         return Ok(Step::Impossible);
     };
@@ -264,23 +249,23 @@ fn leave(store: &Store, thread: &mut Thread<'_>, pending: Option<u32>)
 /// Lets a thread that has not ended take its next step, or the same with its object refused.
 pub(crate) fn take_step<'a>(
     alloc: Global,
-    items: &'a [Item],
+    functions: &Functions<'a>,
     world: &'a World,
     shared: &mut Shared<'a>,
     refused: bool,
     thread: &mut Thread<'a>,
 ) -> Result<Step, AllocError>
-    requires tree { IsTree (unit_tree items.now) }
-    requires sorted { IsSorted (unit_tree items.now) }
-    requires calls { IsTrue (calls_are_built (unit_tree items.now)) }
+    requires tree { IsTree (unit_tree functions.now) }
+    requires sorted { IsSorted (unit_tree functions.now) }
+    requires calls { IsTrue (calls_are_built (unit_tree functions.now)) }
     requires range { WorkInRange thread.old.activation }
     requires room { HasRoom shared.old.store }
-    ensures step { IfOk result (λ took. TakesStep (unit_tree items.now) world.now.classes refused (shared_view shared.old) thread.old took (shared_view shared.new) thread.new) }
+    ensures step { IfOk result (λ took. TakesStep (unit_tree functions.now) world.now.classes refused (shared_view shared.old) thread.old took (shared_view shared.new) thread.new) }
     ensures range { IfOk result (λ _. WorkInRange thread.new.activation) }
     ensures made { IfOk result (λ _. MakesAtMostOne shared.old.store shared.new.store) }
 {
     let Some(activation) = &mut thread.activation else {
-        return enter(alloc, items, world, refused, thread);
+        return enter(alloc, functions, world, refused, thread);
     };
     match advance(alloc, world.classes(), shared, refused, activation)? {
         Outcome::Returned => {

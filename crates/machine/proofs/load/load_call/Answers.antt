@@ -41,4 +41,4 @@ returns c =
     let few : length w.classes ≤ length (loaded_objects w) = omega (arith, length-loaded w) in
     let known = ap (λ (n : List ℕ). option_and_then (class_named w.classes) (native_class n)) (sym c.function-2.ensures) ∙ sym c.in_ok-class.ensures ∙ c.in-Some-2.is in
     let given = ap (map object_value_view) c.in_ok-from_slice.ensures.items ∙ c.arguments-2.ensures in
-    call_found c.args.program.now w.classes (length (loaded_objects w)) c.args.call.now f (record { function = c.in-Some.found.number; class = c.in-Some-2.class; arguments = c.in_ok-from_slice.field-0 }) c.function_named.ensures.tree number few known given c.requires (fit ∙ c.if-not-fit.false)
+    call_found c.args.program.now w.classes (length (loaded_objects w)) c.args.call.now f (record { function = c.in-Some.found.number; class = c.in-Some-2.class; arguments = c.in_ok-from_slice.field-0 }) c.function_named.ensures.tree number few known given c.requires.given (fit ∙ c.if-not-fit.false)

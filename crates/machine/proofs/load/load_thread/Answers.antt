@@ -7,8 +7,8 @@ use Rattle.world.specs.CallArguments.{are_arguments}
 use Rattle.machine.proofs.Threads.{before_agrees}
 use Rattle.machine.proofs.load.load_thread.Goals as goal
 
-pub load_call-requires : goal.load_call-requires
-load_call-requires c =
+pub load_call-requires-clause-given : goal.load_call-requires-clause-given
+load_call-requires-clause-given c =
     passes_at (are_arguments (length (loaded_objects c.args.world.now))) c.args.calls.now c.loop-call.call-index _ c.requires.given
     (slice_get_read c.args.calls.now (length c.args.calls.now) c.loop-call.call-index c.call-item.result refl c.loop-call-test.true c.call-item.is)
 

@@ -12,8 +12,8 @@ returns-then-not-branch-clause-refused c =
     let journal = c.args.journal.now in
     let entry : Entry = get_or journal c.loop-done.done (Step 0 false) in
     let at = slice_get-get_or journal c.loop-done.done (Step 0 false) c.loop-done-test.true in
-    stops (unit_tree c.args.items.now) c.args.world.now journal c.loop-done.done entry c.loop-done.state c.take_entry.new.state at c.loop-done.invariant.replayed c.loop-done-test.true
-    (subst (λ b. TakesEntry (unit_tree c.args.items.now) c.loop-done.state entry b c.take_entry.new.state) c.if-not-branch.true c.in_ok-take_entry.ensures.step)
+    stops (unit_tree c.args.functions.now) c.args.world.now journal c.loop-done.done entry c.loop-done.state c.take_entry.new.state at c.loop-done.invariant.replayed c.loop-done-test.true
+    (subst (λ b. TakesEntry (unit_tree c.args.functions.now) c.loop-done.state entry b c.take_entry.new.state) c.if-not-branch.true c.in_ok-take_entry.ensures.step)
 
 pub loop-done-preserved : goal.loop-done-preserved
 loop-done-preserved c =
@@ -21,8 +21,8 @@ loop-done-preserved c =
     let entry : Entry = get_or journal c.loop-done.done (Step 0 false) in
     let at = slice_get-get_or journal c.loop-done.done (Step 0 false) c.loop-done-test.true in
     record {
-      replayed = goes_on (unit_tree c.args.items.now) c.args.world.now journal c.loop-done.done entry c.loop-done.state c.take_entry.new.state at c.loop-done.invariant.replayed
-          (subst (λ b. TakesEntry (unit_tree c.args.items.now) c.loop-done.state entry b c.take_entry.new.state) c.if-not-branch.false c.in_ok-take_entry.ensures.step)
+      replayed = goes_on (unit_tree c.args.functions.now) c.args.world.now journal c.loop-done.done entry c.loop-done.state c.take_entry.new.state at c.loop-done.invariant.replayed
+          (subst (λ b. TakesEntry (unit_tree c.args.functions.now) c.loop-done.state entry b c.take_entry.new.state) c.if-not-branch.false c.in_ok-take_entry.ensures.step)
           c.in_ok-take_entry.ensures.range;
       range = c.in_ok-take_entry.ensures.range;
       few = omega (arith, c.loop-done.invariant.few, c.in_ok-take_entry.ensures.made);

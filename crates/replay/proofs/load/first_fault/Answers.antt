@@ -8,7 +8,7 @@ use Rattle.replay.proofs.load.first_fault.Goals as goal
 
 pub returns-then-is_some : goal.returns-then-is_some
 returns-then-is_some c =
-    let unit = unit_tree c.args.items.now in
+    let unit = unit_tree c.args.functions.now in
     let classes = c.args.world.now.classes in
     let items = c.threads-calls-items.result.now in
     let at = slice_get_read items (length items) c.loop-calls.calls-index c.calls-item.result refl c.loop-calls-test.true c.calls-item.is in
@@ -17,7 +17,7 @@ returns-then-is_some c =
 
 pub loop-calls-preserved : goal.loop-calls-preserved
 loop-calls-preserved c =
-    let unit = unit_tree c.args.items.now in
+    let unit = unit_tree c.args.functions.now in
     let classes = c.args.world.now.classes in
     let items = c.threads-calls-items.result.now in
     let at = slice_get_read items (length items) c.loop-calls.calls-index c.calls-item.result refl c.loop-calls-test.true c.calls-item.is in

@@ -7,5 +7,5 @@ use Rattle.replay.proofs.load.first_fault.Given as goal
 
 abbrev pub invariant-loop-calls : goal.invariant-loop-calls
 invariant-loop-calls l =
-    flat_map (refused_calls (unit_tree l.items) l.world.classes) (calls_of l.calls-items)
-    ≡ flat_map (refused_calls (unit_tree l.items) l.world.classes) (calls_of (drop l.calls-index l.calls-items))
+    flat_map (refused_calls (unit_tree l.functions) l.world.classes) (calls_of l.calls-items)
+    ≡ flat_map (refused_calls (unit_tree l.functions) l.world.classes) (calls_of (drop l.calls-index l.calls-items))

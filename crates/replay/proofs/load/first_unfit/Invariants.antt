@@ -5,5 +5,5 @@ use Rattle.replay.proofs.load.first_unfit.Given as goal
 
 abbrev pub invariant-loop-call : goal.invariant-loop-call
 invariant-loop-call l =
-    refused_calls (unit_tree l.items) l.world.classes l.calls
-    ≡ refused_calls (unit_tree l.items) l.world.classes (drop l.call-index l.calls)
+    refused_calls (unit_tree l.functions) l.world.classes l.calls
+    ≡ refused_calls (unit_tree l.functions) l.world.classes (drop l.call-index l.calls)

@@ -5,7 +5,7 @@ use Rattle.replay.proofs.load.start.Goals as goal
 
 pub returns-clause-stands : goal.returns-clause-stands
 returns-clause-stands c =
-    let unit = unit_tree c.args.items.now in
+    let unit = unit_tree c.args.functions.now in
     let w = c.args.world.now in
     let none = no_call (refused unit w.classes w.threads) c.in_ok-line.field-0 c.in_ok-line.ensures (not_some c.in_ok-line.field-0 c.in_default.not-Some) in
     record {

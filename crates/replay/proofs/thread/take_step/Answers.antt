@@ -9,7 +9,7 @@ use Rattle.replay.proofs.thread.take_step.Goals as goal
 
 pub returns-in-Returned-clause-step : goal.returns-in-Returned-clause-step
 returns-in-Returned-clause-step c = λ s lent k h live.
-    let unit = unit_tree c.args.items.now in
+    let unit = unit_tree c.args.functions.now in
     let shared = shared_view c.args.shared.now in
     let after = c.advance.new.shared in
     let a = c.in-Some.activation in
@@ -21,7 +21,7 @@ returns-in-Returned-clause-step c = λ s lent k h live.
 pub returns-in_default-2 : goal.returns-in_default-2
 returns-in_default-2 c = record {
   step = λ s lent k h live.
-      let unit = unit_tree c.args.items.now in
+      let unit = unit_tree c.args.functions.now in
       let shared = shared_view c.args.shared.now in
       let after = c.advance.new.shared in
       let a = c.in-Some.activation in
