@@ -122,7 +122,7 @@ pub invoke-requires : goal.invoke-requires
 invoke-requires c =
     let s = c.requires.stands in
     let f = fetched (goal.at.invoke-requires c).After-unwrap-instr in
-    record { at_call = (c.args.program.now, s.0, s.1, s.2, s.3, s.4, at_call c.args.program.now c.args.world.now c.args.store.now c.args.pending.now c.args.call.now c.unwrap-instr.result.now f c.call-function.result.now (c.in-Call.is ∙ ap (λ (x : Call). instr.Call x) (sym c.call-function.ensures)) s.0 s.1 s.2 s.3 s.4 s.5); place = limit_of c.get.result c.unwrap-instr.result (c.args.call.now.place + 1 < 2 ^ 64) c.get.ensures.limit c.unwrap-instr.ensures }
+    record { at_call = (c.args.program.now, s.0, s.1, s.2, s.3, s.4, at_call c.args.program.now c.args.world.now c.args.store.now c.args.pending.now c.args.call.now c.unwrap-instr.result.now f c.call-function.result.now (c.in-Call.is ∙ ap (λ (x : Call). instr.Call x) (sym c.call-function.ensures.view)) s.0 s.1 s.2 s.3 s.4 s.5); place = limit_of c.get.result c.unwrap-instr.result (c.args.call.now.place + 1 < 2 ^ 64) c.get.ensures.limit c.unwrap-instr.ensures; prepared = c.call-function.ensures.prepared }
 
 pub returns-in-TestNull-clause-done : goal.returns-in-TestNull-clause-done
 returns-in-TestNull-clause-done c lent k own shared s task rest e =
@@ -179,21 +179,21 @@ returns-in-Done-clause-done c lent k own shared s task rest e =
     let f = fetched (goal.at.returns-in-Done-clause-done c).After-unwrap-instr in
     subst (λ (x : Invoked). Executes c.args.program.now c.args.world.now c.args.store.now.heap c.invoke.new.store lent k own shared s rest c.invoke.new.call c.invoke.new.pending (effect_of (sight_of shared s) task) (executed_as c.call-function.result.now.line x)) c.in-Done.is
     (c.in_ok-invoke-in-Call.ensures.done c.args.program.now lent k own shared s task rest
-    (at_call c.args.program.now c.args.world.now c.args.store.now c.args.pending.now c.args.call.now c.unwrap-instr.result.now f c.call-function.result.now (c.in-Call.is ∙ ap (λ (x : Call). instr.Call x) (sym c.call-function.ensures)) own shared s task rest e))
+    (at_call c.args.program.now c.args.world.now c.args.store.now c.args.pending.now c.args.call.now c.unwrap-instr.result.now f c.call-function.result.now (c.in-Call.is ∙ ap (λ (x : Call). instr.Call x) (sym c.call-function.ensures.view)) own shared s task rest e))
 
 pub returns-in-Refused-clause-done : goal.returns-in-Refused-clause-done
 returns-in-Refused-clause-done c lent k own shared s task rest e =
     let f = fetched (goal.at.returns-in-Refused-clause-done c).After-unwrap-instr in
     subst (λ (x : Invoked). Executes c.args.program.now c.args.world.now c.args.store.now.heap c.invoke.new.store lent k own shared s rest c.invoke.new.call c.invoke.new.pending (effect_of (sight_of shared s) task) (executed_as c.call-function.result.now.line x)) c.in-Refused.is
     (c.in_ok-invoke-in-Call.ensures.done c.args.program.now lent k own shared s task rest
-    (at_call c.args.program.now c.args.world.now c.args.store.now c.args.pending.now c.args.call.now c.unwrap-instr.result.now f c.call-function.result.now (c.in-Call.is ∙ ap (λ (x : Call). instr.Call x) (sym c.call-function.ensures)) own shared s task rest e))
+    (at_call c.args.program.now c.args.world.now c.args.store.now c.args.pending.now c.args.call.now c.unwrap-instr.result.now f c.call-function.result.now (c.in-Call.is ∙ ap (λ (x : Call). instr.Call x) (sym c.call-function.ensures.view)) own shared s task rest e))
 
 pub returns-in-Trapped-clause-done : goal.returns-in-Trapped-clause-done
 returns-in-Trapped-clause-done c lent k own shared s task rest e =
     let f = fetched (goal.at.returns-in-Trapped-clause-done c).After-unwrap-instr in
     subst (λ (x : Invoked). Executes c.args.program.now c.args.world.now c.args.store.now.heap c.invoke.new.store lent k own shared s rest c.invoke.new.call c.invoke.new.pending (effect_of (sight_of shared s) task) (executed_as c.call-function.result.now.line x)) c.in-Trapped.is
     (c.in_ok-invoke-in-Call.ensures.done c.args.program.now lent k own shared s task rest
-    (at_call c.args.program.now c.args.world.now c.args.store.now c.args.pending.now c.args.call.now c.unwrap-instr.result.now f c.call-function.result.now (c.in-Call.is ∙ ap (λ (x : Call). instr.Call x) (sym c.call-function.ensures)) own shared s task rest e))
+    (at_call c.args.program.now c.args.world.now c.args.store.now c.args.pending.now c.args.call.now c.unwrap-instr.result.now f c.call-function.result.now (c.in-Call.is ∙ ap (λ (x : Call). instr.Call x) (sym c.call-function.ensures.view)) own shared s task rest e))
 
 pub returns-in-Return-clause-done : goal.returns-in-Return-clause-done
 returns-in-Return-clause-done c lent k own shared s task rest e =
