@@ -1,4 +1,4 @@
-use Rattle.std.proofs.Common.{◌≡◌, ℕ, true, List, Some, length, map, refl, sym, ap, ◌∙◌, subst}
+use Rattle.std.proofs.Common.{◌≡◌, ℕ, ◌+◌, true, List, Some, length, map, refl, sym, ap, ◌∙◌, subst}
 use Rattle.std.specs.Global.{Vec}
 use Rattle.std.specs.List.{list_all}
 use Rattle.std.specs.Option.{option_map}
@@ -10,9 +10,10 @@ use Rattle.world.specs.CallArguments.{are_arguments}
 use Rattle.world.specs.SoundWorlds.{has_call}
 use Rattle.source.specs.World.{Invocation, loaded_objects}
 use Rattle.source.specs.Start.{waiting_thread}
-use Rattle.machine.specs.Agrees.{ThreadsAgree}
+use Rattle.machine.specs.declared.thread.Thread.{Thread}
+use Rattle.machine.specs.Agrees.{ThreadAgrees, ThreadsAgree}
 use Rattle.machine.specs.Loading.{IsFirstOf, refused_calls}
-use Rattle.machine.proofs.ThreadLoads.{all_agree, refused_at, none_refused}
+use Rattle.machine.proofs.ThreadLoads.{AgreeSoFar, all_agree, loads_at, none_refused, one_more, refused_at}
 use Rattle.machine.proofs.load.load_threads.Goals as goal
 
 -- the calls of a thread
@@ -63,3 +64,19 @@ returns-clause-all c =
     let items = c.threads-calls-items.result.now in
     ap (λ (cs : List (List Invocation)). flat_map (refused_calls unit classes) cs) (sym c.threads-calls-items.ensures.calls)
     ∙ c.loop-calls.invariant.all ∙ none_refused unit classes items c.loop-calls.calls-index c.loop-calls-test.false
+
+pub loop-calls-preserved : goal.loop-calls-preserved
+loop-calls-preserved c =
+    let p = c.args.program.now in
+    let classes = c.args.world.now.classes in
+    let made = length (loaded_objects c.args.world.now) in
+    let items = c.threads-calls-items.result.now in
+    let k = c.loop-calls.calls-index in
+    let at = slice_get_read items (length items) k c.calls-item.result refl c.loop-calls-test.true c.calls-item.is in
+    record {
+      agree = λ space shared. subst (λ (ts : List Thread). AgreeSoFar p classes space made shared items (k + 1) ts) (sym c.in_ok-push-in-Ok.ensures.items)
+          (one_more p classes space made shared items k c.calls-item.result c.in-Ok.thread c.loop-calls.threads.items at
+          (λ own. subst (λ (cs : List Invocation). ThreadAgrees p classes space made own shared c.in-Ok.thread (waiting_thread cs)) c.deref.ensures.value (c.in-Ok.ensures.agrees space own shared))
+          (c.loop-calls.invariant.agree space shared));
+      all = c.loop-calls.invariant.all ∙ loads_at (unit_tree p.unit) classes items k c.calls-item.result at (ap (refused_calls (unit_tree p.unit) classes) (sym c.deref.ensures.value) ∙ c.in-Ok.ensures.all);
+    }

@@ -6,7 +6,7 @@ use Rattle.replay.proofs.journal.run.Given as goal
 
 abbrev pub invariant-loop-done : goal.invariant-loop-done
 invariant-loop-done l = record {
-  replayed : Replayed (unit_tree l.fn.items) l.fn.world (take l.done l.journal) l.state;
+  replayed : Replayed (unit_tree l.fn.functions) l.fn.world (take l.done l.journal) l.state;
   range : AreInRange l.state.threads.items;
   few : length l.state.shared.store < 2 ^ 20 + l.done;
 }
