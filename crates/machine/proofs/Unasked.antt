@@ -11,7 +11,7 @@ use Rattle.jni.specs.JniFunction.{JniFunction, AllocObject, GetField, SetField, 
 use Rattle.jni.specs.Prototype.{ParameterKind, Nullable, LocalVariable}
 use Rattle.source.specs.Checks.{first_trap}
 use Rattle.source.specs.Value.{Trap}
-use Rattle.machine.specs.Checked.{arguments_asked, class_misfits, fit_together, gives_deleted, gives_null, may_be_null, misfits, some_misfit, some_missing}
+use Rattle.machine.specs.Checked.{arguments_asked, fit_together, gives_deleted, gives_null, may_be_null, misfits, some_misfit, some_missing}
 use Rattle.machine.specs.Given.{operand_at}
 use Rattle.machine.specs.Statics.{References}
 

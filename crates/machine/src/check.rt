@@ -277,10 +277,7 @@ fn fit_together(
         }
         JniFunction::GetField(element) | JniFunction::SetField(element) => {
             has_field(classes, heap, references, fields, operands)
-                && holds_number(
-                    element_type(element),
-                    asked_type(classes, fields, operands),
-                )
+                && holds_number(element_type(element), asked_type(classes, fields, operands))
         }
         JniFunction::GetObjectField => {
             has_field(classes, heap, references, fields, operands)
@@ -289,19 +286,11 @@ fn fit_together(
         JniFunction::SetObjectField => {
             let value = reference_at(heap, references, operands, 2);
             has_field(classes, heap, references, fields, operands)
-                && fits_type(
-                    classes,
-                    heap,
-                    value,
-                    asked_type(classes, fields, operands),
-                )
+                && fits_type(classes, heap, value, asked_type(classes, fields, operands))
         }
         JniFunction::GetStaticField(element) | JniFunction::SetStaticField(element) => {
             has_static(classes, heap, references, fields, operands)
-                && holds_number(
-                    element_type(element),
-                    asked_type(classes, fields, operands),
-                )
+                && holds_number(element_type(element), asked_type(classes, fields, operands))
         }
         JniFunction::GetStaticObjectField => {
             has_static(classes, heap, references, fields, operands)
@@ -310,12 +299,7 @@ fn fit_together(
         JniFunction::SetStaticObjectField => {
             let value = reference_at(heap, references, operands, 2);
             has_static(classes, heap, references, fields, operands)
-                && fits_type(
-                    classes,
-                    heap,
-                    value,
-                    asked_type(classes, fields, operands),
-                )
+                && fits_type(classes, heap, value, asked_type(classes, fields, operands))
         }
         _ => true,
     }

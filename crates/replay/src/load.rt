@@ -61,7 +61,12 @@ fn is_callable(
 }
 
 /// Whether a call's function is there, and can be called.
-fn fits(alloc: Global, functions: &Functions<'_>, world: &World, call: &Call) -> Result<bool, AllocError>
+fn fits(
+    alloc: Global,
+    functions: &Functions<'_>,
+    world: &World,
+    call: &Call,
+) -> Result<bool, AllocError>
     ensures { IfOk result (λ fits. fits ≡ call_loads (unit_tree functions.now) world.now.classes call.now) }
 {
     match functions.find(call.function()) {
@@ -88,7 +93,11 @@ fn first_unfit(
 }
 
 /// The line of the first call of a thread that doesn't fit.
-fn first_fault(alloc: Global, functions: &Functions<'_>, world: &World) -> Result<Option<usize>, AllocError>
+fn first_fault(
+    alloc: Global,
+    functions: &Functions<'_>,
+    world: &World,
+) -> Result<Option<usize>, AllocError>
     ensures { IfOk result (λ line. line ≡ first_load_fault (unit_tree functions.now) world.now) }
 {
     for calls in world.threads() {

@@ -3,7 +3,6 @@ use Rattle.std.proofs.Common.{◌≡◌, ℕ, ◌≤◌, Bool, true, false, cond
 use Rattle.std.specs.Prelude.{not, ◌==◌, filter, IfOk}
 use Rattle.std.specs.List.{enumerate_from}
 use Rattle.base.specs.Bytes.{is_some_byte}
-use Rattle.classes.specs.BuiltIns.{built_ins}
 use Rattle.source.specs.World.{World}
 use Rattle.texts.specs.LineRules.{LineRule}
 use Rattle.texts.specs.Reading.{◌>>=◌, refused, Gives, Fails}
@@ -23,7 +22,6 @@ use Rattle.world_text.specs.ReadingLines.{heap_of_line, line_of}
 use Rattle.world_text.specs.ReadingWorlds.{held_rule, rule_broken, ruled, line_read, lines_read, heap_read, last_number, world_read, numbered_read, world_of_text}
 use Rattle.world.specs.SoundWorlds.{IsSound}
 use Rattle.world.specs.WorldLines.{WorldLine, Lines, text_lines}
-use Rattle.world.specs.WorldMeaning.{cells_of}
 use Rattle.world.specs.WorldRules.{part_of, IsWorldText}
 use Rattle.world_text.proofs.GatheredLines.{AreGathered, rule_same}
 use Rattle.world_text.proofs.GatheredNext.{gathered_next, are_gathered}

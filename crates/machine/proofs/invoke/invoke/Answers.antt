@@ -7,7 +7,7 @@ use Rattle.classes.specs.Grown.{IsGrown}
 use Rattle.class_table.specs.declared.class.FieldHandle.{FieldHandle}
 use Rattle.jni.specs.JniFunction.{JniFunction, prototype, is_built_function}
 use Rattle.jni.specs.Prototype.{ResultKind}
-use Rattle.jni.specs.Table.{Facts, function_value, result_value}
+use Rattle.jni.specs.Table.{function_value, result_value}
 use Rattle.source.specs.CallStep.{trap_of_call}
 use Rattle.source.specs.CallTable.{call_effect}
 use Rattle.source.specs.Effect.{effect_of}

@@ -1,4 +1,3 @@
-use Rattle.std.proofs.Common.{◌≡◌, List, subst}
 use Rattle.machine.proofs.LoadLemmas.{numbered_found, none_found}
 use Rattle.machine.proofs.load.function_named.Goals as goal
 
