@@ -8,13 +8,13 @@ mod table;
 use crate::table::{FAULTS, TRAPS};
 
 /// What is said of a fault or a trap.
-#[derive(Clone, Copy, Debug)]
+#[derive(Clone, Copy)]
 pub struct Explanation {
     pub number: u32,
     /// In a few words.
-    pub title: &'static str,
+    pub title: &'static [u8],
     /// All of it: some lines, each with its line feed.
-    pub text: &'static str,
+    pub text: &'static [u8],
 }
 
 /// What is said of the number.

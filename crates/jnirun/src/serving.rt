@@ -68,10 +68,10 @@ fn run_texts<W: Sink>(
 }
 
 /// What a trap is, in a few words.
-fn words_of_trap(number: u8) -> &'static str {
+fn words_of_trap(number: u8) -> &'static [u8] {
     match explanations::trap(u32::from(number)) {
         Some(explanation) => explanation.title,
-        None => "the program stops",
+        None => b"the program stops",
     }
 }
 
@@ -90,15 +90,15 @@ fn tell_trap<E: Sink>(command: Command<'_>, program: &[u8], trap: Option<TrapAt>
         program,
         u32::from(trap.number),
         Place::Line(Text::Program, trap.line),
-        words_of_trap(trap.number).as_bytes(),
+        words_of_trap(trap.number),
     );
 }
 
 /// What a fault is, in a few words.
-fn words_of(number: u32) -> &'static str {
+fn words_of(number: u32) -> &'static [u8] {
     match explanations::fault(number) {
         Some(explanation) => explanation.title,
-        None => "the text is refused",
+        None => b"the text is refused",
     }
 }
 
@@ -128,7 +128,7 @@ fn refuse<O: Sink, E: Sink>(
                 texts.of(text),
                 number,
                 place,
-                words_of(number).as_bytes(),
+                words_of(number),
             );
             REFUSED
         }
