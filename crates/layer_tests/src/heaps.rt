@@ -1,3 +1,5 @@
+//! The heap: each public call once with success, at numbers counted by hand.
+
 use heap::{Addr, Heap, Value};
 use std::test::Fail;
 

@@ -1,3 +1,5 @@
+//! Local and global references: each public call once with success, and each refusal once.
+
 use heap::Addr;
 use std::test::Fail;
 use tables::{Globals, Locals, TableFault};

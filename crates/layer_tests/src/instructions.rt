@@ -1,3 +1,5 @@
+//! Code: each public call with success, at words worked out by hand from ISO/IEC 9899:1999.
+
 use code::code::Code;
 use code::instr::{
     BoxedCall, Call, ElementType, Instr, LocalArray, NullableVariable, Operand, Operator, Plain,

@@ -1,3 +1,5 @@
+//! Class tables: each public call once with success.
+
 use class_table::built_ins::{is_after_built_ins, number_array};
 use class_table::class::{ClassKind, ElementType, FieldType};
 use class_table::fault::{ClassError, ClassRule, FieldError};
