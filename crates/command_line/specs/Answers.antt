@@ -1,34 +1,19 @@
--- What the program answers, by what `clap` made of the words.
-use Rattle.std.specs.Prelude.{◌≡◌, ◌≢◌, ℕ, Bool, IsTrue, ◌||◌, List, Option, Some, None, Result, Ok, Err, codes, bytes_eq}
-use Rattle.std.specs.List.{list_any}
-use Rattle.clap.specs.declared.error.Error.{Error}
-use Rattle.clap.specs.declared.error.kind.ErrorKind.TheVariants.{DisplayHelp, DisplayVersion}
-use Rattle.clap.specs.Values.{kind_of}
+-- What the program answers, by what its words ask for.
+use Rattle.std.specs.Prelude.{◌≡◌, ℕ, List, Option, Some, None, codes}
 use Rattle.report.specs.Sink.{Written}
-use Rattle.jnirun.specs.Runs.{AppendsRun, StopsRun}
-use Rattle.jnirun.specs.Serve.{Tells, Serves}
+use Rattle.pipeline.specs.Runs.{AppendsRun, StopsRun}
+use Rattle.commands.specs.Saying.{Tells}
+use Rattle.jnirun.specs.Serve.{Serves}
 use Rattle.explanations.specs.declared.Explanation.{Explanation}
-use Rattle.command_line.specs.declared.words.Asked.{Asked}
-use Rattle.command_line.specs.declared.words.Asked.TheVariants.{Serve, Explain}
-
--- ---- words that ask for help
-
--- a word that asks for the usage or the version
-abbrev pub is_help_word : List ℕ → Bool
-is_help_word word =
-    bytes_eq word (codes "--help") || bytes_eq word (codes "-h") || bytes_eq word (codes "help") || bytes_eq word (codes "--version") || bytes_eq word (codes "-V")
-
--- one of the words does
-abbrev pub asks_for_help : {S : Type 0} → (S → List ℕ) → List S → Bool
-asks_for_help text words = list_any (λ word. is_help_word (text word)) words
+use Rattle.words.specs.declared.request.Request.{Request}
+use Rattle.words.specs.declared.request.Request.TheVariants.{Serve, Explain, Show, Misuse, LacksSchedule, LacksMemory}
 
 -- ---- texts for a reader
 
--- What is done where a text is for the reader, and the status: such a text is said; there is none; or something failed.
+-- What is done where a text is for the reader, and the status: such a text is said; there is none; or standard output failed.
 pub data Shows (IsText : List ℕ → Type 0) (out out_after err err_after : Written) : (status : ℕ) → Type 0 where
   is_said : AppendsRun out out_after IsText → err_after ≡ err → Shows IsText out out_after err err_after 0
   is_none : (words : List ℕ) → ((text : List ℕ) → IsText text → ⊥) → out_after ≡ out → Tells err err_after words → Shows IsText out out_after err err_after 2
-  lacks_memory : out_after ≡ out → Tells err err_after (codes "memory\n") → Shows IsText out out_after err err_after 3
   loses_text : StopsRun out out_after IsText → Tells err err_after (codes "writer\n") → Shows IsText out out_after err err_after 3
 
 -- the text of an explanation, where there is one
@@ -36,13 +21,17 @@ abbrev pub IsTextOf : Option Explanation → List ℕ → Type 0
 IsTextOf None text = ⊥
 IsTextOf (Some explanation) text = text ≡ explanation.text.now
 
--- a word asks for help, and `clap` answered with its help or its version
-abbrev pub IsHelp : (asks : Bool) → Error → Type 0
-IsHelp asks error = IsTrue asks × (((kind_of error ≢ DisplayHelp) × (kind_of error ≢ DisplayVersion)) → ⊥)
+-- nothing is done, which is told on standard error
+abbrev pub Declines : (words : List ℕ) → (err err_after : Written) → (status : ℕ) → Type 0
+Declines words err err_after status = (status ≡ 2) × Tells err err_after words
+
+-- ---- the program
 
 -- what the program answers
-abbrev pub Answers : (gives : List ℕ → List ℕ → Type 0) → (asks : Bool) → Result (Option Asked) Error → (out out_after err err_after : Written) → (status : ℕ) → Type 0
-Answers gives asks (Ok (Some (Serve command))) out out_after err err_after status = Serves gives command out out_after err err_after status
-Answers gives asks (Ok (Some (Explain explanation))) out out_after err err_after status = Shows (IsTextOf explanation) out out_after err err_after status
-Answers gives asks (Ok None) out out_after err err_after status = (status ≡ 2) × (out_after ≡ out)
-Answers gives asks (Err error) out out_after err err_after status = Shows (λ text. IsHelp asks error) out out_after err err_after status
+abbrev pub Answers : (gives : List ℕ → List ℕ → Type 0) → Request → (out out_after err err_after : Written) → (status : ℕ) → Type 0
+Answers gives (Serve command) out out_after err err_after status = Serves gives command out out_after err err_after status
+Answers gives (Explain explanation) out out_after err err_after status = Shows (IsTextOf explanation) out out_after err err_after status
+Answers gives (Show text) out out_after err err_after status = Shows (λ t. t ≡ text) out out_after err err_after status
+Answers gives (Misuse text) out out_after err err_after status = (out_after ≡ out) × Declines text err err_after status
+Answers gives LacksSchedule out out_after err err_after status = (out_after ≡ out) × Declines (codes "error: run needs --schedule FILE\n") err err_after status
+Answers gives LacksMemory out out_after err err_after status = (out_after ≡ out) × (status ≡ 3) × Tells err err_after (codes "memory\n")

@@ -3,10 +3,8 @@
 #![tactic(auto)]
 
 mod answering;
-mod words;
 
 use crate::answering::answer;
-use crate::words::parse;
 use jnirun::{COMMAND_LINE, FileSystem, fail};
 use report::StdSink;
 use std::process::ExitCode;
@@ -21,14 +19,7 @@ fn main(rt: HostRuntime) -> ExitCode {
     let Ok(words) = args.collect::<Vec<String>>(rt.alloc()) else {
         return ExitCode::from(fail(&mut err, b"memory\n"));
     };
-    let asked = parse(rt.alloc(), words.as_slice());
-    let status = answer(
-        rt.alloc(),
-        words.as_slice(),
-        &asked,
-        &mut files,
-        &mut out,
-        &mut err,
-    );
+    let request = words::read(rt.alloc(), words.as_slice());
+    let status = answer(rt.alloc(), &request, &mut files, &mut out, &mut err);
     ExitCode::from(status)
 }

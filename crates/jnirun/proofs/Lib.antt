@@ -1,9 +1,1 @@
-mod Puts
-mod Refusals
-mod Acceptances
-mod CheckLemmas
-mod RunLemmas
-mod ReplayLemmas
-mod ReplayLaws
-mod TellingLemmas
 mod ServeLemmas

@@ -2,15 +2,16 @@
 use Rattle.std.proofs.Common.{◌≡◌, ℕ, List, Some, Result, Ok, Err, inl, inr, refl, subst}
 use Rattle.std.specs.Prelude.{codes}
 use Rattle.report.specs.Sink.{Written, AppendsText, Writes}
-use Rattle.jnirun.specs.declared.command.Command.{Command}
-use Rattle.jnirun.specs.declared.fault.Place.{Place}
-use Rattle.jnirun.specs.declared.fault.Place.TheVariants.{Line}
-use Rattle.jnirun.specs.declared.fault.Text.{Text}
-use Rattle.jnirun.specs.declared.fault.Text.TheVariants as which
+use Rattle.commands.specs.declared.command.Command.{Command}
+use Rattle.commands.specs.declared.place.Place.{Place}
+use Rattle.commands.specs.declared.place.Place.TheVariants.{Line}
+use Rattle.commands.specs.declared.place.Text.{Text}
+use Rattle.commands.specs.declared.place.Text.TheVariants as which
 use Rattle.replay.specs.declared.trap_at.TrapAt.{TrapAt}
-use Rattle.jnirun.specs.Commands.{name_of, text_of, text_at}
-use Rattle.jnirun.specs.Serve.{Tells, TextsEarn, fault_line, error_text, trap_text, TellsTrap, ServesTexts, is_refused}
-use Rattle.jnirun.specs.Telling.{told}
+use Rattle.commands.specs.Commands.{name_of, text_of, text_at}
+use Rattle.commands.specs.Saying.{Tells, fault_line}
+use Rattle.jnirun.specs.Serve.{TextsEarn, error_text, trap_text, TellsTrap, ServesTexts, is_refused}
+use Rattle.commands.specs.Telling.{told}
 
 -- a text that is written is told, or the sink failed within it
 pub tells : {T E : Type 0} (old new : Written) (r : Result T E) (text : List ℕ) → Writes old new r text → Tells old new text

@@ -1,12 +1,13 @@
-pub mod Errors
-pub mod Programs
-pub mod Passes
-pub mod Checks
-pub mod Texts
-pub mod Runs
-pub mod Replays
-pub mod ReplayLaws
-pub mod Commands
-pub mod Files
-pub mod Telling
 pub mod Serve
+-- What the clauses of its calls are about, passed on.
+
+pub use Rattle.commands.specs.Commands
+pub use Rattle.commands.specs.Files
+pub use Rattle.commands.specs.Saying
+pub use Rattle.commands.specs.Telling
+pub use Rattle.pipeline.specs.Programs
+pub use Rattle.pipeline.specs.Checks
+pub use Rattle.pipeline.specs.Texts
+pub use Rattle.pipeline.specs.Runs
+pub use Rattle.pipeline.specs.Replays
+pub use Rattle.pipeline.specs.ReplayLaws

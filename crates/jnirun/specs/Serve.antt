@@ -1,19 +1,20 @@
 -- What the commands do with files, standard output and standard error.
 use Rattle.std.specs.Prelude.{◌≡◌, ◌⊎◌, ℕ, List, ◌++◌, Option, Some, None, codes, decimal}
 use Rattle.report.specs.Sink.{Written, AppendsText, StopsWithin}
-use Rattle.jnirun.specs.declared.command.Command.{Command}
-use Rattle.jnirun.specs.declared.command.Command.TheVariants.{Check, Run, Replay}
-use Rattle.jnirun.specs.declared.fault.Place.{Place}
-use Rattle.jnirun.specs.declared.fault.Place.TheVariants.{Line, Entry}
-use Rattle.jnirun.specs.Checks.{PassesCheck, FailsCheck}
-use Rattle.jnirun.specs.Commands.{name_of, text_of, text_at}
-use Rattle.jnirun.specs.Files.{OfFiles}
+use Rattle.commands.specs.declared.command.Command.{Command}
+use Rattle.commands.specs.declared.command.Command.TheVariants.{Check, Run, Replay}
+use Rattle.commands.specs.declared.place.Place.{Place}
+use Rattle.commands.specs.declared.place.Place.TheVariants.{Line, Entry}
+use Rattle.pipeline.specs.Checks.{PassesCheck, FailsCheck}
+use Rattle.commands.specs.Commands.{name_of, text_of, text_at}
+use Rattle.commands.specs.Files.{OfFiles}
 use Rattle.replay.specs.declared.trap_at.TrapAt.{TrapAt}
-use Rattle.jnirun.specs.declared.fault.Text.TheVariants as which
-use Rattle.jnirun.specs.Replays.{EndsReplay, AreRefusedReplays}
-use Rattle.jnirun.specs.Runs.{EndsRun, AppendsRun, StopsRun}
-use Rattle.jnirun.specs.Telling.{told}
-use Rattle.jnirun.specs.Texts.{AreRefused}
+use Rattle.commands.specs.declared.place.Text.TheVariants as which
+use Rattle.pipeline.specs.Replays.{EndsReplay, AreRefusedReplays}
+use Rattle.pipeline.specs.Runs.{EndsRun, AppendsRun, StopsRun}
+use Rattle.commands.specs.Saying.{Tells, fault_line}
+use Rattle.commands.specs.Telling.{told}
+use Rattle.pipeline.specs.Texts.{AreRefused}
 
 -- ---- standard output
 
@@ -34,16 +35,7 @@ TextsEarn (Check p) program world order number place = FailsCheck program number
 TextsEarn (Run p w s) program world order number place = AreRefused program world order number place
 TextsEarn (Replay p w j) program world order number place = AreRefusedReplays program world order number place
 
--- `fault 81 line 1`, or `fault 91 entry 4`
-abbrev pub fault_line : ℕ → Place → List ℕ
-fault_line number (Line text line) = codes "fault " ++ decimal number ++ codes " line " ++ decimal line ++ codes "\n"
-fault_line number (Entry entry) = codes "fault " ++ decimal number ++ codes " entry " ++ decimal entry ++ codes "\n"
-
 -- ---- standard error
-
--- the text was appended, or the sink failed within it
-abbrev pub Tells : Written → Written → List ℕ → Type 0
-Tells old new text = AppendsText old new text ⊎ StopsWithin old new text
 
 -- where and why a text of the command is refused, in some words
 abbrev pub error_text : Command → (program world order : List ℕ) → (number : ℕ) → Place → (words : List ℕ) → List ℕ

@@ -1,24 +1,12 @@
-//! Native methods from their texts: a program is checked, run over a heap by a schedule, or replayed by a journal; and the same
-//! of files, with what is said of them on standard output and standard error.
+//! Native methods from their texts, as `pipeline` checks, runs and replays them; and the same of files, with what is said of them on
+//! standard output and standard error.
 #![tactic(auto)]
 
-mod checking;
-mod command;
-mod fault;
-mod files;
-mod program;
-mod replaying;
-mod run;
-mod saying;
 mod serving;
-mod telling;
 
-pub use checking::check_text;
-pub use command::Command;
-pub use fault::{Place, RunError, Text};
-pub use files::{FileFault, FileSystem, Files, MOST_BYTES};
-pub use replay::TrapAt;
-pub use replaying::{replay_text, runs_are_replayed};
-pub use run::run_text;
-pub use saying::{fail, say};
-pub use serving::{COMMAND_LINE, DONE, FAILED, REFUSED, serve};
+pub use commands::{
+    COMMAND_LINE, Command, DONE, FAILED, FileFault, FileSystem, Files, MOST_BYTES, Place, REFUSED,
+    Text, fail, say,
+};
+pub use pipeline::{RunError, TrapAt, check_text, replay_text, run_text, runs_are_replayed};
+pub use serving::serve;

@@ -2,30 +2,17 @@
 
 ghost use Rattle.std.specs.Prelude.{◌≡◌, None};
 ghost use Rattle.report.specs.Sink.{CanFail};
-ghost use Rattle.jnirun.specs.Checks.{PassesCheck, FailsCheck};
-ghost use Rattle.jnirun.specs.Runs.{RunsTexts};
+ghost use Rattle.pipeline.specs.Checks.{PassesCheck, FailsCheck};
+ghost use Rattle.pipeline.specs.Runs.{RunsTexts};
 ghost use Rattle.jnirun.specs.Serve.{TextsWrite, TextsEarn, passed, TellsTrap, ServesTexts, Serves};
 
-use crate::checking::check_text;
-use crate::command::Command;
-use crate::fault::{Place, RunError, Text};
-use crate::files::{FileFault, Files, Texts, read_texts};
-use crate::replaying::replay_text;
-use crate::run::run_text;
-use crate::saying::{fail, say, say_fault};
-use crate::telling::tell;
-use replay::TrapAt;
+use commands::{
+    Command, DONE, FileFault, Files, Place, REFUSED, Text, Texts, fail, read_texts, say, say_fault,
+    tell,
+};
+use pipeline::{RunError, TrapAt, check_text, replay_text, run_text};
+use report::Sink;
 use std::alloc::Global;
-use world::Sink;
-
-/// The command is done.
-pub const DONE: u8 = 0;
-/// A text is refused.
-pub const REFUSED: u8 = 1;
-/// The words ask for nothing that there is.
-pub const COMMAND_LINE: u8 = 2;
-/// Memory, a file or a writer failed.
-pub const FAILED: u8 = 3;
 
 /// Checks a program, and says `ok` where it passes.
 fn check_and_say<W: Sink>(

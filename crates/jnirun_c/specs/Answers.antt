@@ -1,8 +1,8 @@
 -- What the check answers to C.
 use Rattle.std.specs.Prelude.{◌≡◌, ℕ, ℤ, pos, List}
-use Rattle.jnirun.specs.declared.fault.Place.TheVariants.{Line}
-use Rattle.jnirun.specs.declared.fault.Text.TheVariants.{Program}
-use Rattle.jnirun.specs.Checks.{PassesCheck, FailsCheck}
+use Rattle.commands.specs.declared.place.Place.TheVariants.{Line}
+use Rattle.commands.specs.declared.place.Text.TheVariants.{Program}
+use Rattle.pipeline.specs.Checks.{PassesCheck, FailsCheck}
 use Rattle.jnirun_c.specs.declared.Fault.{Fault}
 
 -- there is no fault

@@ -1,0 +1,4 @@
+pub mod Commands
+pub mod Files
+pub mod Saying
+pub mod Telling

@@ -1,0 +1,6 @@
+mod Refusals
+mod Acceptances
+mod CheckLemmas
+mod RunLemmas
+mod ReplayLemmas
+mod ReplayLaws
