@@ -16,53 +16,9 @@ use Rattle.source.specs.Object.{Object, ObjectValue, Number, Refers, Reference}
 use Rattle.source.specs.Heap.{Heap, object_at, class_of, values_of}
 use Rattle.source.specs.Reachable.{IsName}
 use Rattle.source.proofs.ShownRows.{from_one-contains}
-use Rattle.machine.specs.HeapAgrees.{ValueAgrees, ValuesAgree, BlockAgrees, BlocksAgree, HeapAgrees, IsTable, IsNamed}
+use Rattle.jni_calls.specs.HeapAgrees.{ValueAgrees, ValuesAgree, HeapAgrees, IsTable, IsNamed}
 use Rattle.machine.specs.Rows.{value_in, object_of, heap_of, IsThere, AreThere, AreBlocks}
-
--- ---- the block of a name
-
-pub record Named (s : Space) (heap : Heap) (a n : ℕ) : Type 0 where
-  pub block : Block
-  pub at : block_at s a ≡ Some block
-  pub birth : block.birth ≡ n
-  pub agrees : BlockAgrees s heap block
-
-found_agrees : (s : Space) (heap : Heap) (a : ℕ) (bs : List Block) (b : Block) → BlocksAgree s heap bs → find (λ (b : Block). eqb b.address a) bs ≡ Some b → BlockAgrees s heap b
-found_agrees s heap a [] b h e = absurd (cc)
-found_agrees s heap a (c ∷ bs) b h e = either (eqb c.address a) h.0 (λ f. found_agrees s heap a bs b h.1 f) e
-  where
-    either : (t : Bool) → BlockAgrees s heap c → (find (λ (b : Block). eqb b.address a) bs ≡ Some b → BlockAgrees s heap b) → cond t (Some c) (find (λ (b : Block). eqb b.address a) bs) ≡ Some b → BlockAgrees s heap b
-    either true k further e = let same : c ≡ b = cc in subst (BlockAgrees s heap) same k
-    either false k further e = further e
-
-pub named : (s : Space) (heap : Heap) (N : ℕ → Type 0) (a n : ℕ) → HeapAgrees s heap N → name_at s a ≡ Some n → Named s heap a n
-named s heap N a n h e = by_block (block_at s a) refl e
-  where
-    by_block : (o : Option Block) → block_at s a ≡ o → option_map (λ (b : Block). b.birth) o ≡ Some n → Named s heap a n
-    by_block None at e = absurd (cc)
-    by_block (Some b) at e = record { block = b; at = at; birth = cc; agrees = found_agrees s heap a s.blocks b h.blocks at }
-
-pub is_address : (s : Space) (a n : ℕ) → name_at s a ≡ Some n → IsAddress s a
-is_address s a n e = some (block_at s a) e
-  where
-    some : (o : Option Block) → option_map (λ (b : Block). b.birth) o ≡ Some n → IsSome o
-    some None e = absurd (cc)
-    some (Some b) e = refl
-
-get_below : (heap : Heap) (i : ℕ) (o : Object) → slice_get heap i ≡ Some o → i < length heap
-get_below [] i o e = absurd (cc)
-get_below (x ∷ heap) zero o e = omega arith
-get_below (x ∷ heap) (suc i) o e = let rest : i < length heap = get_below heap i o e in omega arith
-
-object_below : (heap : Heap) (n : ℕ) (o : Object) → object_at heap n ≡ Some o → (0 < n) × (n ≤ length heap)
-object_below heap zero o e = absurd (cc)
-object_below heap (suc i) o e = let low = get_below heap i o e in (omega arith, omega (arith, low))
-
--- a name of a block is that of an object
-pub name_within : (s : Space) (heap : Heap) (N : ℕ → Type 0) (a n : ℕ) → HeapAgrees s heap N → name_at s a ≡ Some n → (0 < n) × (n ≤ length heap)
-name_within s heap N a n h e =
-    let b = named s heap N a n h e in
-    object_below heap n b.agrees.object (subst (λ m. object_at heap m ≡ Some b.agrees.object) b.birth b.agrees.is)
+use Rattle.jni_calls.proofs.BlocksOfNames.{Named, named, is_address, get_below, name_within}
 
 -- ---- what cells hold
 

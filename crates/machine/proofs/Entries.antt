@@ -33,18 +33,21 @@ use Rattle.code_generator.specs.Layout.{Slot, Known, with_static, entry_layout}
 use Rattle.lower.specs.Slots.{visible_to, AreOfLowest, EntrySlots, HasRoom, AreShared, argument_word, argument_reference, static_index}
 use Rattle.lower.specs.Stands.{StandsFor}
 use Rattle.lower.specs.Lowered.{Lowered, IsLowered, IsCodeOf, AreCodesOf}
-use Rattle.machine.specs.declared.thread.Event.TheVariants as event
+use Rattle.execution.specs.declared.execute.Event.TheVariants as event
 use Rattle.machine.specs.declared.thread.Thread.{Thread}
 use Rattle.machine.specs.declared.thread.PendingCall.{PendingCall}
-use Rattle.machine.specs.declared.thread.Activation.{Activation}
-use Rattle.machine.specs.declared.store.Store.{Store}
-use Rattle.machine.specs.Agrees.{AreNamed, StoreAgrees, FieldsAgree, CallAgrees, CallsAgree, CallStands, WorkAgrees, ThreadAgrees, Advances, ending_view}
-use Rattle.machine.specs.Locals.{FramesAgree, KeysAgree}
-use Rattle.machine.proofs.Views.{parameters_viewless}
-use Rattle.machine.proofs.Keeping.{keeps_same}
-use Rattle.machine.proofs.HeldStatics.{held_there, index_is, name_place, other_after, place_after, place_in_front}
+use Rattle.jni_calls.specs.declared.activation.Activation.{Activation}
+use Rattle.jni_calls.specs.declared.store.Store.{Store}
+use Rattle.jni_calls.specs.StoreAgrees.{AreNamed, StoreAgrees}
+use Rattle.jni_calls.specs.FieldIds.{FieldsAgree}
+use Rattle.machine.specs.Agrees.{CallAgrees, CallsAgree, ThreadAgrees, Advances, ending_view}
+use Rattle.execution.specs.Executes.{CallStands, WorkAgrees}
+use Rattle.jni_calls.specs.Locals.{FramesAgree, KeysAgree}
+use Rattle.execution.proofs.Views.{parameters_viewless}
+use Rattle.jni_calls.proofs.Keeping.{keeps_same}
+use Rattle.jni_calls.proofs.HeldStatics.{held_there, index_is, name_place, other_after, place_after, place_in_front}
 use Rattle.machine.specs.Entry.{argument_address, keys_from, Begins, IsReady}
-use Rattle.machine.specs.HeapAgrees.{ReferenceAgrees, IsTable}
+use Rattle.jni_calls.specs.HeapAgrees.{ReferenceAgrees, IsTable}
 use Rattle.tables.specs.Locals.{LocalTable}
 use Rattle.machine.proofs.EntryKeys.{AddressesAgree, entry_frames, entry_keys}
 use Rattle.machine.proofs.Threads.{resting}

@@ -10,8 +10,8 @@ use Rattle.lower.specs.Slots.{argument_reference}
 use Rattle.tables.specs.Locals.{level_of}
 use Rattle.tables.specs.References.{address_at, references_in}
 use Rattle.machine.specs.Entry.{entry_locals, keys_from}
-use Rattle.machine.specs.HeapAgrees.{NamesAgree, ReferenceAgrees}
-use Rattle.machine.specs.Locals.{FramesAgree, KeysAgree}
+use Rattle.jni_calls.specs.HeapAgrees.{NamesAgree, ReferenceAgrees}
+use Rattle.jni_calls.specs.Locals.{FramesAgree, KeysAgree}
 use Rattle.machine.proofs.EntryTables.{all_taken, taken_references}
 
 -- ---- keys

@@ -10,7 +10,7 @@ use Rattle.source.specs.Object.{Object, size, sizes}
 use Rattle.source.specs.World.{World, loaded_objects}
 use Rattle.world.proofs.LoadedWorlds.{few_objects, loaded_fit}
 use Rattle.world.specs.SoundWorlds.{IsSound}
-use Rattle.machine.specs.HeapAgrees.{AreMade}
+use Rattle.jni_calls.specs.HeapAgrees.{AreMade}
 use Rattle.machine.proofs.Lists.{take_next}
 
 size_within : (objects : Heap) (i : ℕ) (o : Object) → slice_get objects i ≡ Some o → sizes (take i objects) + size o ≤ sizes objects

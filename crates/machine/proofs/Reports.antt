@@ -35,23 +35,25 @@ use Rattle.lower.specs.Slots.{Visible, visible_to}
 use Rattle.reached.specs.Rows.{AreReported}
 use Rattle.machine.specs.declared.thread.Ending.{Ending}
 use Rattle.machine.specs.declared.thread.Ending.TheVariants as ending
-use Rattle.machine.specs.declared.thread.Activation.{Activation}
+use Rattle.jni_calls.specs.declared.activation.Activation.{Activation}
 use Rattle.machine.specs.declared.thread.Thread.{Thread}
 use Rattle.machine.specs.declared.stop.Stop.{Stop}
-use Rattle.machine.specs.Agrees.{ThreadsAgree, WorkAgrees, ending_view}
-use Rattle.machine.specs.HeapAgrees.{times}
+use Rattle.machine.specs.Agrees.{ThreadsAgree, ending_view}
+use Rattle.execution.specs.Executes.{WorkAgrees}
+use Rattle.jni_calls.specs.HeapAgrees.{times}
 use Rattle.safety.specs.Owners.{AllOwners, owners_after}
 use Rattle.machine.specs.Stops as machine
-use Rattle.machine.specs.Stops.{stop_view, trap_view}
+use Rattle.machine.specs.Stops.{stop_view}
+use Rattle.jni_calls.specs.Traps.{trap_view}
 use Rattle.machine.specs.Run as run
 use Rattle.source.specs.Run.{UnmarkedFit}
-use Rattle.machine.specs.declared.store.Store.{Store}
+use Rattle.jni_calls.specs.declared.store.Store.{Store}
 use Rattle.machine.specs.Run.{Run, Corresponds, WritesRun, IsFinished}
 use Rattle.machine.proofs.Standings.{standings}
 use Rattle.machine.proofs.Threads.{unblocked}
 use Rattle.machine.specs.Roots.{AreAddresses, name_of, thread_names, ThreadsAreStacked, ThreadsAreThere}
 use Rattle.std.specs.Prelude.{Contains}
-use Rattle.machine.proofs.GlobalLaws.{among_both}
+use Rattle.jni_calls.proofs.GlobalLaws.{among_both}
 use Rattle.tables.specs.References.{references_in}
 use Rattle.machine.proofs.RootNames.{CallFrames, HasRootsOf, names_are, names_there, threads_same, threads_there, times_both}
 

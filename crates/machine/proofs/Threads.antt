@@ -23,17 +23,19 @@ use Rattle.lower.specs.Slots.{Visible, visible_to}
 use Rattle.lower.specs.Lowered.{Lowered, IsLowered}
 use Rattle.machine.specs.declared.thread.Ending.{Ending}
 use Rattle.machine.specs.declared.thread.Ending.TheVariants.{Unfinished}
-use Rattle.machine.specs.declared.thread.Event.{Event}
-use Rattle.machine.specs.declared.thread.Event.TheVariants as event
+use Rattle.execution.specs.declared.execute.Event.{Event}
+use Rattle.execution.specs.declared.execute.Event.TheVariants as event
 use Rattle.machine.specs.declared.thread.Thread.{Thread}
 use Rattle.machine.specs.declared.thread.PendingCall.{PendingCall}
-use Rattle.machine.specs.declared.thread.Activation.{Activation}
+use Rattle.jni_calls.specs.declared.activation.Activation.{Activation}
 use Rattle.safety.specs.Owners.{Owners, after_event, after_tasks}
-use Rattle.machine.specs.declared.store.Store.{Store}
-use Rattle.machine.specs.Agrees.{StoreAgrees, Keeps, CallsAgree, CallStands, WorkAgrees, ThreadAgrees, GoesOn, Advances, after_any, ending_view, ending_after, event_view, calls_after, owners_left}
-use Rattle.machine.proofs.Keeping.{keeps_same}
-use Rattle.machine.specs.HeapAgrees.{ReferenceAgrees, BlocksAgree}
-use Rattle.machine.proofs.Calls.{ready, slots_of, does_cases}
+use Rattle.jni_calls.specs.declared.store.Store.{Store}
+use Rattle.jni_calls.specs.StoreAgrees.{StoreAgrees, Keeps}
+use Rattle.machine.specs.Agrees.{CallsAgree, ThreadAgrees, Advances, ending_view, ending_after, calls_after}
+use Rattle.execution.specs.Executes.{CallStands, WorkAgrees, GoesOn, after_any, event_view, owners_left}
+use Rattle.jni_calls.proofs.Keeping.{keeps_same}
+use Rattle.jni_calls.specs.HeapAgrees.{ReferenceAgrees, BlocksAgree}
+use Rattle.execution.proofs.Calls.{ready, slots_of, does_cases}
 
 -- ---- work
 

@@ -7,7 +7,7 @@ use Rattle.world.specs.Views.{object_value_view}
 use Rattle.code.specs.Depth.{Listing}
 use Rattle.lower.specs.Lowered.{Lowered}
 use Rattle.lower.specs.Slots.{argument_word, HasRoom}
-use Rattle.machine.specs.declared.thread.Activation.{Activation}
+use Rattle.jni_calls.specs.declared.activation.Activation.{Activation}
 use Rattle.tables.specs.Locals.{LocalTable}
 use Rattle.tables.specs.References.{references_in}
 use Rattle.machine.specs.declared.thread.PendingCall.{PendingCall}

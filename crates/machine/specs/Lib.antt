@@ -1,22 +1,10 @@
-pub mod HeapAgrees
-pub mod Held
-pub mod Classed
-pub mod Locals
 pub mod Entry
-pub mod Statics
 pub mod Agrees
-pub mod Given
-pub mod Checked
-pub mod Asked
-pub mod WorkedOut
-pub mod Answers
-pub mod Made
-pub mod CarriedOut
-pub mod Received
-pub mod Invoked
-pub mod Variables
 pub mod Stops
 pub mod Rows
 pub mod Roots
 pub mod Loading
 pub mod Run
+pub mod Held
+-- why the machine stops
+pub use Rattle.jni_calls.specs.Traps

@@ -5,7 +5,7 @@ use Rattle.heap.specs.Heap.{Space, IsAddress, name_at}
 use Rattle.machine.specs.declared.thread.Thread.{Thread}
 use Rattle.tables.specs.Locals.{AreStacked}
 use Rattle.tables.specs.References.{references_in}
-use Rattle.machine.specs.declared.thread.Activation.{Activation}
+use Rattle.jni_calls.specs.declared.activation.Activation.{Activation}
 
 -- the name of the object at an address
 abbrev pub name_of : Space → ℕ → ℕ

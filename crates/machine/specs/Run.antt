@@ -27,15 +27,16 @@ use Rattle.lower.specs.Lowered.{Lowered, IsLowered}
 use Rattle.machine.specs.declared.thread.Thread.{Thread}
 use Rattle.machine.specs.declared.thread.Ending.{Ending}
 use Rattle.machine.specs.declared.thread.Ending.TheVariants.{Unfinished, Ended, Uncaught}
-use Rattle.machine.specs.declared.thread.Event.{Event}
-use Rattle.machine.specs.declared.thread.Event.TheVariants as event
+use Rattle.execution.specs.declared.execute.Event.{Event}
+use Rattle.execution.specs.declared.execute.Event.TheVariants as event
 use Rattle.machine.specs.declared.fault.ReportFault.{ReportFault}
 use Rattle.machine.specs.declared.fault.ReportFault.TheVariants as reporting
 use Rattle.machine.specs.declared.turn.Turn.{Turn as Answer}
 use Rattle.machine.specs.declared.turn.Turn.TheVariants as turn
 use Rattle.machine.specs.declared.stop.Stop.{Stop}
-use Rattle.machine.specs.declared.store.Store.{Store}
-use Rattle.machine.specs.Agrees.{StoreAgrees, ThreadsAgree}
+use Rattle.jni_calls.specs.declared.store.Store.{Store}
+use Rattle.jni_calls.specs.StoreAgrees.{StoreAgrees}
+use Rattle.machine.specs.Agrees.{ThreadsAgree}
 use Rattle.machine.specs.Stops.{stop_view}
 
 -- a program's items, the world, the steps taken, and the cells after the heap's highest block

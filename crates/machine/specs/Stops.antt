@@ -1,28 +1,15 @@
--- Why and where the machine has stopped, as it is held in memory.
+-- Where the machine has stopped, as it is held in memory.
 use Rattle.std.specs.Prelude.{ℕ, ◌==◌, if◌then◌else◌, Option, Some, None}
 use Rattle.classes.specs.Class.{Classes, class_name}
 use Rattle.source.specs.Report.{ThreadStanding, HasTrapped, HasEnded, IsUncaught, IsRunning}
 use Rattle.source.specs.State as state
 use Rattle.source.specs.Value as source
-use Rattle.machine.specs.declared.stop.Trap.{Trap}
-use Rattle.machine.specs.declared.stop.Trap.TheVariants.{DivisionByZero, ShiftTooFar, OutOfRange, NullReference, ExceptionPending, WrongObject, DeletedReference, NoCapacity, Fatal}
+use Rattle.jni_calls.specs.Traps.{trap_view}
 use Rattle.machine.specs.declared.stop.Stop.{Stop}
 use Rattle.machine.specs.declared.thread.Ending.{Ending}
 use Rattle.machine.specs.declared.thread.Ending.TheVariants.{Unfinished, Ended, Uncaught}
-use Rattle.machine.specs.declared.thread.Event.{Event}
-use Rattle.machine.specs.declared.thread.Event.TheVariants.{Quiet, Printed, Trapped}
-
--- a trap
-abbrev pub trap_view : Trap → source.Trap
-trap_view DivisionByZero = source.DivisionByZero
-trap_view ShiftTooFar = source.ShiftTooFar
-trap_view OutOfRange = source.OutOfRange
-trap_view NullReference = source.NullReference
-trap_view ExceptionPending = source.ExceptionPending
-trap_view WrongObject = source.WrongObject
-trap_view DeletedReference = source.DeletedReference
-trap_view NoCapacity = source.NoCapacity
-trap_view Fatal = source.Fatal
+use Rattle.execution.specs.declared.execute.Event.{Event}
+use Rattle.execution.specs.declared.execute.Event.TheVariants.{Quiet, Printed, Trapped}
 
 -- the trap that stopped the machine
 abbrev pub stop_view : Stop → state.Stop

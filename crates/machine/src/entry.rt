@@ -9,10 +9,11 @@ ghost use Rattle.tables.specs.Locals.{pushed};
 ghost use Rattle.tables.specs.References.{references_in};
 ghost use Rattle.machine.specs.Entry.{argument_address, entry_locals, keys_from, IsNumbersOf, IsReferencesOf, BeginsIn};
 
-use crate::thread::{Activation, PendingCall};
+use crate::thread::PendingCall;
 use code::code::Code;
 use code::stack::Stack;
 use heap::Addr;
+use jni_calls::activation::Activation;
 use std::alloc::{AllocError, Global};
 use std::vec::VecCloneMethods;
 use tables::{Local, Locals, TableFault};

@@ -4,7 +4,7 @@ ghost use Rattle.std.specs.Prelude.{◌≡◌, length, IfOk};
 ghost use Rattle.heap.specs.Heap.{IsLaidOut};
 ghost use Rattle.source.specs.Heap.{Heap as SourceHeap};
 ghost use Rattle.source.specs.Reachable.{IsName};
-ghost use Rattle.machine.specs.HeapAgrees.{HeapAgrees};
+ghost use Rattle.jni_calls.specs.HeapAgrees.{HeapAgrees};
 
 use heap::{Addr, Heap, Value};
 use reached::Objects;

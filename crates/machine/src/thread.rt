@@ -1,33 +1,26 @@
 //! One thread of the machine, and a step of its own.
 
-ghost use Rattle.std.specs.Prelude.{◌≡◌, ℕ, ◌<◌, Option, Some, None, ◌∷◌, List, length, IfOk, OnOk, OnErr};
+ghost use Rattle.std.specs.Prelude.{◌≡◌, ℕ, ◌<◌, Some, None, ◌∷◌, List, length, IfOk, OnOk, OnErr};
 ghost use Rattle.std.specs.Option.{option_and_then};
 ghost use Rattle.std.specs.VecDeque.{deque_len};
 ghost use Rattle.heap.specs.Heap.{IsAddress, class_at};
-ghost use Rattle.source.specs.Effect.{effect_of};
-ghost use Rattle.source.specs.Task.{Task};
-ghost use Rattle.source.specs.Thread.{BuffersInUse, Shared, Thread as SourceThread, sight_of};
+ghost use Rattle.source.specs.Thread.{BuffersInUse, Shared, Thread as SourceThread};
 ghost use Rattle.source.specs.World.{loaded_objects};
 ghost use Rattle.safety.specs.Owners.{Owners};
 ghost use Rattle.lower.specs.Lowered.{IsLowered};
-ghost use Rattle.machine.specs.Agrees.{StoreAgrees, ThreadAgrees, IsSteady, IsExecuting, Executes, AdvancesBy, ending_after, calls_after};
+ghost use Rattle.jni_calls.specs.StoreAgrees.{StoreAgrees};
+ghost use Rattle.machine.specs.Agrees.{ThreadAgrees, AdvancesBy, ending_after, calls_after};
+ghost use Rattle.execution.specs.Executes.{IsSteady};
 ghost use Rattle.machine.specs.Entry.{IsReady, Begins};
 
 use crate::entry::begin;
-use crate::invoke::{Invoked, invoke};
-use crate::references::References;
-use crate::stop::{Trap, trap_of};
-use crate::store::Store;
-use crate::variable::{is_null, set_null};
-use class_table::class::FieldHandle;
-use code::instr::{Instr, Plain};
-use code::plain::plain;
-use code::stack::Stack;
+use execution::execute::{Event, Executed, execute};
 use heap::{Addr, Heap};
+use jni_calls::activation::Activation;
+use jni_calls::store::Store;
 use lower::Program;
 use std::alloc::AllocError;
 use std::collections::VecDeque;
-use tables::{Local, Locals};
 use world::{ObjectValue, World};
 
 /// Whether a thread has ended.
@@ -37,16 +30,6 @@ pub enum Ending {
     Ended,
     /// Its call returned with an exception of the class of this number pending.
     Uncaught(usize),
-}
-
-/// What is seen of a thread's step by others.
-#[derive(Clone, Copy)]
-pub enum Event {
-    Quiet,
-    /// The thread printed a number.
-    Printed(i32),
-    /// A statement of this line stopped the machine.
-    Trapped(Trap, u32),
 }
 
 /// A thread: the calls that it has still to make, and the call in progress.
@@ -66,28 +49,6 @@ pub struct PendingCall {
     pub function: usize,
     pub class: usize,
     pub arguments: Vec<ObjectValue>,
-}
-
-/// A call in progress: its place in its function's code, its operands, the slots of its variables, and its local references. A
-/// variable's reference is NULL or a key of these, which may be dead.
-#[derive(Drop)]
-pub struct Activation {
-    pub function: usize,
-    pub place: usize,
-    pub stack: Stack,
-    pub numbers: Vec<u32>,
-    pub references: Vec<Option<Local>>,
-    pub fields: Vec<Option<FieldHandle>>,
-    pub locals: Locals,
-}
-
-/// What an instruction did.
-#[derive(Clone, Copy)]
-pub enum Executed {
-    Did(Event),
-    /// A call's allocation was refused.
-    Refused,
-    Returned,
 }
 
 /// What a step of a thread was.
@@ -174,79 +135,5 @@ fn leave(heap: &Heap, thread: &mut Thread)
                 thread.ending = Ending::Ended;
             }
         }
-    }
-}
-
-/// One instruction of a call.
-#[inline(always)]
-fn execute(
-    program: &Program<'_>,
-    world: &World,
-    store: &mut Store,
-    pending: &mut Option<Addr>,
-    call: &mut Activation,
-) -> Result<Executed, AllocError>
-    requires lowered { IsLowered program.now }
-    requires stands { (own : Owners) × (shared : Shared) × (s : SourceThread) × (task : Task) × (rest : List Task) × IsExecuting program.now world.now store.old call.old pending.old own shared s task rest }
-    ensures done { IfOk result (λ done. (lent : BuffersInUse) (k : ℕ) (own : Owners) (shared : Shared) (s : SourceThread) (task : Task) (rest : List Task) → IsExecuting program.now world.now store.old call.old pending.old own shared s task rest
-        → Executes program.now world.now store.old.heap store.new lent k own shared s rest call.new pending.new (effect_of (sight_of shared s) task) done) }
-    ensures store { OnErr result (store.new ≡ store.old) }
-    ensures pending { OnErr result (pending.new ≡ pending.old) }
-    ensures call { OnErr result (call.new ≡ call.old) }
-{
-    let code = program.code(call.function).unwrap();
-    let instr = code.get(call.place).unwrap();
-    match instr {
-        Instr::TestNull { variable, equal } => {
-            let references = References::new(
-                &call.references,
-                &call.locals,
-                &store.statics,
-                &store.globals,
-            );
-            let null = is_null(&references, &call.fields, *variable);
-            call.stack.push(u32::from(null == *equal));
-            call.place += 1;
-            Ok(Executed::Did(Event::Quiet))
-        }
-        Instr::StoreNull(variable) => {
-            set_null(
-                &mut call.references,
-                &mut call.fields,
-                &mut store.statics,
-                *variable,
-            );
-            call.place += 1;
-            Ok(Executed::Did(Event::Quiet))
-        }
-        Instr::PutJint => {
-            let word = call.stack.pop();
-            call.place += 1;
-            Ok(Executed::Did(Event::Printed(word.cast_signed())))
-        }
-        Instr::Call(boxed) => {
-            let function = boxed.call();
-            match invoke(world, store, pending, call, function)? {
-                Invoked::Done => Ok(Executed::Did(Event::Quiet)),
-                Invoked::Refused => Ok(Executed::Refused),
-                Invoked::Trapped(trap) => { Ok(Executed::Did(Event::Trapped(trap, function.line))) }
-            }
-        }
-        Instr::Return | Instr::ReturnJint | Instr::ReturnReference(_) => Ok(Executed::Returned),
-        _ => match plain(instr, &mut call.stack, &mut call.numbers) {
-            Plain::Next => {
-                call.place += 1;
-                Ok(Executed::Did(Event::Quiet))
-            }
-            Plain::Skip(skipped) => {
-                call.place += 1 + skipped as usize;
-                Ok(Executed::Did(Event::Quiet))
-            }
-            Plain::Back(back) => {
-                call.place -= back as usize;
-                Ok(Executed::Did(Event::Quiet))
-            }
-            Plain::Trap(trap, line) => { Ok(Executed::Did(Event::Trapped(trap_of(trap), line))) }
-        },
     }
 }

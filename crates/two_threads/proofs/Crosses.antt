@@ -41,7 +41,7 @@ use Rattle.code.specs.contracts.instr.BoxedCall.TheInside as boxed-call-inside
 use Rattle.world.specs.contracts.world.World as world
 use Rattle.heap.specs.contracts.heap.Heap as heap
 use Rattle.tables.specs.contracts.locals.Locals as locals
-use Rattle.machine.specs.contracts.store.Store as store
+use Rattle.jni_calls.specs.contracts.store.Store as store
 use Rattle.machine.specs.contracts.thread.Thread as thread
 use Rattle.machine.specs.contracts.machine.Machine as machine
 use Rattle.two_threads.specs.contracts.desk.Desk as desk

@@ -4,5 +4,5 @@
 mod parsing;
 mod request;
 
-pub use parsing::read;
+pub use parsing::{parse, read, told};
 pub use request::Request;

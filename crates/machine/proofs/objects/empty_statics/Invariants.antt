@@ -1,7 +1,7 @@
 use Rattle.std.proofs.Common.{◌≡◌, ◌++◌, drop, length, replicate}
 use Rattle.syntax.specs.Parts.{statics_of}
 use Rattle.syntax.specs.Views.{unit_tree}
-use Rattle.machine.specs.declared.statics.StaticReference.TheVariants.{Empty}
+use Rattle.jni_calls.specs.declared.statics.StaticReference.TheVariants.{Empty}
 use Rattle.machine.proofs.objects.empty_statics.Given as goal
 
 abbrev pub invariant-loop-item : goal.invariant-loop-item

@@ -14,7 +14,7 @@ use Rattle.heap.specs.Heap.{end_of}
 use Rattle.heap.proofs.Layouts.{ends_within}
 use Rattle.source.specs.Object.{sizes}
 use Rattle.world.proofs.LoadedWorlds.{few_objects}
-use Rattle.machine.specs.HeapAgrees.{AreMade}
+use Rattle.jni_calls.specs.HeapAgrees.{AreMade}
 use Rattle.machine.proofs.MadeInOrder.{room, few, next}
 use Rattle.machine.proofs.objects.load_store.Goals.{After-deref}
 use Rattle.machine.proofs.objects.load_store.Goals as goal

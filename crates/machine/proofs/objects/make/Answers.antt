@@ -11,7 +11,8 @@ use Rattle.world.specs.CallArguments.{is_argument}
 use Rattle.world.specs.declared.object.ObjectValue.{ObjectValue as InMemory}
 use Rattle.world.specs.Views.{object_value_view}
 use Rattle.machine.specs.Held.{held_value}
-use Rattle.machine.proofs.FilledBlocks.{filled_block, filled_fresh, filled_within, filled_more, filled_made}
+use Rattle.jni_calls.proofs.FilledBlocks.{filled_block, filled_fresh, filled_within, filled_more}
+use Rattle.machine.proofs.FilledObjects.{filled_made}
 use Rattle.machine.proofs.objects.make.Goals as goal
 
 -- the value that is read

@@ -2,7 +2,7 @@ use Rattle.std.proofs.Common.{◌≡◌, ◌+◌, length, map}
 use Rattle.heap.specs.Heap.{with_block}
 use Rattle.world.specs.Views.{object_value_view}
 use Rattle.machine.specs.Held.{held_value}
-use Rattle.machine.proofs.FilledBlocks.{filled_block}
+use Rattle.jni_calls.proofs.FilledBlocks.{filled_block}
 use Rattle.machine.proofs.objects.make.Given as goal
 
 abbrev pub invariant-loop-place : goal.invariant-loop-place

@@ -13,7 +13,7 @@ use Rattle.source.specs.World.{initial, class_object, loaded_objects}
 use Rattle.world.proofs.LoadedWorlds.{loaded_class, initial_given}
 use Rattle.world.specs.CallArguments.{is_argument}
 use Rattle.world.specs.Views.{object_value_view}
-use Rattle.machine.specs.HeapAgrees.{AreMade}
+use Rattle.jni_calls.specs.HeapAgrees.{AreMade}
 use Rattle.machine.proofs.MadeInOrder.{room, next}
 use Rattle.machine.proofs.objects.make_class_objects.Goals.{After-deref}
 use Rattle.machine.proofs.objects.make_class_objects.Goals as goal

@@ -1,6 +1,6 @@
 use Rattle.std.proofs.Common.{◌≡◌, take}
 use Rattle.source.specs.World.{loaded_objects}
-use Rattle.machine.specs.HeapAgrees.{AreMade}
+use Rattle.jni_calls.specs.HeapAgrees.{AreMade}
 use Rattle.machine.proofs.objects.make_class_objects.Given as goal
 
 abbrev pub invariant-loop-place : goal.invariant-loop-place

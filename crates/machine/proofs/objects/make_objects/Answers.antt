@@ -10,7 +10,7 @@ use Rattle.source.proofs.ShownRows.{length-loaded}
 use Rattle.world.proofs.LoadedWorlds.{loaded_object, object_class, object_given}
 use Rattle.world.specs.CallArguments.{is_argument}
 use Rattle.world.specs.Views.{object_value_view}
-use Rattle.machine.specs.HeapAgrees.{AreMade}
+use Rattle.jni_calls.specs.HeapAgrees.{AreMade}
 use Rattle.machine.proofs.MadeInOrder.{room, counted, next}
 use Rattle.machine.proofs.objects.make_objects.Goals.{After-values}
 use Rattle.machine.proofs.objects.make_objects.Goals as goal

@@ -1,7 +1,8 @@
 use Rattle.std.proofs.Common.{◌∙◌, arith, length, ◌≤◌}
 use Rattle.std.proofs.lemmas.List.{length-set}
 use Rattle.source.specs.Reachable.{IsName}
-use Rattle.machine.proofs.BlockObjects.{placed_none, placed_next, name_within, table_filled, table_is, table_there, address_there}
+use Rattle.machine.proofs.BlockObjects.{placed_none, placed_next, table_filled, table_is, table_there, address_there}
+use Rattle.jni_calls.proofs.BlocksOfNames.{name_within}
 use Rattle.machine.proofs.rows.named_blocks.Goals as goal
 
 pub loop-place-init : goal.loop-place-init

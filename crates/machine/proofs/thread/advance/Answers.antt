@@ -10,13 +10,15 @@ use Rattle.source.specs.World.{World, loaded_objects}
 use Rattle.safety.specs.Owners.{Owners}
 use Rattle.lower.specs.Lowered.{Lowered}
 use Rattle.lower.specs.Slots.{visible_to}
-use Rattle.machine.specs.declared.store.Store.{Store}
-use Rattle.machine.specs.declared.thread.Activation.{Activation}
+use Rattle.jni_calls.specs.declared.store.Store.{Store}
+use Rattle.jni_calls.specs.declared.activation.Activation.{Activation}
 use Rattle.machine.specs.declared.thread.Thread.{Thread}
-use Rattle.machine.specs.declared.thread.Event.TheVariants.{Quiet}
-use Rattle.machine.specs.Agrees.{IsSteady, StoreAgrees, ThreadAgrees, IsExecuting, Executes}
-use Rattle.machine.specs.declared.thread.Executed.{Executed}
-use Rattle.machine.specs.HeapAgrees.{ReferenceAgrees}
+use Rattle.execution.specs.declared.execute.Event.TheVariants.{Quiet}
+use Rattle.execution.specs.Executes.{IsSteady, IsExecuting, Executes}
+use Rattle.jni_calls.specs.StoreAgrees.{StoreAgrees}
+use Rattle.machine.specs.Agrees.{ThreadAgrees}
+use Rattle.execution.specs.declared.execute.Executed.{Executed}
+use Rattle.jni_calls.specs.HeapAgrees.{ReferenceAgrees}
 use Rattle.machine.specs.Entry.{IsReady, Begins}
 use Rattle.machine.proofs.Entries.{enters, coming, ready_to_begin}
 use Rattle.machine.proofs.Threads.{Working, working, did, returned}

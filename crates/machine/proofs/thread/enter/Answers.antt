@@ -6,7 +6,7 @@ use Rattle.world.specs.Views.{object_value_view}
 use Rattle.code.specs.Depth.{Listing}
 use Rattle.lower.specs.Slots.{HasRoom}
 use Rattle.machine.specs.declared.thread.PendingCall.{PendingCall}
-use Rattle.machine.proofs.Calls.{is_there}
+use Rattle.execution.proofs.Calls.{is_there}
 use Rattle.machine.proofs.thread.enter.Goals as goal
 
 -- what stands in front

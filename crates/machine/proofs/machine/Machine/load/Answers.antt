@@ -5,17 +5,17 @@ use Rattle.std.proofs.Common.{◌≡◌, ℕ, List, [], Option, length, replicat
 use Rattle.syntax.specs.Views.{unit_tree}
 use Rattle.source.specs.Start.{start, waiting_thread}
 use Rattle.std.proofs.lemmas.List.{length-map}
-use Rattle.machine.proofs.Classed.{classed_loaded}
+use Rattle.jni_calls.proofs.Classed.{classed_loaded}
 use Rattle.machine.proofs.ThreadLoads.{agree_length}
 use Rattle.syntax.specs.Parts.{statics_of}
 use Rattle.syntax.specs.declared.unit.Item.{Item}
-use Rattle.machine.specs.Agrees.{StaticsAgree}
-use Rattle.machine.specs.HeapAgrees.{SlotsAgree}
+use Rattle.jni_calls.specs.StoreAgrees.{StaticsAgree}
+use Rattle.jni_calls.specs.HeapAgrees.{SlotsAgree}
 use Rattle.safety.specs.Owners.{AllOwners, owners_after}
-use Rattle.machine.specs.Statics.{HaveKeys, all_held}
-use Rattle.machine.specs.declared.statics.StaticReference.{StaticReference}
-use Rattle.machine.specs.declared.statics.StaticReference.TheVariants.{Empty}
-use Rattle.machine.proofs.HeldStatics.{names_begin, no_keys, statics_begin}
+use Rattle.jni_calls.specs.Statics.{HaveKeys, all_held}
+use Rattle.jni_calls.specs.declared.statics.StaticReference.{StaticReference}
+use Rattle.jni_calls.specs.declared.statics.StaticReference.TheVariants.{Empty}
+use Rattle.jni_calls.proofs.HeldStatics.{names_begin, no_keys, statics_begin}
 use Rattle.machine.proofs.machine.Machine.load.Goals as goal
 
 pub invariant_of-result : goal.invariant_of-result

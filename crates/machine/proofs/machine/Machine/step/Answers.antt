@@ -11,11 +11,13 @@ use Rattle.machine.specs.Run.{has_ended as ended, Run, InState, CouldStep, repla
 use Rattle.source.specs.Thread.{BuffersInUse, Shared, Thread as SourceThread}
 use Rattle.source.specs.World.{World, loaded_objects}
 use Rattle.lower.specs.Lowered.{Lowered}
-use Rattle.machine.specs.declared.store.Store.{Store}
+use Rattle.jni_calls.specs.declared.store.Store.{Store}
 use Rattle.machine.specs.declared.thread.Advanced.{Advanced}
-use Rattle.machine.specs.declared.thread.Event.TheVariants.{Quiet}
+use Rattle.execution.specs.declared.execute.Event.TheVariants.{Quiet}
 use Rattle.safety.specs.Owners.{Owners}
-use Rattle.machine.specs.Agrees.{IsSteady, StoreAgrees, ThreadAgrees, AdvancesBy}
+use Rattle.execution.specs.Executes.{IsSteady}
+use Rattle.jni_calls.specs.StoreAgrees.{StoreAgrees}
+use Rattle.machine.specs.Agrees.{ThreadAgrees, AdvancesBy}
 use Rattle.machine.proofs.Steps.{steady, the_thread, can_turn_here, has_ended, steps_on}
 use Rattle.machine.proofs.machine.Machine.step.Goals as goal
 use Rattle.machine.proofs.machine.Machine.step.Goals.{After-has_ended}

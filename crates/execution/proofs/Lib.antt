@@ -1,0 +1,17 @@
+pub mod Arguments
+pub mod CallInstructions
+pub mod Calls
+pub mod Changes
+pub mod EffectFrames
+pub mod Effects
+pub mod Elements
+pub mod Invocations
+pub mod KeysLeft
+pub mod MadeKeys
+pub mod NullLaws
+pub mod NulledStatics
+pub mod OwnedKeys
+pub mod Receives
+pub mod StaticArguments
+pub mod StillShown
+pub mod Views

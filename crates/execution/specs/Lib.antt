@@ -1,0 +1,4 @@
+pub mod Variables
+pub mod Received
+pub mod Invoked
+pub mod Executes

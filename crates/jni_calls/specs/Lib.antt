@@ -1,0 +1,14 @@
+pub mod HeapAgrees
+pub mod Classed
+pub mod Locals
+pub mod Statics
+pub mod StoreAgrees
+pub mod FieldIds
+pub mod Given
+pub mod Checked
+pub mod Asked
+pub mod WorkedOut
+pub mod Answers
+pub mod Made
+pub mod CarriedOut
+pub mod Traps

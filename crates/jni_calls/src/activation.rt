@@ -1,0 +1,18 @@
+//! A call in progress.
+
+use class_table::class::FieldHandle;
+use code::stack::Stack;
+use tables::{Local, Locals};
+
+/// A call in progress: its place in its function's code, its operands, the slots of its variables, and its local references. A
+/// variable's reference is NULL or a key of these, which may be dead.
+#[derive(Drop)]
+pub struct Activation {
+    pub function: usize,
+    pub place: usize,
+    pub stack: Stack,
+    pub numbers: Vec<u32>,
+    pub references: Vec<Option<Local>>,
+    pub fields: Vec<Option<FieldHandle>>,
+    pub locals: Locals,
+}

@@ -1,0 +1,14 @@
+//! Calls of functions of the JNI: what is checked of them, what they answer by what is in memory, and what this does to the store
+//! and the frames.
+#![tactic(auto)]
+
+pub mod activation;
+pub mod answer;
+pub mod carry_out;
+pub mod check;
+mod make;
+mod operands;
+pub mod references;
+pub mod statics;
+pub mod store;
+pub mod trap;
