@@ -1,7 +1,7 @@
 //! What a class is made of.
 
 /// The type of the numbers of an array or a field (JNI Specification, chapter 3, "Primitive Types").
-#[derive(Clone, Copy, Debug, PartialEq, Eq)]
+#[derive(Clone, Copy, PartialEq, Eq)]
 pub enum ElementType {
     /// `jint`
     Int,
@@ -14,7 +14,7 @@ pub enum ElementType {
 }
 
 /// What the objects of a class are made of.
-#[derive(Clone, Copy, Debug, PartialEq, Eq)]
+#[derive(Clone, Copy, PartialEq, Eq)]
 pub enum ClassKind {
     /// Fields, or what a function of its own makes.
     Plain,
@@ -24,7 +24,7 @@ pub enum ClassKind {
 }
 
 /// What a field holds.
-#[derive(Clone, Copy, Debug, PartialEq, Eq)]
+#[derive(Clone, Copy, PartialEq, Eq)]
 pub enum FieldType {
     Number(ElementType),
     /// A reference to objects of the class of this number.
@@ -40,7 +40,7 @@ pub struct Field {
 
 /// A field or static, by the class that declares it and its place, counted from 0, among the fields, or the statics, that
 /// the class declares.
-#[derive(Clone, Copy, Debug, PartialEq, Eq)]
+#[derive(Clone, Copy, PartialEq, Eq)]
 pub struct FieldHandle {
     pub class: usize,
     pub place: usize,

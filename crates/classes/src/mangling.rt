@@ -134,7 +134,7 @@ fn last_slash(path: &[u8]) -> Option<usize>
 }
 
 /// A native method: the class that declares it, with `/` between packages, and its name.
-#[derive(Debug, Drop)]
+#[derive(Drop)]
 pub struct Native {
     pub class: Vec<u8>,
     pub method: Vec<u8>,

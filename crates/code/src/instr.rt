@@ -11,7 +11,7 @@ use std::marker::Model;
 
 /// An operator on two words that has a result for all of them, at `uint32_t`, or at `jint` where it says so. A comparison
 /// gives a truth, which is the word 1 or 0; the words of two `jint`s, or of two flags, are equal where these are.
-#[derive(Clone, Copy, Debug, PartialEq, Eq)]
+#[derive(Clone, Copy)]
 pub enum Operator {
     /// `*` (6.5.5)
     Multiply,
@@ -48,7 +48,7 @@ pub enum Operator {
 }
 
 /// An operator on two words at `uint32_t` that has no result for some of them.
-#[derive(Clone, Copy, Debug, PartialEq, Eq)]
+#[derive(Clone, Copy)]
 pub enum TrappingOperator {
     /// `/`, a trap by 0 (6.5.5)
     Divide,
@@ -61,7 +61,7 @@ pub enum TrappingOperator {
 }
 
 /// The type of an array's elements (JNI Specification, chapter 3, "Primitive Types").
-#[derive(Clone, Copy, Debug, PartialEq, Eq)]
+#[derive(Clone, Copy)]
 pub enum ElementType {
     /// `jint`
     Int,
@@ -74,7 +74,7 @@ pub enum ElementType {
 }
 
 /// An array of a function: number slots one after another, each with an element as a `jint` (6.2.5).
-#[derive(Clone, Copy, Debug, PartialEq, Eq)]
+#[derive(Clone, Copy)]
 pub struct LocalArray {
     /// The slot of the first element.
     pub start: u32,
@@ -83,7 +83,7 @@ pub struct LocalArray {
 }
 
 /// Where an instruction finds a reference. Slots of references are counted from 0.
-#[derive(Clone, Copy, Debug, PartialEq, Eq)]
+#[derive(Clone, Copy)]
 pub enum ReferenceOperand {
     /// `NULL`
     Null,
@@ -92,7 +92,7 @@ pub enum ReferenceOperand {
 }
 
 /// A variable that can be NULL. Slots of each kind, and statics, are counted from 0.
-#[derive(Clone, Copy, Debug, PartialEq, Eq)]
+#[derive(Clone, Copy)]
 pub enum NullableVariable {
     /// The local reference in this slot.
     Local(u32),
@@ -105,7 +105,7 @@ pub enum NullableVariable {
 }
 
 /// How a buffer of copied elements is released (JNI Specification, chapter 4, "Release<PrimitiveType>ArrayElements Routines").
-#[derive(Clone, Copy, Debug, PartialEq, Eq)]
+#[derive(Clone, Copy)]
 pub enum ReleaseMode {
     /// `0`
     CopyBackAndFree,
@@ -116,7 +116,7 @@ pub enum ReleaseMode {
 }
 
 /// Where a call finds an argument, by its kind. Slots of each kind, and statics, are counted from 0.
-#[derive(Clone, Copy, Debug, PartialEq, Eq)]
+#[derive(Clone, Copy)]
 pub enum Operand {
     /// `NULL` for a reference, a field ID or `isCopy`.
     Null,
@@ -141,7 +141,7 @@ pub enum Operand {
 }
 
 /// Where a call's result goes. Slots of each kind, and statics, are counted from 0.
-#[derive(Clone, Copy, Debug, PartialEq, Eq)]
+#[derive(Clone, Copy)]
 pub enum Target {
     /// Nowhere.
     Dropped,
@@ -336,7 +336,7 @@ pub enum Instr {
 const _: () = prove!(size_of::<Instr>() <= 16);
 
 /// Why an instruction that works on the stack and the number slots alone has no result.
-#[derive(Clone, Copy, Debug, PartialEq, Eq)]
+#[derive(Clone, Copy, PartialEq, Eq)]
 pub enum PlainTrap {
     /// A division or a remainder by zero.
     DivisionByZero,
@@ -347,7 +347,7 @@ pub enum PlainTrap {
 }
 
 /// Where an instruction leads: to the next, over a number of instructions after it, a number of places back, or to a trap on a line.
-#[derive(Clone, Copy, Debug, PartialEq, Eq)]
+#[derive(Clone, Copy, PartialEq, Eq)]
 pub enum Plain {
     Next,
     Skip(u32),

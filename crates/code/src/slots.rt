@@ -7,7 +7,7 @@ ghost use Rattle.code.specs.Depth.{within_slots, array_within, target_within, op
 use crate::instr::{Instr, LocalArray, NullableVariable, Operand, ReferenceOperand, Target};
 
 /// How many slots of each kind there are for code, and how many statics.
-#[derive(Clone, Copy, Debug, PartialEq, Eq)]
+#[derive(Clone, Copy)]
 pub struct SlotCounts {
     /// Slots of numbers, the elements of local arrays among them.
     pub numbers: u32,

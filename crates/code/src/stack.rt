@@ -6,7 +6,7 @@ use arrayvec::ArrayVec;
 use std::marker::Model;
 
 /// At most 64 words, seen as the list of them with the topmost first. It never allocates.
-#[derive(Drop, Debug)]
+#[derive(Drop)]
 pub struct Stack {
     words: ArrayVec<u32, 64>,
 }

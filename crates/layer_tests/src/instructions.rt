@@ -134,7 +134,7 @@ fn operates_on_the_two_topmost_words(rt: HostRuntime) {
         stack.push(4_294_967_294);
         stack.push(5);
         let _ = plain(&Instr::Operate(operator), &mut stack, &mut []);
-        assert!(rt; stack.pop() == want, "{operator:?}");
+        assert!(rt; stack.pop() == want, "{want}");
     }
 }
 
@@ -162,7 +162,7 @@ fn divides_shifts_or_traps(rt: HostRuntime) {
         stack.push(right);
         let instr = Instr::OperateOrTrap(operator, 8);
         let got = plain(&instr, &mut stack, &mut []);
-        assert!(rt; (got, stack.pop()) == (way, top), "{operator:?} {right}");
+        assert!(rt; (got, stack.pop()) == (way, top), "{top}");
     }
 }
 
@@ -181,7 +181,7 @@ fn truths_decide_jumps(rt: HostRuntime) {
         stack.push(9);
         stack.push(truth);
         let got = plain(&instr, &mut stack, &mut []);
-        assert!(rt; (got, stack.pop()) == (way, top), "{way:?} {truth}");
+        assert!(rt; (got, stack.pop()) == (way, top), "{top} {truth}");
     }
 }
 
@@ -201,7 +201,7 @@ fn elements_are_converted(rt: HostRuntime) {
         let mut numbers = [5, 6, 7, 8];
         let store = Instr::StoreElement(element, array, 4);
         let _ = plain(&store, &mut stack, &mut numbers);
-        assert!(rt; numbers == [5, 6, want, 8], "{element:?}");
+        assert!(rt; numbers == [5, 6, want, 8], "{want}");
     }
 }
 

@@ -21,7 +21,7 @@ pub trait Rows {
 }
 
 /// No rows.
-#[derive(Clone, Copy, Debug)]
+#[derive(Clone, Copy)]
 pub struct NoRows;
 
 impl Rows for NoRows {
@@ -35,7 +35,7 @@ impl Rows for NoRows {
 }
 
 /// A value of a row.
-#[derive(Clone, Copy, Debug)]
+#[derive(Clone, Copy)]
 pub enum Shown<'a> {
     Number(i32),
     Null,

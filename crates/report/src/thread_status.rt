@@ -12,7 +12,7 @@ use itoa::Buffer;
 use source::Printed;
 
 /// How a thread stands when the run is over.
-#[derive(Clone, Copy, Debug, PartialEq, Eq)]
+#[derive(Clone, Copy, PartialEq, Eq)]
 pub enum ThreadStatus<'a> {
     /// Its step was a trap, of this number, in a statement of this line.
     Trapped(u8, usize),

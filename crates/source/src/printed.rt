@@ -1,7 +1,7 @@
 //! What a run prints.
 
 /// A number that a thread printed.
-#[derive(Clone, Copy, Debug, PartialEq, Eq)]
+#[derive(Clone, Copy, PartialEq, Eq)]
 pub struct Printed {
     /// The thread's number, from 1.
     pub thread: u8,

@@ -1,7 +1,7 @@
 //! The words of schedules.
 
 /// A word of a schedule.
-#[derive(Clone, Copy, Debug, PartialEq, Eq)]
+#[derive(Clone, Copy, PartialEq, Eq)]
 pub enum ScheduleWord {
     /// A turn of the thread of this number, from 1.
     Turn(u8),

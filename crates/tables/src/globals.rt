@@ -12,7 +12,7 @@ use std::alloc::Global as Host;
 use std::marker::Model;
 
 /// Where a global reference is, seen as the place of its slot.
-#[derive(Clone, Copy, Debug, PartialEq, Eq)]
+#[derive(Clone, Copy, PartialEq, Eq)]
 pub struct Global {
     place: usize,
 }

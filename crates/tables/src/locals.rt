@@ -15,7 +15,7 @@ use std::marker::Model;
 pub const MOST_LOCALS: u32 = 1_024;
 
 /// Where a local reference is, seen as the place of its slot.
-#[derive(Clone, Copy, Debug, PartialEq, Eq)]
+#[derive(Clone, Copy, PartialEq, Eq)]
 pub struct Local {
     place: usize,
 }

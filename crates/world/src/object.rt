@@ -7,7 +7,7 @@ use std::marker::Model;
 
 /// What is in a field, in an array or a string, or what a call is given. An object goes by its number in the order in which
 /// they are made at load, counted from 1: the class objects, the OutOfMemoryError object, the world's objects.
-#[derive(Clone, Copy, Debug, PartialEq, Eq)]
+#[derive(Clone, Copy, PartialEq, Eq)]
 pub enum ObjectValue {
     /// In the range of `jint`.
     Number(i32),
