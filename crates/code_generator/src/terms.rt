@@ -43,8 +43,8 @@ pub fn emit_expr(
             emit_expr(code, names, line, operand)?;
             emit(code, prefix_instr(*operator))
         }
-        Expr::Binary(operator, left, right) => {
-            emit_binary(code, names, line, *operator, left, right)
+        Expr::Binary(operator, operands) => {
+            emit_binary(code, names, line, *operator, &operands.0, &operands.1)
         }
         Expr::Paren(inner) => emit_expr(code, names, line, inner),
     }

@@ -120,7 +120,7 @@ fn primary(alloc: Global, lexemes: Cursor<'_>) -> Result<ReadExpr<'_>, ParseFaul
 fn binary(alloc: Global, op: BinaryOp, left: Expr, right: Expr) -> Result<Expr, AllocError>
     ensures { IfOk result (λ e. expr_tree e ≡ Binary (binary_tree op) (expr_tree left) (expr_tree right)) }
 {
-    Ok(Expr::Binary(op, Box::new(alloc, left)?, Box::new(alloc, right)?))
+    Ok(Expr::Binary(op, Box::new(alloc, (left, right))?))
 }
 
 /// A prefix before its operand.

@@ -43,11 +43,11 @@ fn after_expr(left: usize, e: &Expr) -> Option<usize>
     match e {
         Expr::Number { .. } | Expr::Named(_) | Expr::Variable(_) => after_one(left),
         Expr::Element(_, a) | Expr::Prefix(_, a) => after_one(after_expr(left, a)?),
-        Expr::Binary(op, a, b) => {
-            if is_null_test(*op, a, b) {
+        Expr::Binary(op, operands) => {
+            if is_null_test(*op, &operands.0, &operands.1) {
                 return after_one(left);
             }
-            after_one(after_expr(after_expr(left, a)?, b)?)
+            after_one(after_expr(after_expr(left, &operands.0)?, &operands.1)?)
         }
         Expr::Paren(a) => after_expr(left, a),
     }

@@ -296,7 +296,7 @@ fn null_test(e: &Expr) -> Option<NullTest<'_>>
     ensures { option_map test_value result ≡ null_test_of (expr_tree e.now) }
 {
     match e {
-        Expr::Binary(op, left, right) => comparison(*op, left, right),
+        Expr::Binary(op, operands) => comparison(*op, &operands.0, &operands.1),
         Expr::Number { .. } => None,
         Expr::Named(_) => None,
         Expr::Variable(_) => None,

@@ -18,7 +18,7 @@ use syntax::Item;
 use types::Typed;
 
 /// A unit that keeps the rules of sorts and regions.
-#[derive(Debug, Drop)]
+#[derive(Drop)]
 pub struct Checked {
     typed: Typed,
 }

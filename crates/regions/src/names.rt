@@ -20,8 +20,8 @@ fn expr_uses(state: &StaticState, condition: Condition, e: &Expr) -> bool
             meets(state, condition, x.as_bytes()) || expr_uses(state, condition, i)
         }
         Expr::Prefix(_, a) | Expr::Paren(a) => expr_uses(state, condition, a),
-        Expr::Binary(_, a, b) => {
-            expr_uses(state, condition, a) || expr_uses(state, condition, b)
+        Expr::Binary(_, operands) => {
+            expr_uses(state, condition, &operands.0) || expr_uses(state, condition, &operands.1)
         }
     }
 }
@@ -102,8 +102,8 @@ fn expr_reads(state: &StaticState, condition: Condition, e: &Expr) -> bool
             meets(state, condition, x.as_bytes()) || expr_reads(state, condition, i)
         }
         Expr::Prefix(_, a) | Expr::Paren(a) => expr_reads(state, condition, a),
-        Expr::Binary(_, a, b) => {
-            expr_reads(state, condition, a) || expr_reads(state, condition, b)
+        Expr::Binary(_, operands) => {
+            expr_reads(state, condition, &operands.0) || expr_reads(state, condition, &operands.1)
         }
     }
 }

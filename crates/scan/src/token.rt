@@ -3,7 +3,7 @@
 use crate::reserved::Word;
 
 /// A punctuator (ISO/IEC 9899:1999, 6.4.6), of those that the language uses.
-#[derive(Clone, Copy, Debug, PartialEq, Eq)]
+#[derive(Clone, Copy, PartialEq, Eq)]
 pub enum Mark {
     /// `(`
     OpenParen,
@@ -68,7 +68,7 @@ pub enum Mark {
 }
 
 /// What a token is (ISO/IEC 9899:1999, 6.4).
-#[derive(Clone, Copy, Debug, PartialEq, Eq)]
+#[derive(Clone, Copy)]
 pub enum Kind {
     /// A name: letters, digits and underscores, of which the first is no digit (6.4.2), and which
     /// are together no reserved word.
@@ -87,7 +87,7 @@ pub enum Kind {
 
 /// A token, from the byte `start` of its text up to the byte `end`, which is no part of it. It
 /// takes 20 bytes.
-#[derive(Clone, Copy, Debug, PartialEq, Eq)]
+#[derive(Clone, Copy)]
 pub struct Token {
     pub kind: Kind,
     /// The line that it begins in, counted from 1.

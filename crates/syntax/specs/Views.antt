@@ -76,7 +76,7 @@ expr_tree (expr.Named c) = Named (constant_tree c)
 expr_tree (expr.Variable x) = Variable x
 expr_tree (expr.Element' x p i) = Element x (expr_tree i)
 expr_tree (expr.Prefix' op p a) = Prefix (prefix_tree op) (expr_tree a)
-expr_tree (expr.Binary' op p a q b) = Binary (binary_tree op) (expr_tree a) (expr_tree b)
+expr_tree (expr.Binary' op p a b) = Binary (binary_tree op) (expr_tree a) (expr_tree b)
 expr_tree (expr.Paren' p a) = Paren (expr_tree a)
 
 abbrev pub argument_tree : ArgumentInMemory → Argument

@@ -4,7 +4,7 @@ use crate::expr::Expr;
 use crate::name::Name;
 
 /// A call of a JNI function, `(*env)->function(env, arguments)` (JNI Specification, chapter 2, "Interface Function Table").
-#[derive(Debug, Drop)]
+#[derive(Drop)]
 pub struct Call {
     pub function: Name,
     /// The arguments after `env`.
@@ -12,7 +12,7 @@ pub struct Call {
 }
 
 /// An argument of a call.
-#[derive(Debug, Drop)]
+#[derive(Drop)]
 pub enum Argument {
     Value(Expr),
     /// A string: the bytes between its quotes.
@@ -22,14 +22,14 @@ pub enum Argument {
 }
 
 /// What a variable is set to.
-#[derive(Debug, Drop)]
+#[derive(Drop)]
 pub enum RightSide {
     Expr(Expr),
     Call(Call),
 }
 
 /// What an `if` tests.
-#[derive(Debug, Drop)]
+#[derive(Drop)]
 pub enum Test {
     Expr(Expr),
     /// Whether the call's result is 0.

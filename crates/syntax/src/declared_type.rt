@@ -1,7 +1,7 @@
 //! The types of parameters and variables.
 
 /// A reference type (JNI Specification, chapter 3, "Reference Types").
-#[derive(Clone, Copy, Debug, PartialEq, Eq)]
+#[derive(Clone, Copy)]
 pub enum ReferenceType {
     /// `jobject`
     Object,
@@ -26,7 +26,7 @@ pub enum ReferenceType {
 }
 
 /// The type of the elements of a buffer or a local array (JNI Specification, chapter 3, "Primitive Types").
-#[derive(Clone, Copy, Debug, PartialEq, Eq)]
+#[derive(Clone, Copy)]
 pub enum ElementType {
     /// `jint`
     Jint,
@@ -39,7 +39,7 @@ pub enum ElementType {
 }
 
 /// The type of a parameter.
-#[derive(Clone, Copy, Debug, PartialEq, Eq)]
+#[derive(Clone, Copy)]
 pub enum ParameterType {
     /// `jint`
     Jint,
@@ -47,7 +47,7 @@ pub enum ParameterType {
 }
 
 /// The type of a number, a flag, a reference or a field ID that is declared.
-#[derive(Clone, Copy, Debug, PartialEq, Eq)]
+#[derive(Clone, Copy)]
 pub enum VariableType {
     /// `uint32_t`
     Uint32,

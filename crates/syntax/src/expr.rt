@@ -3,7 +3,7 @@
 use crate::name::Name;
 
 /// An expression (ISO/IEC 9899:1999, 6.5).
-#[derive(Debug, Drop)]
+#[derive(Drop)]
 pub enum Expr {
     /// A number, and whether it ends in `u`.
     Number { value: u32, unsigned: bool },
@@ -14,13 +14,14 @@ pub enum Expr {
     /// An element of a named array or buffer, `x[e]`.
     Element(Name, Box<Expr>),
     Prefix(PrefixOp, Box<Expr>),
-    Binary(BinaryOp, Box<Expr>, Box<Expr>),
+    /// The operands lie together.
+    Binary(BinaryOp, Box<(Expr, Expr)>),
     /// Parentheses, which are kept.
     Paren(Box<Expr>),
 }
 
 /// A constant with a name (JNI Specification, chapters 3 and 4; ISO/IEC 9899:1999, 7.17).
-#[derive(Clone, Copy, Debug, PartialEq, Eq)]
+#[derive(Clone, Copy)]
 pub enum Constant {
     /// `JNI_TRUE`
     True,
@@ -35,7 +36,7 @@ pub enum Constant {
 }
 
 /// An operator in front of its operand, or a cast.
-#[derive(Clone, Copy, Debug, PartialEq, Eq)]
+#[derive(Clone, Copy)]
 pub enum PrefixOp {
     /// `!`
     LogicalNot,
@@ -48,7 +49,7 @@ pub enum PrefixOp {
 }
 
 /// An operator between two operands.
-#[derive(Clone, Copy, Debug, PartialEq, Eq)]
+#[derive(Clone, Copy)]
 pub enum BinaryOp {
     /// `||`
     LogicalOr,

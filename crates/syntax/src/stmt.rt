@@ -7,7 +7,7 @@ use crate::name::Name;
 
 /// Statements in braces.
 #[cycle(statements)]
-#[derive(Debug, Drop)]
+#[derive(Drop)]
 pub struct Block {
     pub statements: Vec<Stmt>,
     /// The line of the closing brace, counted from 1.
@@ -16,7 +16,7 @@ pub struct Block {
 
 /// A statement (ISO/IEC 9899:1999, 6.8).
 #[cycle(statements)]
-#[derive(Debug, Drop)]
+#[derive(Drop)]
 pub struct Stmt {
     /// The line of its first token, counted from 1.
     pub line: usize,
@@ -25,7 +25,7 @@ pub struct Stmt {
 
 /// What a statement does.
 #[cycle(statements)]
-#[derive(Debug, Drop)]
+#[derive(Drop)]
 pub enum Form {
     /// `jint x = e;`
     Declare(VariableType, Name, RightSide),

@@ -10,14 +10,14 @@ use crate::stmt::Block;
 use std::marker::Model;
 
 /// An item of a program's text.
-#[derive(Debug, Drop)]
+#[derive(Drop)]
 pub enum Item {
     Static(Static),
     Function(Function),
 }
 
 /// A reference that all functions share, `static jobject x = NULL;`.
-#[derive(Debug, Drop)]
+#[derive(Drop)]
 pub struct Static {
     /// The line of its `static`, counted from 1.
     pub line: usize,
@@ -26,7 +26,7 @@ pub struct Static {
 }
 
 /// The function of a native method (JNI Specification, chapter 2, "Native Method Arguments").
-#[derive(Debug, Drop)]
+#[derive(Drop)]
 pub struct Function {
     /// The line of its `JNIEXPORT`, counted from 1.
     pub line: usize,
@@ -40,14 +40,14 @@ pub struct Function {
 }
 
 /// A parameter of a function.
-#[derive(Debug, Drop)]
+#[derive(Drop)]
 pub struct Parameter {
     pub kind: ParameterType,
     pub name: Name,
 }
 
 /// What a function returns.
-#[derive(Clone, Copy, Debug, PartialEq, Eq)]
+#[derive(Clone, Copy)]
 pub enum ResultType {
     /// `void`
     Void,
@@ -57,7 +57,7 @@ pub enum ResultType {
 }
 
 /// A program's items, in the order of the text. Its tree follows the operators' precedence and keeps the limits.
-#[derive(Debug, Drop)]
+#[derive(Drop)]
 pub struct Unit {
     items: Vec<Item>,
 }

@@ -50,7 +50,7 @@ equal_to_no_name (expr.Named c) b h = refl
 equal_to_no_name (expr.Variable x) b h = absurd (h x refl)
 equal_to_no_name (expr.Element' x p i) b h = refl
 equal_to_no_name (expr.Prefix' op p a) b h = refl
-equal_to_no_name (expr.Binary' op p a q c) b h = refl
+equal_to_no_name (expr.Binary' op p a c) b h = refl
 equal_to_no_name (expr.Paren' p a) b h = refl
 
 equal_to_constant : (x : Identifier) (c : Constant) → (c ≡ constant.Null → ⊥) → null_tested (Binary (binary_tree binary.Equal) (Variable x) (expr_tree (expr.Named c))) ≡ None
@@ -66,7 +66,7 @@ equal_to_no_null x (expr.Named c) h = equal_to_constant x c (λ e. h (ap expr.Na
 equal_to_no_null x (expr.Variable y) h = refl
 equal_to_no_null x (expr.Element' y p i) h = refl
 equal_to_no_null x (expr.Prefix' op p a) h = refl
-equal_to_no_null x (expr.Binary' op p a q c) h = refl
+equal_to_no_null x (expr.Binary' op p a c) h = refl
 equal_to_no_null x (expr.Paren' p a) h = refl
 
 unequal_to_no_name : (a : ExprInMemory) (b : Expr) → ((x : Identifier) → a ≡ expr.Variable x → ⊥) → null_tested (Binary (binary_tree binary.NotEqual) (expr_tree a) b) ≡ None
@@ -75,7 +75,7 @@ unequal_to_no_name (expr.Named c) b h = refl
 unequal_to_no_name (expr.Variable x) b h = absurd (h x refl)
 unequal_to_no_name (expr.Element' x p i) b h = refl
 unequal_to_no_name (expr.Prefix' op p a) b h = refl
-unequal_to_no_name (expr.Binary' op p a q c) b h = refl
+unequal_to_no_name (expr.Binary' op p a c) b h = refl
 unequal_to_no_name (expr.Paren' p a) b h = refl
 
 unequal_to_constant : (x : Identifier) (c : Constant) → (c ≡ constant.Null → ⊥) → null_tested (Binary (binary_tree binary.NotEqual) (Variable x) (expr_tree (expr.Named c))) ≡ None
@@ -91,7 +91,7 @@ unequal_to_no_null x (expr.Named c) h = unequal_to_constant x c (λ e. h (ap exp
 unequal_to_no_null x (expr.Variable y) h = refl
 unequal_to_no_null x (expr.Element' y p i) h = refl
 unequal_to_no_null x (expr.Prefix' op p a) h = refl
-unequal_to_no_null x (expr.Binary' op p a q c) h = refl
+unequal_to_no_null x (expr.Binary' op p a c) h = refl
 unequal_to_no_null x (expr.Paren' p a) h = refl
 
 pub ruleset comparison_rules = (not_compared)

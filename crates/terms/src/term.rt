@@ -97,11 +97,11 @@ pub fn term_of(alloc: Global, e: &Expr) -> Result<Term<'_>, AllocError>
             Term::Element(name, index)
         }
         Expr::Prefix(op, a) => Term::Prefix(*op, Box::new(alloc, term_of(alloc, a)?)?),
-        Expr::Binary(op, a, b) => match null_test(*op, a, b) {
+        Expr::Binary(op, operands) => match null_test(*op, &operands.0, &operands.1) {
             Some((wanted, name)) => Term::IsNull(wanted, name),
             None => {
-                let left = term_of(alloc, a)?;
-                let right = term_of(alloc, b)?;
+                let left = term_of(alloc, &operands.0)?;
+                let right = term_of(alloc, &operands.1)?;
                 binary_term(alloc, *op, left, right)?
             }
         },

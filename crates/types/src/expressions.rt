@@ -110,11 +110,12 @@ pub(crate) fn sort_of(known: &Known<'_, Sort>, e: &Expr) -> Option<Sort>
             Sort::Jint,
         ),
         Expr::Prefix(op, a) => prefix_sort(*op, sort_of(known, a)),
-        Expr::Binary(op, a, b) => {
-            if is_null_test(known, *op, a, b) {
+        Expr::Binary(op, operands) => {
+            let (left, right) = &**operands;
+            if is_null_test(known, *op, left, right) {
                 return Some(Sort::Truth);
             }
-            binary_sort(*op, sort_of(known, a), sort_of(known, b))
+            binary_sort(*op, sort_of(known, left), sort_of(known, right))
         }
         Expr::Paren(a) => sort_of(known, a),
     }
@@ -139,6 +140,8 @@ pub(crate) fn has_unknown(known: &Known<'_, Sort>, e: &Expr) -> bool
         Expr::Variable(x) => is_unknown(known, x),
         Expr::Element(x, i) => is_unknown(known, x) || has_unknown(known, i),
         Expr::Prefix(_, a) | Expr::Paren(a) => has_unknown(known, a),
-        Expr::Binary(_, a, b) => has_unknown(known, a) || has_unknown(known, b),
+        Expr::Binary(_, operands) => {
+            has_unknown(known, &operands.0) || has_unknown(known, &operands.1)
+        }
     }
 }

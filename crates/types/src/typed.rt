@@ -14,7 +14,7 @@ use std::marker::Model;
 use syntax::{Item, Unit};
 
 /// A unit that is sorted.
-#[derive(Debug, Drop)]
+#[derive(Drop)]
 pub struct Typed {
     unit: Unit,
 }

@@ -20,14 +20,14 @@ emit_logical-returns t c =
     side_whole c.args.conjunction c.args.code.now.items _ _ _ _ _ _ c.len-place.result _ _ _ c.in_ok-emit_expr.ensures c.in_ok-emit.ensures c.in_ok-emit_expr-2.ensures c.skip.ensures c.skip-2.ensures (omega (arith, c.len-place.ensures)) (omega (arith, c.len.ensures, c.emit_expr-2.new.code.ok)) c.replace.ensures
 
 -- an operand is less deep than the whole
-binary_left : (op : BinaryOp) (l r : Box ExprInMemory Global) → size-Expr l.value < size-Expr (Binary op l r)
-binary_left op l r = search (rules, the_lemmas)
+left_size : (op : BinaryOp) (operands : Box (ExprInMemory × ExprInMemory) Global) → size-Expr operands.value.0 < size-Expr (Binary op operands)
+left_size op operands = search (rules, the_lemmas)
 
-binary_right : (op : BinaryOp) (l r : Box ExprInMemory Global) → size-Expr r.value < size-Expr (Binary op l r)
-binary_right op l r = search (rules, the_lemmas)
+right_size : (op : BinaryOp) (operands : Box (ExprInMemory × ExprInMemory) Global) → size-Expr operands.value.1 < size-Expr (Binary op operands)
+right_size op operands = search (rules, the_lemmas)
 
 pub emit_expr-emit_binary-requires : goal.emit_expr-emit_binary-requires
 emit_expr-emit_binary-requires t c =
-    let first = binary_left c.in-Binary.operator c.in-Binary.left c.in-Binary.right in
-    let second = binary_right c.in-Binary.operator c.in-Binary.left c.in-Binary.right in
+    let first = left_size c.in-Binary.operator c.in-Binary.operands in
+    let second = right_size c.in-Binary.operator c.in-Binary.operands in
     (omega (arith, c.decreases, first, second, ap size-Expr c.in-Binary.is, ap size-Expr c.deref-in-Binary.ensures, ap size-Expr c.deref-in-Binary-2.ensures), tt)
