@@ -1,15 +1,14 @@
 -- Decimal numbers that are read in one pass.
-use Rattle.std.proofs.Common.{◌≡◌, ℕ, zero, suc, ◌+◌, ◌-◌, ◌*◌, ◌<◌, ◌≤◌, Bool, true, false, List, [], ◌∷◌, ◌++◌, length, get_or, take, drop, Option, Some, Result, Ok, refl, sym, ap, subst, ◌∙◌, arith, inl, inr}
-use Rattle.std.specs.Prelude.{◌==◌, ◌&&◌, ◌||◌, not}
+use Rattle.std.proofs.Common.{◌≡◌, ℕ, zero, suc, ◌+◌, ◌-◌, ◌*◌, ◌<◌, ◌≤◌, Bool, true, false, List, [], ◌∷◌, ◌++◌, length, get_or, take, drop, Some, Result, Ok, refl, sym, ap, subst, ◌∙◌, arith, inl, inr}
+use Rattle.std.specs.Prelude.{◌==◌, ◌&&◌}
 use Rattle.std.specs.List.{prefix_len}
 use Rattle.std.proofs.lemmas.Bool.{cases_lt, or_cases, or_from, ne_eqb}
 use Rattle.std.proofs.lemmas.List.{append-nil, get_or_past, get_or-drop, get_or-take, length-take-le, take-append-drop, take_more}
-use Rattle.base.specs.Numbers.{number_limit}
 use Rattle.scan.specs.declared.token.Kind.{Kind}
 use Rattle.scan.specs.declared.token.Kind.TheVariants.{Number}
 use Rattle.scan.specs.declared.fault.Fault.{Fault}
 use Rattle.scan.specs.Bytes.{is_within, is_word, is_digit, digit_value, base_value}
-use Rattle.scan.specs.Spelling.{Every, IsDigits, IsNumber, suffix}
+use Rattle.scan.specs.Spelling.{Every, IsDigits, IsNumber}
 use Rattle.scan.specs.Reading.{Piece, number_at, number_of, number_piece, is_e, is_sign}
 use Rattle.scan.proofs.Words.{within_parts, every_append, prefix_front}
 use Rattle.scan.proofs.Digits.{number_words, number_again}
