@@ -146,6 +146,7 @@ fn indexed(alloc: Global, name: &[u8], index: Expr) -> Result<Expr, AllocError>
 }
 
 /// An expression with its height, and what comes after this lexeme, which ends it.
+#[inline(always)]
 pub fn closed(
     end: Fixed,
     inside: Expr,

@@ -1,18 +1,17 @@
 -- Decimal numbers that are read in one pass.
-use Rattle.std.proofs.Common.{◌≡◌, ℕ, zero, suc, ◌+◌, ◌-◌, ◌*◌, ◌<◌, ◌≤◌, Bool, true, false, List, [], ◌∷◌, ◌++◌, length, get_or, take, drop, Option, Some, Result, Ok, refl, sym, ap, subst, ◌∙◌, arith, inl, inr}
-use Rattle.std.specs.Prelude.{◌==◌, ◌&&◌, ◌||◌, not}
+use Rattle.std.proofs.Common.{◌≡◌, ℕ, zero, suc, ◌+◌, ◌-◌, ◌*◌, ◌<◌, ◌≤◌, Bool, true, false, List, [], ◌∷◌, ◌++◌, length, get_or, take, drop, Some, Result, Ok, refl, sym, ap, subst, ◌∙◌, arith, inl, inr}
+use Rattle.std.specs.Prelude.{◌==◌, ◌&&◌}
 use Rattle.std.specs.List.{prefix_len}
 use Rattle.std.proofs.lemmas.Bool.{cases_lt, or_cases, or_from, ne_eqb}
 use Rattle.std.proofs.lemmas.List.{append-nil, get_or_past, get_or-drop, get_or-take, length-take-le, take-append-drop, take_more}
-use Rattle.base.specs.Numbers.{number_limit}
 use Rattle.scan.specs.declared.token.Kind.{Kind}
 use Rattle.scan.specs.declared.token.Kind.TheVariants.{Number}
 use Rattle.scan.specs.declared.fault.Fault.{Fault}
 use Rattle.scan.specs.Bytes.{is_within, is_word, is_digit, digit_value, base_value}
-use Rattle.scan.specs.Spelling.{Every, IsDigits, IsNumber, suffix}
-use Rattle.scan.specs.Reading.{Piece, number_at, number_of, number_piece, is_e, is_sign}
-use Rattle.scan.proofs.Words.{within_parts, every_append, prefix_front}
-use Rattle.scan.proofs.Digits.{number_words, number_again}
+use Rattle.scan.specs.Spelling.{Every, IsDigits, IsNumber}
+use Rattle.scan.specs.Reading.{Piece, piece_at, number_at, number_of, number_piece, is_e, is_sign}
+use Rattle.scan.proofs.Words.{figure_is_word, figure_no_letter, word_no_blank, within_parts, every_append, prefix_front}
+use Rattle.scan.proofs.Digits.{ten_figure, number_words, number_again}
 
 abbrev answer : Kind → ℕ → Result Piece Fault
 answer kind n = Ok (Some kind, n)
@@ -120,3 +119,14 @@ unsigned_read text n value h le lead mark free =
       value_is = sym h.value_is;
       small = omega (arith, small);
     }) free (ap is_e last)
+
+-- ---- what begins with a digit
+
+pub figure_piece : (a : ℕ) (rest : List ℕ) → is_digit 10 a ≡ true → piece_at (a ∷ rest) ≡ number_at (a ∷ rest)
+unfolding piece_at
+figure_piece a rest e =
+    let figure = ten_figure a e in
+    let word = figure_is_word a figure in
+    rw (word_no_blank a word) (rw (figure_no_letter a figure) (rw figure refl))
+
+pub ruleset figures = (figure_piece)

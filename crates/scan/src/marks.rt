@@ -1,7 +1,8 @@
 //! Marks, by their first byte or their first two (ISO/IEC 9899:1999, 6.4.6).
 
-ghost use Rattle.std.specs.Prelude.{◌≡◌};
-ghost use Rattle.scan.specs.Reading.{mark_of, pair_of};
+ghost use Rattle.std.specs.Prelude.{◌≡◌, ℕ, List, ◌∷◌, IfSome, Some, Ok};
+ghost use Rattle.scan.specs.declared.token.Kind.TheVariants.{Symbol};
+ghost use Rattle.scan.specs.Reading.{mark_of, pair_of, piece_at};
 
 use crate::token::Mark;
 
@@ -35,6 +36,30 @@ pub(crate) fn mark_of(byte: u8) -> Option<Mark>
         _ => return None,
     };
     Some(mark)
+}
+
+/// The mark of a byte with which no other token and no comment begins.
+#[inline(always)]
+#[tactic(auto, using(crate::proofs::LoneMarks::lone_marks))]
+pub(crate) fn lone_mark(byte: u8) -> Option<Mark>
+    ensures { IfSome result (λ mark. (rest : List ℕ) → piece_at (byte ∷ rest) ≡ Ok (Some (Symbol mark), 1)) }
+{
+    match byte {
+        b'(' => Some(Mark::OpenParen),
+        b')' => Some(Mark::CloseParen),
+        b'{' => Some(Mark::OpenBrace),
+        b'}' => Some(Mark::CloseBrace),
+        b'[' => Some(Mark::OpenBracket),
+        b']' => Some(Mark::CloseBracket),
+        b';' => Some(Mark::Semicolon),
+        b',' => Some(Mark::Comma),
+        b'*' => Some(Mark::Star),
+        b'^' => Some(Mark::Caret),
+        b'~' => Some(Mark::Tilde),
+        b'+' => Some(Mark::Plus),
+        b'%' => Some(Mark::Percent),
+        _ => None,
+    }
 }
 
 /// The mark of two bytes.

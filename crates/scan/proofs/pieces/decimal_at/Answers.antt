@@ -14,7 +14,7 @@ returns-then-ends_word c =
       | else-len-gt1-via-then-len-gt1+else-text-eq48 w ↦ w.if-text-eq48.false nought
       | else-len-gt1-via-else-len-gt1 w ↦ absurd (omega arith)
     ] in
-    plain_read c.args.text.now c.loop-len.len c.loop-len.value c.loop-len.invariant (omega arith) lead (not-true _ (sym c.if-ends_word.ensures))
+    unsigned_read c.args.text.now c.loop-len.len c.loop-len.value c.loop-len.invariant (omega arith) lead c.if-text-len-eq117.true (not-true _ (sym c.if-ends_word.ensures))
 
 pub returns-then-ends_word-2 : goal.returns-then-ends_word-2
 returns-then-ends_word-2 c =
@@ -22,4 +22,4 @@ returns-then-ends_word-2 c =
       | else-len-gt1-via-then-len-gt1+else-text-eq48 w ↦ w.if-text-eq48.false nought
       | else-len-gt1-via-else-len-gt1 w ↦ absurd (omega arith)
     ] in
-    unsigned_read c.args.text.now c.loop-len.len c.loop-len.value c.loop-len.invariant (omega arith) lead c.if-text-len-eq117.true (not-true _ (sym c.if-ends_word-2.ensures))
+    plain_read c.args.text.now c.loop-len.len c.loop-len.value c.loop-len.invariant (omega arith) lead (not-true _ (sym c.if-ends_word-2.ensures))
