@@ -1,15 +1,17 @@
 -- Fields by handles.
-use Rattle.std.proofs.Common.{subst, ◌≡◌, ℕ, zero, suc, ◌<◌, ◌≤◌, arith, Bool, true, false, cond, List, [], ◌∷◌, length, map, drop, find, get_or, Option, Some, None, slice_get, refl, sym, ap, ◌∙◌}
-use Rattle.std.specs.Option.{option_map}
+use Rattle.std.proofs.Common.{subst, ◌≡◌, ℕ, zero, suc, ◌<◌, ◌≤◌, arith, Bool, true, false, cond, List, [], ◌∷◌, length, map, drop, find, get_or, position, Option, Some, None, slice_get, refl, sym, ap, ◌∙◌}
+use Rattle.std.specs.Option.{option_map, option_map_or}
+use Rattle.std.specs.Prelude.{◌==◌, ◌&&◌}
+use Rattle.std.specs.Str.{bytes_eq}
 use Rattle.std.proofs.lemmas.Option.{slice_get-map, slice_get-get_or, slice_get_past}
 use Rattle.std.proofs.lemmas.List.{length-map}
 use Rattle.base.specs.Bytes.{Identifier}
 use Rattle.classes.specs.Class.{Field, Classes}
-use Rattle.classes.specs.Fields.{FieldId}
+use Rattle.classes.specs.Fields.{FieldId, own_statics}
 use Rattle.class_table.specs.declared.class.FieldHandle.{FieldHandle}
 use Rattle.class_table.specs.declared.class.Field.{Field as FieldInMemory}
-use Rattle.class_table.specs.FieldViews.{declared_as, field_of}
-use Rattle.class_table.specs.Views.{field_view, field_type_view}
+use Rattle.class_table.specs.FieldViews.{declared_as, field_of, place_among}
+use Rattle.class_table.specs.Views.{field_view}
 use Rattle.class_table.proofs.FoundFields.{fits, identified, found_within, found-here}
 
 -- the field of a handle is one of those that its class declares
@@ -58,12 +60,32 @@ pub none_found : {A : Type 0} (o : Option A) → None ≡ option_map {T = A} {U 
 none_found None h = refl
 none_found (Some x) h = absurd (cc)
 
--- the type of a field that is there, and of one that isn't
-pub type_there : (T : Classes) (h : FieldHandle) (fields : List FieldInMemory) (d : FieldInMemory) → map field_view fields ≡ declared_as T h.class h.is_static → h.place < length fields → Some (field_type_view (get_or fields h.place d).field_type) ≡ option_map (λ (f : FieldId). f.field.type) (field_of T h)
-type_there T h fields d is within =
-    sym (ap (option_map (λ (f : FieldId). f.field.type)) (of_declared T h ∙ ap (option_map (identified h.is_static h.class)) (ap (λ fs. slice_get fs h.place) (sym is) ∙ viewed_at fields h.place d within)))
+-- a field that is there, and one that isn't
+pub field_there : (T : Classes) (h : FieldHandle) (fields : List FieldInMemory) (f : FieldInMemory) → map field_view fields ≡ declared_as T h.class h.is_static → h.place < length fields → f ≡ get_or fields h.place f → Some (identified h.is_static h.class (field_view f)) ≡ field_of T h
+field_there T h fields f is within there =
+    ap (λ g. Some (identified h.is_static h.class (field_view g))) there
+    ∙ sym (of_declared T h ∙ ap (option_map (identified h.is_static h.class)) (ap (λ fs. slice_get fs h.place) (sym is) ∙ viewed_at fields h.place f within))
 
-pub type_missing : (T : Classes) (h : FieldHandle) (fields : List FieldInMemory) → map field_view fields ≡ declared_as T h.class h.is_static → length fields ≤ h.place → None ≡ option_map (λ (f : FieldId). f.field.type) (field_of T h)
-type_missing T h fields is past =
+pub no_field_there : (T : Classes) (h : FieldHandle) (fields : List FieldInMemory) → map field_view fields ≡ declared_as T h.class h.is_static → length fields ≤ h.place → None ≡ field_of T h
+no_field_there T h fields is past =
     let counted = length-map fields field_view in
-    sym (ap (option_map (λ (f : FieldId). f.field.type)) (of_declared T h ∙ ap (option_map (identified h.is_static h.class)) (ap (λ fs. slice_get fs h.place) (sym is) ∙ slice_get_past (map field_view fields) h.place (omega (arith, past, counted)))))
+    sym (of_declared T h ∙ ap (option_map (identified h.is_static h.class)) (ap (λ fs. slice_get fs h.place) (sym is) ∙ slice_get_past (map field_view fields) h.place (omega (arith, past, counted))))
+
+-- fields of one class and one name have one place
+pub same_place : (f g : FieldId) (fields : List FieldId) → g.class ≡ f.class → g.field.name ≡ f.field.name → place_among g fields ≡ place_among f fields
+same_place f g fields class name =
+    ap (λ (c : ℕ). option_map_or (λ (i : ℕ). i) (position (λ (x : FieldId). (c == x.class) && bytes_eq g.field.name x.field.name) fields) 0) class
+    ∙ ap (λ (n : Identifier). option_map_or (λ (i : ℕ). i) (position (λ (x : FieldId). (f.class == x.class) && bytes_eq n x.field.name) fields) 0) name
+
+-- a field's place is that of the one that is there
+pub place_there : (T : Classes) (h : FieldHandle) (f : FieldId) (fields : List FieldId) (place : ℕ) → f.class ≡ h.class → (g : FieldId) × (field_of T h ≡ Some g) × (g.class ≡ h.class) × (g.field.name ≡ f.field.name)
+    → ((g : FieldId) → field_of T h ≡ Some g → place ≡ place_among g fields) → place ≡ place_among f fields
+place_there T h f fields place class there is = is there.0 there.1 ∙ same_place f there.0 fields (there.2 ∙ sym class) there.3
+
+-- the same of a static, among those of its class
+pub static_there : (T : Classes) (h : FieldHandle) (f : FieldId) (place : ℕ) → f.class ≡ h.class → (g : FieldId) × (field_of T h ≡ Some g) × (g.class ≡ h.class) × (g.field.name ≡ f.field.name)
+    → ((g : FieldId) → field_of T h ≡ Some g → place ≡ place_among g (own_statics T g.class)) → place ≡ place_among f (own_statics T f.class)
+static_there T h f place class there is =
+    is there.0 there.1
+    ∙ ap (λ (c : ℕ). place_among there.0 (own_statics T c)) (there.2 ∙ sym class)
+    ∙ same_place f there.0 (own_statics T f.class) (there.2 ∙ sym class) there.3

@@ -13,10 +13,12 @@ ghost use Rattle.class_table.specs.Views.{element_view, field_view, field_type_v
 use crate::class::{ElementType, Field, FieldType};
 use crate::table::ClassTable;
 
-/// A field or static, with the number of the class that declares it.
+/// A field or static, with the number of the class that declares it, and its place, counted from 0, among the fields, or the
+/// statics, that the class declares.
 #[derive(Clone, Copy)]
 pub struct FieldId<'t> {
     pub class: usize,
+    pub place: usize,
     pub is_static: bool,
     pub field: &'t Field,
 }
@@ -119,18 +121,6 @@ impl ClassTable {
         self.declared(class, true)
     }
 
-    /// The first of these fields that has this name and signature.
-    fn first_fitting<'f>(&self, fields: &'f [Field], name: &[u8], text: &[u8]) -> Option<&'f Field>
-        ensures { option_map (λ f. field_view f.now) result ≡ find (λ f. bytes_eq f.name name.now && bytes_eq (signature self.now f.type) text.now) (map field_view fields.now) }
-    {
-        for field in fields {
-            if field.name.as_slice() == name && self.has_signature(field.field_type, text) {
-                return Some(field);
-            }
-        }
-        None
-    }
-
     /// The field, or the static, of this name and signature: of the class itself, or else of the nearest superclass that has one.
     /// The cost goes by the depth of the class and the fields on the way.
     pub fn field(
@@ -142,22 +132,8 @@ impl ClassTable {
     ) -> Option<FieldId<'_>>
         ensures { option_map field_id_view result ≡ find_as self.now class name.now text.now is_static }
     {
-        let mut declarer = class;
-        for _ in 0..self.len() {
-            let own = self.declared(declarer, is_static);
-            if let Some(field) = self.first_fitting(own, name, text) {
-                return Some(FieldId {
-                    class: declarer,
-                    is_static,
-                    field,
-                });
-            }
-            match self.superclass(declarer) {
-                Some(above) => declarer = above,
-                None => return None,
-            }
-        }
-        None
+        let handle = self.find_handle(class, name, text, is_static)?;
+        self.field_at(handle)
     }
 
     /// The type of references that has this signature: of a class by the name between `L` and the semicolon, and of a class of arrays by its name.

@@ -1,14 +1,15 @@
 //! Fields and statics by handles: what is found once, and then taken without its name.
 
-ghost use Rattle.std.specs.Prelude.{◌≡◌, ◌&&◌, Some, false, true, map, find, slice_get, IsSome};
+ghost use Rattle.std.specs.Prelude.{◌≡◌, ◌&&◌, Some, false, true, map, find, slice_get, IfSome, IsSome, IsTrue};
 ghost use Rattle.std.specs.Option.{option_map};
 ghost use Rattle.std.specs.Str.{bytes_eq};
-ghost use Rattle.class_table.specs.FieldViews.{find_as, field_of, place_among};
+ghost use Rattle.class_table.specs.FieldViews.{field_id_view, find_as, field_of, place_among};
 ghost use Rattle.class_table.specs.Views.{field_view, field_type_view};
 ghost use Rattle.classes.specs.Fields.{FieldId, signature, layout, own_statics};
 ghost use Rattle.classes.specs.Grown.{IsGrown};
 
 use crate::class::{Field, FieldHandle, FieldType};
+use crate::fields::FieldId as Found;
 use crate::table::ClassTable;
 
 impl ClassTable {
@@ -61,15 +62,31 @@ impl ClassTable {
         None
     }
 
+    /// The field or static of a handle; none where there is no such field.
+    pub fn field_at(&self, handle: FieldHandle) -> Option<Found<'_>>
+        ensures view { option_map field_id_view result ≡ field_of self.now handle }
+        ensures class { IfSome result (λ f. f.class ≡ handle.class) }
+    {
+        let own = self.declared(handle.class, handle.is_static);
+        if handle.place < own.len() {
+            Some(Found {
+                class: handle.class,
+                place: handle.place,
+                is_static: handle.is_static,
+                field: &own[handle.place],
+            })
+        } else {
+            None
+        }
+    }
+
     /// What the field of a handle holds; none where there is no such field.
     pub fn handle_type(&self, handle: FieldHandle) -> Option<FieldType>
         ensures { option_map field_type_view result ≡ option_map (λ (f : FieldId). f.field.type) (field_of self.now handle) }
     {
-        let own = self.declared(handle.class, handle.is_static);
-        if handle.place < own.len() {
-            Some(own[handle.place].field_type)
-        } else {
-            None
+        match self.field_at(handle) {
+            Some(found) => Some(found.field.field_type),
+            None => None,
         }
     }
 
@@ -97,5 +114,50 @@ impl ClassTable {
     {
         let _ = &self.classes;
         handle.place
+    }
+
+    /// Whether the field of a handle has the class and the name of this one.
+    fn is_at(&self, handle: FieldHandle, field: Found<'_>) -> bool
+        ensures { IsTrue result → (g : FieldId) × (field_of self.now handle ≡ Some g) × (g.class ≡ handle.class) × (g.field.name ≡ (field_id_view field.entry).field.name) }
+    {
+        match self.field_at(handle) {
+            Some(there) => there.field.name.as_slice() == field.field.name.as_slice(),
+            None => false,
+        }
+    }
+
+    /// The place of a field that this table found, among the values of the objects of a class, and 0 where these have no such
+    /// field. None where it is no field of this table. The cost goes by the depth of the classes.
+    pub fn place_of_field(&self, class: usize, field: Found<'_>) -> Option<usize>
+        requires { IsGrown self.now }
+        ensures { IfSome result (λ place. place ≡ place_among (field_id_view field.entry) (layout self.now class)) }
+    {
+        let handle = FieldHandle {
+            class: field.class,
+            place: field.place,
+            is_static: false,
+        };
+        if self.is_at(handle, field) {
+            Some(self.field_place(class, handle))
+        } else {
+            None
+        }
+    }
+
+    /// The place of a static that this table found, among the values of the class object of the class that declares it. None
+    /// where it is no static of this table.
+    pub fn place_of_static(&self, field: Found<'_>) -> Option<usize>
+        ensures { IfSome result (λ place. place ≡ place_among (field_id_view field.entry) (own_statics self.now field.entry.class)) }
+    {
+        let handle = FieldHandle {
+            class: field.class,
+            place: field.place,
+            is_static: true,
+        };
+        if self.is_at(handle, field) {
+            Some(self.static_place(handle))
+        } else {
+            None
+        }
     }
 }

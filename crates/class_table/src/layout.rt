@@ -42,6 +42,7 @@ impl ClassTable {
             if place >= start {
                 return Some(FieldId {
                     class: declarer,
+                    place: place - start,
                     is_static: false,
                     field: &own[place - start],
                 });

@@ -99,7 +99,7 @@ fn addresses_given(
         match argument {
             ObjectValue::Number(_) => {}
             ObjectValue::Reference(None) => slots.push(None)?,
-            ObjectValue::Reference(Some(name)) => slots.push(object_of(loaded, *name as usize))?,
+            ObjectValue::Reference(Some(name)) => slots.push(object_of(loaded, *name))?,
         }
     }
     slots.resize(count, None)?;

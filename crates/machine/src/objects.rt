@@ -175,6 +175,6 @@ fn held(loaded: &[Addr], value: ObjectValue) -> Value
     match value {
         ObjectValue::Number(number) => Value::Number(number.cast_unsigned()),
         ObjectValue::Reference(None) => Value::Null,
-        ObjectValue::Reference(Some(name)) => Value::Block(loaded[name as usize - 1]),
+        ObjectValue::Reference(Some(name)) => Value::Block(loaded[name - 1]),
     }
 }

@@ -50,7 +50,7 @@ impl<'a> Objects for NamedBlocks<'a> {
         match self.heap.get(self.addresses[name - 1], index) {
             Value::Number(word) => ObjectValue::Number(word.cast_signed()),
             Value::Null => ObjectValue::Reference(None),
-            Value::Block(addr) => ObjectValue::Reference(Some(self.heap.birth_of(addr))),
+            Value::Block(addr) => ObjectValue::Reference(Some(self.heap.birth_of(addr) as usize)),
         }
     }
 }

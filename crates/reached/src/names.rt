@@ -29,7 +29,7 @@ impl<O: Objects> Graph for Names<'_, O> {
         match self.objects.value(place, index) {
             ObjectValue::Number(_) => None,
             ObjectValue::Reference(None) => None,
-            ObjectValue::Reference(Some(name)) => within(self.objects.len(), name as usize),
+            ObjectValue::Reference(Some(name)) => within(self.objects.len(), name),
         }
     }
 }

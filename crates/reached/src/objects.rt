@@ -1,6 +1,6 @@
 //! Objects by name.
 
-ghost use Rattle.std.specs.Prelude.{◌≡◌, ◌<◌, Some, length, slice_get};
+ghost use Rattle.std.specs.Prelude.{◌≡◌, ◌<◌, ◌^◌, Some, length, slice_get};
 ghost use Rattle.source.specs.Heap.{Heap, class_of, values_of};
 ghost use Rattle.reached.specs.Names.{IsWithin};
 ghost use Rattle.world.specs.Views.{object_value_view};
@@ -14,7 +14,8 @@ pub trait Objects {
 
     /// The number of objects.
     fn len(&self) -> usize
-        ensures { result ≡ length (heap self.now) };
+        ensures len { result ≡ length (heap self.now) }
+        ensures few { result < 2 ^ 63 };
 
     /// The number of an object's class.
     fn class_of(&self, name: usize) -> usize

@@ -15,7 +15,7 @@ pub(crate) fn marked_roots(
     loaded: usize,
     names: &[usize],
 ) -> Result<Marks, AllocError>
-    requires { count < 2 ^ 32 }
+    requires { count < 2 ^ 63 }
     ensures { IfOk result (AreRoots count (Contains (from_one loaded ++ names.now))) }
 {
     let mut marks = Marks::new(alloc, count + 1)?;

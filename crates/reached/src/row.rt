@@ -21,9 +21,8 @@ fn shown(classes: &ClassTable, value: ObjectValue) -> Shown<'_>
         ObjectValue::Number(number) => Shown::Number(number),
         ObjectValue::Reference(None) => Shown::Null,
         ObjectValue::Reference(Some(name)) => {
-            let number = name as usize;
-            if number <= classes.len() {
-                Shown::Class(classes.name(number))
+            if name <= classes.len() {
+                Shown::Class(classes.name(name))
             } else {
                 Shown::Object(name)
             }
@@ -54,14 +53,14 @@ pub(crate) fn put_row<O: Objects, S: Sink>(
     sink: &mut S,
     classes: &ClassTable,
     objects: &O,
-    name: u32,
+    name: usize,
 ) -> Result<(), SinkFailed>
     requires can_fail { CanFail (S.written sink.old) }
     requires name { IsWithin (length (O.heap objects.now)) name }
     ensures { Writes (S.written sink.old) (S.written sink.new) result (object_line (shown_row classes.now (O.heap objects.now) name)) }
 {
-    let class = classes.name(objects.class_of(name as usize));
+    let class = classes.name(objects.class_of(name));
     put_row_head(sink, name, class)?;
-    put_values(sink, classes, objects, name as usize)?;
+    put_values(sink, classes, objects, name)?;
     put_row_end(sink)
 }

@@ -22,9 +22,9 @@ pub struct ReachedRows<'a, O: Objects> {
     /// Whether an object can be reached, by its name.
     reached: Vec<bool>,
     /// The name of the first object that is shown.
-    first: u32,
+    first: usize,
     /// After the last name.
-    end: u32,
+    end: usize,
 }
 
 impl<'a, O: Objects> Model for ReachedRows<'a, O> {
@@ -57,8 +57,7 @@ impl<'a, O: Objects> Rows for ReachedRows<'a, O> {
 /// The rows of the objects that can be reached from the objects made at load, which have the first names, and from
 /// these. A name of no object is no root.
 ///
-/// Its time is proportional to the number of objects and the values of those that are reached. More objects than
-/// 32 bits can count are refused as memory is.
+/// Its time is proportional to the number of objects and the values of those that are reached.
 pub fn reached_rows<'a, O: Objects>(
     alloc: Global,
     classes: &'a ClassTable,
@@ -69,17 +68,14 @@ pub fn reached_rows<'a, O: Objects>(
     ensures { IfOk result (AreReported classes.now (O.heap objects.now) loaded names.now) }
 {
     let count = objects.len();
-    if count >= u32::MAX as usize {
-        return Err(AllocError);
-    }
     let roots = marked_roots(alloc, count, loaded, names)?;
     let reached = roots.close(&Names { objects })?;
     Ok(ReachedRows {
         classes,
         objects,
         reached,
-        first: classes.len() as u32 + 2,
-        end: count as u32 + 1,
+        first: classes.len() + 2,
+        end: count + 1,
     })
 }
 
@@ -89,8 +85,8 @@ fn put_rows<O: Objects, S: Sink>(
     classes: &ClassTable,
     objects: &O,
     reached: &[bool],
-    first: u32,
-    end: u32,
+    first: usize,
+    end: usize,
 ) -> Result<(), SinkFailed>
     requires can_fail { CanFail (S.written sink.old) }
     requires first { 0 < first }
@@ -99,7 +95,7 @@ fn put_rows<O: Objects, S: Sink>(
     ensures { Writes (S.written sink.old) (S.written sink.new) result (row_lines (marked_rows classes.now (O.heap objects.now) reached.now first end)) }
 {
     for name in first..end {
-        if reached[name as usize] {
+        if reached[name] {
             put_row(sink, classes, objects, name)?;
         }
     }

@@ -1,6 +1,6 @@
 //! Replays of journals.
 
-ghost use Rattle.std.specs.Prelude.{◌≡◌, ◌<◌, ◌^◌, IfOk, IfErr, OnOk, IsTrue, length};
+ghost use Rattle.std.specs.Prelude.{◌≡◌, IfOk, IfErr, OnOk, IsTrue};
 ghost use Rattle.syntax.specs.Limits.{IsTree};
 ghost use Rattle.syntax.specs.Views.{unit_tree};
 ghost use Rattle.types.specs.BuiltCalls.{calls_are_built};
@@ -30,7 +30,6 @@ fn run<'a>(
     requires tree { IsTree (unit_tree functions.now) }
     requires sorted { IsSorted (unit_tree functions.now) }
     requires calls { IsTrue (calls_are_built (unit_tree functions.now)) }
-    requires few { length journal.now < 2 ^ 31 }
     ensures end { IfOk result (Replayed (unit_tree functions.now) world.now journal.now) }
     ensures refused { IfErr result (IsRefused (unit_tree functions.now) world.now journal.now) }
 {
@@ -59,9 +58,7 @@ pub fn replay<W: Sink>(
     journal: &[Entry],
     out: &mut W,
 ) -> Result<Option<TrapAt>, ReplayFault>
-    requires sink { CanFail (W.written out.old) }
-    // Each entry makes at most one object, and objects are named by numbers below 2 ^ 32.
-    requires few { length journal.now < 2 ^ 31 }
+    requires { CanFail (W.written out.old) }
     ensures ok { OnOk result (WritesRun (unit_tree checked.now) world.now journal.now (W.written out.old) (W.written out.new)) }
     ensures trap { IfOk result (EndsBy (unit_tree checked.now) world.now journal.now) }
     ensures none_waits { OnOk result ((W.written out.new).waiting ≡ 0) }

@@ -1,6 +1,6 @@
 //! The state in which a replay begins.
 
-ghost use Rattle.std.specs.Prelude.{◌≡◌, ◌<◌, ◌^◌, IfOk, IfErr, length, map, [], None};
+ghost use Rattle.std.specs.Prelude.{◌≡◌, IfOk, IfErr, map, [], None};
 ghost use Rattle.syntax.specs.Views.{unit_tree, function_tree, parameter_tree};
 ghost use Rattle.types.specs.SortRules.{IsSorted};
 ghost use Rattle.world.specs.Views.{object_value_view};
@@ -129,8 +129,7 @@ fn waiting_threads<'a>(alloc: Global, world: &'a World) -> Result<Vec<Thread<'a>
 /// reference.
 fn loaded<'a>(alloc: Global, items: &'a [Item], world: &World) -> Result<Shared<'a>, AllocError>
     requires { IsSorted (unit_tree items.now) }
-    ensures loaded { IfOk result (λ shared. shared_view shared ≡ (start (unit_tree items.entry.now) world.now).shared) }
-    ensures few { IfOk result (λ shared. length shared.store < 2 ^ 20) }
+    ensures { IfOk result (λ shared. shared_view shared ≡ (start (unit_tree items.entry.now) world.now).shared) }
 {
     Ok(Shared {
         store: loaded_store(alloc, world)?,
@@ -148,7 +147,6 @@ pub(crate) fn start<'a>(
     requires { IsSorted (unit_tree functions.now) }
     ensures stands { IfOk result (λ m. Stands (unit_tree functions.now) world.now m (start (unit_tree functions.now) world.now)) }
     ensures range { IfOk result (λ m. AreInRange m.threads.items) }
-    ensures few { IfOk result (λ m. length m.shared.store < 2 ^ 20) }
     ensures fits { IfOk result (λ _. first_load_fault (unit_tree functions.now) world.now ≡ None) }
     ensures fault { IfErr result (IsLoadFault (unit_tree functions.now) world.now) }
 {

@@ -78,13 +78,13 @@ fn push_call(names: &mut Vec<usize>, activation: &Activation<'_>) -> Result<(), 
 }
 
 /// Adds the name of a pending exception.
-fn push_pending(names: &mut Vec<usize>, pending: Option<u32>) -> Result<(), AllocError>
+fn push_pending(names: &mut Vec<usize>, pending: Option<usize>) -> Result<(), AllocError>
     ensures { IfOk result (λ _. names.new.items ≡ names.old.items ++ pending_names pending) }
 {
     match pending {
         None => Ok(()),
         Some(name) => {
-            names.push(name as usize)?;
+            names.push(name)?;
             Ok(())
         }
     }

@@ -10,7 +10,6 @@ ghost use Rattle.replay.specs.States.{AreInRange, TakesEntry, shown_stop, IsNote
 ghost use Rattle.replay.specs.Threads.{ending_view};
 ghost use Rattle.report.specs.ThreadStatus.{standing_view};
 ghost use Rattle.source.specs.ReportOf.{standing_by_ending};
-ghost use Rattle.tasks.specs.Stores.{HasRoom, MakesAtMostOne};
 
 use crate::thread::{Ending, Step, Thread, is_unfinished, take_step};
 use crate::trap_at::TrapAt;
@@ -75,10 +74,8 @@ pub(crate) fn take_entry<'a>(
     requires sorted { IsSorted (unit_tree functions.now) }
     requires calls { IsTrue (calls_are_built (unit_tree functions.now)) }
     requires range { AreInRange state.old.threads.items }
-    requires room { HasRoom state.old.shared.store }
     ensures step { IfOk result (λ possible. TakesEntry (unit_tree functions.now) state.old entry possible state.new) }
     ensures range { IfOk result (λ _. AreInRange state.new.threads.items) }
-    ensures made { IfOk result (λ _. MakesAtMostOne state.old.shared.store state.new.shared.store) }
 {
     match entry {
         Entry::Step { thread, refused } => take_turn(alloc, functions, state, thread, refused),
@@ -97,10 +94,8 @@ fn take_turn<'a>(
     requires sorted { IsSorted (unit_tree functions.now) }
     requires calls { IsTrue (calls_are_built (unit_tree functions.now)) }
     requires range { AreInRange state.old.threads.items }
-    requires room { HasRoom state.old.shared.store }
     ensures step { IfOk result (λ possible. TakesEntry (unit_tree functions.now) state.old (journal.Step k refused) possible state.new) }
     ensures range { IfOk result (λ _. AreInRange state.new.threads.items) }
-    ensures made { IfOk result (λ _. MakesAtMostOne state.old.shared.store state.new.shared.store) }
 {
     if state.stop.is_some() {
         return Ok(false);

@@ -13,14 +13,13 @@ ghost use Rattle.source.specs.Thread.{Shared as SharedOfThreads};
 ghost use Rattle.source.specs.Variable.{LocalRef};
 ghost use Rattle.replay.specs.Threads.{argument_content, ending_view, TakesStep, WorkInRange, step_of};
 ghost use Rattle.tasks.specs.Shares.{shared_view};
-ghost use Rattle.tasks.specs.Stores.{HasRoom, MakesAtMostOne};
 ghost use Rattle.terms.specs.Views.{assign_all, content_view, variables_view};
 
 use classes::mangling::unmangle;
 use functions::Functions;
 use std::alloc::{AllocError, Global};
 use syntax::{Function, Parameter};
-use tasks::{Activation, Frames, Names, Outcome, Shared, Store, advance, class_named};
+use tasks::{Activation, Frames, Names, Outcome, Shared, Store, advance};
 use terms::{Content, Trap, Value, Variables};
 use world::{Call, ObjectValue, World};
 
@@ -98,11 +97,11 @@ pub(crate) fn class_of(
     alloc: Global,
     world: &World,
     function: &Function,
-) -> Result<Option<u32>, AllocError>
+) -> Result<Option<usize>, AllocError>
     ensures { IfOk result (λ class. class ≡ class_of_function world.now.classes (function_tree function.now)) }
 {
     match unmangle(alloc, function.name.as_bytes())? {
-        Some(native) => Ok(class_named(world.classes(), &native.class)),
+        Some(native) => Ok(world.classes().find(&native.class)),
         None => Ok(None),
     }
 }
@@ -111,7 +110,7 @@ pub(crate) fn class_of(
 fn entry_variables<'a>(
     alloc: Global,
     function: &'a Function,
-    class: u32,
+    class: usize,
     arguments: &[ObjectValue],
 ) -> Result<Variables<'a>, AllocError>
     ensures { IfOk result (λ variables. variables_view variables
@@ -141,7 +140,11 @@ fn add_references(references: &mut Names, arguments: &[ObjectValue]) -> Result<(
 
 /// The frame with which a call begins: the class and the arguments that are objects, and room for 16 more (JNI Specification,
 /// chapter 4, "EnsureLocalCapacity").
-fn entry_frames(alloc: Global, class: u32, arguments: &[ObjectValue]) -> Result<Frames, AllocError>
+fn entry_frames(
+    alloc: Global,
+    class: usize,
+    arguments: &[ObjectValue],
+) -> Result<Frames, AllocError>
     ensures { IfOk result (λ frames. frames ≡ entry_frame (class ∷ filter_map named_object (map object_value_view arguments.now)) ∷ []) }
 {
     let mut references = Names::new(alloc);
@@ -219,11 +222,11 @@ fn step_of(outcome: Outcome<'_>) -> Step
 }
 
 /// How a thread stands after its call, with this exception pending and these calls to come.
-fn ending_after(store: &Store, pending: Option<u32>, calls: &[Call]) -> Ending
+fn ending_after(store: &Store, pending: Option<usize>, calls: &[Call]) -> Ending
     ensures { ending_view result ≡ ending_after store.now pending calls.now }
 {
     match pending {
-        Some(exception) => Ending::Uncaught(store.class_of(exception as usize)),
+        Some(exception) => Ending::Uncaught(store.class_of(exception)),
         None => match calls {
             [] => Ending::Ended,
             [_, ..] => Ending::Unfinished,
@@ -232,7 +235,7 @@ fn ending_after(store: &Store, pending: Option<u32>, calls: &[Call]) -> Ending
 }
 
 /// Ends the call in progress. With an exception pending, or no call to come, the thread has ended.
-fn leave(store: &Store, thread: &mut Thread<'_>, pending: Option<u32>)
+fn leave(store: &Store, thread: &mut Thread<'_>, pending: Option<usize>)
     ensures activation { thread.new.activation ≡ None }
     ensures ending { ending_view thread.new.ending ≡ ending_after store.now pending thread.old.calls.now }
     ensures calls { thread.new.calls.now ≡ calls_after (ending_view thread.new.ending) thread.old.calls.now }
@@ -259,10 +262,8 @@ pub(crate) fn take_step<'a>(
     requires sorted { IsSorted (unit_tree functions.now) }
     requires calls { IsTrue (calls_are_built (unit_tree functions.now)) }
     requires range { WorkInRange thread.old.activation }
-    requires room { HasRoom shared.old.store }
     ensures step { IfOk result (λ took. TakesStep (unit_tree functions.now) world.now.classes refused (shared_view shared.old) thread.old took (shared_view shared.new) thread.new) }
     ensures range { IfOk result (λ _. WorkInRange thread.new.activation) }
-    ensures made { IfOk result (λ _. MakesAtMostOne shared.old.store shared.new.store) }
 {
     let Some(activation) = &mut thread.activation else {
         return enter(alloc, functions, world, refused, thread);

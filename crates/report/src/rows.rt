@@ -42,11 +42,11 @@ pub enum Shown<'a> {
     /// The class object of the class of this name.
     Class(&'a [u8]),
     /// The object of this number.
-    Object(u32),
+    Object(usize),
 }
 
 /// Puts what stands before the values of a row: the object's number and its class.
-pub fn put_row_head<S: Sink>(sink: &mut S, number: u32, class: &[u8]) -> Result<(), SinkFailed>
+pub fn put_row_head<S: Sink>(sink: &mut S, number: usize, class: &[u8]) -> Result<(), SinkFailed>
     requires { CanFail (S.written sink.old) }
     ensures { Writes (S.written sink.old) (S.written sink.new) result (row_head number class.now) }
 {

@@ -1,9 +1,7 @@
 mod PutLemmas
 mod Lists
-mod ClassLemmas
 mod FittingFrames
 mod LoadedLemmas
-mod StoreLemmas
 mod FieldLemmas
 mod FrameLemmas
 pub mod TaskLemmas

@@ -1,4 +1,4 @@
--- The objects that are made at load are few, and have no more values than the heap has cells.
+-- The objects that are made at load have no more values than the heap has cells.
 use Rattle.std.proofs.Common.{◌≡◌, ℕ, zero, suc, ◌<◌, ◌≤◌, ◌^◌, [], ◌∷◌, length, take, Some, ap, arith}
 use Rattle.std.specs.Prelude.{slice_get}
 use Rattle.std.proofs.lemmas.List.{length-take}
@@ -6,8 +6,7 @@ use Rattle.std.proofs.lemmas.List.Sums.{sum_by-cons}
 use Rattle.source.specs.Heap.{Heap}
 use Rattle.source.specs.Object.{Object, size, sizes}
 use Rattle.source.specs.World.{World, loaded_objects}
-use Rattle.tasks.specs.Stores.{HasRoom}
-use Rattle.world.proofs.LoadedWorlds.{loaded_fit, few_loaded}
+use Rattle.world.proofs.LoadedWorlds.{loaded_fit}
 use Rattle.world.specs.SoundWorlds.{IsSound}
 
 size_within : (objects : Heap) (i : ℕ) (o : Object) → slice_get objects i ≡ Some o → size o ≤ sizes objects
@@ -19,11 +18,3 @@ pub loaded_short : (w : World) (i : ℕ) (o : Object) → IsSound w → slice_ge
 loaded_short w i o sound at =
     let limit : w.cells ≤ 1048576 = sound.cells in
     omega (arith, size_within (loaded_objects w) i o at, loaded_fit w sound.fits, limit)
-
--- while the objects of a world are made, there is room for one more
-pub room_left : (w : World) (n : ℕ) (made : Heap) → IsSound w → made ≡ take n (loaded_objects w) → HasRoom made
-room_left w n made sound is = omega (arith, few_loaded w sound, length-take n (loaded_objects w), ap length is)
-
--- there are few of them
-pub few_made : (w : World) (made : Heap) → IsSound w → made ≡ loaded_objects w → length made < 2 ^ 20
-few_made w made sound is = omega (arith, few_loaded w sound, ap length is)

@@ -6,7 +6,6 @@ ghost use Rattle.classes.specs.Grown.{IsGrown};
 ghost use Rattle.source.specs.Thread.{Shared as SharedOfThreads};
 ghost use Rattle.tasks.specs.Activations.{tasks_left, IsInRange, AreSet, Advances, KeepsScene};
 ghost use Rattle.tasks.specs.Shares.{shared_view};
-ghost use Rattle.tasks.specs.Stores.{HasRoom, MakesAtMostOne};
 
 use crate::frame::Frames;
 use crate::outcome::{End, Outcome};
@@ -36,7 +35,7 @@ pub struct Activation<'a> {
     pub outer: Vec<Outer<'a>>,
     pub variables: Variables<'a>,
     pub frames: Frames,
-    pub pending: Option<u32>,
+    pub pending: Option<usize>,
 }
 
 /// Puts a task in the place of the one that is begun.
@@ -144,10 +143,8 @@ pub fn advance<'a>(
 ) -> Result<Outcome<'a>, AllocError>
     requires range { IsInRange activation.old }
     requires grown { IsGrown classes.now }
-    requires room { HasRoom shared.old.store }
     ensures step { IfOk result (λ o. Advances classes.now refused (shared_view shared.old) activation.old o (shared_view shared.new) activation.new) }
     ensures range { IfOk result (λ _. IsInRange activation.new) }
-    ensures made { IfOk result (λ _. MakesAtMostOne shared.old.store shared.new.store) }
 {
     begin(alloc, activation)?;
     let Some(task) = &mut activation.task else {

@@ -251,7 +251,7 @@ fn actual_at<'a>(actuals: &[Actual<'a>], place: usize) -> Option<Actual<'a>>
 }
 
 /// The reference at a place.
-pub(crate) fn reference_given(actuals: &[Actual<'_>], place: usize) -> Option<u32>
+pub(crate) fn reference_given(actuals: &[Actual<'_>], place: usize) -> Option<usize>
     ensures { result ≡ reference_given (map actual_view actuals.now) place }
 {
     match actual_at(actuals, place) {
@@ -281,7 +281,7 @@ pub(crate) fn variable_given<'a>(actuals: &[Actual<'a>], place: usize) -> &'a [u
 }
 
 /// The name of the object at a place, and 0 for NULL.
-pub(crate) fn object_given(actuals: &[Actual<'_>], place: usize) -> u32
+pub(crate) fn object_given(actuals: &[Actual<'_>], place: usize) -> usize
     ensures { result ≡ object_given (map actual_view actuals.now) place }
 {
     match reference_given(actuals, place) {

@@ -20,7 +20,6 @@ use crate::actual::{
     Actual, field_given, level_of, number_given, object_given, reference_given, text_given,
     variable_given,
 };
-use crate::class_objects::{class_named, superclass_of};
 use crate::field;
 use crate::frame::Frames;
 use crate::given::Given;
@@ -40,9 +39,9 @@ pub(crate) enum Answer<'a> {
     /// A value of the object of this name changes, by its place, counted from 0.
     Writes(usize, usize, ObjectValue),
     /// An object of the class of this number is made, with zero and null fields, and given.
-    Makes(u32),
+    Makes(usize),
     /// An exception of the class of this number is made and is pending.
-    Raises(u32),
+    Raises(usize),
     /// The current frame gets room for this number of references more, and 0 is given.
     Ensures(usize),
     /// A frame of this capacity is made, and 0 is given.
@@ -50,13 +49,13 @@ pub(crate) enum Answer<'a> {
     /// -4 is given, and the OutOfMemoryError object is pending: the frames can't have so large capacities.
     RefusesFrames,
     /// The current frame is dropped, and this is given.
-    Pops(Option<u32>),
+    Pops(Option<usize>),
     /// A local reference to the object of this name is deleted, in the frame of a level.
-    DeletesLocal(usize, u32),
+    DeletesLocal(usize, usize),
     /// A global reference to the object of this name is made, and given.
-    MakesGlobal(u32),
+    MakesGlobal(usize),
     /// A global reference to the object of this name is deleted, and the static is marked.
-    DeletesGlobal(&'a [u8], u32),
+    DeletesGlobal(&'a [u8], usize),
 }
 
 /// What a function does, all checks being passed.
@@ -72,17 +71,14 @@ pub(crate) fn work_out<'a>(
     requires grown { IsGrown classes.now }
     ensures { answer_view result ≡ worked_out classes.now store.now (variables_view variables.now) frames.now (map actual_view actuals.now) (function_value function) }
 {
-    let object = object_given(actuals, 0);
-    let first = object as usize;
-    let second = object_given(actuals, 1) as usize;
+    let first = object_given(actuals, 0);
+    let second = object_given(actuals, 1);
     let third = reference_given(actuals, 2);
     match function {
-        JniFunction::FindClass => found_class(class_named(classes, text_given(actuals, 0))),
-        JniFunction::GetSuperclass => {
-            Answer::Gives(Given::Reference(superclass_of(classes, first)))
-        }
+        JniFunction::FindClass => found_class(classes.find(text_given(actuals, 0))),
+        JniFunction::GetSuperclass => { Answer::Gives(Given::Reference(classes.superclass(first))) }
         JniFunction::GetObjectClass => {
-            Answer::Gives(Given::Reference(Some(store.class_of(first) as u32)))
+            Answer::Gives(Given::Reference(Some(store.class_of(first))))
         }
         JniFunction::IsInstanceOf => {
             let reference = reference_given(actuals, 0);
@@ -91,7 +87,7 @@ pub(crate) fn work_out<'a>(
         JniFunction::IsAssignableFrom => {
             Answer::Gives(Given::Flag(classes.assignable(first, second)))
         }
-        JniFunction::AllocObject => Answer::Makes(object),
+        JniFunction::AllocObject => Answer::Makes(first),
         JniFunction::NewLocalRef => { Answer::Gives(Given::Reference(reference_given(actuals, 0))) }
         JniFunction::NewGlobalRef => made_global(reference_given(actuals, 0)),
         JniFunction::DeleteLocalRef => local_deleted(variables, actuals),
@@ -153,12 +149,12 @@ pub(crate) fn work_out<'a>(
 }
 
 /// A class that was found, or else an exception.
-fn found_class<'a>(class: Option<u32>) -> Answer<'a>
+fn found_class<'a>(class: Option<usize>) -> Answer<'a>
     ensures { answer_view result ≡ found_class class }
 {
     match class {
         Some(class) => Answer::Gives(Given::Reference(Some(class))),
-        None => Answer::Raises(NO_CLASS_DEF_FOUND_ERROR as u32),
+        None => Answer::Raises(NO_CLASS_DEF_FOUND_ERROR),
     }
 }
 
@@ -168,7 +164,7 @@ fn found_field(field: Option<FieldId<'_>>) -> Answer<'_>
 {
     match field {
         Some(field) => Answer::Gives(Given::Field(Some(field))),
-        None => Answer::Raises(NO_SUCH_FIELD_ERROR as u32),
+        None => Answer::Raises(NO_SUCH_FIELD_ERROR),
     }
 }
 
@@ -203,7 +199,7 @@ fn pushed<'a>(frames: &Frames, capacity: i32) -> Answer<'a>
 }
 
 /// A global reference to the same object; NULL for NULL.
-fn made_global<'a>(reference: Option<u32>) -> Answer<'a>
+fn made_global<'a>(reference: Option<usize>) -> Answer<'a>
     ensures { answer_view result ≡ made_global reference }
 {
     match reference {
@@ -235,7 +231,7 @@ fn global_deleted<'a>(actuals: &[Actual<'a>]) -> Answer<'a>
 }
 
 /// Whether both are NULL, or one object.
-fn same_reference(first: Option<u32>, second: Option<u32>) -> bool
+fn same_reference(first: Option<usize>, second: Option<usize>) -> bool
     ensures { result ≡ same_reference first second }
 {
     match (first, second) {
@@ -249,13 +245,13 @@ fn same_reference(first: Option<u32>, second: Option<u32>) -> bool
 pub(crate) fn fits_class(
     classes: &ClassTable,
     store: &Store,
-    reference: Option<u32>,
+    reference: Option<usize>,
     class: usize,
 ) -> bool
     ensures { result ≡ fits_class classes.now store.now reference class }
 {
     match reference {
-        Some(name) => classes.assignable(store.class_of(name as usize), class),
+        Some(name) => classes.assignable(store.class_of(name), class),
         None => true,
     }
 }
@@ -264,9 +260,10 @@ pub(crate) fn fits_class(
 
 /// The place of the field of argument 1 among the values of argument 0.
 fn place_of_field(classes: &ClassTable, store: &Store, actuals: &[Actual<'_>]) -> usize
+    requires { IsGrown classes.now }
     ensures { result ≡ field_place classes.now store.now (object_given (map actual_view actuals.now) 0) (field_given (map actual_view actuals.now) 1) }
 {
-    let class = store.class_of(object_given(actuals, 0) as usize);
+    let class = store.class_of(object_given(actuals, 0));
     field::field_place(classes, class, field_given(actuals, 1))
 }
 
@@ -295,7 +292,7 @@ fn number_in(value: ObjectValue) -> i32
 }
 
 /// The reference of a value.
-fn reference_in(value: ObjectValue) -> Option<u32>
+fn reference_in(value: ObjectValue) -> Option<usize>
     ensures { result ≡ reference_in (object_value_view value) }
 {
     match value {

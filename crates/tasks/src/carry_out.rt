@@ -8,7 +8,6 @@ ghost use Rattle.source.specs.Heap.{next_name};
 ghost use Rattle.source.specs.World.{fresh_object};
 ghost use Rattle.tasks.specs.Answers.{FitsFrames, answer_view, frames_after, frames_with, given_after, given_view, makes_object, pending_after, shared_after};
 ghost use Rattle.tasks.specs.Shares.{shared_view};
-ghost use Rattle.tasks.specs.Stores.{HasRoom};
 
 use crate::answer::Answer;
 use crate::frame::Frames;
@@ -27,12 +26,11 @@ pub(crate) fn carry_out<'a>(
     classes: &ClassTable,
     shared: &mut Shared<'a>,
     frames: &mut Frames,
-    pending: &mut Option<u32>,
+    pending: &mut Option<usize>,
     kind: ResultKind,
     answer: Answer<'a>,
 ) -> Result<Given<'a>, AllocError>
-    requires frames { FitsFrames frames.old (answer_view answer) }
-    requires room { HasRoom shared.old.store }
+    requires { FitsFrames frames.old (answer_view answer) }
     ensures shared { IfOk result (λ _. shared_view shared.new ≡ shared_after classes.now (shared_view shared.old) (answer_view answer.entry)) }
     ensures frames { IfOk result (λ _. frames.new ≡ frames_after frames.old (answer_view answer.entry)) }
     ensures pending { IfOk result (λ _. pending.new ≡ pending_after classes.now shared.old.store pending.old (answer_view answer.entry)) }
@@ -90,15 +88,14 @@ fn make(
     alloc: Global,
     classes: &ClassTable,
     store: &mut Store,
-    class: u32,
-) -> Result<u32, AllocError>
-    requires { HasRoom store.old }
+    class: usize,
+) -> Result<usize, AllocError>
     ensures store { IfOk result (λ _. store.new ≡ store.old ++ fresh_object classes.now class ∷ []) }
     ensures name { IfOk result (λ name. name ≡ next_name store.old) }
 {
-    let values = fresh_values(alloc, classes, class as usize)?;
+    let values = fresh_values(alloc, classes, class)?;
     store.add(class, values)?;
-    Ok(store.len() as u32)
+    Ok(store.len())
 }
 
 /// Puts what a call of this kind of result gave into the current frame, if it is a new local reference.
@@ -131,7 +128,7 @@ pub(crate) fn makes_object(answer: Answer<'_>) -> bool
 /// The object of a call is refused: the OutOfMemoryError object is pending, and the call fails.
 pub(crate) fn refuse<'a>(
     classes: &ClassTable,
-    pending: &mut Option<u32>,
+    pending: &mut Option<usize>,
     kind: ResultKind,
 ) -> Given<'a>
     ensures pending { pending.new ≡ Some (out_of_memory classes.now) }
@@ -142,8 +139,8 @@ pub(crate) fn refuse<'a>(
 }
 
 /// The OutOfMemoryError object, which is made right after the class objects, is pending.
-fn run_out(classes: &ClassTable, pending: &mut Option<u32>)
+fn run_out(classes: &ClassTable, pending: &mut Option<usize>)
     ensures { pending.new ≡ Some (out_of_memory classes.now) }
 {
-    *pending = Some((classes.len() + 1) as u32);
+    *pending = Some(classes.len() + 1);
 }

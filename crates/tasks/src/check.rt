@@ -135,11 +135,7 @@ fn is_misfit(
 {
     match actual {
         Actual::Reference(_, held) => match held {
-            StaticReference::Live(name) => misfits(
-                classes,
-                parameter,
-                store.class_of(name as usize),
-            ),
+            StaticReference::Live(name) => misfits(classes, parameter, store.class_of(name)),
             StaticReference::Empty | StaticReference::Deleted => false,
         },
         _ => false,
@@ -185,7 +181,7 @@ fn fit_together(
 {
     let field = field_given(actuals, 1);
     match function {
-        JniFunction::AllocObject => !classes.has_own_making(object_given(actuals, 0) as usize),
+        JniFunction::AllocObject => !classes.has_own_making(object_given(actuals, 0)),
         JniFunction::GetField(element) | JniFunction::SetField(element) => {
             has_field(classes, store, actuals)
                 && holds_number(element_type(element), type_of(field))
@@ -216,7 +212,7 @@ fn has_field(classes: &ClassTable, store: &Store, actuals: &[Actual<'_>]) -> boo
     ensures { result ≡ has_field classes.now store.now (map actual_view actuals.now) }
 {
     let field = field_given(actuals, 1);
-    let class = store.class_of(object_given(actuals, 0) as usize);
+    let class = store.class_of(object_given(actuals, 0));
     !is_static(field) && classes.assignable(class, declaring(field))
 }
 
@@ -225,7 +221,7 @@ fn has_static(classes: &ClassTable, actuals: &[Actual<'_>]) -> bool
     ensures { result ≡ has_static classes.now (map actual_view actuals.now) }
 {
     let field = field_given(actuals, 1);
-    is_static(field) && classes.assignable(object_given(actuals, 0) as usize, declaring(field))
+    is_static(field) && classes.assignable(object_given(actuals, 0), declaring(field))
 }
 
 /// Whether a type is that of these numbers.
@@ -255,7 +251,7 @@ fn holds_reference(field_type: FieldType) -> bool
 fn fits_type(
     classes: &ClassTable,
     store: &Store,
-    reference: Option<u32>,
+    reference: Option<usize>,
     field_type: FieldType,
 ) -> bool
     ensures { result ≡ fits_type classes.now store.now reference (field_type_view field_type) }

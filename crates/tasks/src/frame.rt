@@ -153,7 +153,7 @@ impl Frames {
     }
 
     /// Puts a reference into the current frame, if there is one.
-    pub(crate) fn receive(&mut self, name: u32) -> Result<(), AllocError>
+    pub(crate) fn receive(&mut self, name: usize) -> Result<(), AllocError>
         ensures { IfOk result (λ _. self.new ≡ with_local name self.old) }
     {
         let count = self.frames.len();
@@ -165,7 +165,7 @@ impl Frames {
 
     /// Takes a reference away once from the frame of a level, counted from the lowest, which is 1; past the last it is the
     /// current one.
-    pub(crate) fn remove(&mut self, level: usize, name: u32)
+    pub(crate) fn remove(&mut self, level: usize, name: usize)
         ensures { self.new ≡ without_local level name self.old }
     {
         let place = level.min(self.frames.len());
@@ -192,7 +192,7 @@ fn set_capacity(frame: &mut Frame, capacity: usize)
 }
 
 /// Puts a reference into a frame.
-fn receive_in(frame: &mut Frame, name: u32) -> Result<(), AllocError>
+fn receive_in(frame: &mut Frame, name: usize) -> Result<(), AllocError>
     ensures references { IfOk result (λ _. frame.new.references ≡ name ∷ frame.old.references) }
     ensures capacity { frame.new.capacity ≡ frame.old.capacity }
 {
@@ -200,7 +200,7 @@ fn receive_in(frame: &mut Frame, name: u32) -> Result<(), AllocError>
 }
 
 /// Takes a reference away from a frame.
-fn remove_from(frame: &mut Frame, name: u32)
+fn remove_from(frame: &mut Frame, name: usize)
     ensures view { frame_view frame.new ≡ without_in name (frame_view frame.old) }
     ensures capacity { frame.new.capacity ≡ frame.old.capacity }
 {

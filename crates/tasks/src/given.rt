@@ -18,7 +18,7 @@ pub enum Given<'a> {
     Number(i32),
     Flag(bool),
     /// NULL or an object, by its name.
-    Reference(Option<u32>),
+    Reference(Option<usize>),
     Field(Option<FieldId<'a>>),
 }
 

@@ -10,7 +10,6 @@ ghost use Rattle.tasks.specs.Calls.{MakesCall, ReducesFirst, ReducesOne};
 ghost use Rattle.tasks.specs.Outcomes.{outcome_for};
 ghost use Rattle.tasks.specs.Steps.{Does, scene_with};
 ghost use Rattle.tasks.specs.Shares.{shared_view};
-ghost use Rattle.tasks.specs.Stores.{HasRoom, MakesAtMostOne};
 ghost use Rattle.tasks.specs.Tasks.{OperandInRange, OperandsInRange, OutcomeInRange, PurposeInRange};
 ghost use Rattle.terms.specs.Views.{variables_view};
 
@@ -37,7 +36,7 @@ pub(crate) fn invoke<'a>(
     shared: &mut Shared<'a>,
     variables: &Variables<'a>,
     frames: &mut Frames,
-    pending: &mut Option<u32>,
+    pending: &mut Option<usize>,
     refused: bool,
     i: &mut Invocation<'a>,
 ) -> Result<Outcome<'a>, AllocError>
@@ -45,14 +44,12 @@ pub(crate) fn invoke<'a>(
     requires built { IsTrue (is_built_function (function_value i.old.function)) }
     requires ways { PurposeInRange i.old.purpose }
     requires grown { IsGrown classes.now }
-    requires room { HasRoom shared.old.store }
     ensures step { IfOk result (λ o. Does refused (scene_with classes.now (shared_view shared.old) variables.now frames.old pending.old) (task.Invoke i.old) o
         (scene_with classes.now (shared_view shared.new) variables.now frames.new pending.new) (task.Invoke i.new)) }
     ensures numbers { IfOk result (λ _. OperandsInRange i.new.operands.items) }
     ensures function { i.new.function ≡ i.old.function }
     ensures purpose { i.new.purpose ≡ i.old.purpose }
     ensures range { IfOk result OutcomeInRange }
-    ensures made { IfOk result (λ _. MakesAtMostOne shared.old.store shared.new.store) }
 {
     let (line, purpose, function) = (i.line, i.purpose, i.function);
     if let Some(reduction) = reduce_number(&shared.statics, variables, i) {
@@ -143,7 +140,7 @@ fn call<'a>(
     shared: &mut Shared<'a>,
     variables: &Variables<'a>,
     frames: &mut Frames,
-    pending: &mut Option<u32>,
+    pending: &mut Option<usize>,
     refused: bool,
     line: usize,
     purpose: Purpose<'a>,
@@ -153,11 +150,9 @@ fn call<'a>(
     requires built { IsTrue (is_built_function (function_value function)) }
     requires ways { PurposeInRange purpose }
     requires grown { IsGrown classes.now }
-    requires room { HasRoom shared.old.store }
     ensures step { IfOk result (λ o. MakesCall refused (scene_with classes.now (shared_view shared.old) variables.now frames.old pending.old) line purpose.entry (function_value function) (map actual_view actuals.now) o
         (scene_with classes.now (shared_view shared.new) variables.now frames.new pending.new)) }
     ensures range { IfOk result OutcomeInRange }
-    ensures made { IfOk result (λ _. MakesAtMostOne shared.old.store shared.new.store) }
 {
     let is_pending = pending.is_some();
     if let Some(trap) = check(

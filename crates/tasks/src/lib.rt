@@ -6,7 +6,6 @@ mod actual;
 mod answer;
 mod carry_out;
 mod check;
-mod class_objects;
 mod field;
 mod frame;
 mod given;
@@ -21,7 +20,6 @@ mod store;
 mod task;
 
 pub use activation::{Activation, Outer, advance};
-pub use class_objects::class_named;
 pub use frame::Frames;
 pub use given::Given;
 pub use loaded::{loaded_store, made_before};

@@ -1,6 +1,6 @@
 //! The objects that are there when a run begins.
 
-ghost use Rattle.std.specs.Prelude.{◌≡◌, ◌<◌, ◌≤◌, ◌+◌, ◌^◌, [], IfOk, OnOk, length, map, take};
+ghost use Rattle.std.specs.Prelude.{◌≡◌, ◌≤◌, ◌+◌, [], IfOk, OnOk, length, map, take};
 ghost use Rattle.class_table.specs.Views.{field_type_view, field_view};
 ghost use Rattle.classes.specs.Fields.{layout};
 ghost use Rattle.source.specs.World.{initial, loaded_objects};
@@ -24,14 +24,12 @@ pub fn made_before(world: &World) -> usize
 /// The store with the objects that are made before the first step: the class objects, the OutOfMemoryError object and the
 /// world's, in this order.
 pub fn loaded_store(alloc: Global, world: &World) -> Result<Store, AllocError>
-    ensures objects { IfOk result (λ store. store ≡ loaded_objects world.now) }
-    // They have their cells, of which a world has at most 2 ^ 20.
-    ensures few { IfOk result (λ store. length store < 2 ^ 20) }
+    ensures { IfOk result (λ store. store ≡ loaded_objects world.now) }
 {
     let mut store = Store::new(alloc);
     make_class_objects(alloc, &mut store, world)?;
     let error = fresh_values(alloc, world.classes(), OUT_OF_MEMORY_ERROR)?;
-    store.add(OUT_OF_MEMORY_ERROR as u32, error)?;
+    store.add(OUT_OF_MEMORY_ERROR, error)?;
     make_objects(alloc, &mut store, world)?;
     Ok(store)
 }
@@ -44,7 +42,7 @@ fn make_class_objects(alloc: Global, store: &mut Store, world: &World) -> Result
     let classes = world.classes();
     for place in 0..classes.len() {
         let values = initial_values(alloc, classes.own_statics(place + 1))?;
-        store.add(CLASS as u32, values)?;
+        store.add(CLASS, values)?;
     }
     Ok(())
 }
@@ -54,11 +52,9 @@ fn make_objects(alloc: Global, store: &mut Store, world: &World) -> Result<(), A
     requires { store.old ≡ take (length world.now.classes + 1) (loaded_objects world.now) }
     ensures { OnOk result (store.new ≡ loaded_objects world.now) }
 {
-    // That there are at most 256 classes is told here.
-    let _ = world.classes().len();
     for object in world.objects() {
         let values = Vec::from_slice(alloc, object.values())?;
-        store.add(object.class() as u32, values)?;
+        store.add(object.class(), values)?;
     }
     Ok(())
 }

@@ -11,7 +11,7 @@ use std::marker::Model;
 #[derive(Drop)]
 pub struct Names {
     /// The one that was put last is the last.
-    names: Vec<u32>,
+    names: Vec<usize>,
 }
 
 impl Model for Names {
@@ -23,7 +23,7 @@ impl Model for Names {
 }
 
 /// The place of the last of these names that is this one.
-fn last_place(names: &[u32], name: u32) -> Option<usize>
+fn last_place(names: &[usize], name: usize) -> Option<usize>
     ensures { Leaves name names.now result }
 {
     for done in 0..names.len() {
@@ -36,11 +36,11 @@ fn last_place(names: &[u32], name: u32) -> Option<usize>
 }
 
 /// Adds names, the last one first.
-fn add_reversed(all: &mut Vec<usize>, names: &[u32]) -> Result<(), AllocError>
+fn add_reversed(all: &mut Vec<usize>, names: &[usize]) -> Result<(), AllocError>
     ensures { IfOk result (λ _. all.new.items ≡ all.old.items ++ reverse names.now) }
 {
     for done in 0..names.len() {
-        all.push(names[names.len() - 1 - done] as usize)?;
+        all.push(names[names.len() - 1 - done])?;
     }
     Ok(())
 }
@@ -63,7 +63,7 @@ impl Names {
     }
 
     /// Puts a name.
-    pub fn push(&mut self, name: u32) -> Result<(), AllocError>
+    pub fn push(&mut self, name: usize) -> Result<(), AllocError>
         ensures ok { IfOk result (λ _. self.new ≡ name ∷ self.old) }
         ensures err { OnErr result (self.new ≡ self.old) }
     {
@@ -72,7 +72,7 @@ impl Names {
     }
 
     /// Takes a name away once, if it is there: the one that was put last. It compares it with those that were put later.
-    pub(crate) fn remove(&mut self, name: u32)
+    pub(crate) fn remove(&mut self, name: usize)
         ensures { self.new ≡ without_one name self.old }
     {
         if let Some(place) = last_place(&self.names, name) {

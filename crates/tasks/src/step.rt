@@ -10,7 +10,6 @@ ghost use Rattle.terms.specs.declared.term.Term.TheVariants as term;
 ghost use Rattle.tasks.specs.Outcomes.{else_tree};
 ghost use Rattle.tasks.specs.Steps.{HasEffect, Does, reduced, scene_with};
 ghost use Rattle.tasks.specs.Shares.{shared_view};
-ghost use Rattle.tasks.specs.Stores.{HasRoom, MakesAtMostOne};
 ghost use Rattle.tasks.specs.Tasks.{branch_task, element_task, loop_task, print_task, return_task, value_task, tasks_of_statements, ExprInRange, BlockInRange, ElseInRange, StatementsInRange, TaskInRange, OutcomeInRange, IsPlain};
 ghost use Rattle.terms.specs.Views.{NumbersInRange, variables_view};
 
@@ -286,18 +285,16 @@ pub(crate) fn step<'a>(
     shared: &mut Shared<'a>,
     variables: &Variables<'a>,
     frames: &mut Frames,
-    pending: &mut Option<u32>,
+    pending: &mut Option<usize>,
     refused: bool,
     task: &mut Task<'a>,
 ) -> Result<Outcome<'a>, AllocError>
     requires range { TaskInRange task.old }
     requires grown { IsGrown classes.now }
-    requires room { HasRoom shared.old.store }
     ensures step { IfOk result (λ o. Does refused (scene_with classes.now (shared_view shared.old) variables.now frames.old pending.old) task.old o
         (scene_with classes.now (shared_view shared.new) variables.now frames.new pending.new) task.new) }
     ensures task { IfOk result (λ _. TaskInRange task.new) }
     ensures range { IfOk result OutcomeInRange }
-    ensures made { IfOk result (λ _. MakesAtMostOne shared.old.store shared.new.store) }
 {
     if let Task::Invoke(i) = task {
         return invoke(

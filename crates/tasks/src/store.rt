@@ -3,7 +3,7 @@
 ghost use Rattle.std.specs.Prelude.{◌≡◌, ◌<◌, ◌^◌, ◌++◌, ◌∷◌, [], IfOk, IfSome, length, map, slice_set};
 ghost use Rattle.std.specs.Option.{option_map};
 ghost use Rattle.source.specs.Heap.{object_at, class_of, value_at, values_of, with_value_at};
-ghost use Rattle.tasks.specs.Stores.{HasRoom, object_view};
+ghost use Rattle.tasks.specs.Stores.{object_view};
 ghost use Rattle.world.specs.Views.{object_value_view};
 
 use std::alloc::{AllocError, Global};
@@ -13,7 +13,7 @@ use world::ObjectValue;
 /// An object: the number of its class, and its values.
 #[derive(Drop)]
 pub(crate) struct Object {
-    pub(crate) class: u32,
+    pub(crate) class: usize,
     pub(crate) values: Vec<ObjectValue>,
 }
 
@@ -27,13 +27,13 @@ pub struct Store {
 impl Model for Store {
     ghost use Rattle.std.specs.Prelude.{map};
     ghost use Rattle.source.specs.Heap.{Heap};
-    ghost use Rattle.tasks.specs.Stores.{object_view, IsStore};
+    ghost use Rattle.tasks.specs.Stores.{object_view, AreShort};
 
     ghost Value = { Heap };
 
     ghost view = { λ s. map object_view s.objects.items };
 
-    ghost invariant = { λ s. IsStore s.objects.items };
+    ghost invariant = { λ s. AreShort s.objects.items };
 }
 
 impl Store {
@@ -49,7 +49,7 @@ impl Store {
     /// The number of objects.
     pub fn len(&self) -> usize
         ensures len { result ≡ length self.now }
-        ensures few { result < 2 ^ 32 }
+        ensures few { result < 2 ^ 63 }
     {
         self.objects.len()
     }
@@ -70,11 +70,10 @@ impl Store {
 
     /// The number of an object's class; 0 where there is no object of this name.
     pub fn class_of(&self, name: usize) -> usize
-        ensures class { result ≡ class_of self.now name }
-        ensures few { result < 2 ^ 32 }
+        ensures { result ≡ class_of self.now name }
     {
         match self.object(name) {
-            Some(object) => object.class as usize,
+            Some(object) => object.class,
             None => 0,
         }
     }
@@ -118,9 +117,8 @@ impl Store {
     }
 
     /// Makes the next object.
-    pub fn add(&mut self, class: u32, values: Vec<ObjectValue>) -> Result<(), AllocError>
-        requires room { HasRoom self.old }
-        requires short { length values.items < 2 ^ 31 }
+    pub fn add(&mut self, class: usize, values: Vec<ObjectValue>) -> Result<(), AllocError>
+        requires { length values.items < 2 ^ 31 }
         ensures { IfOk result (λ _. self.new ≡ self.old ++ record { class = class; values = map object_value_view values.items } ∷ []) }
     {
         self.objects.push(Object { class, values })?;

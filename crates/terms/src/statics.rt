@@ -21,7 +21,7 @@ pub enum StaticReference {
     /// NULL.
     Empty,
     /// A global reference to an object, by its name.
-    Live(u32),
+    Live(usize),
     /// A global reference that was deleted. It isn't NULL.
     Deleted,
 }

@@ -20,7 +20,7 @@ use syntax::{ElementType, Name};
 pub enum Content<'a> {
     Number(Value),
     /// A local reference: its level, the number of frames at its declaration, and NULL or an object, by its name.
-    Reference(usize, Option<u32>),
+    Reference(usize, Option<usize>),
     /// A field ID: NULL, or a field or static.
     Field(Option<FieldId<'a>>),
     /// A buffer, which is NULL: no function gives another today.

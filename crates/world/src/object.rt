@@ -12,7 +12,7 @@ pub enum ObjectValue {
     /// In the range of `jint`.
     Number(i32),
     /// NULL or an object.
-    Reference(Option<u32>),
+    Reference(Option<usize>),
 }
 
 /// An object that a world begins with.

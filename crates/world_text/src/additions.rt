@@ -47,25 +47,20 @@ fn put_in_last(threads: &mut Vec<Vec<Call>>, call: Call) -> Result<(), AllocErro
 
 impl WorldBuilder {
     /// The object of this name.
-    fn object_at(&self, name: &[u8]) -> Option<u32>
+    fn object_at(&self, name: &[u8]) -> Option<usize>
         ensures { result ≡ object_at self.now.classes self.now.names name.now }
     {
         match self.names.place_of(name) {
-            Some(place) => Some((self.classes.len() + 2 + place) as u32),
+            Some(place) => Some(self.classes.len() + 2 + place),
             None => None,
         }
     }
 
     /// The class object of the class of this name.
-    fn class_at(&self, name: &[u8]) -> Option<u32>
+    fn class_at(&self, name: &[u8]) -> Option<usize>
         ensures { result ≡ class_named self.now.classes name.now }
     {
-        // That there are few is told here, for the cast.
-        let _ = self.classes.len();
-        match self.classes.find(name) {
-            Some(class) => Some(class as u32),
-            None => None,
-        }
+        self.classes.find(name)
     }
 
     /// A value in memory.

@@ -1,4 +1,4 @@
-use Rattle.std.proofs.Common.{get_or, false, subst, arith}
+use Rattle.std.proofs.Common.{get_or, false, subst}
 use Rattle.std.proofs.lemmas.Option.{slice_get-get_or}
 use Rattle.syntax.specs.Views.{unit_tree}
 use Rattle.source.specs.declared.journal.Entry.{Entry}
@@ -25,5 +25,4 @@ loop-done-preserved c =
           (subst (λ b. TakesEntry (unit_tree c.args.functions.now) c.loop-done.state entry b c.take_entry.new.state) c.if-not-branch.false c.in_ok-take_entry.ensures.step)
           c.in_ok-take_entry.ensures.range;
       range = c.in_ok-take_entry.ensures.range;
-      few = omega (arith, c.loop-done.invariant.few, c.in_ok-take_entry.ensures.made);
     }

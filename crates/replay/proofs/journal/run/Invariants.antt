@@ -1,4 +1,4 @@
-use Rattle.std.proofs.Common.{◌+◌, ◌<◌, ◌^◌, length, take}
+use Rattle.std.proofs.Common.{take}
 use Rattle.syntax.specs.Views.{unit_tree}
 use Rattle.replay.specs.Replays.{Replayed}
 use Rattle.replay.specs.States.{AreInRange}
@@ -8,5 +8,4 @@ abbrev pub invariant-loop-done : goal.invariant-loop-done
 invariant-loop-done l = record {
   replayed : Replayed (unit_tree l.fn.functions) l.fn.world (take l.done l.journal) l.state;
   range : AreInRange l.state.threads.items;
-  few : length l.state.shared.store < 2 ^ 20 + l.done;
 }

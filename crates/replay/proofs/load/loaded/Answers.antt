@@ -4,8 +4,8 @@ use Rattle.source.specs.Start.{null_statics}
 use Rattle.replay.proofs.NamesOnce.{statics_once}
 use Rattle.replay.proofs.load.loaded.Goals as goal
 
-pub returns-clause-loaded : goal.returns-clause-loaded
-returns-clause-loaded c =
+pub returns : goal.returns
+returns c =
     let unit = unit_tree c.args.items.now in
     let statics : c.in_ok-null_statics.field-0 ≡ null_statics unit = c.in_ok-null_statics.ensures ∙ statics_once unit c.requires in
-    λ i. record { heap = c.in_ok-loaded_store.ensures.objects i; statics = statics i; globals = c.new.ensures i; monitors = [] }
+    λ i. record { heap = c.in_ok-loaded_store.ensures i; statics = statics i; globals = c.new.ensures i; monitors = [] }

@@ -12,7 +12,7 @@ returns-clause-stands c =
     let none = no_call (refused unit w.classes w.threads) c.in_ok-line.field-0 c.in_ok-line.ensures (not_some c.in_ok-line.field-0 c.in_default.not-Some) in
     record {
       world = refl;
-      shared = sym (c.in_ok-loaded.ensures.loaded ∙ ap (λ (items : List Item). (start (unit_tree items) w).shared) c.items.ensures);
+      shared = sym (c.in_ok-loaded.ensures ∙ ap (λ (items : List Item). (start (unit_tree items) w).shared) c.items.ensures);
       threads = stand_waiting unit w.classes c.in_ok-waiting_threads.field-0.items c.args.world.now.threads c.in_ok-waiting_threads.ensures.waiting none;
       printed = sym c.new.ensures.items;
       stop = refl;

@@ -29,5 +29,4 @@ returns-in_default-2 c = record {
       let does = subst (λ (T : Classes). Advances T c.args.refused shared a c.in_ok-outcome.outcome (shared_view after) new) c.classes.ensures.classes c.in_ok-outcome.ensures.step in
       rw c.step_of.ensures (goes unit c.args.world.now.classes lent k c.args.refused shared after c.args.thread.now a new s c.in-Some.is h c.in_ok-outcome.outcome c.in_default-2.not-Returned does);
   range = c.in_ok-outcome.ensures.range;
-  made = c.in_ok-outcome.ensures.made;
 }

@@ -1,23 +1,20 @@
 use Rattle.std.proofs.Common.{sym, ap, ◌∙◌, subst, map}
 use Rattle.std.specs.Option.{option_map}
 use Rattle.jni.specs.Table.{Facts, function_value, result_value}
-use Rattle.source.specs.Thread.{Shared}
 use Rattle.tasks.specs.declared.outcome.Outcome.TheVariants as outcome
 use Rattle.tasks.specs.Actuals.{actual_view}
 use Rattle.tasks.specs.Answers.{FitsFrames, answer_view}
 use Rattle.tasks.specs.Calls.{MakesCall}
 use Rattle.tasks.specs.Checked.{trap_found}
 use Rattle.tasks.specs.Shares.{shared_view}
-use Rattle.tasks.specs.Stores.{MakesAtMostOne}
 use Rattle.tasks.specs.Steps.{Scene, scene_with}
 use Rattle.terms.specs.Views.{trap_view, variables_view}
 use Rattle.tasks.proofs.CallLemmas.{call_traps, trap_refuses, call_made_so, none_refused, object_refused_so}
 use Rattle.tasks.proofs.FittingFrames.{answer_fits}
-use Rattle.tasks.proofs.StoreLemmas.{makes_one}
 use Rattle.tasks.proofs.invoke.call.Goals as goal
 
-pub carry_out-requires-clause-frames : goal.carry_out-requires-clause-frames
-carry_out-requires-clause-frames c =
+pub carry_out-requires : goal.carry_out-requires
+carry_out-requires c =
     let frames = c.args.frames.now in
     subst (FitsFrames frames) (sym c.work_out-answer.ensures) (answer_fits frames c.args.classes.now c.args.shared.now.store (variables_view c.args.variables.now) (map actual_view c.args.actuals.now) (function_value c.args.function))
 
@@ -84,6 +81,3 @@ returns-clause-step c =
     call_made_so classes s vs frames c.args.pending.now c.args.line c.args.purpose f args c.requires.built passed c.args.refused (answer_view c.work_out-answer.result) c.in_ok-given.given (result_value c.prototype.result.now.result)
     (shared_view c.carry_out.new.shared) c.carry_out.new.frames c.put_local.new.frames c.carry_out.new.pending c.outcome_for-2.result
     c.if-refused-2.false c.work_out-answer.ensures (ap (λ (x : Facts). x.prototype.result) c.prototype.ensures) c.in_ok-given.ensures.given c.in_ok-given.ensures.shared c.in_ok-given.ensures.frames c.in_ok-put_local.ensures c.in_ok-given.ensures.pending c.outcome_for-2.ensures.step
-
-pub returns-clause-made : goal.returns-clause-made
-returns-clause-made c = subst (λ (s : Shared). MakesAtMostOne c.args.shared.now.store s.heap) (sym c.in_ok-given.ensures.shared) (makes_one c.args.classes.now (shared_view c.args.shared.now) (answer_view c.work_out-answer.result))

@@ -8,7 +8,6 @@ use Rattle.source.specs.World.{initial, fresh_object, loaded_objects}
 use Rattle.world.proofs.LoadedWorlds.{loaded_error}
 use Rattle.world.specs.Views.{object_value_view}
 use Rattle.tasks.proofs.Lists.{take_next}
-use Rattle.tasks.proofs.LoadedLemmas.{room_left, few_made}
 use Rattle.tasks.proofs.loaded.loaded_store.Goals as goal
 
 pub make_objects-requires : goal.make_objects-requires
@@ -21,9 +20,3 @@ make_objects-requires c =
     ∙ ap (λ (l : Heap). l ++ record { class = out_of_memory_error; values = map object_value_view c.in_ok-error.error.items } ∷ []) c.in_ok-make_class_objects.ensures
     ∙ ap (λ (o : Object). take (length w.classes) (loaded_objects w) ++ o ∷ []) object
     ∙ sym (take_next (loaded_objects w) (length w.classes) (fresh_object w.classes out_of_memory_error) (loaded_error w))
-
-pub add-requires-clause-room : goal.add-requires-clause-room
-add-requires-clause-room c = room_left c.args.world.now (length c.args.world.now.classes) c.make_class_objects.new.store c.classes.ensures.sound c.in_ok-make_class_objects.ensures
-
-pub returns-clause-few : goal.returns-clause-few
-returns-clause-few c = few_made c.args.world.now c.make_objects.new.store c.classes.ensures.sound c.in_ok-make_objects.ensures

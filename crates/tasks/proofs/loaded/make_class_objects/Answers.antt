@@ -12,7 +12,7 @@ use Rattle.source.specs.World.{initial, class_object, loaded_objects}
 use Rattle.world.proofs.LoadedWorlds.{loaded_class}
 use Rattle.world.specs.Views.{object_value_view}
 use Rattle.tasks.proofs.Lists.{take_next}
-use Rattle.tasks.proofs.LoadedLemmas.{loaded_short, room_left}
+use Rattle.tasks.proofs.LoadedLemmas.{loaded_short}
 use Rattle.tasks.proofs.loaded.make_class_objects.Goals as goal
 
 -- the values of a class object
@@ -21,8 +21,8 @@ statics_new T c fields e =
     map-both (λ f. let g : FieldId = record { class = c; is_static = true; field = field_view f } in g) (λ (g : FieldId). initial g.field.type) fields
     ∙ ap (map (λ (g : FieldId). initial g.field.type)) e
 
-pub add-requires-clause-short : goal.add-requires-clause-short
-add-requires-clause-short c =
+pub add-requires : goal.add-requires
+add-requires c =
     let w = c.args.world.now in
     let place = c.loop-place.place in
     let n = place + 1 in
@@ -32,9 +32,6 @@ add-requires-clause-short c =
     let short = loaded_short w place (class_object w.classes n) c.classes-classes.ensures.sound at in
     let held = c.in_ok-values.values.items in
     omega (arith, short, length-map held object_value_view, ap length values)
-
-pub add-requires-clause-room : goal.add-requires-clause-room
-add-requires-clause-room c = room_left c.args.world.now c.loop-place.place c.loop-place.store c.classes-classes.ensures.sound c.loop-place.invariant
 
 pub loop-place-preserved : goal.loop-place-preserved
 loop-place-preserved c =

@@ -6,24 +6,14 @@ use Rattle.source.specs.Heap.{Heap}
 use Rattle.source.specs.Object.{ObjectValue, Object}
 use Rattle.source.specs.World.{loaded_objects}
 use Rattle.source.proofs.ShownRows.{length-loaded}
-use Rattle.world.proofs.LoadedWorlds.{loaded_object, object_class}
+use Rattle.world.proofs.LoadedWorlds.{loaded_object}
 use Rattle.world.specs.Views.{object_value_view}
 use Rattle.tasks.proofs.Lists.{take_next}
-use Rattle.tasks.proofs.LoadedLemmas.{loaded_short, room_left}
+use Rattle.tasks.proofs.LoadedLemmas.{loaded_short}
 use Rattle.tasks.proofs.loaded.make_objects.Goals as goal
 
-pub overflow_cast-class : goal.overflow_cast-class
-overflow_cast-class c =
-    let w = c.args.world.now in
-    let items = c.objects-object-items.result.now in
-    let here : slice_get w.objects c.loop-object.object-index ≡ Some c.object-item.result =
-    ap (λ (l : Heap). slice_get l c.loop-object.object-index) (sym c.objects-object-items.ensures.objects)
-    ∙ slice_get_read items (length items) c.loop-object.object-index c.object-item.result refl c.loop-object-test.true c.object-item.is in
-    let within = (object_class w c.loop-object.object-index c.object-item.result c.objects-object-items.ensures.sound here).1 in
-    omega (arith, within, c.class.ensures, c.len.ensures.len, c.len.ensures.few, ap length c.classes.ensures.classes)
-
-pub add-requires-clause-short : goal.add-requires-clause-short
-add-requires-clause-short c =
+pub add-requires : goal.add-requires
+add-requires c =
     let w = c.args.world.now in
     let items = c.objects-object-items.result.now in
     let place = length w.classes + 1 + c.loop-object.object-index in
@@ -35,11 +25,6 @@ add-requires-clause-short c =
     let short = loaded_short w place c.object-item.result c.objects-object-items.ensures.sound at in
     let held = c.in_ok-values.values.items in
     omega (arith, short, length-map held object_value_view, ap length given)
-
-pub add-requires-clause-room : goal.add-requires-clause-room
-add-requires-clause-room c =
-    let w = c.args.world.now in
-    room_left w (length w.classes + 1 + c.loop-object.object-index) c.loop-object.store c.objects-object-items.ensures.sound c.loop-object.invariant
 
 pub loop-object-preserved : goal.loop-object-preserved
 loop-object-preserved c =

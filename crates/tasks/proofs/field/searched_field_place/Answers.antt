@@ -5,7 +5,7 @@ use Rattle.classes.specs.Fields.{layout, same_field}
 use Rattle.class_table.specs.FieldViews.{field_id_view}
 use Rattle.tasks.specs.Actuals.{given_field}
 use Rattle.tasks.proofs.FieldLemmas.{none_more, place_found, place_missing}
-use Rattle.tasks.proofs.field.field_place.Goals as goal
+use Rattle.tasks.proofs.field.searched_field_place.Goals as goal
 
 pub returns-then-is_field : goal.returns-then-is_field
 returns-then-is_field c =

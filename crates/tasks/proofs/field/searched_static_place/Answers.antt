@@ -9,7 +9,7 @@ use Rattle.classes.specs.Class.{Classes}
 use Rattle.classes.specs.Fields.{FieldId, own_statics, same_field}
 use Rattle.tasks.specs.Actuals.{given_field}
 use Rattle.tasks.proofs.FieldLemmas.{none_more, place_found, place_missing}
-use Rattle.tasks.proofs.field.static_place.Goals as goal
+use Rattle.tasks.proofs.field.searched_static_place.Goals as goal
 
 -- a static of the class of this number
 abbrev as_static : ℕ → Field → FieldId
