@@ -1,4 +1,7 @@
 pub mod Variables
+pub mod Executes
 pub mod Received
 pub mod Invoked
-pub mod Executes
+pub mod Entry
+pub mod ThreadAgrees
+pub mod Advances

@@ -9,10 +9,10 @@ use Rattle.lower.specs.Lowered.{Lowered}
 use Rattle.lower.specs.Slots.{visible_to}
 use Rattle.jni_calls.specs.declared.activation.Activation.{Activation}
 use Rattle.safety.specs.Owners.{Owners, AllOwners}
-use Rattle.machine.specs.declared.thread.Thread.{Thread}
+use Rattle.execution.specs.declared.thread.Thread.{Thread}
 use Rattle.jni_calls.specs.StoreAgrees.{Keeps}
 use Rattle.execution.specs.Executes.{CallStands, WorkAgrees}
-use Rattle.machine.specs.Agrees.{ThreadAgrees, ThreadsAgree}
+use Rattle.execution.specs.ThreadAgrees.{ThreadAgrees, ThreadsAgree}
 use Rattle.jni_calls.proofs.Keeping.{reference_stays, keys_stay, frames_stay}
 use Rattle.execution.proofs.StillShown.{shows_stay}
 

@@ -19,8 +19,8 @@ use Rattle.source.specs.Thread as source
 use Rattle.source.specs.Thread.{Advance, Shared}
 use Rattle.source.specs.ThreadStep.{thread_step}
 use Rattle.source.specs.World.{World}
-use Rattle.machine.specs.declared.thread.Thread.{Thread}
-use Rattle.machine.specs.Agrees.{ThreadAgrees, ThreadsAgree}
+use Rattle.execution.specs.declared.thread.Thread.{Thread}
+use Rattle.execution.specs.ThreadAgrees.{ThreadAgrees, ThreadsAgree}
 
 -- ---- one more entry
 

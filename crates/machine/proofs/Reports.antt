@@ -33,12 +33,12 @@ use Rattle.heap.specs.Heap.{Space, left_of}
 use Rattle.lower.specs.Lowered.{Lowered, IsLowered}
 use Rattle.lower.specs.Slots.{Visible, visible_to}
 use Rattle.reached.specs.Rows.{AreReported}
-use Rattle.machine.specs.declared.thread.Ending.{Ending}
-use Rattle.machine.specs.declared.thread.Ending.TheVariants as ending
+use Rattle.execution.specs.declared.thread.Ending.{Ending}
+use Rattle.execution.specs.declared.thread.Ending.TheVariants as ending
 use Rattle.jni_calls.specs.declared.activation.Activation.{Activation}
-use Rattle.machine.specs.declared.thread.Thread.{Thread}
+use Rattle.execution.specs.declared.thread.Thread.{Thread}
 use Rattle.machine.specs.declared.stop.Stop.{Stop}
-use Rattle.machine.specs.Agrees.{ThreadsAgree, ending_view}
+use Rattle.execution.specs.ThreadAgrees.{ThreadsAgree, ending_view}
 use Rattle.execution.specs.Executes.{WorkAgrees}
 use Rattle.jni_calls.specs.HeapAgrees.{times}
 use Rattle.safety.specs.Owners.{AllOwners, owners_after}
@@ -50,7 +50,7 @@ use Rattle.source.specs.Run.{UnmarkedFit}
 use Rattle.jni_calls.specs.declared.store.Store.{Store}
 use Rattle.machine.specs.Run.{Run, Corresponds, WritesRun, IsFinished}
 use Rattle.machine.proofs.Standings.{standings}
-use Rattle.machine.proofs.Threads.{unblocked}
+use Rattle.execution.proofs.Threads.{unblocked}
 use Rattle.machine.specs.Roots.{AreAddresses, name_of, thread_names, ThreadsAreStacked, ThreadsAreThere}
 use Rattle.std.specs.Prelude.{Contains}
 use Rattle.jni_calls.proofs.GlobalLaws.{among_both}

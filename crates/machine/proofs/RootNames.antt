@@ -13,12 +13,12 @@ use Rattle.source.specs.Object.{Reference}
 use Rattle.source.specs.Reachable.{thread_roots}
 use Rattle.source.specs.Thread as source
 use Rattle.jni_calls.specs.declared.activation.Activation.{Activation}
-use Rattle.machine.specs.declared.thread.Thread.{Thread}
+use Rattle.execution.specs.declared.thread.Thread.{Thread}
 use Rattle.jni_calls.specs.HeapAgrees.{NamesAgree, ReferenceAgrees, times}
 use Rattle.jni_calls.specs.Locals.{FrameAgrees, FramesAgree}
 use Rattle.machine.specs.Roots.{name_of, call_names, reference_names, thread_names, AreAddresses, CallIsStacked, CallIsThere, ReferenceIsThere, ThreadsAreStacked, ThreadsAreThere}
 use Rattle.jni_calls.proofs.BlocksOfNames.{is_address}
-use Rattle.machine.proofs.EntryTables.{references_after}
+use Rattle.execution.proofs.EntryTables.{references_after}
 
 -- ---- names
 

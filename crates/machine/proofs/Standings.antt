@@ -5,7 +5,7 @@ use Rattle.std.specs.List.{enumerate_from}
 use Rattle.classes.specs.Class.{Classes}
 use Rattle.source.specs.Report.{ThreadStanding}
 use Rattle.machine.specs.declared.stop.Stop.{Stop}
-use Rattle.machine.specs.declared.thread.Thread.{Thread}
+use Rattle.execution.specs.declared.thread.Thread.{Thread}
 use Rattle.machine.specs.Stops.{standing_of}
 
 -- those of the threads from number n on

@@ -23,21 +23,22 @@ use Rattle.heap.specs.Heap.{end_of}
 use Rattle.heap.proofs.Layouts.{ends_within}
 use Rattle.world.proofs.LoadedWorlds.{few_objects}
 use Rattle.lower.specs.Lowered.{Lowered}
-use Rattle.machine.specs.declared.thread.Ending.{Ending}
-use Rattle.machine.specs.declared.thread.Ending.TheVariants.{Unfinished, Ended, Uncaught}
+use Rattle.execution.specs.declared.thread.Ending.{Ending}
+use Rattle.execution.specs.declared.thread.Ending.TheVariants.{Unfinished, Ended, Uncaught}
 use Rattle.execution.specs.declared.execute.Event.{Event}
 use Rattle.execution.specs.declared.execute.Event.TheVariants as event
-use Rattle.machine.specs.declared.thread.Thread.{Thread}
+use Rattle.execution.specs.declared.thread.Thread.{Thread}
 use Rattle.machine.specs.declared.stop.Stop.{Stop}
 use Rattle.machine.specs.Stops.{stop_view, stop_after}
 use Rattle.jni_calls.specs.declared.store.Store.{Store}
 use Rattle.execution.specs.Executes.{IsSteady, event_view}
 use Rattle.jni_calls.specs.StoreAgrees.{StoreAgrees}
-use Rattle.machine.specs.Agrees.{ThreadAgrees, ThreadsAgree, Advances, ending_view}
+use Rattle.execution.specs.ThreadAgrees.{ThreadAgrees, ThreadsAgree, ending_view}
+use Rattle.execution.specs.Advances.{Advances}
 use Rattle.machine.specs.Run.{Corresponds, printed_after, entry_of, HasEnded}
 use Rattle.machine.proofs.KeptThreads.{threads_stay}
 use Rattle.machine.proofs.OwnerSteps.{Found, changed, found, owner_elsewhere, owner_here, owners_stepped}
-use Rattle.machine.proofs.Threads.{unblocked}
+use Rattle.execution.proofs.Threads.{unblocked}
 use Rattle.safety.specs.Owners.{AllOwners, Owners, after_advance, owners_after, with_owners}
 
 -- ---- what a step changes

@@ -24,9 +24,9 @@ use Rattle.source.specs.Thread.{Thread as SourceThread}
 use Rattle.safety.specs.Owners.{owners_after}
 use Rattle.safety.specs.StepSafe.{IsSafe}
 use Rattle.lower.specs.Lowered.{Lowered, IsLowered}
-use Rattle.machine.specs.declared.thread.Thread.{Thread}
-use Rattle.machine.specs.declared.thread.Ending.{Ending}
-use Rattle.machine.specs.declared.thread.Ending.TheVariants.{Unfinished, Ended, Uncaught}
+use Rattle.execution.specs.declared.thread.Thread.{Thread}
+use Rattle.execution.specs.declared.thread.Ending.{Ending}
+use Rattle.execution.specs.declared.thread.Ending.TheVariants.{Unfinished, Ended, Uncaught}
 use Rattle.execution.specs.declared.execute.Event.{Event}
 use Rattle.execution.specs.declared.execute.Event.TheVariants as event
 use Rattle.machine.specs.declared.fault.ReportFault.{ReportFault}
@@ -36,7 +36,7 @@ use Rattle.machine.specs.declared.turn.Turn.TheVariants as turn
 use Rattle.machine.specs.declared.stop.Stop.{Stop}
 use Rattle.jni_calls.specs.declared.store.Store.{Store}
 use Rattle.jni_calls.specs.StoreAgrees.{StoreAgrees}
-use Rattle.machine.specs.Agrees.{ThreadsAgree}
+use Rattle.execution.specs.ThreadAgrees.{ThreadsAgree}
 use Rattle.machine.specs.Stops.{stop_view}
 
 -- a program's items, the world, the steps taken, and the cells after the heap's highest block

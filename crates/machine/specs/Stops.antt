@@ -6,8 +6,8 @@ use Rattle.source.specs.State as state
 use Rattle.source.specs.Value as source
 use Rattle.jni_calls.specs.Traps.{trap_view}
 use Rattle.machine.specs.declared.stop.Stop.{Stop}
-use Rattle.machine.specs.declared.thread.Ending.{Ending}
-use Rattle.machine.specs.declared.thread.Ending.TheVariants.{Unfinished, Ended, Uncaught}
+use Rattle.execution.specs.declared.thread.Ending.{Ending}
+use Rattle.execution.specs.declared.thread.Ending.TheVariants.{Unfinished, Ended, Uncaught}
 use Rattle.execution.specs.declared.execute.Event.{Event}
 use Rattle.execution.specs.declared.execute.Event.TheVariants.{Quiet, Printed, Trapped}
 

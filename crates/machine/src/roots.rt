@@ -5,7 +5,7 @@ ghost use Rattle.machine.specs.Roots.{AreAddresses, CallIsStacked, CallIsThere, 
 ghost use Rattle.tables.specs.Locals.{AreStacked};
 ghost use Rattle.tables.specs.References.{references_in};
 
-use crate::thread::Thread;
+use execution::thread::Thread;
 use heap::{Addr, Heap};
 use jni_calls::activation::Activation;
 use std::alloc::{AllocError, Global};

@@ -42,7 +42,7 @@ use Rattle.world.specs.contracts.world.World as world
 use Rattle.heap.specs.contracts.heap.Heap as heap
 use Rattle.tables.specs.contracts.locals.Locals as locals
 use Rattle.jni_calls.specs.contracts.store.Store as store
-use Rattle.machine.specs.contracts.thread.Thread as thread
+use Rattle.execution.specs.contracts.thread.Thread as thread
 use Rattle.machine.specs.contracts.machine.Machine as machine
 use Rattle.two_threads.specs.contracts.desk.Desk as desk
 use Rattle.two_threads.specs.contracts.desk.Desk.TheInside as desk-inside

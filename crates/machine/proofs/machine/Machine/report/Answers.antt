@@ -2,7 +2,7 @@ use Rattle.std.proofs.Common.{◌≡◌, ◌++◌, List, length, map, flat_map, 
 use Rattle.classes.specs.Class.{Classes}
 use Rattle.report.specs.ThreadStatus.{standing_view}
 use Rattle.machine.specs.declared.fault.ReportFault.TheVariants as reporting
-use Rattle.machine.specs.declared.thread.Thread.{Thread}
+use Rattle.execution.specs.declared.thread.Thread.{Thread}
 use Rattle.tables.specs.References.{references_in}
 use Rattle.machine.specs.Roots.{name_of, thread_names, ThreadsAreStacked, ThreadsAreThere}
 use Rattle.machine.proofs.Reports.{globals_there, roots_there, rows_are, writes_run}

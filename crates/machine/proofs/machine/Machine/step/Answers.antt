@@ -3,21 +3,22 @@ use Rattle.std.specs.Prelude.{slice_get, is_some, Result, Ok, Err, OnErr}
 use Rattle.std.proofs.lemmas.Option.{slice_get_read}
 use Rattle.source.specs.declared.journal.Entry.{Entry}
 use Rattle.heap.specs.Heap.{left_of}
-use Rattle.machine.specs.declared.thread.Ending.{Ending}
-use Rattle.machine.specs.declared.thread.Ending.TheVariants.{Unfinished, Ended, Uncaught}
+use Rattle.execution.specs.declared.thread.Ending.{Ending}
+use Rattle.execution.specs.declared.thread.Ending.TheVariants.{Unfinished, Ended, Uncaught}
 use Rattle.machine.specs.declared.stop.Stop.{Stop}
-use Rattle.machine.specs.declared.thread.Thread.{Thread}
+use Rattle.execution.specs.declared.thread.Thread.{Thread}
 use Rattle.machine.specs.Run.{has_ended as ended, Run, InState, CouldStep, replay_of, entry_of, refused_entry_of, printed_after, can_turn, stepped, refused}
 use Rattle.source.specs.Thread.{BuffersInUse, Shared, Thread as SourceThread}
 use Rattle.source.specs.World.{World, loaded_objects}
 use Rattle.lower.specs.Lowered.{Lowered}
 use Rattle.jni_calls.specs.declared.store.Store.{Store}
-use Rattle.machine.specs.declared.thread.Advanced.{Advanced}
+use Rattle.execution.specs.declared.advance.Advanced.{Advanced}
 use Rattle.execution.specs.declared.execute.Event.TheVariants.{Quiet}
 use Rattle.safety.specs.Owners.{Owners}
 use Rattle.execution.specs.Executes.{IsSteady}
 use Rattle.jni_calls.specs.StoreAgrees.{StoreAgrees}
-use Rattle.machine.specs.Agrees.{ThreadAgrees, AdvancesBy}
+use Rattle.execution.specs.ThreadAgrees.{ThreadAgrees}
+use Rattle.execution.specs.Advances.{AdvancesBy}
 use Rattle.machine.proofs.Steps.{steady, the_thread, can_turn_here, has_ended, steps_on}
 use Rattle.machine.proofs.machine.Machine.step.Goals as goal
 use Rattle.machine.proofs.machine.Machine.step.Goals.{After-has_ended}

@@ -1,0 +1,113 @@
+//! A step of a thread.
+
+ghost use Rattle.std.specs.Prelude.{◌≡◌, ℕ, ◌<◌, Some, None, ◌∷◌, List, length, IfOk, OnOk, OnErr};
+ghost use Rattle.std.specs.Option.{option_and_then};
+ghost use Rattle.std.specs.VecDeque.{deque_len};
+ghost use Rattle.heap.specs.Heap.{IsAddress, class_at};
+ghost use Rattle.source.specs.Thread.{BuffersInUse, Shared, Thread as SourceThread};
+ghost use Rattle.source.specs.World.{loaded_objects};
+ghost use Rattle.safety.specs.Owners.{Owners};
+ghost use Rattle.lower.specs.Lowered.{IsLowered};
+ghost use Rattle.jni_calls.specs.StoreAgrees.{StoreAgrees};
+ghost use Rattle.execution.specs.ThreadAgrees.{ThreadAgrees};
+ghost use Rattle.execution.specs.Advances.{AdvancesBy, ending_after, calls_after};
+ghost use Rattle.execution.specs.Executes.{IsSteady};
+ghost use Rattle.execution.specs.Entry.{IsReady, Begins};
+
+use crate::entry::begin;
+use crate::execute::{Event, Executed, execute};
+use crate::thread::{Ending, PendingCall, Thread};
+use heap::{Addr, Heap};
+use jni_calls::activation::Activation;
+use jni_calls::store::Store;
+use lower::Program;
+use std::alloc::AllocError;
+use std::collections::VecDeque;
+use world::World;
+
+/// What a step of a thread was.
+#[derive(Clone, Copy)]
+pub enum Advanced {
+    Did(Event),
+    /// The allocation of its call was refused.
+    Refused,
+}
+
+/// Takes one step of a thread that has not ended. Only the entry into a call, a new frame and a new global reference
+/// take host memory.
+#[inline(always)]
+pub fn advance(
+    program: &Program<'_>,
+    world: &World,
+    store: &mut Store,
+    thread: &mut Thread,
+) -> Result<Advanced, AllocError>
+    requires lowered { IsLowered program.now }
+    requires agrees { (own : Owners) × (shared : Shared) × (s : SourceThread) × StoreAgrees program.now world.now store.old shared
+        × ThreadAgrees program.now world.now.classes store.old.heap (length (loaded_objects world.now)) own shared thread.old s × (thread.old.ending ≡ Ending.Unfinished) × IsSteady own shared s }
+    ensures advances { IfOk result (λ advanced. (lent : BuffersInUse) (k : ℕ) (own : Owners) (shared : Shared) (s : SourceThread) → StoreAgrees program.now world.now store.old shared
+        → ThreadAgrees program.now world.now.classes store.old.heap (length (loaded_objects world.now)) own shared thread.old s
+        → IsSteady own shared s
+        → AdvancesBy program.now world.now store.old.heap store.new lent k own shared s thread.new advanced) }
+    ensures store { OnErr result (store.new ≡ store.old) }
+    ensures thread { OnErr result (thread.new ≡ thread.old) }
+{
+    match &mut thread.call {
+        None => {
+            enter(program, &store.loaded, thread)?;
+            Ok(Advanced::Did(Event::Quiet))
+        }
+        Some(call) => match execute(program, world, store, &mut thread.pending, call)? {
+            Executed::Did(event) => Ok(Advanced::Did(event)),
+            Executed::Refused => Ok(Advanced::Refused),
+            Executed::Returned => {
+                leave(&store.heap, thread);
+                Ok(Advanced::Did(Event::Quiet))
+            }
+        },
+    }
+}
+
+/// The entry into the next call.
+#[inline(never)]
+fn enter(program: &Program<'_>, loaded: &[Addr], thread: &mut Thread) -> Result<(), AllocError>
+    requires lowered { IsLowered program.now }
+    requires some { 0 < deque_len thread.old.calls }
+    requires ready { (next : PendingCall) (rest : List PendingCall) → thread.old.calls.items ≡ next ∷ rest → IsReady program.now (length loaded.now) next }
+    ensures calls { OnOk result ((next : PendingCall) × (call : Activation) × (thread.old.calls.items ≡ next ∷ thread.new.calls.items)
+        × (thread.new.call ≡ Some call) × Begins program.now loaded.now next call) }
+    ensures pending { OnOk result (thread.new.pending ≡ thread.old.pending) }
+    ensures ending { OnOk result (thread.new.ending ≡ thread.old.ending) }
+    ensures err { OnErr result (thread.new ≡ thread.old) }
+{
+    let next = thread.calls.front().unwrap();
+    let code = program.code(next.function).unwrap();
+    let call = begin(*thread.calls.allocator(), code, loaded, next)?;
+    let _ = thread.calls.pop_front();
+    thread.call = Some(call);
+    Ok(())
+}
+
+/// The end of a call. An exception that is pending ends the thread, which drops its other calls.
+#[inline(never)]
+fn leave(heap: &Heap, thread: &mut Thread)
+    requires { (a : ℕ) → thread.old.pending ≡ Some a → IsAddress heap.now a }
+    ensures call { thread.new.call ≡ None }
+    ensures pending { thread.new.pending ≡ None }
+    ensures calls { thread.new.calls.items ≡ calls_after (option_and_then (class_at heap.now) thread.old.pending) thread.old.calls.items }
+    ensures ending { thread.new.ending ≡ ending_after (option_and_then (class_at heap.now) thread.old.pending) thread.old.calls.items thread.old.ending }
+{
+    thread.call = None;
+    match thread.pending {
+        Some(exception) => {
+            thread.pending = None;
+            thread.calls.clear();
+            thread.ending = Ending::Uncaught(heap.class_of(exception) as usize);
+        }
+        None => {
+            if thread.calls.is_empty() {
+                thread.ending = Ending::Ended;
+            }
+        }
+    }
+}

@@ -1,0 +1,34 @@
+//! Threads, which call functions one after another.
+
+use heap::Addr;
+use jni_calls::activation::Activation;
+use std::collections::VecDeque;
+use world::ObjectValue;
+
+/// Whether a thread has ended.
+#[derive(Clone, Copy)]
+pub enum Ending {
+    Unfinished,
+    Ended,
+    /// Its call returned with an exception of the class of this number pending.
+    Uncaught(usize),
+}
+
+/// A thread: the calls that it has still to make, and the call in progress.
+#[derive(Drop)]
+pub struct Thread {
+    pub calls: VecDeque<PendingCall>,
+    pub call: Option<Activation>,
+    /// The pending exception.
+    pub pending: Option<Addr>,
+    pub ending: Ending,
+}
+
+/// A call that a thread has still to make: its function and the function's class by their numbers, and what the function
+/// is given.
+#[derive(Drop)]
+pub struct PendingCall {
+    pub function: usize,
+    pub class: usize,
+    pub arguments: Vec<ObjectValue>,
+}

@@ -1,0 +1,6 @@
+pub mod Lists
+pub mod LoadLemmas
+pub mod FilledObjects
+pub mod MadeInOrder
+pub mod WaitingThreads
+pub mod ThreadLoads
