@@ -30,4 +30,4 @@ pub emit_expr-emit_binary-requires : goal.emit_expr-emit_binary-requires
 emit_expr-emit_binary-requires t c =
     let first = left_size c.in-Binary.operator c.in-Binary.operands in
     let second = right_size c.in-Binary.operator c.in-Binary.operands in
-    (omega (arith, c.decreases, first, second, ap size-Expr c.in-Binary.is, ap size-Expr c.deref-in-Binary.ensures, ap size-Expr c.deref-in-Binary-2.ensures), tt)
+    (omega (arith, c.decreases, first, second, ap size-Expr c.in-Binary.is, ap (λ (o : ExprInMemory × ExprInMemory). size-Expr o.0) c.deref-in-Binary.ensures, ap (λ (o : ExprInMemory × ExprInMemory). size-Expr o.1) c.deref-in-Binary-2.ensures), tt)
