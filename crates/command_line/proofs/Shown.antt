@@ -1,5 +1,5 @@
 -- What is said, as what the program answers.
-use Rattle.std.proofs.Common.{◌≡◌, ℕ, List, Result, Ok, Err, inl, inr}
+use Rattle.std.proofs.Common.{ℕ, List, Result, Ok, Err, inl, inr}
 use Rattle.report.specs.Sink.{Written, Writes}
 use Rattle.commands.specs.Saying.{Tells}
 

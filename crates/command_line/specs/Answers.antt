@@ -1,5 +1,5 @@
 -- What the program answers, by what its words ask for.
-use Rattle.std.specs.Prelude.{◌≡◌, ℕ, List, Option, Some, None, codes}
+use Rattle.std.specs.Prelude.{◌≡◌, ℕ, List, Option, Some, None, codes, string_bytes}
 use Rattle.report.specs.Sink.{Written}
 use Rattle.pipeline.specs.Runs.{AppendsRun, StopsRun}
 use Rattle.commands.specs.Saying.{Tells}
@@ -31,7 +31,7 @@ Declines words err err_after status = (status ≡ 2) × Tells err err_after word
 abbrev pub Answers : (gives : List ℕ → List ℕ → Type 0) → Request → (out out_after err err_after : Written) → (status : ℕ) → Type 0
 Answers gives (Serve command) out out_after err err_after status = Serves gives command out out_after err err_after status
 Answers gives (Explain explanation) out out_after err err_after status = Shows (IsTextOf explanation) out out_after err err_after status
-Answers gives (Show text) out out_after err err_after status = Shows (λ t. t ≡ text) out out_after err err_after status
-Answers gives (Misuse text) out out_after err err_after status = (out_after ≡ out) × Declines text err err_after status
+Answers gives (Show text) out out_after err err_after status = Shows (λ t. t ≡ string_bytes text) out out_after err err_after status
+Answers gives (Misuse text) out out_after err err_after status = (out_after ≡ out) × Declines (string_bytes text) err err_after status
 Answers gives LacksSchedule out out_after err err_after status = (out_after ≡ out) × Declines (codes "error: run needs --schedule FILE\n") err err_after status
 Answers gives LacksMemory out out_after err err_after status = (out_after ≡ out) × (status ≡ 3) × Tells err err_after (codes "memory\n")
