@@ -13,7 +13,7 @@ use Rattle.source.specs.Thread.{Frame, Monitor, Shared, Thread, viewed_by}
 use Rattle.source.specs.Variable.{Variable, Variables, viewed}
 use Rattle.source.specs.World.{World}
 use Rattle.tasks.specs.declared.activation.Activation.{Activation}
-use Rattle.tasks.specs.Frames.{references_in}
+use Rattle.object_store.specs.Frames.{references_in}
 use Rattle.terms.specs.declared.variable.Content.{Content}
 use Rattle.terms.specs.declared.variable.Content.TheVariants as content
 use Rattle.terms.specs.Views.{Contents, content_view, variable_view, variables_view}

@@ -1,10 +1,9 @@
 -- A thread in memory steps as the thread that it stands for.
-use Rattle.std.proofs.Common.{◌≡◌, ℕ, Bool, true, false, List, [], ◌∷◌, Option, Some, None, refl, sym, ap, ◌∙◌, IsTrue}
+use Rattle.std.proofs.Common.{◌≡◌, ℕ, Bool, true, false, List, [], ◌∷◌, Option, Some, None, refl, sym, ap, ◌∙◌, IsTrue, subst}
 use Rattle.std.specs.List.{list_all}
 use Rattle.std.specs.Option.{option_map}
 use Rattle.source.specs.World.{Invocation}
 use Rattle.source.specs.Load.{call_loads}
-use Rattle.std.proofs.Common.{subst}
 use Rattle.std.proofs.lemmas.Bool.{and_parts}
 use Rattle.std.specs.Borrow.{Bor}
 use Rattle.syntax.specs.Tree.{Function, SourceUnit}
@@ -12,17 +11,16 @@ use Rattle.source.specs.Task.{tasks_of}
 use Rattle.classes.specs.Class.{Classes}
 use Rattle.source.specs.Thread.{Monitor, Thread, Shared, BuffersInUse, Event, Quiet, PrintedNumber, Trapped, Advances as AdvancesTo, NoAdvance, Ending, Unfinished, Ended, Uncaught}
 use Rattle.source.specs.Object.{Reference}
-use Rattle.source.specs.Activation.{named_object, entry_frame, ending_after, monitors_after, calls_after, return_step, enter, entered, entry_advance, entered_function, class_of_function, function_at}
+use Rattle.source.specs.Activation.{named_object, entry_frame, ending_after, monitors_after, calls_after, return_step, enter, entered, entry_advance, entered_function, class_of_function, function_at, parameter_variables}
 use Rattle.source.specs.ThreadStep.{thread_step, step_within}
 use Rattle.tasks.specs.declared.activation.Activation.{Activation}
 use Rattle.replay.specs.declared.thread.Thread.{Thread as ThreadInMemory}
 use Rattle.tasks.specs.declared.outcome.Outcome.TheVariants as outcome
 use Rattle.tasks.specs.Activations.{tasks_left, thread_in, scene_of, advance_by, Advances}
-use Rattle.tasks.specs.Shares.{shared_view}
-use Rattle.tasks.specs.declared.shared.Shared.{Shared as SharedInMemory}
+use Rattle.call_checks.specs.Shares.{shared_view}
+use Rattle.call_checks.specs.declared.shared.Shared.{Shared as SharedInMemory}
 use Rattle.tasks.specs.Steps.{Sees}
 use Rattle.terms.specs.Views.{variables_view, trap_view}
-use Rattle.source.specs.Activation.{parameter_variables}
 use Rattle.source.specs.Variable.{LocalRef}
 use Rattle.std.specs.Prelude.{filter_map, zip}
 use Rattle.tasks.specs.declared.outcome.Outcome.{Outcome}

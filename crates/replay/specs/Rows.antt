@@ -2,7 +2,7 @@
 use Rattle.std.specs.Prelude.{ℕ, List, [], ◌++◌, Option, None, Some}
 use Rattle.std.specs.Option.{option_to_list}
 use Rattle.tasks.specs.declared.activation.Activation.{Activation}
-use Rattle.tasks.specs.Frames.{references_in}
+use Rattle.object_store.specs.Frames.{references_in}
 use Rattle.replay.specs.declared.thread.Thread.{Thread}
 
 abbrev pub pending_names : Option ℕ → List ℕ

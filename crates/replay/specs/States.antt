@@ -22,7 +22,7 @@ use Rattle.replay.specs.declared.trap_at.TrapAt.{TrapAt}
 use Rattle.replay.specs.TrapAt.{trap_at}
 use Rattle.terms.specs.Views.{trap_view}
 use Rattle.replay.specs.Threads.{ThreadStands, WorkInRange, ending_view}
-use Rattle.tasks.specs.Shares.{shared_view}
+use Rattle.call_checks.specs.Shares.{shared_view}
 
 -- each thread in memory stands for the one of the same number
 abbrev pub ThreadsStand : SourceUnit → Classes → List ThreadInMemory → List Thread → Type 0

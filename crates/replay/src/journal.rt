@@ -14,10 +14,10 @@ use crate::rows::{NamedObjects, root_names};
 use crate::state::{State, shown_stop, standings_of, take_entry};
 use crate::trap_at::TrapAt;
 use functions::Functions;
+use object_store::made_before;
 use reached::reached_rows;
 use regions::Checked;
 use std::alloc::Global;
-use tasks::made_before;
 use world::{Entry, Sink, World, write_run};
 
 /// The state that the journal leads to.

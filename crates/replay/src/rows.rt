@@ -4,9 +4,10 @@ ghost use Rattle.std.specs.Prelude.{◌≡◌, ◌++◌, IfOk, flat_map};
 ghost use Rattle.replay.specs.Rows.{call_names, pending_names, thread_names};
 
 use crate::thread::Thread;
+use object_store::{Names, Store};
 use reached::Objects;
 use std::alloc::{AllocError, Global};
-use tasks::{Activation, Names, Store};
+use tasks::Activation;
 use world::ObjectValue;
 
 /// The objects of a store.

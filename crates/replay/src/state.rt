@@ -13,10 +13,10 @@ ghost use Rattle.source.specs.ReportOf.{standing_by_ending};
 
 use crate::thread::{Ending, Step, Thread, is_unfinished, take_step};
 use crate::trap_at::TrapAt;
+use call_checks::Shared;
 use class_table::table::ClassTable;
 use functions::Functions;
 use std::alloc::{AllocError, Global};
-use tasks::Shared;
 use terms::{Trap, trap_number};
 use world::{Entry, Printed, ThreadStatus, World};
 

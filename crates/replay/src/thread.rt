@@ -12,14 +12,17 @@ ghost use Rattle.source.specs.Step.{is_unfinished};
 ghost use Rattle.source.specs.Thread.{Shared as SharedOfThreads};
 ghost use Rattle.source.specs.Variable.{LocalRef};
 ghost use Rattle.replay.specs.Threads.{argument_content, ending_view, TakesStep, WorkInRange, step_of};
-ghost use Rattle.tasks.specs.Shares.{shared_view};
+ghost use Rattle.call_checks.specs.Shares.{shared_view};
 ghost use Rattle.terms.specs.Views.{assign_all, content_view, variables_view};
 
+use call_checks::Shared;
 use classes::mangling::unmangle;
 use functions::Functions;
+use object_store::{Frames, Names, Store};
 use std::alloc::{AllocError, Global};
+use std::mem;
 use syntax::{Function, Parameter};
-use tasks::{Activation, Frames, Names, Outcome, Shared, Store, advance};
+use tasks::{Activation, Outcome, advance};
 use terms::{Content, Trap, Value, Variables};
 use world::{Call, ObjectValue, World};
 
@@ -158,7 +161,7 @@ fn entry_frames(
 fn put_activation<'a>(place: &mut Option<Activation<'a>>, activation: Option<Activation<'a>>)
     ensures { place.new ≡ activation.entry }
 {
-    *place = activation;
+    let _ = mem::replace(place, activation);
 }
 
 /// Enters the next call.

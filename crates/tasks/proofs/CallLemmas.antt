@@ -1,5 +1,5 @@
 -- What a call in memory does is the call's step.
-use Rattle.std.proofs.Common.{◌≡◌, ℕ, Bool, true, false, List, [], ◌∷◌, ◌++◌, Option, Some, None, refl, sym, ap, ◌∙◌, append-nil, IfOk, Result, Ok, Err}
+use Rattle.std.proofs.Common.{◌≡◌, ℕ, Bool, true, false, List, [], ◌∷◌, ◌++◌, Option, Some, None, refl, sym, ap, ◌∙◌, append-nil}
 use Rattle.std.specs.Prelude.{ℤ, pos, negsuc, drop, nat_le, if◌then◌else◌, is_some}
 use Rattle.std.specs.Option.{option_to_list}
 use Rattle.base.specs.Bytes.{Identifier, lookup}
@@ -24,8 +24,8 @@ use Rattle.source.specs.Thread.{Frame, Thread, Shared, BuffersInUse, Trapped, Ad
 use Rattle.source.specs.ThreadStep.{with_tasks}
 use Rattle.source.specs.Value.{Trap}
 use Rattle.source.specs.Variable.{Variable, Variables}
-use Rattle.tasks.specs.declared.given.Given.{Given}
-use Rattle.tasks.specs.declared.given.Given.TheVariants as given
+use Rattle.call_answers.specs.declared.given.Given.{Given}
+use Rattle.call_answers.specs.declared.given.Given.TheVariants as given
 use Rattle.tasks.specs.declared.outcome.Outcome.{Outcome}
 use Rattle.tasks.specs.declared.outcome.Outcome.TheVariants as outcome
 use Rattle.tasks.specs.declared.outcome.Purpose.{Purpose as PurposeInMemory}
@@ -33,20 +33,16 @@ use Rattle.tasks.specs.declared.outcome.Purpose.TheVariants as purposes
 use Rattle.tasks.specs.declared.outcome.Target.TheVariants as target
 use Rattle.tasks.specs.declared.task.Task.{Task as TaskInMemory}
 use Rattle.terms.specs.declared.trap.Trap.{Trap as TrapInMemory}
-use Rattle.tasks.specs.Answers.{Answer, Gives, Writes, Makes, Raises, Ensures, Pushes, RefusesFrames, Pops, DeletesLocal, MakesGlobal, DeletesGlobal, effect_as, frames_after, frames_with, given_after, given_view, makes_object, pending_after, shared_after, without_global, zero_result}
+use Rattle.call_answers.specs.Answers.{Answer, Gives, Writes, Makes, Raises, Ensures, Pushes, RefusesFrames, Pops, DeletesLocal, MakesGlobal, DeletesGlobal, effect_as, frames_after, frames_with, given_after, given_view, makes_object, pending_after, shared_after, without_global, zero_result}
 use Rattle.tasks.specs.Calls.{MakesCall}
-use Rattle.tasks.specs.Checked.{fit_together, trap_found}
-use Rattle.tasks.specs.Frames.{new_frame}
+use Rattle.call_checks.specs.Checked.{fit_together, trap_found}
+use Rattle.object_store.specs.Frames.{new_frame}
 use Rattle.tasks.specs.Outcomes.{outcome_for, purpose_view}
 use Rattle.tasks.specs.Steps.{Scene, Sees, in_frames, left_by, scene_with}
 use Rattle.tasks.specs.Tasks.{task_view}
-use Rattle.tasks.specs.WorkedOut.{ensured, found_class, found_field, global_deleted, local_deleted, made_global, pushed, worked_out}
+use Rattle.call_answers.specs.WorkedOut.{ensured, found_class, found_field, global_deleted, local_deleted, made_global, pushed, worked_out}
 use Rattle.terms.specs.Views.{Contents, trap_view, variables_view}
 use Rattle.tasks.proofs.TaskLemmas.{same_frames, same_thread}
-
-pub if_ok : {A E : Type 0} {P Q : A → Type 0} → (r : Result A E) → ((a : A) → P a → Q a) → IfOk r P → IfOk r Q
-if_ok (Ok a) f h = f a h
-if_ok (Err e) f h = tt
 
 -- ---- checks
 

@@ -18,8 +18,8 @@ use Rattle.source.specs.Value.{Outcome as Outcomes, outcome_map}
 use Rattle.source.specs.Variable.{Statics, Variables}
 use Rattle.tasks.specs.declared.outcome.Outcome.{Outcome}
 use Rattle.tasks.specs.declared.task.Invocation.{Invocation}
-use Rattle.tasks.specs.declared.task.Operand.{Operand}
-use Rattle.tasks.specs.declared.task.Operand.TheVariants as operands
+use Rattle.call_checks.specs.declared.operand.Operand.{Operand}
+use Rattle.call_checks.specs.declared.operand.Operand.TheVariants as operands
 use Rattle.tasks.specs.declared.task.Task.TheVariants as task
 use Rattle.terms.specs.declared.reduction.Reduction.{Reduction}
 use Rattle.terms.specs.declared.reduction.Reduction.TheVariants as reduction
@@ -28,9 +28,10 @@ use Rattle.terms.specs.declared.term.Term.TheVariants as term
 use Rattle.terms.specs.declared.value.Value.{Value}
 use Rattle.tasks.specs.Calls.{MakesCall, ReducesFirst, ReducesOne}
 use Rattle.tasks.specs.Outcomes.{purpose_view}
-use Rattle.tasks.specs.Shares.{sight_in}
+use Rattle.call_checks.specs.Shares.{sight_in}
 use Rattle.tasks.specs.Steps.{Scene, Sees, Does, HasEffect, reduced, scene_with}
-use Rattle.tasks.specs.Tasks.{operand_view, task_view}
+use Rattle.call_checks.specs.Actuals.{operand_view}
+use Rattle.tasks.specs.Tasks.{task_view}
 use Rattle.terms.specs.Views.{Contents, term_view, Reduces}
 use Rattle.tasks.proofs.TaskLemmas.{sees_so}
 

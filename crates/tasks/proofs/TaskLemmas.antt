@@ -34,7 +34,7 @@ use Rattle.tasks.specs.declared.task.Task.{Task as TaskInMemory}
 use Rattle.tasks.specs.Steps.{effect_by, HasEffect, Scene, Sees, in_frames, left_by, Does, reduced}
 use Rattle.tasks.specs.Tasks.{task_view, branch_task, element_task, loop_task, print_task, return_task, value_task, tasks_of_statements}
 use Rattle.tasks.specs.Outcomes.{else_tree}
-use Rattle.tasks.specs.Shares.{sight_in}
+use Rattle.call_checks.specs.Shares.{sight_in}
 use Rattle.terms.specs.Views.{value_view, indexed_view, term_view, trap_view, place_in, variables_view, Reduces}
 use Rattle.tasks.proofs.RangeLemmas.{tasks_of-statements}
 

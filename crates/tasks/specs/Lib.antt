@@ -1,11 +1,3 @@
-pub mod Names
-pub mod Frames
-pub mod Stores
-pub mod Shares
-pub mod Actuals
-pub mod Answers
-pub mod WorkedOut
-pub mod Checked
 pub mod Outcomes
 pub mod Tasks
 pub mod Steps

@@ -5,16 +5,17 @@ ghost use Rattle.classes.specs.Class.{Classes};
 ghost use Rattle.classes.specs.Grown.{IsGrown};
 ghost use Rattle.source.specs.Thread.{Shared as SharedOfThreads};
 ghost use Rattle.tasks.specs.Activations.{tasks_left, IsInRange, AreSet, Advances, KeepsScene};
-ghost use Rattle.tasks.specs.Shares.{shared_view};
+ghost use Rattle.call_checks.specs.Shares.{shared_view};
 
-use crate::frame::Frames;
 use crate::outcome::{End, Outcome};
 use crate::put::set_variables;
-use crate::shared::Shared;
 use crate::step::step;
 use crate::task::{Choice, Iteration, Task, task_of};
+use call_checks::Shared;
 use class_table::table::ClassTable;
+use object_store::Frames;
 use std::alloc::{AllocError, Global};
+use std::mem;
 use syntax::Stmt;
 use terms::{Term, Value, Variables, term_of};
 
@@ -42,7 +43,7 @@ pub struct Activation<'a> {
 fn put_task<'a>(place: &mut Option<Task<'a>>, task: Option<Task<'a>>)
     ensures { place.new ≡ task.entry }
 {
-    *place = task;
+    let _ = mem::replace(place, task);
 }
 
 /// Begins the block's next statement, where none is begun.

@@ -3,12 +3,12 @@
 ghost use Rattle.std.specs.Prelude.{◌≡◌, IfNone, IfOk, IfSome};
 ghost use Rattle.source.specs.CallStep.{blank, filled, put};
 ghost use Rattle.source.specs.Variable.{assign};
-ghost use Rattle.tasks.specs.Answers.{given_view};
+ghost use Rattle.call_answers.specs.Answers.{given_view};
 ghost use Rattle.tasks.specs.Outcomes.{kind_view, target_view, variable_step, LeavesVariables, LeavesIf};
 ghost use Rattle.terms.specs.Views.{content_view, variables_view};
 
-use crate::given::{Given, static_result};
 use crate::outcome::{Outcome, Target, VariableKind};
+use call_answers::{Given, static_result};
 use std::alloc::{AllocError, Global};
 use syntax::Name;
 use terms::{Content, Statics, Value, Variables, zeros};

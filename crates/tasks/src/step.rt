@@ -9,16 +9,16 @@ ghost use Rattle.tasks.specs.declared.task.Task.TheVariants as task;
 ghost use Rattle.terms.specs.declared.term.Term.TheVariants as term;
 ghost use Rattle.tasks.specs.Outcomes.{else_tree};
 ghost use Rattle.tasks.specs.Steps.{HasEffect, Does, reduced, scene_with};
-ghost use Rattle.tasks.specs.Shares.{shared_view};
+ghost use Rattle.call_checks.specs.Shares.{shared_view};
 ghost use Rattle.tasks.specs.Tasks.{branch_task, element_task, loop_task, print_task, return_task, value_task, tasks_of_statements, ExprInRange, BlockInRange, ElseInRange, StatementsInRange, TaskInRange, OutcomeInRange, IsPlain};
 ghost use Rattle.terms.specs.Views.{NumbersInRange, variables_view};
 
-use crate::frame::Frames;
 use crate::invoke::invoke;
 use crate::outcome::{End, Outcome};
-use crate::shared::Shared;
 use crate::task::Task;
+use call_checks::Shared;
 use class_table::table::ClassTable;
+use object_store::Frames;
 use std::alloc::{AllocError, Global};
 use syntax::{Block, Expr, Name, Stmt};
 use terms::{

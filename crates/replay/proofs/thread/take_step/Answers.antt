@@ -2,7 +2,7 @@ use Rattle.std.proofs.Common.{subst}
 use Rattle.classes.specs.Class.{Classes}
 use Rattle.syntax.specs.Views.{unit_tree}
 use Rattle.tasks.specs.Activations.{Advances}
-use Rattle.tasks.specs.Shares.{shared_view}
+use Rattle.call_checks.specs.Shares.{shared_view}
 use Rattle.tasks.specs.declared.outcome.Outcome.{Outcome}
 use Rattle.replay.proofs.ThreadLemmas.{goes, returns}
 use Rattle.replay.proofs.thread.take_step.Goals as goal

@@ -1,8 +1,8 @@
 use Rattle.std.proofs.Common.{ℕ, Bool, true, false, subst}
 use Rattle.tasks.specs.Outcomes.{variable_step, LeavesIf}
-use Rattle.tasks.specs.Shares.{shared_view}
+use Rattle.call_checks.specs.Shares.{shared_view}
 use Rattle.tasks.proofs.ActivationLemmas.{begun_before, fails, advances, range_after}
-use Rattle.tasks.proofs.CallLemmas.{if_ok}
+use Rattle.object_store.proofs.Results.{if_ok}
 use Rattle.tasks.proofs.activation.advance.Goals as goal
 
 pub returns-in_default-clause-step : goal.returns-in_default-clause-step

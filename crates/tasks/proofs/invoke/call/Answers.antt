@@ -2,15 +2,15 @@ use Rattle.std.proofs.Common.{sym, ap, ◌∙◌, subst, map}
 use Rattle.std.specs.Option.{option_map}
 use Rattle.jni.specs.Table.{Facts, function_value, result_value}
 use Rattle.tasks.specs.declared.outcome.Outcome.TheVariants as outcome
-use Rattle.tasks.specs.Actuals.{actual_view}
-use Rattle.tasks.specs.Answers.{FitsFrames, answer_view}
+use Rattle.call_checks.specs.Actuals.{actual_view}
+use Rattle.call_answers.specs.Answers.{FitsFrames, answer_view}
 use Rattle.tasks.specs.Calls.{MakesCall}
-use Rattle.tasks.specs.Checked.{trap_found}
-use Rattle.tasks.specs.Shares.{shared_view}
+use Rattle.call_checks.specs.Checked.{trap_found}
+use Rattle.call_checks.specs.Shares.{shared_view}
 use Rattle.tasks.specs.Steps.{Scene, scene_with}
 use Rattle.terms.specs.Views.{trap_view, variables_view}
 use Rattle.tasks.proofs.CallLemmas.{call_traps, trap_refuses, call_made_so, none_refused, object_refused_so}
-use Rattle.tasks.proofs.FittingFrames.{answer_fits}
+use Rattle.call_answers.proofs.FittingFrames.{answer_fits}
 use Rattle.tasks.proofs.invoke.call.Goals as goal
 
 pub carry_out-requires : goal.carry_out-requires

@@ -2,13 +2,12 @@ use Rattle.std.proofs.Common.{List, map, ap, ◌∙◌}
 use Rattle.jni.specs.Table.{function_value}
 use Rattle.source.specs.Arguments.{actuals}
 use Rattle.tasks.specs.declared.task.Invocation.{Invocation}
-use Rattle.tasks.specs.declared.task.Operand.{Operand}
-use Rattle.tasks.specs.Actuals.{actual_view}
-use Rattle.tasks.specs.Shares.{shared_view, sight_in}
+use Rattle.call_checks.specs.declared.operand.Operand.{Operand}
+use Rattle.call_checks.specs.Actuals.{actual_view, operand_view}
+use Rattle.call_checks.specs.Shares.{shared_view, sight_in}
 use Rattle.tasks.specs.Steps.{scene_with}
-use Rattle.tasks.specs.Tasks.{operand_view}
 use Rattle.terms.specs.Views.{variables_view}
-use Rattle.tasks.proofs.CallLemmas.{if_ok}
+use Rattle.object_store.proofs.Results.{if_ok}
 use Rattle.tasks.proofs.Invocations.{call_does, same_call}
 use Rattle.tasks.proofs.invoke.invoke.Goals as goal
 

@@ -1,10 +1,11 @@
 use Rattle.std.proofs.Common.{◌≡◌, ◌+◌, true, List, length, map, refl, sym, ◌∙◌, subst, arith}
 use Rattle.std.specs.Prelude.{slice_set}
 use Rattle.std.proofs.lemmas.Option.{slice_get_read}
-use Rattle.tasks.specs.declared.task.Operand.{Operand}
+use Rattle.call_checks.specs.declared.operand.Operand.{Operand}
 use Rattle.tasks.specs.Calls.{ReducesFirst, ReducesOne}
 use Rattle.source.specs.Effect.{is_ready}
-use Rattle.tasks.specs.Tasks.{OperandInRange, operand_view}
+use Rattle.call_checks.specs.Actuals.{operand_view}
+use Rattle.tasks.specs.Tasks.{OperandInRange}
 use Rattle.terms.specs.Views.{variables_view}
 use Rattle.tasks.proofs.Invocations.{first_step, none_step, none_first, AreGiven}
 use Rattle.tasks.proofs.RangeLemmas.{operand_at, operand_set}

@@ -2,7 +2,7 @@ use Rattle.std.proofs.Common.{◌≡◌, Some, sym, ap, ◌∙◌}
 use Rattle.base.specs.Bytes.{lookup}
 use Rattle.source.specs.CallStep.{filled}
 use Rattle.source.specs.Variable.{Variable, assign}
-use Rattle.tasks.specs.Answers.{given_view}
+use Rattle.call_answers.specs.Answers.{given_view}
 use Rattle.terms.specs.Views.{content_view, variables_view}
 use Rattle.tasks.proofs.PutLemmas.{assigned_again, assigned_leaves}
 use Rattle.tasks.proofs.put.put.Goals as goal
