@@ -12,7 +12,7 @@ use Rattle.replay.specs.declared.thread.Thread.{Thread as ThreadInMemory}
 use Rattle.replay.specs.Loading.{refused_calls, first_line, IsWaiting, AreWaiting}
 use Rattle.replay.specs.States.{ThreadsStand}
 use Rattle.replay.specs.Threads.{ThreadStands, WorkStands, tasks_in, ending_view}
-use Rattle.tasks.specs.declared.activation.Activation.{Activation}
+use Rattle.steps.specs.declared.activation.Activation.{Activation}
 
 -- the calls of each thread
 abbrev pub calls_of : List (Vec Invocation) → List (List Invocation)

@@ -21,11 +21,11 @@ use Rattle.source.specs.Term.{Term, Done, Number, Named, Read, Element, IsNull, 
 use Rattle.source.specs.Thread.{Thread, Shared, sight_of}
 use Rattle.source.specs.ThreadStep.{next_effect, waits}
 use Rattle.source.specs.Value.{Value, Word, Int, Flag, Truth, Outcome, Gives, Traps, Stuck}
-use Rattle.tasks.specs.Activations.{tasks_from, tasks_around, tasks_after, tasks_left, BegunInRange}
+use Rattle.steps.specs.Activations.{tasks_from, tasks_around, tasks_after, tasks_left, BegunInRange}
 use Rattle.tasks.specs.Tasks.{task_view, end_view, tasks_of_statements, calls_built, StatementsInRange, TaskInRange}
 use Rattle.replay.specs.Threads.{ThreadStands, tasks_in, WorkInRange}
-use Rattle.tasks.specs.declared.activation.Activation.{Activation}
-use Rattle.tasks.specs.declared.activation.Outer.{Outer}
+use Rattle.steps.specs.declared.activation.Activation.{Activation}
+use Rattle.steps.specs.declared.activation.Outer.{Outer}
 use Rattle.tasks.specs.declared.outcome.End.{End}
 use Rattle.tasks.specs.declared.outcome.End.TheVariants as end
 use Rattle.tasks.specs.declared.task.Task.{Task as TaskInMemory}

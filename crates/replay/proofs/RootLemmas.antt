@@ -12,7 +12,7 @@ use Rattle.source.specs.State.{State, views}
 use Rattle.source.specs.Thread.{Frame, Monitor, Shared, Thread, viewed_by}
 use Rattle.source.specs.Variable.{Variable, Variables, viewed}
 use Rattle.source.specs.World.{World}
-use Rattle.tasks.specs.declared.activation.Activation.{Activation}
+use Rattle.steps.specs.declared.activation.Activation.{Activation}
 use Rattle.object_store.specs.Frames.{references_in}
 use Rattle.terms.specs.declared.variable.Content.{Content}
 use Rattle.terms.specs.declared.variable.Content.TheVariants as content

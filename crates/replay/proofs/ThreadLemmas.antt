@@ -13,13 +13,13 @@ use Rattle.source.specs.Thread.{Monitor, Thread, Shared, BuffersInUse, Event, Qu
 use Rattle.source.specs.Object.{Reference}
 use Rattle.source.specs.Activation.{named_object, entry_frame, ending_after, monitors_after, calls_after, return_step, enter, entered, entry_advance, entered_function, class_of_function, function_at, parameter_variables}
 use Rattle.source.specs.ThreadStep.{thread_step, step_within}
-use Rattle.tasks.specs.declared.activation.Activation.{Activation}
+use Rattle.steps.specs.declared.activation.Activation.{Activation}
 use Rattle.replay.specs.declared.thread.Thread.{Thread as ThreadInMemory}
 use Rattle.tasks.specs.declared.outcome.Outcome.TheVariants as outcome
-use Rattle.tasks.specs.Activations.{tasks_left, thread_in, scene_of, advance_by, Advances}
+use Rattle.steps.specs.Activations.{tasks_left, thread_in, scene_of, advance_by, Advances}
 use Rattle.call_checks.specs.Shares.{shared_view}
 use Rattle.call_checks.specs.declared.shared.Shared.{Shared as SharedInMemory}
-use Rattle.tasks.specs.Steps.{Sees}
+use Rattle.steps.specs.Steps.{Sees}
 use Rattle.terms.specs.Views.{variables_view, trap_view}
 use Rattle.source.specs.Variable.{LocalRef}
 use Rattle.std.specs.Prelude.{filter_map, zip}

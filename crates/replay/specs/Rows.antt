@@ -1,7 +1,7 @@
 -- What the threads of a replay refer to.
 use Rattle.std.specs.Prelude.{ℕ, List, [], ◌++◌, Option, None, Some}
 use Rattle.std.specs.Option.{option_to_list}
-use Rattle.tasks.specs.declared.activation.Activation.{Activation}
+use Rattle.steps.specs.declared.activation.Activation.{Activation}
 use Rattle.object_store.specs.Frames.{references_in}
 use Rattle.replay.specs.declared.thread.Thread.{Thread}
 

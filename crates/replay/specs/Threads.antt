@@ -10,7 +10,7 @@ use Rattle.source.specs.Thread.{Ending, Unfinished, Ended, Uncaught, Thread, Sha
 use Rattle.source.specs.ThreadStep.{thread_step}
 use Rattle.source.specs.Value.{Int}
 use Rattle.source.specs.Variable.{Variable, Scalar, LocalRef}
-use Rattle.tasks.specs.declared.activation.Activation.{Activation}
+use Rattle.steps.specs.declared.activation.Activation.{Activation}
 use Rattle.tasks.specs.declared.outcome.Outcome.{Outcome}
 use Rattle.tasks.specs.declared.outcome.Outcome.TheVariants as outcome
 use Rattle.replay.specs.declared.thread.Thread.{Thread as ThreadInMemory}
@@ -18,7 +18,7 @@ use Rattle.replay.specs.declared.thread.Ending.{Ending as EndingInMemory}
 use Rattle.replay.specs.declared.thread.Ending.TheVariants as ending
 use Rattle.replay.specs.declared.thread.Step.{Step}
 use Rattle.replay.specs.declared.thread.Step.TheVariants as step
-use Rattle.tasks.specs.Activations.{tasks_left, IsInRange}
+use Rattle.steps.specs.Activations.{tasks_left, IsInRange}
 use Rattle.terms.specs.Views.{variables_view, trap_view}
 
 -- the tasks of the call in progress, if there is one

@@ -7,7 +7,7 @@ use crate::thread::Thread;
 use object_store::{Names, Store};
 use reached::Objects;
 use std::alloc::{AllocError, Global};
-use tasks::Activation;
+use steps::Activation;
 use world::ObjectValue;
 
 /// The objects of a store.

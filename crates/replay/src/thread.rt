@@ -21,8 +21,9 @@ use functions::Functions;
 use object_store::{Frames, Names, Store};
 use std::alloc::{AllocError, Global};
 use std::mem;
+use steps::{Activation, advance};
 use syntax::{Function, Parameter};
-use tasks::{Activation, Outcome, advance};
+use tasks::Outcome;
 use terms::{Content, Trap, Value, Variables};
 use world::{Call, ObjectValue, World};
 

@@ -1,13 +1,10 @@
-//! The tasks of a call in progress in memory, and what a step of one does.
+//! The tasks of a call in progress in memory: statements that are begun, and what a step of one comes to.
 #![tactic(auto)]
 
-mod activation;
-mod invoke;
 mod outcome;
-mod put;
-mod step;
 mod task;
 
-pub use activation::{Activation, Outer, advance};
 pub use outcome::{End, Outcome, Purpose, Target, VariableKind};
-pub use task::{Choice, Invocation, Task};
+pub use task::{
+    Assignment, Choice, ElementAssignment, Evaluation, Invocation, Iteration, Task, task_of,
+};

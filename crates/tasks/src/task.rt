@@ -300,7 +300,7 @@ fn return_task<'a>(alloc: Global, line: usize, e: &'a Expr) -> Result<Task<'a>, 
 }
 
 /// The task that a statement begins as.
-pub(crate) fn task_of(alloc: Global, s: &Stmt) -> Result<Task<'_>, AllocError>
+pub fn task_of(alloc: Global, s: &Stmt) -> Result<Task<'_>, AllocError>
     requires { StatementInRange s.now }
     ensures view { IfOk result (λ t. task_view t ≡ task_of (stmt_tree s.now)) }
     ensures range { IfOk result TaskInRange }

@@ -4,11 +4,11 @@ use Rattle.source.specs.Object.{ObjectValue}
 use Rattle.std.specs.Prelude.{filter_map}
 use Rattle.source.specs.Activation.{parameter_variables, named_object, entry_frame}
 use Rattle.source.specs.Variable.{LocalRef}
-use Rattle.tasks.specs.declared.activation.Activation.{Activation}
-use Rattle.tasks.specs.declared.activation.Outer.{Outer}
-use Rattle.tasks.specs.Activations.{tasks_around}
+use Rattle.steps.specs.declared.activation.Activation.{Activation}
+use Rattle.steps.specs.declared.activation.Outer.{Outer}
+use Rattle.steps.specs.Activations.{tasks_around}
 use Rattle.tasks.specs.Tasks.{tasks_of_statements}
-use Rattle.tasks.proofs.TaskLemmas.{block_tasks}
+use Rattle.steps.proofs.TaskLemmas.{block_tasks}
 use Rattle.world.specs.Views.{object_value_view}
 use Rattle.replay.proofs.NamesOnce.{entry_once}
 use Rattle.replay.proofs.ThreadLemmas.{enters}

@@ -1,7 +1,7 @@
 use Rattle.std.proofs.Common.{subst}
 use Rattle.classes.specs.Class.{Classes}
 use Rattle.syntax.specs.Views.{unit_tree}
-use Rattle.tasks.specs.Activations.{Advances}
+use Rattle.steps.specs.Activations.{Advances}
 use Rattle.call_checks.specs.Shares.{shared_view}
 use Rattle.tasks.specs.declared.outcome.Outcome.{Outcome}
 use Rattle.replay.proofs.ThreadLemmas.{goes, returns}
