@@ -13,7 +13,6 @@ use Rattle.regions.specs.declared.changes.NullTest.{NullTest}
 use Rattle.regions.specs.declared.changes.NullTest.TheVariants as tested
 use Rattle.regions.specs.RegionStates.{VariableState, RegionState, with_changed, made_free, killed}
 use Rattle.regions.specs.Regions.{made_usable}
-use Rattle.regions.specs.Judgements.{set_from}
 use Rattle.jni.specs.Table.{access_value}
 
 -- a Get in memory
@@ -22,10 +21,8 @@ get_value g = (access_value g.0, option_map (λ x. x.now) g.1)
 
 -- a change in memory
 abbrev pub change_value : Change → VariableState → VariableState
-change_value change.Free = made_free
 change_value change.Usable = made_usable
 change_value change.Kill = killed
-change_value (change.Set get) = set_from (option_map get_value get)
 
 -- ---- tests for NULL
 

@@ -1,8 +1,8 @@
 -- What is known of variables, as it lies in memory.
-use Rattle.std.specs.Prelude.{◌≡◌, Some, Bool, List, ◌++◌, reverse, length, map, Option, bytes_eq}
-use Rattle.std.specs.Option.{option_and_then}
+use Rattle.std.specs.Prelude.{◌≡◌, ℕ, ◌+◌, Some, Bool, if◌then◌else◌, List, [], ◌∷◌, ◌++◌, reverse, length, map, Option, bytes_eq}
+use Rattle.std.specs.Option.{option_and_then, unwrap_or}
 use Rattle.std.specs.List.{list_any, zip}
-use Rattle.base.specs.Bytes.{Identifier, ByName}
+use Rattle.base.specs.Bytes.{Identifier, ByName, lookup}
 use Rattle.base.specs.Options.{some_passes}
 use Rattle.jni.specs.Access.{Access, is_critical}
 use Rattle.jni.specs.Table.{access_value}
@@ -36,10 +36,6 @@ names_of state = reverse (map (λ v. v.0) state.variables)
 -- there are more variables, after those that there were
 abbrev pub Grows : RegionState → RegionState → Type 0
 Grows old new = (own : List Identifier) × (names_of new ≡ names_of old ++ own)
-
--- what was saved of a state: with its names it is the state
-abbrev pub IsSaved : Facts → RegionState → Type 0
-IsSaved facts state = (length facts.variables.items ≡ length (names_of state)) × (state_value (names_of state) facts ≡ state)
 
 -- what a question asks
 abbrev pub condition_holds : Condition → Option VariableState → Bool
@@ -76,3 +72,38 @@ holds_critical state = any_holder (λ held. is_critical held.0) state
 -- a buffer of this array variable is held
 abbrev pub holds_of : Identifier → RegionState → Bool
 holds_of x state = any_holder (λ held. bytes_eq held.1 x) state
+
+-- ---- how many held buffers of each array variable there are
+
+-- one, or none
+abbrev pub one_of : Identifier → VariableState → ℕ
+one_of x v = if is_holder (λ held. bytes_eq held.1 x) v then 1 else 0
+
+-- how many of these variables are held buffers of this array variable
+abbrev pub holders : Identifier → List VariableState → ℕ
+holders x [] = 0
+holders x (v ∷ vs) = one_of x v + holders x vs
+
+-- the number of a name; one without a number has 0
+abbrev pub count_of : ByName ℕ → Identifier → ℕ
+count_of counts x = unwrap_or (lookup x counts) 0
+
+-- the number of this name alone is larger by one
+abbrev pub HasOneMore : Identifier → ByName ℕ → ByName ℕ → Type 0
+HasOneMore name old new = (x : Identifier) → count_of new x ≡ (if bytes_eq name x then 1 else 0) + count_of old x
+
+-- the numbers are those with this variable too
+abbrev pub CountsMore : VariableState → ByName ℕ → ByName ℕ → Type 0
+CountsMore v old new = (x : Identifier) → count_of new x ≡ one_of x v + count_of old x
+
+-- the numbers are those of these variables
+abbrev pub IsCounted : ByName ℕ → List VariableState → Type 0
+IsCounted counts vs = (x : Identifier) → count_of counts x ≡ holders x vs
+
+-- the same of facts in memory
+abbrev pub HasCounts : Facts → Type 0
+HasCounts facts = IsCounted facts.holders (map variable_state facts.variables.items)
+
+-- what was saved of a state: with its names it is the state
+abbrev pub IsSaved : Facts → RegionState → Type 0
+IsSaved facts state = (length facts.variables.items ≡ length (names_of state)) × (state_value (names_of state) facts ≡ state) × HasCounts facts

@@ -18,17 +18,13 @@ use jni::Access;
 use std::alloc::AllocError;
 use syntax::{BinaryOp, Constant, Expr, Form, Test, VariableType};
 
-/// A change of what is known of a variable.
+/// A change of what is known of a variable, which holds afterwards what it held.
 #[derive(Clone, Copy)]
-pub(crate) enum Change<'a> {
-    /// A buffer becomes free.
-    Free,
+pub(crate) enum Change {
     /// An untested buffer becomes usable.
     Usable,
     /// A reference dies.
     Kill,
-    /// It is set; a buffer to what a Get with this access and array gives, or else to NULL.
-    Set(Option<(Access, Option<&'a [u8]>)>),
 }
 
 /// A test of a variable for NULL.
@@ -110,20 +106,18 @@ fn set_to<'a>(
 }
 
 /// What is known of a variable after a change.
-fn known_after<'a>(old: VariableState<'a>, change: Change<'a>) -> VariableState<'a>
-    ensures { variable_state result ≡ change_value change.entry (variable_state old.entry) }
+fn known_after<'a>(old: VariableState<'a>, change: Change) -> VariableState<'a>
+    ensures { variable_state result ≡ change_value change (variable_state old.entry) }
 {
     match change {
-        Change::Free => freed(old),
         Change::Usable => made_usable(old),
         Change::Kill => killed(old),
-        Change::Set(get) => set_to(old, get),
     }
 }
 
 /// A change of one variable, if it is one.
-fn change_one<'a>(state: &mut StaticState<'a>, name: &[u8], change: Change<'a>)
-    ensures { state.new ≡ with_changed state.old name.now (change_value change.entry) }
+fn change_one(state: &mut StaticState, name: &[u8], change: Change)
+    ensures { state.new ≡ with_changed state.old name.now (change_value change) }
 {
     match state.names.number_of(name) {
         Some(number) => {
@@ -131,6 +125,41 @@ fn change_one<'a>(state: &mut StaticState<'a>, name: &[u8], change: Change<'a>)
             state.facts.variables[number] = known;
         }
         None => {}
+    }
+}
+
+/// A buffer becomes free, if it is one.
+fn free_one(state: &mut StaticState, name: &[u8])
+    ensures { state.new ≡ with_changed state.old name.now made_free }
+{
+    match state.names.number_of(name) {
+        Some(number) => {
+            let old = state.facts.variables[number];
+            state.facts.holders.forget(old);
+            state.facts.variables[number] = freed(old);
+        }
+        None => {}
+    }
+}
+
+/// A variable is set; a buffer to what a Get with this access and array gives, or else to NULL.
+fn set_one<'a>(
+    state: &mut StaticState<'a>,
+    name: &[u8],
+    get: Option<(Access, Option<&'a [u8]>)>,
+) -> Result<(), AllocError>
+    ensures { OnOk result (state.new ≡ with_changed state.old name.now (set_from (option_map get_value get.entry))) }
+{
+    match state.names.number_of(name) {
+        Some(number) => {
+            let old = state.facts.variables[number];
+            let known = set_to(old, get);
+            state.facts.holders.note(known)?;
+            state.facts.holders.forget(old);
+            state.facts.variables[number] = known;
+            Ok(())
+        }
+        None => Ok(()),
     }
 }
 
@@ -162,7 +191,7 @@ fn release<'a>(state: &mut StaticState<'a>, release: Option<Release<'a>>)
                 return;
             }
             match r.buffer {
-                Some(x) => change_one(state, x, Change::Free),
+                Some(x) => free_one(state, x),
                 None => {}
             }
         }
@@ -218,7 +247,7 @@ fn settle<'a>(
         Form::DeclareBuffer(_, x, _) => add(state, x.as_bytes(), buffer_after(got(call))),
         Form::DeclareChars(x, _) => add(state, x.as_bytes(), buffer_after(got(call))),
         Form::Assign(x, _) => {
-            change_one(state, x.as_bytes(), Change::Set(got(call)));
+            set_one(state, x.as_bytes(), got(call))?;
             Ok(())
         }
         Form::Return(None) => Ok(()),
@@ -311,7 +340,7 @@ fn learn_true<'a>(state: &mut StaticState<'a>, tested: Option<NullTest<'a>>)
     ensures { state.new ≡ taught_true state.old (option_map test_value tested.entry) }
 {
     match tested {
-        Some(NullTest::Is(x)) => change_one(state, x, Change::Free),
+        Some(NullTest::Is(x)) => free_one(state, x),
         Some(NullTest::IsNot(x)) => change_one(state, x, Change::Usable),
         None => {}
     }
@@ -323,7 +352,7 @@ fn learn_false<'a>(state: &mut StaticState<'a>, tested: Option<NullTest<'a>>)
 {
     match tested {
         Some(NullTest::Is(x)) => change_one(state, x, Change::Usable),
-        Some(NullTest::IsNot(x)) => change_one(state, x, Change::Free),
+        Some(NullTest::IsNot(x)) => free_one(state, x),
         None => {}
     }
 }

@@ -5,6 +5,7 @@ mod calls;
 mod changes;
 mod checked;
 mod fault;
+mod holders;
 mod names;
 mod rules;
 mod scope;

@@ -1,7 +1,7 @@
 //! What is known of buffers, references and frames at a point of a function.
 
-ghost use Rattle.std.specs.Prelude.{◌≡◌, ◌≤◌, false, [], bytes_eq, map, drop, length, Some, OnOk, IfOk};
-ghost use Rattle.std.specs.List.{list_any};
+ghost use Rattle.std.specs.Prelude.{◌≡◌, ◌≤◌, false, [], ◌∷◌, ◌++◌, bytes_eq, map, drop, take, length, Some, OnOk, OnErr, IfOk};
+ghost use Rattle.std.specs.List.{list_any, IsDistinct};
 ghost use Rattle.std.specs.Option.{option_map};
 ghost use Rattle.base.specs.Options.{some_passes};
 ghost use Rattle.jni.specs.Access.{is_critical};
@@ -11,9 +11,10 @@ ghost use Rattle.regions.specs.Regions.{left};
 ghost use Rattle.regions.specs.RegionRules.{holds_buffer, is_level};
 ghost use lib.Pointwise.{pointwise};
 ghost use Rattle.regions.specs.SameStates.{same_variable, same_state};
-ghost use Rattle.regions.specs.StatesInMemory.{any_asked, variable_state, names_of, Grows, IsSaved, condition_holds, asks, held_in, is_holder, holds_critical, holds_of};
+ghost use Rattle.regions.specs.StatesInMemory.{any_asked, variable_state, names_of, Grows, IsSaved, HasCounts, condition_holds, asks, held_in, is_holder, holds_critical, holds_of};
 ghost use Rattle.regions.specs.Walks.{holds_other};
 
+use crate::holders::{Holders, counted};
 use crate::scope::Names;
 use jni::Access;
 use std::alloc::{AllocError, Global};
@@ -31,10 +32,11 @@ pub(crate) enum VariableState<'a> {
     Usable(Access, &'a [u8]),
 }
 
-/// What is known of the variables, by their numbers, and the number of frames.
+/// What is known of the variables, by their numbers, with the numbers of held buffers, and the number of frames.
 #[derive(Drop)]
 pub(crate) struct Facts<'a> {
     pub variables: Vec<VariableState<'a>>,
+    pub holders: Holders<'a>,
     pub frames: usize,
 }
 
@@ -52,11 +54,11 @@ impl<'a> Model for StaticState<'a> {
 
     ghost Value = { RegionState };
 
-    ghost use Rattle.regions.specs.StatesInMemory.{state_value};
+    ghost use Rattle.regions.specs.StatesInMemory.{state_value, HasCounts};
 
     ghost view = { λ s. state_value s.names s.facts };
 
-    ghost invariant = { λ s. (length s.facts.variables.items ≡ length s.names) × IsDistinct bytes_eq s.names };
+    ghost invariant = { λ s. (length s.facts.variables.items ≡ length s.names) × IsDistinct bytes_eq s.names × HasCounts s.facts };
 }
 
 /// A question about a variable.
@@ -101,6 +103,7 @@ pub(crate) fn nothing<'a>(alloc: Global) -> StaticState<'a>
         names: Names::new(alloc),
         facts: Facts {
             variables: Vec::new(alloc),
+            holders: Holders::new(alloc),
             frames: 1,
         },
     }
@@ -112,6 +115,7 @@ pub(crate) fn clear(state: &mut StaticState)
 {
     state.names.truncate(0);
     state.facts.variables.truncate(0);
+    state.facts.holders.clear();
     state.facts.frames = 1;
 }
 
@@ -261,33 +265,11 @@ pub(crate) fn holds_critical(state: &StaticState) -> bool
     has_critical(&state.facts.variables)
 }
 
-/// Whether a variable is a held buffer of this array variable.
-fn is_held_of(known: VariableState, name: &[u8]) -> bool
-    ensures { result ≡ is_holder (λ held. bytes_eq held.1 name.now) (variable_state known.entry) }
-{
-    match held_of(known) {
-        Some((_, array)) => is_same(array, name),
-        None => false,
-    }
-}
-
-/// Whether one of these is.
-fn has_held_of(variables: &[VariableState], name: &[u8]) -> bool
-    ensures { result ≡ list_any (is_holder (λ held. bytes_eq held.1 name.now)) (map variable_state variables.now) }
-{
-    for v in variables {
-        if is_held_of(*v, name) {
-            return true;
-        }
-    }
-    false
-}
-
 /// Whether a variable is the array of a held buffer.
 pub(crate) fn is_array_in_use(state: &StaticState, name: &[u8]) -> bool
     ensures { result ≡ holds_of name.now state.now }
 {
-    has_held_of(&state.facts.variables, name)
+    state.facts.holders.count(name) > 0
 }
 
 /// The same where there is a variable.
@@ -300,6 +282,30 @@ pub(crate) fn is_some_in_use(state: &StaticState, name: Option<&[u8]>) -> bool
     }
 }
 
+/// One name more, and what is known of it. After a want of memory both are as before.
+fn push<'a>(
+    names: &mut Names<'a>,
+    variables: &mut Vec<VariableState<'a>>,
+    name: &'a [u8],
+    known: VariableState<'a>,
+) -> Result<(), AllocError>
+    requires { list_any (bytes_eq name.now) names.old ≡ false }
+    ensures distinct { OnOk result (IsDistinct bytes_eq names.new) }
+    ensures name { OnOk result (names.new ≡ names.old ++ name.now ∷ []) }
+    ensures known { OnOk result (variables.new.items ≡ variables.old.items ++ known.entry ∷ []) }
+    ensures no_name { OnErr result (names.new ≡ names.old) }
+    ensures none_known { OnErr result (variables.new.items ≡ variables.old.items) }
+{
+    variables.push(known)?;
+    match names.add(name) {
+        Ok(()) => Ok(()),
+        Err(_) => {
+            variables.pop();
+            Err(AllocError)
+        }
+    }
+}
+
 /// One variable more, of a name that no other has.
 pub(crate) fn add<'a>(
     state: &mut StaticState<'a>,
@@ -309,14 +315,28 @@ pub(crate) fn add<'a>(
     requires { list_any (bytes_eq name.now) (names_of state.old) ≡ false }
     ensures { OnOk result (state.new ≡ with_new state.old name.now (variable_state known.entry)) }
 {
-    state.facts.variables.push(known)?;
-    match state.names.add(name) {
+    state.facts.holders.note(known)?;
+    match push(&mut state.names, &mut state.facts.variables, name, known) {
         Ok(()) => Ok(()),
         Err(_) => {
-            state.facts.variables.pop();
+            state.facts.holders.forget(known);
             Err(AllocError)
         }
     }
+}
+
+/// What is known of the first `count` variables alone is left.
+fn cut(facts: &mut Facts, count: usize)
+    requires { HasCounts facts.old }
+    ensures known { facts.new.variables.items ≡ take count facts.old.variables.items }
+    ensures frames { facts.new.frames ≡ facts.old.frames }
+    ensures counted { HasCounts facts.new }
+{
+    if count >= facts.variables.len() {
+        return;
+    }
+    facts.holders.forget_all(&facts.variables[count..]);
+    facts.variables.truncate(count);
 }
 
 /// The first `count` variables alone are left.
@@ -325,7 +345,7 @@ pub(crate) fn leave(state: &mut StaticState, count: usize)
     ensures names { (outer : RegionState) → count ≡ length (names_of outer) → Grows outer state.old → names_of state.new ≡ names_of outer }
 {
     state.names.truncate(count);
-    state.facts.variables.truncate(count);
+    cut(&mut state.facts, count);
 }
 
 /// What is known now, to come back to.
@@ -333,15 +353,18 @@ pub(crate) fn save<'a>(alloc: Global, state: &StaticState<'a>) -> Result<Facts<'
     ensures { IfOk result (λ facts. IsSaved facts state.now) }
 {
     let variables = Vec::from_slice(alloc, &state.facts.variables)?;
+    let holders = counted(alloc, &state.facts.variables)?;
     Ok(Facts {
         variables,
+        holders,
         frames: state.facts.frames,
     })
 }
 
 /// Other facts on the same variables. Those that they replace are answered.
 pub(crate) fn exchange<'a>(state: &mut StaticState<'a>, facts: Facts<'a>) -> Facts<'a>
-    requires { length facts.variables.items ≡ length (names_of state.old) }
+    requires long { length facts.variables.items ≡ length (names_of state.old) }
+    requires counted { HasCounts facts }
     ensures after { (other : RegionState) → IsSaved facts.entry other → names_of other ≡ names_of state.old → state.new ≡ other }
     ensures before { IsSaved result state.old }
 {

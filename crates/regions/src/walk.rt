@@ -7,7 +7,7 @@ ghost use Rattle.syntax.specs.Views.{block_tree, stmt_tree, test_tree, form_tree
 ghost use Rattle.regions.specs.RegionStates.{RegionState, state_at_entry, state_after};
 ghost use Rattle.regions.specs.Regions.{On, where_true, where_false};
 ghost use Rattle.regions.specs.Ways.{join_ways, turn_way, way_of, way_of_block};
-ghost use Rattle.regions.specs.StatesInMemory.{names_of, Grows, IsSaved};
+ghost use Rattle.regions.specs.StatesInMemory.{names_of, Grows, IsSaved, HasCounts};
 ghost use Rattle.regions.specs.NewNames.{own_names, AreNew, DeclaresNew, DeclareNew, DeclaresOnce, ItemOnce};
 ghost use Rattle.regions.specs.Findings.{rule_of, Finds, function_fault, item_fault, items_fault};
 ghost use Rattle.regions.specs.Walks.{way_value, Goes, go_on, inner_way};
@@ -66,7 +66,8 @@ pub(crate) fn join_ways<'a>(
     known: Facts<'a>,
     second: Way,
 ) -> Result<Way, CheckFault>
-    requires { length known.variables.items ≡ length (names_of state.old) }
+    requires long { length known.variables.items ≡ length (names_of state.old) }
+    requires counted { HasCounts known }
     ensures goes { (a : RegionState) → IsSaved known.entry a → names_of a ≡ names_of state.old → Goes result state.new (join_ways line (Ok (way_value first a)) (Ok (way_value second state.old))) }
     ensures names { (a : RegionState) → IsSaved known.entry a → names_of a ≡ names_of state.old → IfOk result (λ _. names_of state.new ≡ names_of state.old) }
 {
@@ -95,7 +96,8 @@ fn turn_way<'a>(
     before: Facts<'a>,
     turn: Way,
 ) -> Result<Way, CheckFault>
-    requires { length before.variables.items ≡ length (names_of state.old) }
+    requires long { length before.variables.items ≡ length (names_of state.old) }
+    requires counted { HasCounts before }
     ensures goes { (s : RegionState) → IsSaved before.entry s → names_of s ≡ names_of state.old → Goes result state.new (turn_way line s (Ok (way_value turn state.old))) }
     ensures names { (s : RegionState) → IsSaved before.entry s → names_of s ≡ names_of state.old → IfOk result (λ _. names_of state.new ≡ names_of state.old) }
 {

@@ -14,9 +14,9 @@ use Rattle.regions.specs.StatesInMemory.{names_of}
 use Rattle.regions.specs.StateEffects.{made_value}
 use Rattle.regions.proofs.changes.settle.Goals as goal
 
-pub returns-in-Assign : goal.returns-in-Assign
-returns-in-Assign c = λ line.
-    c.change_one.ensures
+pub returns-in_ok-set_one-in-Assign : goal.returns-in_ok-set_one-in-Assign
+returns-in_ok-set_one-in-Assign c = λ line.
+    c.in_ok-set_one-in-Assign.ensures
     ∙ ap₂ (λ (x : Identifier) (get : Option (Access × Option Identifier)). with_changed c.args.state.now x (set_from get)) c.as_bytes-in-Assign.ensures c.got-in-Assign.ensures
     ∙ ap (λ (f : FormInMemory). settled c.args.state.now (form_tree line f) (option_map made_value c.args.call)) (sym c.in-Assign.is)
 

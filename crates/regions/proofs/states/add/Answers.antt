@@ -1,9 +1,11 @@
-use Rattle.std.proofs.Common.{List, bytes_eq, sym, ap, ap₂, ◌∙◌}
+use Rattle.std.proofs.Common.{ℕ, ◌+◌, List, [], ◌∷◌, map, length, bytes_eq, sym, ap, ap₂, ◌∙◌, arith, length-append}
 use Rattle.std.specs.List.{list_any}
 use Rattle.base.specs.Bytes.{Identifier}
 use Rattle.regions.specs.RegionStates.{RegionState, with_new}
 use Rattle.regions.specs.SameStates.{NamedState}
-use Rattle.regions.specs.StatesInMemory.{variable_state, variables_value}
+use Rattle.regions.specs.StatesInMemory.{variable_state, variables_value, holders}
+use Rattle.regions.specs.declared.states.VariableState.{VariableState as VariableStateInMemory}
+use Rattle.regions.proofs.HolderLemmas.{holders_push}
 use Rattle.regions.proofs.StateLemmas.{names_at, pushed_known}
 use Rattle.regions.proofs.states.add.Goals as goal
 
@@ -12,10 +14,25 @@ returns-in-Ok c =
     let names = c.state.inside.names in
     let items = c.state.inside.facts.variables.items in
     ap (λ (vs : List NamedState). let s : RegionState = record { variables = vs; frames = c.state.inside.facts.frames } in s)
-    (ap₂ variables_value c.in-Ok.ensures.ok c.in_ok-push.ensures.items ∙ pushed_known names items c.args.name.now c.args.known c.state.invariant.0)
+    (ap₂ variables_value c.in-Ok.ensures.name c.in-Ok.ensures.known ∙ pushed_known names items c.args.name.now c.args.known c.state.invariant.0)
     ∙ ap (λ (s : RegionState). with_new s c.args.name.now (variable_state c.args.known)) c.state.view_is
 
-pub add-requires : goal.add-requires
-add-requires c =
+pub push-requires : goal.push-requires
+push-requires c =
     let now = names_at c.state.inside.names c.state.inside.facts c.args.state.now c.state.invariant.0 c.state.view_is in
     ap (λ (names : List Identifier). list_any (bytes_eq c.args.name.now) names) (sym now) ∙ c.requires
+
+pub invariant_of-state-in-Ok : goal.invariant_of-state-in-Ok
+invariant_of-state-in-Ok c =
+    let names = c.state.inside.names in
+    let items = c.state.inside.facts.variables.items in (
+      ap (λ (vs : List VariableStateInMemory). length vs) c.in-Ok.ensures.known
+          ∙ length-append items (c.args.known ∷ [])
+          ∙ ap (λ (n : ℕ). n + 1) c.state.invariant.0
+          ∙ sym (length-append names (c.args.name.now ∷ []))
+          ∙ sym (ap (λ (ns : List Identifier). length ns) c.in-Ok.ensures.name),
+      c.in-Ok.ensures.distinct,
+      λ x.
+          let pushed = ap (λ (vs : List VariableStateInMemory). holders x (map variable_state vs)) c.in-Ok.ensures.known in
+          omega (arith, pushed, holders_push x items c.args.known, c.in_ok-note.ensures.ok x, c.state.invariant.2 x),
+    )

@@ -1,14 +1,14 @@
-use Rattle.std.proofs.Common.{List, length, sym, ap, ap₂, ◌∙◌}
+use Rattle.std.proofs.Common.{List, length, sym, ap, ap₂, ◌∙◌, subst}
 use Rattle.base.specs.Bytes.{Identifier}
 use Rattle.regions.specs.declared.states.Facts.{Facts}
-use Rattle.regions.specs.StatesInMemory.{state_value}
+use Rattle.regions.specs.StatesInMemory.{state_value, HasCounts}
 use Rattle.regions.proofs.StateLemmas.{names_at}
 use Rattle.regions.proofs.states.exchange.Goals as goal
 
 pub invariant_of-state : goal.invariant_of-state
 invariant_of-state c =
     let names = names_at c.state.inside.names c.state.inside.facts c.args.state.now c.state.invariant.0 c.state.view_is in
-    (ap (λ (f : Facts). length f.variables.items) c.replace.ensures.after ∙ c.requires ∙ ap (λ (ns : List Identifier). length ns) names, c.state.invariant.1)
+    (ap (λ (f : Facts). length f.variables.items) c.replace.ensures.after ∙ c.requires.long ∙ ap (λ (ns : List Identifier). length ns) names, c.state.invariant.1, subst HasCounts (sym c.replace.ensures.after) c.requires.counted)
 
 pub returns-clause-after : goal.returns-clause-after
 returns-clause-after c = λ other saved same.
@@ -20,4 +20,5 @@ returns-clause-before c =
     let names = names_at c.state.inside.names c.state.inside.facts c.args.state.now c.state.invariant.0 c.state.view_is in (
       ap (λ (f : Facts). length f.variables.items) c.replace.ensures.value ∙ c.state.invariant.0 ∙ ap (λ (ns : List Identifier). length ns) (sym names),
       ap₂ state_value names c.replace.ensures.value ∙ c.state.view_is,
+      subst HasCounts (sym c.replace.ensures.value) c.state.invariant.2,
     )

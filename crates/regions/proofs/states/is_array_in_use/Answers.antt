@@ -1,15 +1,17 @@
-use Rattle.std.proofs.Common.{List, map, sym, ap, ◌∙◌, bytes_eq}
-use Rattle.std.specs.List.{list_any}
-use Rattle.regions.specs.declared.states.VariableState.{VariableState as VariableStateInMemory}
+use Rattle.std.proofs.Common.{List, map, nat_lt, sym, ap, ◌∙◌, bytes_eq}
 use Rattle.regions.specs.RegionStates.{RegionState}
 use Rattle.regions.specs.StatesInMemory.{is_holder, holds_of, variable_state}
+use Rattle.regions.proofs.HolderLemmas.{some_holders}
 use Rattle.regions.proofs.ScopeLemmas.{any_is}
 use Rattle.regions.proofs.StateLemmas.{all_known}
 use Rattle.regions.proofs.states.is_array_in_use.Goals as goal
 
 pub returns : goal.returns
 returns c =
-    c.has_held_of.ensures
-    ∙ ap (λ (vs : List VariableStateInMemory). list_any (is_holder (λ held. bytes_eq held.1 c.args.name.now)) (map variable_state vs)) c.deref.ensures.value
-    ∙ sym (any_is (is_holder (λ held. bytes_eq held.1 c.args.name.now)) c.state.inside.names (map variable_state c.state.inside.facts.variables.items) (all_known c.state.inside.names c.state.inside.facts c.state.invariant.0))
-    ∙ ap (λ (s : RegionState). holds_of c.args.name.now s) c.state.view_is
+    let x = c.args.name.now in
+    let facts = c.state.inside.facts in
+    let known = map variable_state facts.variables.items in
+    ap (nat_lt 0) (c.count.ensures ∙ c.state.invariant.2 x)
+    ∙ some_holders x known
+    ∙ sym (any_is (is_holder (λ held. bytes_eq held.1 x)) c.state.inside.names known (all_known c.state.inside.names facts c.state.invariant.0))
+    ∙ ap (λ (s : RegionState). holds_of x s) c.state.view_is

@@ -1,8 +1,8 @@
-use Rattle.std.proofs.Common.{List, length, sym, ap, ap₂, ◌∙◌}
+use Rattle.std.proofs.Common.{List, length, map, sym, ap, ap₂, ◌∙◌}
 use Rattle.base.specs.Bytes.{Identifier}
 use Rattle.regions.specs.declared.states.VariableState.{VariableState as VariableStateInMemory}
 use Rattle.regions.specs.RegionStates.{RegionState}
-use Rattle.regions.specs.StatesInMemory.{variables_value}
+use Rattle.regions.specs.StatesInMemory.{variable_state, variables_value, holders}
 use Rattle.regions.proofs.StateLemmas.{names_at}
 use Rattle.regions.proofs.states.save.Goals as goal
 
@@ -12,4 +12,7 @@ returns c =
     let items = c.in_ok-variables.ensures.items ∙ c.deref.ensures.value in (
       ap (λ (vs : List VariableStateInMemory). length vs) items ∙ c.state.invariant.0 ∙ ap (λ (ns : List Identifier). length ns) (sym names),
       ap₂ (λ (ns : List Identifier) (vs : List VariableStateInMemory). let s : RegionState = record { variables = variables_value ns vs; frames = c.state.inside.facts.frames } in s) names items ∙ c.state.view_is,
+      λ x.
+          c.in_ok-holders.ensures x
+          ∙ ap (λ (vs : List VariableStateInMemory). holders x (map variable_state vs)) (c.deref-2.ensures.value ∙ sym items),
     )

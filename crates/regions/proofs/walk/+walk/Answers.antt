@@ -1,4 +1,4 @@
-use Rattle.std.proofs.Common.{rules, ◌+◌, ◌++◌, [], subst, List, drop, Ok, append-nil, sym, ap, ap₂, ◌∙◌}
+use Rattle.std.proofs.Common.{rules, length, ◌+◌, ◌++◌, [], subst, List, drop, Ok, append-nil, sym, ap, ap₂, ◌∙◌}
 use Rattle.std.proofs.lemmas.List.{append_assoc}
 use Rattle.base.specs.Bytes.{Identifier}
 use Rattle.syntax.specs.declared.stmt.Stmt.{Stmt as StmtInMemory}
@@ -134,6 +134,15 @@ if_way-returns-clause-names t c =
     let passed = c.take_false.ensures ∙ ap (λ (s : RegionState). where_false s test) back in
     let names = ap names_of passed ∙ where_false_names now test in
     if_ok_weaker c.join_ways.result (λ w e. e ∙ names) (c.join_ways.ensures.names first c.exchange-known.ensures.before (c.in_ok-first.ensures.names ∙ sym names))
+
+pub if_way-join_ways-requires-clause-long : goal.if_way-join_ways-requires-clause-long
+if_way-join_ways-requires-clause-long t c =
+    let now = c.args.state.now in
+    let test = test_tree c.args.test.now in
+    let back = c.exchange-known.ensures.after now c.in_ok-before.ensures (sym c.in_ok-first.ensures.names) in
+    let passed = c.take_false.ensures ∙ ap (λ (s : RegionState). where_false s test) back in
+    let names = ap names_of passed ∙ where_false_names now test in
+    c.exchange-known.ensures.before.0 ∙ ap (λ (ns : List Identifier). length ns) (c.in_ok-first.ensures.names ∙ sym names)
 
 pub then_way-block_way-requires : goal.then_way-block_way-requires
 then_way-block_way-requires t c = (
