@@ -8,9 +8,9 @@ ghost use Rattle.pipeline.specs.ReplayLaws.{RunsAreReplayed};
 ghost use Rattle.pipeline.specs.Replays.{EndsReplay, AreRefusedReplays, IsPossible, IsReplayOrFails};
 
 use crate::fault::RunError;
-use commands::{Place, Text};
 use crate::program::program;
 use crate::run::of_reading;
+use commands::{Place, Text};
 use parse::one_unit;
 use replay::{ReplayFault, TrapAt, replay};
 use std::alloc::Global;

@@ -10,8 +10,8 @@ ghost use Rattle.machine.specs.Stops.{stop_view};
 ghost use Rattle.replay.specs.TrapAt.{trap_at};
 
 use crate::fault::RunError;
-use commands::{Place, Text};
 use crate::program::program;
+use commands::{Place, Text};
 use lower::{LowerFault, lower};
 use machine::{LoadFault, Machine, ReportFault, RunFault, Stop};
 use replay::TrapAt;
