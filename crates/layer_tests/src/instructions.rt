@@ -61,7 +61,15 @@ fn code_keeps_its_instructions(rt: HostRuntime) -> Result<(), Fail> {
         _ => 0,
     };
     let jumps = matches!(code.get(7), Some(Instr::JumpBack(6)));
-    assert!(rt; (code.len(), code.slots(), line, jumps) == (9, slots, 3, true));
+    let kept = code.slots();
+    let counts = [
+        kept.numbers,
+        kept.references,
+        kept.statics,
+        kept.field_ids,
+        kept.buffers,
+    ];
+    assert!(rt; (code.len(), counts, line, jumps) == (9, [1, 2, 0, 0, 0], 3, true));
     Ok(())
 }
 
