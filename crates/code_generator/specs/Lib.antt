@@ -1,3 +1,4 @@
 pub mod Layout
 pub mod Coding
 pub mod Names
+pub mod Plain

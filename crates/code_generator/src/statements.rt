@@ -1,23 +1,24 @@
 //! The code of statements and blocks.
 
-ghost use Rattle.std.specs.Prelude.{◌≡◌, ◌+◌, ◌-◌, ◌<◌, ◌≤◌, [], ◌∷◌, ◌++◌, slice_set, vec_len, map, zip, IfOk, OnOk};
+ghost use Rattle.std.specs.Prelude.{◌≡◌, ◌+◌, ◌-◌, ◌<◌, ◌≤◌, [], ◌∷◌, ◌++◌, slice_set, vec_len, map, zip, IfOk, OnOk, IsTrue};
 ghost use Rattle.base.specs.Bytes.{lookup};
 ghost use Rattle.syntax.specs.Views.{element_tree, expr_tree, argument_tree, call_tree, right_side_tree, test_tree, variable_type_tree, form_tree, block_tree};
 ghost use Rattle.jni.specs.JniFunction.{function_named};
-ghost use Rattle.jni.specs.Table.{parameter_value};
+ghost use Rattle.jni.specs.Table.{function_value, parameter_value};
 ghost use Rattle.types.specs.SortRules.{variable_sort};
 ghost use Rattle.source.specs.Arguments.{mode_of};
 ghost use Rattle.source.specs.Term.{term_of};
 ghost use Rattle.code_generator.specs.Layout.{closed, layout_after, block_layout, with_name, new_slot};
 ghost use Rattle.code_generator.specs.Coding.{mode_code, operand_code, argument_code, arguments_code, arguments_texts, variable_operand, result_target, named_call_code, right_code, assign_code, write_code, of_slot, return_code, returned_code, test_code, first_code, loop_code, expr_code, stmt_code, block_code};
 ghost use Rattle.code_generator.specs.Names.{sort_view, slot_view};
+ghost use Rattle.code_generator.specs.Plain.{is_declaring, is_plain};
 
 use crate::emitting::{counted, emit, replace};
 use crate::names::{Names, Slot, Sort};
 use crate::terms::{element_type, emit_expr, nullable};
 use code::instr;
 use code::instr::{BoxedCall, Instr, LocalArray, Operand, ReferenceOperand, ReleaseMode, Target};
-use jni::{ParameterKind, function_named};
+use jni::{JniFunction, ParameterKind, function_named};
 use std::alloc::{AllocError, Global};
 use syntax::{
     Argument, Block, Call, Constant, ElementType, Expr, Form, Name, RightSide, Test, VariableType,
@@ -35,6 +36,57 @@ pub fn emit_form<'a>(
     ensures names { OnOk result (names.new ≡ layout_after names.old (form_tree line form.now)) }
 {
     match form {
+        Form::If(test, first) => {
+            let end = emit_first(code, names, line, test, first)?;
+            emit_end(code, end)
+        }
+        Form::IfElse(test, first, second) => {
+            let end = emit_first(code, names, line, test, first)?;
+            emit_block(code, names, second)?;
+            emit_end(code, end)
+        }
+        Form::While(test, body) => emit_loop(code, names, line, body, test),
+        _ => emit_plain(code, names, line, form),
+    }
+}
+
+/// A statement without blocks.
+fn emit_plain<'a>(
+    code: &mut Vec<Instr>,
+    names: &mut Names<'a>,
+    line: u32,
+    form: &'a Form,
+) -> Result<(), AllocError>
+    requires { IsTrue (is_plain form.now) }
+    ensures code { OnOk result (code.new.items ≡ code.old.items ++ stmt_code names.old (form_tree line form.now)) }
+    ensures names { OnOk result (names.new ≡ layout_after names.old (form_tree line form.now)) }
+{
+    match form {
+        Form::Assign(name, right) => emit_assignment(code, names, line, name, right),
+        Form::AssignElement(name, index, value) => {
+            emit_element_set(code, names, line, name, index, value)
+        }
+        Form::Perform(call) => emit_call(code, names, line, Target::Dropped, call),
+        Form::PutJint(number) => emit_print(code, names, line, number),
+        Form::Return(None) => emit(code, Instr::Return),
+        Form::Return(Some(value)) => emit_return(code, names, line, value),
+        Form::If(..) | Form::IfElse(..) | Form::While(..) => Ok(()),
+        _ => emit_declaring(code, names, line, form),
+    }
+}
+
+/// A statement that declares a name.
+fn emit_declaring<'a>(
+    code: &mut Vec<Instr>,
+    names: &mut Names<'a>,
+    line: u32,
+    form: &'a Form,
+) -> Result<(), AllocError>
+    requires { IsTrue (is_declaring form.now) }
+    ensures code { OnOk result (code.new.items ≡ code.old.items ++ stmt_code names.old (form_tree line form.now)) }
+    ensures names { OnOk result (names.new ≡ layout_after names.old (form_tree line form.now)) }
+{
+    match form {
         Form::Declare(kind, name, right) => {
             emit_declaration(code, names, line, name, variable_sort(*kind), right)
         }
@@ -48,24 +100,7 @@ pub fn emit_form<'a>(
         Form::DeclareArray(element, name, size) => {
             emit_array(code, names, name, *element, *size)
         }
-        Form::Assign(name, right) => emit_assignment(code, names, line, name, right),
-        Form::AssignElement(name, index, value) => {
-            emit_element_set(code, names, line, name, index, value)
-        }
-        Form::Perform(call) => emit_call(code, names, line, Target::Dropped, call),
-        Form::PutJint(number) => emit_print(code, names, line, number),
-        Form::If(test, first) => {
-            let end = emit_first(code, names, line, test, first)?;
-            emit_end(code, end)
-        }
-        Form::IfElse(test, first, second) => {
-            let end = emit_first(code, names, line, test, first)?;
-            emit_block(code, names, second)?;
-            emit_end(code, end)
-        }
-        Form::While(test, body) => emit_loop(code, names, line, body, test),
-        Form::Return(None) => emit(code, Instr::Return),
-        Form::Return(Some(value)) => emit_return(code, names, line, value),
+        _ => Ok(()),
     }
 }
 
@@ -346,13 +381,26 @@ fn emit_call(
     let Some(function) = function_named(call.function.as_bytes()) else {
         return Ok(());
     };
-    let alloc = *code.allocator();
     let parameters = function.prototype().parameters;
     emit_arguments(code, names, line, parameters, &call.arguments)?;
-    let mut operands = Vec::new(alloc);
-    push_operands(&mut operands, names, parameters, &call.arguments)?;
+    let operands = operands_of(*code.allocator(), names, parameters, &call.arguments)?;
+    emit_prepared(code, line, target, function, operands, &call.arguments)
+}
+
+/// A call whose numbers are on the stack, with copies of its texts.
+fn emit_prepared(
+    code: &mut Vec<Instr>,
+    line: u32,
+    target: Target,
+    function: JniFunction,
+    operands: Vec<Operand>,
+    arguments: &[Argument],
+) -> Result<(), AllocError>
+    ensures { OnOk result (code.new.items ≡ code.old.items ++ Instr.Call (record { line = line; target = target; function = function_value function; operands = operands.items; texts = arguments_texts (map argument_tree arguments.now) }) ∷ []) }
+{
+    let alloc = *code.allocator();
     let mut texts = Vec::new(alloc);
-    push_texts(alloc, &mut texts, &call.arguments)?;
+    push_texts(alloc, &mut texts, arguments)?;
     let call = instr::Call::new(line, target, function, operands, texts);
     emit(code, Instr::Call(BoxedCall::of(alloc, call)?))
 }
@@ -416,6 +464,20 @@ fn push_operands(
             }
         },
     }
+}
+
+/// The same as a list.
+fn operands_of(
+    alloc: Global,
+    names: &Names<'_>,
+    parameters: &[ParameterKind],
+    arguments: &[Argument],
+) -> Result<Vec<Operand>, AllocError>
+    ensures { IfOk result (λ operands. operands.items ≡ map (operand_code names.now.known) (zip (map parameter_value parameters.now) (map argument_tree arguments.now))) }
+{
+    let mut operands = Vec::new(alloc);
+    push_operands(&mut operands, names, parameters, arguments)?;
+    Ok(operands)
 }
 
 /// Where an argument is found.

@@ -1,6 +1,6 @@
 //! The code of expressions.
 
-ghost use Rattle.std.specs.Prelude.{◌≡◌, ◌<◌, [], ◌∷◌, ◌++◌, OnOk};
+ghost use Rattle.std.specs.Prelude.{◌≡◌, ◌-◌, ◌<◌, [], ◌∷◌, ◌++◌, slice_set, vec_len, OnOk};
 ghost use Rattle.std.specs.Option.{option_map, option_copied};
 ghost use Rattle.base.specs.Bytes.{lookup};
 ghost use Rattle.syntax.specs.Parts.{null_tested};
@@ -8,7 +8,7 @@ ghost use Rattle.syntax.specs.Tree.{Binary, Equal, NotEqual};
 ghost use Rattle.syntax.specs.Views.{constant_tree, prefix_tree, binary_tree, element_tree, expr_tree};
 ghost use Rattle.source.specs.Term as term;
 ghost use Rattle.source.specs.Term.{term_of};
-ghost use Rattle.code_generator.specs.Coding.{nullable_of, element_of, element_code, null_code, of_slot, constant_code, prefix_code, operator_code, is_signed, skip_code, logical_code, term_code, expr_code};
+ghost use Rattle.code_generator.specs.Coding.{nullable_of, element_of, element_code, null_code, of_slot, load_code, constant_code, prefix_code, operator_code, is_signed, skip_code, logical_code, term_code, expr_code};
 ghost use Rattle.code_generator.specs.Names.{sort_view};
 
 use crate::emitting::{counted, emit, replace};
@@ -31,10 +31,7 @@ pub fn emit_expr(
     match expr {
         Expr::Number { value, .. } => emit(code, Instr::Push(*value)),
         Expr::Named(constant) => emit_constant(code, *constant),
-        Expr::Variable(name) => match names.slot_of(name) {
-            Some(slot) => emit(code, Instr::Load(slot.index)),
-            None => Ok(()),
-        },
+        Expr::Variable(name) => emit_variable(code, names, name),
         Expr::Element(name, index) => {
             emit_expr(code, names, line, index)?;
             emit_element(code, names, line, name)
@@ -47,6 +44,16 @@ pub fn emit_expr(
             emit_binary(code, names, line, *operator, &operands.0, &operands.1)
         }
         Expr::Paren(inner) => emit_expr(code, names, line, inner),
+    }
+}
+
+/// A variable's value.
+fn emit_variable(code: &mut Vec<Instr>, names: &Names<'_>, name: &Name) -> Result<(), AllocError>
+    ensures { OnOk result (code.new.items ≡ code.old.items ++ of_slot load_code (lookup name.now names.now.known)) }
+{
+    match names.slot_of(name) {
+        Some(slot) => emit(code, Instr::Load(slot.index)),
+        None => Ok(()),
     }
 }
 
@@ -138,6 +145,19 @@ fn emit_operator(
 {
     emit_expr(code, names, line, left)?;
     emit_expr(code, names, line, right)?;
+    emit_operation(code, names, line, operator, left)
+}
+
+/// An operator whose operands are on the stack, of which this is the left one.
+fn emit_operation(
+    code: &mut Vec<Instr>,
+    names: &Names<'_>,
+    line: u32,
+    operator: BinaryOp,
+    left: &Expr,
+) -> Result<(), AllocError>
+    ensures { OnOk result (code.new.items ≡ code.old.items ++ operator_code line (is_signed names.now.known (term_of (expr_tree left.now))) (binary_tree operator) ∷ []) }
+{
     let signed = is_signed(names, left);
     emit(code, operator_instr(line, signed, operator))
 }
@@ -158,6 +178,14 @@ fn emit_logical(
     let place = code.len();
     emit(code, skip(conjunction, 0))?;
     emit_expr(code, names, line, right)?;
+    close_side(code, conjunction, place)
+}
+
+/// The end of the right side of `&&` or `||`: how far the jump in front of it leads.
+fn close_side(code: &mut Vec<Instr>, conjunction: bool, place: usize) -> Result<(), AllocError>
+    requires { place < vec_len code.old }
+    ensures { OnOk result (code.new.items ≡ slice_set code.old.items place (skip_code conjunction (vec_len code.old - place - 1))) }
+{
     let skipped = counted(code.len() - place - 1)?;
     replace(code, place, skip(conjunction, skipped));
     Ok(())

@@ -34,6 +34,7 @@ use Rattle.source.specs.Thread.{Frame}
 use Rattle.tables.specs.Locals.{LocalTable}
 use Rattle.jni_calls.specs.Locals.{FramesAgree, KeysAgree}
 use Rattle.execution.specs.Executes.{CallStands}
+use Rattle.execution.specs.Moved.{HasMoved}
 use Rattle.jni_calls.specs.FieldIds.{FieldsAgree}
 
 -- ---- a function's code
@@ -166,16 +167,6 @@ fields_count classes [] [] h = refl
 fields_count classes [] (f ∷ fields) h = absurd h
 fields_count classes (a ∷ handles) [] h = absurd h
 fields_count classes (a ∷ handles) (f ∷ fields) h = ap suc (fields_count classes handles fields h.1)
-
--- the call stands at a place, with these operands, number slots, keys and field IDs, and its table as it was
-pub record HasMoved (call after : Activation) (to : ℕ) (words slots : List ℕ) (keys : List (Option ℕ)) (handles : List (Option FieldHandle)) : Type 0 where
-  pub function : after.function ≡ call.function
-  pub place : after.place ≡ to
-  pub stack : after.stack ≡ words
-  pub numbers : after.numbers.items ≡ slots
-  pub references : after.references.items ≡ keys
-  pub fields : after.fields.items ≡ handles
-  pub locals : after.locals ≡ call.locals
 
 some_is : {A : Type 0} (o : Option A) (x : A) → o ≡ Some x → IsSome o
 some_is None x h = absurd (cc)

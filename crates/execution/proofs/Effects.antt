@@ -1,5 +1,5 @@
 -- What an instruction did is the effect of the first of the tasks.
-use Rattle.std.proofs.Common.{◌≡◌, ℕ, suc, ℤ, pos, ◌+◌, ◌-◌, ◌<◌, Bool, true, false, List, [], ◌∷◌, ◌++◌, length, replicate, Option, Some, None, refl, sym, ap, ◌∙◌, subst, arith, if◌then◌else◌}
+use Rattle.std.proofs.Common.{◌≡◌, ℕ, suc, ℤ, pos, ◌+◌, ◌<◌, Bool, true, false, List, [], ◌∷◌, ◌++◌, length, replicate, Option, Some, None, refl, sym, ap, ◌∙◌, subst, arith, if◌then◌else◌}
 use Rattle.std.specs.Prelude.{slice_get, slice_set, nat_lt, IsSome, IsTrue}
 use Rattle.std.specs.Bool.{beq}
 use Rattle.std.specs.Int.{w32, cast_signed}
@@ -33,9 +33,8 @@ use Rattle.lower.specs.Slots as lower
 use Rattle.lower.specs.Slots.{Visible, Slots, visible_to, Shows, IsSet, IsMade, IsElementSet}
 use Rattle.lower.specs.Stands.{StandsFor}
 use Rattle.std.specs.Global.{Vec}
-use Rattle.lower.specs.Does.{IsStoredIn, kind_of_target, GoesOn, Writes, StoresNull, PrintsTop, CallsFunction, Stops, Works, AtEnd, IsReturn, trap_of}
+use Rattle.lower.specs.Does.{IsStoredIn, kind_of_target, GoesOn, Writes, StoresNull, PrintsTop, CallsFunction, Stops, Works, AtEnd, IsReturn}
 use Rattle.lower.specs.Lowered.{Lowered}
-use Rattle.jni_calls.specs.declared.trap.Trap.{Trap as TrapInMemory}
 use Rattle.execution.specs.declared.execute.Event.{Event}
 use Rattle.execution.specs.declared.execute.Event.TheVariants as event
 use Rattle.jni_calls.specs.declared.activation.Activation.{Activation}
@@ -49,9 +48,10 @@ use Rattle.execution.specs.Executes.{Executes, CallStands, event_view}
 use Rattle.jni_calls.specs.Traps.{trap_view}
 use Rattle.jni_calls.specs.Asked.{references_of}
 use Rattle.jni_calls.specs.declared.statics.StaticReference.{StaticReference}
+use Rattle.execution.specs.Moved.{HasMoved, end_of_way, WayIsSeen}
 use Rattle.execution.specs.Variables.{is_null, HasSlot, nulled_references, nulled_fields, nulled_statics}
 use Rattle.execution.proofs.Views.{Viewless, assigned_viewless}
-use Rattle.execution.proofs.Calls.{does_cases, slots_of, Ready, plain_instr, plain_works, IsNullTest, no_return, HasMoved, stands_at, runs, room, leads, depth_behind, fields_count}
+use Rattle.execution.proofs.Calls.{does_cases, slots_of, Ready, plain_instr, plain_works, IsNullTest, no_return, stands_at, runs, room, leads, depth_behind, fields_count}
 use Rattle.execution.proofs.Changes.{array_of, is_set, is_made, is_element_set}
 use Rattle.jni_calls.proofs.Keeping.{keeps_same}
 use Rattle.jni_calls.proofs.KeyLaws.{keys_count}
@@ -62,18 +62,6 @@ use Rattle.execution.proofs.NulledStatics.{may_be_nulled, store_nulled}
 use Rattle.jni_calls.proofs.HeldStatics.{place_below}
 
 -- ---- a plain instruction
-
--- the place that a way leads to; a trap stays
-abbrev pub end_of_way : (place : ℕ) → Plain → ℕ
-end_of_way place plain.Next = place + 1
-end_of_way place (plain.Skip n) = place + 1 + n
-end_of_way place (plain.Back n) = place - n
-end_of_way place (plain.Trap trap line) = place
-
--- what is seen of a way
-abbrev pub WayIsSeen : Plain → Event → Type 0
-WayIsSeen (plain.Trap trap line) e = (t : TrapInMemory) × (trap_view t ≡ trap_of trap) × (e ≡ event.Trapped t line)
-WayIsSeen way e = e ≡ event.Quiet
 
 -- a plain instruction's answer, by its parts
 abbrev pub Answer : Type 0

@@ -1,5 +1,5 @@
 -- What a thread sees still, where others have changed statics.
-use Rattle.std.proofs.Common.{◌≡◌, ℕ, ℤ, ◌-◌, List, inl, inr, Option, sym, ap, ◌∙◌}
+use Rattle.std.proofs.Common.{◌≡◌, ℕ, ℤ, List, inl, inr, Option, sym, ap, ◌∙◌}
 use Rattle.std.specs.Prelude.{slice_get}
 use Rattle.source.specs.Thread as source
 use Rattle.source.specs.Thread.{Shared}

@@ -1,4 +1,5 @@
 pub mod Variables
+pub mod Moved
 pub mod Executes
 pub mod Received
 pub mod Invoked

@@ -1,20 +1,27 @@
 //! An instruction of a call in progress.
 
-ghost use Rattle.std.specs.Prelude.{◌≡◌, ℕ, ◌∷◌, Option, Some, List, IfOk, OnErr};
+ghost use Rattle.std.specs.Prelude.{◌≡◌, ℕ, ◌+◌, ◌<◌, ◌^◌, ◌∷◌, Option, Some, IsSome, List, length, IfOk, OnErr};
+ghost use Rattle.std.specs.Bool.{beq};
+ghost use Rattle.code.specs.Depth.{depth_after};
+ghost use Rattle.code.specs.Effect.{plain_of, truth_word};
 ghost use Rattle.source.specs.Effect.{effect_of};
 ghost use Rattle.source.specs.Task.{Task};
 ghost use Rattle.source.specs.Thread.{BuffersInUse, Shared, Thread as SourceThread, sight_of};
 ghost use Rattle.safety.specs.Owners.{Owners};
 ghost use Rattle.lower.specs.Lowered.{IsLowered};
+ghost use Rattle.jni_calls.specs.Asked.{references_of};
 ghost use Rattle.execution.specs.Executes.{IsExecuting, Executes};
+ghost use Rattle.execution.specs.Moved.{HasMoved, IsReachable, MovesPlainly};
+ghost use Rattle.execution.specs.Variables.{is_null, HasSlot, nulled_references, nulled_fields, nulled_statics};
 
-use crate::invoke::{Invoked, invoke};
+use crate::invoke::invoke;
 use crate::variable::{is_null, set_null};
-use code::instr::{Instr, Plain};
+use code::instr::{Instr, NullableVariable, Plain};
 use code::plain::plain;
 use heap::Addr;
 use jni_calls::activation::Activation;
 use jni_calls::references::References;
+use jni_calls::statics::StaticReference;
 use jni_calls::store::Store;
 use jni_calls::trap::{Trap, trap_of};
 use lower::Program;
@@ -61,25 +68,11 @@ pub fn execute(
     let instr = code.get(call.place).unwrap();
     match instr {
         Instr::TestNull { variable, equal } => {
-            let references = References::new(
-                &call.references,
-                &call.locals,
-                &store.statics,
-                &store.globals,
-            );
-            let null = is_null(&references, &call.fields, *variable);
-            call.stack.push(u32::from(null == *equal));
-            call.place += 1;
+            test_null(store, call, *variable, *equal);
             Ok(Executed::Did(Event::Quiet))
         }
         Instr::StoreNull(variable) => {
-            set_null(
-                &mut call.references,
-                &mut call.fields,
-                &mut store.statics,
-                *variable,
-            );
-            call.place += 1;
+            store_null(&mut store.statics, call, *variable);
             Ok(Executed::Did(Event::Quiet))
         }
         Instr::PutJint => {
@@ -87,29 +80,66 @@ pub fn execute(
             call.place += 1;
             Ok(Executed::Did(Event::Printed(word.cast_signed())))
         }
-        Instr::Call(boxed) => {
-            let function = boxed.call();
-            match invoke(world, store, pending, call, function)? {
-                Invoked::Done => Ok(Executed::Did(Event::Quiet)),
-                Invoked::Refused => Ok(Executed::Refused),
-                Invoked::Trapped(trap) => { Ok(Executed::Did(Event::Trapped(trap, function.line))) }
-            }
-        }
+        Instr::Call(boxed) => invoke(world, store, pending, call, boxed.call()),
         Instr::Return | Instr::ReturnJint | Instr::ReturnReference(_) => Ok(Executed::Returned),
-        _ => match plain(instr, &mut call.stack, &mut call.numbers) {
-            Plain::Next => {
-                call.place += 1;
-                Ok(Executed::Did(Event::Quiet))
-            }
-            Plain::Skip(skipped) => {
-                call.place += 1 + skipped as usize;
-                Ok(Executed::Did(Event::Quiet))
-            }
-            Plain::Back(back) => {
-                call.place -= back as usize;
-                Ok(Executed::Did(Event::Quiet))
-            }
-            Plain::Trap(trap, line) => { Ok(Executed::Did(Event::Trapped(trap_of(trap), line))) }
-        },
+        _ => Ok(Executed::Did(run_plain(instr, call))),
+    }
+}
+
+/// Puts the truth whether a variable is NULL, or isn't, onto the stack.
+#[inline(always)]
+fn test_null(store: &Store, call: &mut Activation, variable: NullableVariable, equal: bool)
+    requires room { length call.old.stack < 64 }
+    requires place { call.old.place + 1 < 2 ^ 64 }
+    ensures { HasMoved call.old call.new (call.old.place + 1) (truth_word (beq (is_null (references_of store.now call.old) call.old.fields.items variable) equal) ∷ call.old.stack)
+        call.old.numbers.items call.old.references.items call.old.fields.items }
+{
+    let references = References::new(
+        &call.references,
+        &call.locals,
+        &store.statics,
+        &store.globals,
+    );
+    let null = is_null(&references, &call.fields, variable);
+    call.stack.push(u32::from(null == equal));
+    call.place += 1;
+}
+
+/// Makes a variable NULL.
+#[inline(always)]
+fn store_null(statics: &mut [StaticReference], call: &mut Activation, variable: NullableVariable)
+    requires slot { HasSlot (length call.old.references.items) (length call.old.fields.items) (length statics.old) variable }
+    requires place { call.old.place + 1 < 2 ^ 64 }
+    ensures call { HasMoved call.old call.new (call.old.place + 1) call.old.stack call.old.numbers.items
+        (nulled_references variable call.old.references.items) (nulled_fields variable call.old.fields.items) }
+    ensures statics { statics.new ≡ nulled_statics variable statics.old }
+{
+    set_null(&mut call.references, &mut call.fields, statics, variable);
+    call.place += 1;
+}
+
+/// An instruction on the stack and the number slots alone.
+#[inline(always)]
+fn run_plain(instr: &Instr, call: &mut Activation) -> Event
+    requires operands { IsSome (plain_of instr.now call.old.stack call.old.numbers.items) }
+    requires room { IsSome (depth_after instr.now (length call.old.stack)) }
+    requires leads { (way : Plain) (stack numbers : List ℕ) → plain_of instr.now call.old.stack call.old.numbers.items ≡ Some (way, stack, numbers)
+        → IsReachable call.old.place way }
+    ensures { MovesPlainly instr.now call.old call.new result }
+{
+    match plain(instr, &mut call.stack, &mut call.numbers) {
+        Plain::Next => {
+            call.place += 1;
+            Event::Quiet
+        }
+        Plain::Skip(skipped) => {
+            call.place += 1 + skipped as usize;
+            Event::Quiet
+        }
+        Plain::Back(back) => {
+            call.place -= back as usize;
+            Event::Quiet
+        }
+        Plain::Trap(trap, line) => Event::Trapped(trap_of(trap), line),
     }
 }

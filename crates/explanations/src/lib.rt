@@ -5,7 +5,7 @@ ghost use Rattle.std.specs.Prelude.{◌≡◌, IfSome};
 
 mod table;
 
-use crate::table::{FAULTS, TRAPS};
+use crate::table::{faults_near, traps_near};
 
 /// What is said of a fault or a trap.
 #[derive(Clone, Copy)]
@@ -28,12 +28,12 @@ fn find(explanations: &[Explanation], number: u32) -> Option<Explanation>
 pub fn fault(number: u32) -> Option<Explanation>
     ensures { IfSome result (λ e. e.number ≡ number) }
 {
-    find(FAULTS.as_slice(), number)
+    find(faults_near(number), number)
 }
 
 /// What is said of a trap.
 pub fn trap(number: u32) -> Option<Explanation>
     ensures { IfSome result (λ e. e.number ≡ number) }
 {
-    find(TRAPS.as_slice(), number)
+    find(traps_near(number), number)
 }

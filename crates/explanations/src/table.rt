@@ -2,8 +2,8 @@
 
 use crate::Explanation;
 
-/// The faults, by rising numbers.
-pub static FAULTS: [Explanation; 37] = [
+/// The faults from 0 to 9, by rising numbers.
+static FAULTS_0: [Explanation; 4] = [
     Explanation {
         number: 1,
         title: b"a byte begins no token",
@@ -24,6 +24,15 @@ pub static FAULTS: [Explanation; 37] = [
         title: b"a bad string",
         text: b"fault 4: a bad string\n\nA string ends on its line and has the bytes 32 to 126 without \" and \\ (C99 6.4.5; there are no escapes). Close it, or leave the byte out.\n\n    JNIEXPORT void JNICALL Java_A_f(JNIEnv *env, jclass cls)\n    {\n        jclass c = (*env)->FindClass(env, \"java/lang/String);\n        return;\n    }\n\nfault 4 line 3\n",
     },
+];
+
+/// These, as a slice.
+fn faults_0() -> &'static [Explanation] {
+    &FAULTS_0
+}
+
+/// The faults from 10 to 19, by rising numbers.
+static FAULTS_10: [Explanation; 3] = [
     Explanation {
         number: 11,
         title: b"a token that no accepted text can have here",
@@ -39,6 +48,15 @@ pub static FAULTS: [Explanation; 37] = [
         title: b"too many",
         text: b"fault 13: too many\n\nAt most 256 functions, 256 statics, and 256 names that a function declares, its parameters from the class on among them. The line is that of the first that is too\nmany. Split the text or the function.\n\n    static jobject s1 = NULL;\n\nLine 1 for each number from 1 to 257: fault 13 line 257\n",
     },
+];
+
+/// These, as a slice.
+fn faults_10() -> &'static [Explanation] {
+    &FAULTS_10
+}
+
+/// The faults from 20 to 29, by rising numbers.
+static FAULTS_20: [Explanation; 8] = [
     Explanation {
         number: 21,
         title: b"a name isn't known",
@@ -79,6 +97,15 @@ pub static FAULTS: [Explanation; 37] = [
         title: b"a string's characters are written to",
         text: b"fault 28: a string's characters are written to\n\nWhat GetStringChars gives isn't to be changed (JNI Specification, chapter 4, \"String Operations\"). Copy them to an array.\n\n    JNIEXPORT void JNICALL Java_A_f(JNIEnv *env, jclass cls)\n    {\n        const jchar *chars = NULL;\n        chars[0] = 65;\n        return;\n    }\n\nfault 28 line 4\n",
     },
+];
+
+/// These, as a slice.
+fn faults_20() -> &'static [Explanation] {
+    &FAULTS_20
+}
+
+/// The faults from 30 to 39, by rising numbers.
+static FAULTS_30: [Explanation; 9] = [
     Explanation {
         number: 31,
         title: b"a call or a print while a buffer is critical",
@@ -124,6 +151,15 @@ pub static FAULTS: [Explanation; 37] = [
         title: b"the array of a held buffer is lost",
         text: b"fault 39: the array of a held buffer is lost\n\nThe release wants the array, so its variable is a local one and isn't set, deleted or popped before (JNI Specification, chapter 4, Release<PrimitiveType>ArrayElements).\nRelease the buffer first.\n\n    JNIEXPORT void JNICALL Java_A_f(JNIEnv *env, jclass cls, jintArray array)\n    {\n        jint *numbers = (*env)->GetIntArrayElements(env, array, NULL);\n        if (numbers == NULL) {\n            return;\n        }\n        array = NULL;\n        (*env)->ReleaseIntArrayElements(env, array, numbers, 0);\n        return;\n    }\n\nfault 39 line 7 (today 24, since its functions can't be called yet)\n",
     },
+];
+
+/// These, as a slice.
+fn faults_30() -> &'static [Explanation] {
+    &FAULTS_30
+}
+
+/// The faults from 40 to 49, by rising numbers.
+static FAULTS_40: [Explanation; 3] = [
     Explanation {
         number: 40,
         title: b"ways that meet don't agree",
@@ -139,11 +175,27 @@ pub static FAULTS: [Explanation; 37] = [
         title: b"a way doesn't end with return, or a statement is reached by none",
         text: b"fault 42: a way doesn't end with `return`, or a statement is reached by none\n\nC99 (6.9.1) lets a caller use the result of a function that ended without one, and leaves it undefined. Put a return at the end; take out what comes after an if of which both\nways return.\n\n    JNIEXPORT jint JNICALL Java_A_f(JNIEnv *env, jclass cls, jint n)\n    {\n        if (n > 0) {\n            return n;\n        }\n    }\n\nfault 42 line 6\n",
     },
-    Explanation {
-        number: 51,
-        title: b"a function is too long",
-        text: b"fault 51: a function is too long\n\nIts code has more than 65,535 instructions, which are its steps, each counted once. It has line 0. Split the function.\n\n    JNIEXPORT void JNICALL Java_A_f(JNIEnv *env, jclass cls)\n    {\n        put_jint(1);\n        return;\n    }\n\nLine 3 for each number from 1 to 32768: fault 51 line 0\n",
-    },
+];
+
+/// These, as a slice.
+fn faults_40() -> &'static [Explanation] {
+    &FAULTS_40
+}
+
+/// The faults from 50 to 59, by rising numbers.
+static FAULTS_50: [Explanation; 1] = [Explanation {
+    number: 51,
+    title: b"a function is too long",
+    text: b"fault 51: a function is too long\n\nIts code has more than 65,535 instructions, which are its steps, each counted once. It has line 0. Split the function.\n\n    JNIEXPORT void JNICALL Java_A_f(JNIEnv *env, jclass cls)\n    {\n        put_jint(1);\n        return;\n    }\n\nLine 3 for each number from 1 to 32768: fault 51 line 0\n",
+}];
+
+/// These, as a slice.
+fn faults_50() -> &'static [Explanation] {
+    &FAULTS_50
+}
+
+/// The faults from 60 to 69, by rising numbers.
+static FAULTS_60: [Explanation; 4] = [
     Explanation {
         number: 61,
         title: b"a class or a field has the name of another",
@@ -164,6 +216,15 @@ pub static FAULTS: [Explanation; 37] = [
         title: b"too many classes or fields",
         text: b"fault 64: too many classes or fields\n\nThere are at most 256 classes, the built-in ones and the array class of each among them, and a class declares at most 64 fields and statics. The line is that of the first that is too many. Leave some out.\n\n    JNIEXPORT jint JNICALL Java_A_f(JNIEnv *env, jclass cls)\n    {\n        return 0;\n    }\n\n    heap 4096\n    class A\n    class C1\n    thread Java_A_f\n\nLine 3 for each number from 1 to 107: fault 64 line 109\n",
     },
+];
+
+/// These, as a slice.
+fn faults_60() -> &'static [Explanation] {
+    &FAULTS_60
+}
+
+/// The faults from 80 to 89, by rising numbers.
+static FAULTS_80: [Explanation; 4] = [
     Explanation {
         number: 81,
         title: b"a line or a word has no form",
@@ -184,15 +245,43 @@ pub static FAULTS: [Explanation; 37] = [
         title: b"the heap is too small",
         text: b"fault 84: the heap is too small\n\nThe line is that of the first class, static or object that has no room: three cells an object and one for each value; a class takes two objects, and a static is a value of its class's. Raise the heap line's number.\n\n    JNIEXPORT jint JNICALL Java_A_f(JNIEnv *env, jclass cls)\n    {\n        return 0;\n    }\n\n    heap 512\n    class A\n    array @a I 0 0 0 0 0 0 0 0 0 0 0 0 0 0 0 0 0 0 0 0 0 0 0 0 0 0 0 0 0 0 0 0 0 0 0 0 0 0 0 0 0 0 0 0 0 0 0 0 0 0 0 0 0 0 0 0 0 0 0 0 0 0 0 0 0 0 0 0 0 0 0 0 0 0 0 0 0 0 0 0 0 0 0 0 0 0 0 0 0 0 0 0 0 0 0 0 0 0 0 0 0 0 0 0 0 0 0 0 0 0 0 0 0 0 0 0 0 0 0 0 0 0 0 0 0 0 0 0 0 0 0 0 0 0 0 0 0 0 0 0 0 0 0 0 0 0 0 0 0 0 0 0 0 0 0 0 0 0 0 0 0 0 0 0 0 0 0 0 0 0 0 0 0 0 0 0 0 0 0 0 0 0 0 0 0 0 0 0 0 0 0 0 0 0 0 0 0 0 0 0 0 0 0 0 0 0 0 0 0 0 0 0 0 0 0 0 0 0 0 0 0 0 0 0 0 0 0 0 0 0 0 0 0 0 0 0 0 0 0 0 0 0 0 0 0 0 0 0 0 0 0 0 0 0 0 0 0 0 0 0 0 0 0 0 0 0 0 0 0 0 0 0 0 0 0 0 0 0 0 0 0 0 0 0 0 0 0 0 0 0 0 0 0 0 0 0 0 0 0 0 0 0 0 0 0 0 0 0 0 0 0 0 0 0 0 0 0 0 0 0 0 0 0 0 0 0 0 0 0 0 0 0 0 0 0 0 0 0 0 0 0 0 0 0 0 0 0 0 0 0 0 0 0 0 0 0 0 0 0 0 0 0 0 0 0 0 0 0 0 0 0 0 0 0\n    thread Java_A_f\n\nfault 84 line 3\n",
     },
-    Explanation {
-        number: 91,
-        title: b"an entry of a journal isn't possible",
-        text: b"fault 91: an entry of a journal isn't possible\n\nThe entry, counted from 1, is the first that no step goes with: the thread has ended, or allocates nothing that could be refused. Replay a journal with the program and the world that it\ncame from. Here the thread ends with its third step.\n\n    JNIEXPORT jint JNICALL Java_A_f(JNIEnv *env, jclass cls)\n    {\n        return 0;\n    }\n\n    heap 512\n    class A\n    thread Java_A_f\n\n    1 1 1 1\n\nfault 91 entry 4\n",
-    },
 ];
 
-/// The traps, by rising numbers.
-pub static TRAPS: [Explanation; 9] = [
+/// These, as a slice.
+fn faults_80() -> &'static [Explanation] {
+    &FAULTS_80
+}
+
+/// The faults from 90 to 99, by rising numbers.
+static FAULTS_90: [Explanation; 1] = [Explanation {
+    number: 91,
+    title: b"an entry of a journal isn't possible",
+    text: b"fault 91: an entry of a journal isn't possible\n\nThe entry, counted from 1, is the first that no step goes with: the thread has ended, or allocates nothing that could be refused. Replay a journal with the program and the world that it\ncame from. Here the thread ends with its third step.\n\n    JNIEXPORT jint JNICALL Java_A_f(JNIEnv *env, jclass cls)\n    {\n        return 0;\n    }\n\n    heap 512\n    class A\n    thread Java_A_f\n\n    1 1 1 1\n\nfault 91 entry 4\n",
+}];
+
+/// These, as a slice.
+fn faults_90() -> &'static [Explanation] {
+    &FAULTS_90
+}
+
+/// The faults of a number's ten.
+pub fn faults_near(number: u32) -> &'static [Explanation] {
+    match number / 10 {
+        0 => faults_0(),
+        1 => faults_10(),
+        2 => faults_20(),
+        3 => faults_30(),
+        4 => faults_40(),
+        5 => faults_50(),
+        6 => faults_60(),
+        8 => faults_80(),
+        9 => faults_90(),
+        _ => &[],
+    }
+}
+
+/// The traps from 0 to 9, by rising numbers.
+static TRAPS_0: [Explanation; 9] = [
     Explanation {
         number: 1,
         title: b"a division or a remainder by zero",
@@ -239,3 +328,16 @@ pub static TRAPS: [Explanation; 9] = [
         text: b"trap 9: FatalError\n\nThe program has called FatalError, which doesn't return (JNI Specification, chapter 4, \"FatalError\"). No run earns this trap today: FatalError can't be called yet.\n",
     },
 ];
+
+/// These, as a slice.
+fn traps_0() -> &'static [Explanation] {
+    &TRAPS_0
+}
+
+/// The traps of a number's ten.
+pub fn traps_near(number: u32) -> &'static [Explanation] {
+    match number / 10 {
+        0 => traps_0(),
+        _ => &[],
+    }
+}

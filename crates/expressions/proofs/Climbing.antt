@@ -1,6 +1,7 @@
 -- What the loop over operators keeps.
-use Rattle.std.proofs.Common.{◌≡◌, ℕ, zero, suc, ◌+◌, ◌-◌, ◌<◌, ◌≤◌, max, List, Option, Some, None, Result, Ok, Err, refl, sym, ap, ◌∙◌, arith, add-one}
-use Rattle.std.proofs.lemmas.Bool.{le-ltb, lt-ltb}
+use Rattle.std.proofs.Common.{◌≡◌, ℕ, zero, suc, ◌+◌, ◌-◌, ◌<◌, ◌≤◌, max, List, Option, Some, None, Result, Ok, Err, true, false, if◌then◌else◌, refl, sym, ap, ◌∙◌, Bool, arith, add-one}
+use Rattle.std.specs.Prelude.{nat_lt}
+use Rattle.std.proofs.lemmas.Bool.{le-ltb, lt-ltb, ltb-true, ltb-false}
 use Rattle.syntax.specs.Tree.{BinaryOp, Expr, Binary}
 use Rattle.syntax.specs.Limits.{operator_level}
 use Rattle.syntax.specs.declared.expr.BinaryOp.{BinaryOp as BinaryInMemory}
@@ -10,6 +11,7 @@ use Rattle.lexemes.specs.declared.fault.ParseFault.TheVariants.{Memory, Found}
 use Rattle.lexemes.specs.Results.{◌>>=◌, Fails}
 use Rattle.lexemes.specs.Lexemes.{Lexed, fault_at}
 use Rattle.expressions.specs.Reading.{ReadExpr, operator_at, climb, climb_step, deeper, operand_at, expr_by, expr_at}
+use Rattle.expressions.specs.Steps.{right_by, within}
 use Rattle.lexemes.specs.Reading.{rest_of}
 
 -- Some steps are left, and what is read from here is all that is read.
@@ -35,6 +37,22 @@ pub climbs_start : (room least : ℕ) (ls : List Lexed) (left : Expr) (high : �
 unfolding expr_by
 climbs_start room least ls left high rest low h = record { low = low; steps = room; enough = omega arith; same = sym (rw (h, add-one room) refl) }
 
+-- an operator within a level is one that comes next
+pub within_some : (least : ℕ) (o : Option BinaryOp) (op : BinaryOp) → Some op ≡ within least o → Some op ≡ o
+within_some least None op e = absurd cc
+within_some least (Some other) op e = elim (nat_lt (operator_level other) least) as (λ b. Some op ≡ (if b then None else Some other) → Some op ≡ Some other) [
+  | true ↦ λ e. absurd cc
+  | false ↦ λ e. e
+] e
+
+pub within_tight : (least : ℕ) (o : Option BinaryOp) (op : BinaryOp) → Some op ≡ within least o → least ≤ operator_level op
+within_tight least None op e = absurd cc
+within_tight least (Some other) op e =
+    elim (nat_lt (operator_level other) least) as (λ b. nat_lt (operator_level other) least ≡ b → Some op ≡ (if b then None else Some other) → least ≤ operator_level op) [
+      | true ↦ λ lt e. absurd cc
+      | false ↦ λ lt e. let same : op ≡ other = cc in rw same (ltb-false (operator_level other) least lt)
+    ] refl e
+
 module _ (room least : ℕ) (left : Expr) (high : ℕ) (ls : List Lexed) (total : Result ReadExpr ParseFault) (c : Climbs room least left high ls total) where
   step_is : (o : Option BinaryOp) → o ≡ operator_at ls → climb_step (deeper room) room least (climb (deeper room) room least c.steps) left high ls o ≡ total
   unfolding climb
@@ -47,20 +65,33 @@ module _ (room least : ℕ) (left : Expr) (high : ℕ) (ls : List Lexed) (total 
   pub climb_loose : (op : BinaryOp) → Some op ≡ operator_at ls → operator_level op < least → total ≡ Ok (left, high, ls)
   climb_loose op e lt = sym (step_is (Some op) e) ∙ rw (lt-ltb (operator_level op) least lt) refl
 
-  pub climb_high : (op : BinaryOp) → Some op ≡ operator_at ls → least ≤ operator_level op → room ≤ high → total ≡ Err (fault_at TooHigh ls)
-  climb_high op e le full = sym (step_is (Some op) e) ∙ rw (le-ltb (operator_level op) least le, le-ltb high room full) refl
+  -- so the loop ends where none is within the level
+  done_at : (o : Option BinaryOp) → o ≡ operator_at ls → None ≡ within least o → total ≡ Ok (left, high, ls)
+  done_at None e none = climb_none e
+  done_at (Some op) e none =
+      elim (nat_lt (operator_level op) least) as (λ b. nat_lt (operator_level op) least ≡ b → None ≡ (if b then None else Some op) → total ≡ Ok (left, high, ls)) [
+        | true ↦ λ lt n. climb_loose op e (ltb-true (operator_level op) least lt)
+        | false ↦ λ lt n. absurd cc
+      ] refl none
 
-  joined : (op : BinaryOp) → Some op ≡ operator_at ls → least ≤ operator_level op → high < room → total ≡ (expr_at (room - 1) (operator_level op + 1) (rest_of ls) >>= λ r. climb (deeper room) room least c.steps (Binary op left r.0) (1 + max high r.1) r.2)
-  joined op e le lt =
-      sym (step_is (Some op) e) ∙ rw (le-ltb (operator_level op) least le, lt-ltb high room lt, deeper_is room (operator_level op + 1) (rest_of ls) (omega arith)) refl
+  pub climb_done : None ≡ within least (operator_at ls) → total ≡ Ok (left, high, ls)
+  climb_done none = done_at (operator_at ls) refl none
 
-  pub climb_fails : (op : BinaryOp) (f : ParseFault) → Some op ≡ operator_at ls → least ≤ operator_level op → high < room → Fails f (expr_at (room - 1) (operator_level op + 1) (rest_of ls)) → Fails f total
-  climb_fails op Memory e le lt h = tt
-  climb_fails op (Found fault line) e le lt h = joined op e le lt ∙ rw h refl
+  joined : (op : BinaryOp) → Some op ≡ operator_at ls → least ≤ operator_level op → total ≡ (right_by (deeper room) room high op ls >>= λ r. climb (deeper room) room least c.steps (Binary op left r.0) (1 + max high r.1) r.2)
+  joined op e le = sym (step_is (Some op) e) ∙ rw (le-ltb (operator_level op) least le) (chosen (nat_lt high room))
+    where
+      chosen : (b : Bool) → (if b then (deeper room (operator_level op + 1) (rest_of ls) >>= λ r. climb (deeper room) room least c.steps (Binary op left r.0) (1 + max high r.1) r.2) else Err (fault_at TooHigh ls))
+          ≡ ((if b then deeper room (operator_level op + 1) (rest_of ls) else Err (fault_at TooHigh ls)) >>= λ r. climb (deeper room) room least c.steps (Binary op left r.0) (1 + max high r.1) r.2)
+      chosen true = refl
+      chosen false = refl
 
-  pub climb_on : (op : BinaryOp) (right : Expr) (right_high high' : ℕ) (rest : List Lexed) → Some op ≡ operator_at ls → least ≤ operator_level op → high < room → right_high ≤ room - 1 → high' ≡ 1 + max high right_high → expr_at (room - 1) (operator_level op + 1) (rest_of ls) ≡ Ok (right, right_high, rest) → Climbs room least (Binary op left right) high' rest total
+  pub climb_fails : (op : BinaryOp) (f : ParseFault) → Some op ≡ operator_at ls → least ≤ operator_level op → Fails f (right_by (deeper room) room high op ls) → Fails f total
+  climb_fails op Memory e le h = tt
+  climb_fails op (Found fault line) e le h = joined op e le ∙ rw h refl
+
+  pub climb_on : (op : BinaryOp) (right : Expr) (right_high high' : ℕ) (rest : List Lexed) → Some op ≡ operator_at ls → least ≤ operator_level op → high < room → right_high < room → high' ≡ 1 + max high right_high → right_by (deeper room) room high op ls ≡ Ok (right, right_high, rest) → Climbs room least (Binary op left right) high' rest total
   climb_on op right right_high high' rest e le lt fits is h =
-      let on : climb (deeper room) room least c.steps (Binary op left right) (1 + max high right_high) rest ≡ total = sym (joined op e le lt ∙ rw h refl) in
+      let on : climb (deeper room) room least c.steps (Binary op left right) (1 + max high right_high) rest ≡ total = sym (joined op e le ∙ rw h refl) in
       climbs_from op right high' rest (omega arith) c.steps (omega (arith, c.enough)) (rw is on)
     where
       climbs_from : (op : BinaryOp) (right : Expr) (high' : ℕ) (rest : List Lexed) → high' ≤ room → (steps : ℕ) → room < high' + steps → climb (deeper room) room least steps (Binary op left right) high' rest ≡ total → Climbs room least (Binary op left right) high' rest total

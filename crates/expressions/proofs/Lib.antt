@@ -5,3 +5,4 @@ pub mod Climbing
 pub mod Primaries
 pub mod JniCalls
 pub mod Commas
+pub mod Called

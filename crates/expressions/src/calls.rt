@@ -3,7 +3,7 @@
 ghost use Rattle.std.specs.Prelude.{◌≡◌, ◌≤◌, ◌+◌, length, map};
 ghost use Rattle.syntax.specs.Views.{argument_tree, call_tree, right_side_tree, test_tree};
 ghost use Rattle.lexemes.specs.Results.{Gives};
-ghost use Rattle.expressions.specs.Steps.{ReadCall, ReadSetting, made_of};
+ghost use Rattle.expressions.specs.Steps.{ReadCall, ReadName, ReadSetting, made_of, function_at};
 ghost use Rattle.lexemes.specs.Lexemes.{views, expect};
 ghost use Rattle.expressions.specs.Reading.{interface_at, value_at, argument_at, arguments_at, call_at, starts_call, right_at, setting_at, test_at};
 
@@ -104,14 +104,22 @@ fn called<'t>(
     ))
 }
 
+/// The name of the function that is called.
+#[inline(always)]
+fn function(lexemes: Cursor<'_>) -> Result<(&[u8], Cursor<'_>), ParseFault>
+    ensures { Gives (λ x. (x.0.now, views x.1)) result (function_at (views lexemes.entry)) }
+{
+    let rest = interface(lexemes)?;
+    name_at(rest)
+}
+
 /// A call.
-#[tactic(auto, unfolding(crate::specs::Reading::call_at))]
+#[tactic(auto, using(crate::proofs::Called::call_is))]
 pub fn call(alloc: Global, room: u32, lexemes: Cursor<'_>) -> Result<(Call, Cursor<'_>), ParseFault>
     requires { room ≤ 32 }
     ensures { Gives (λ x. (call_tree x.0, views x.1)) result (call_at room (views lexemes.entry)) }
 {
-    let rest = interface(lexemes)?;
-    let (function, rest) = name_at(rest)?;
+    let (function, rest) = function(lexemes)?;
     let rest = expect(Fixed::Mark(Mark::OpenParen), rest)?;
     let rest = expect(Fixed::Word(Word::Env), rest)?;
     let (arguments, rest) = arguments(alloc, room, rest)?;
@@ -160,8 +168,22 @@ fn set_to<'t>(
 ) -> Result<(Name, RightSide, Cursor<'t>), ParseFault>
     ensures { Gives (λ x. (x.0, right_side_tree x.1, views x.2)) result (made_of {B = ReadSetting} (expect semicolon (views lexemes.entry)) (λ rest. (name.now, right_side_tree right, rest))) }
 {
-    let rest = expect(semicolon, lexemes)?;
-    Ok((Name::new(alloc, name)?, right, rest))
+    let (name, rest) = ended_name(alloc, name, semicolon, lexemes)?;
+    Ok((name, right, rest))
+}
+
+/// A name, and what comes after this lexeme, which ends it.
+#[inline(always)]
+fn ended_name<'t>(
+    alloc: Global,
+    name: &[u8],
+    end: Fixed,
+    lexemes: Cursor<'t>,
+) -> Result<(Name, Cursor<'t>), ParseFault>
+    ensures { Gives (λ x. (x.0, views x.1)) result (made_of {B = ReadName} (expect end (views lexemes.entry)) (λ rest. (name.now, rest))) }
+{
+    let rest = expect(end, lexemes)?;
+    Ok((Name::new(alloc, name)?, rest))
 }
 
 /// A name, what it is set to, and what comes after the semicolon.

@@ -1,15 +1,15 @@
 //! Expressions, by the levels of their operators (ISO/IEC 9899:1999, 6.5).
 
-ghost use Rattle.std.specs.Prelude.{◌≡◌, ◌≤◌, ◌<◌, IfOk, is_ok};
+ghost use Rattle.std.specs.Prelude.{◌≡◌, ◌+◌, ◌≤◌, ◌<◌, ◌||◌, max, Ok, IfOk, is_ok};
 ghost use Rattle.std.specs.Option.{option_map};
 ghost use Rattle.syntax.specs.Limits.{operator_level};
 ghost use Rattle.syntax.specs.Tree.{Binary, Prefix, Paren, Element};
 ghost use Rattle.syntax.specs.Views.{constant_tree, prefix_tree, binary_tree, expr_tree};
 ghost use Rattle.lexemes.specs.Results.{Gives};
-ghost use Rattle.expressions.specs.Steps.{made_of};
+ghost use Rattle.expressions.specs.Steps.{made_of, right_by, within};
 ghost use Rattle.lexemes.specs.Lexemes.{views, expect};
 ghost use Rattle.expressions.specs.Reading.{ReadExpr, operator_at, binary_of_mark, primary_at, starts_element, starts_inside, index_at, operand_at, expr_at, right_expr_at, under_prefix, after_paren, in_parens, element_by, deeper};
-ghost use Rattle.lexemes.specs.Reading.{constant_of_word};
+ghost use Rattle.lexemes.specs.Reading.{constant_of_word, starts_with};
 
 use lexemes::{
     Cursor, Fault, Fixed, ParseFault, Shape, expect, fault_at, mark_at, name_at, rest_of, shape_at,
@@ -160,6 +160,77 @@ pub fn closed(
     Ok((inside, height, rest))
 }
 
+/// A prefix with its operand, and what comes after it.
+#[inline(always)]
+fn with_prefix<'t>(
+    alloc: Global,
+    op: PrefixOp,
+    operand: ReadExpr<'t>,
+) -> Result<ReadExpr<'t>, ParseFault>
+    requires { operand.1 < 32 }
+    ensures low { IfOk result (λ x. x.1 ≡ 1 + operand.entry.1) }
+    ensures gives { Gives {Y = ReadExpr} (λ x. (expr_tree x.0, x.1, views x.2)) result (Ok (Prefix (prefix_tree op) (expr_tree operand.entry.0), 1 + operand.entry.1, views operand.entry.2)) }
+{
+    let height = 1 + operand.1;
+    Ok((prefix(alloc, op, operand.0)?, height, operand.2))
+}
+
+/// What is read of an expression, and what comes after the next lexeme, which ends it.
+#[inline(always)]
+fn ended<'t>(end: Fixed, read: ReadExpr<'t>) -> Result<ReadExpr<'t>, ParseFault>
+    ensures low { IfOk result (λ x. x.1 ≡ read.entry.1) }
+    ensures gives { Gives (λ x. (expr_tree x.0, x.1, views x.2)) result (made_of {B = ReadExpr} (expect end (views read.entry.2)) (λ after. (expr_tree read.entry.0, read.entry.1, after))) }
+{
+    let (inside, height, rest) = read;
+    closed(end, inside, height, rest)
+}
+
+/// An expression in parentheses, of which the closing one is read.
+#[inline(always)]
+fn in_closed_parens<'t>(alloc: Global, inside: ReadExpr<'t>) -> Result<ReadExpr<'t>, ParseFault>
+    requires { inside.1 < 32 }
+    ensures low { IfOk result (λ x. x.1 ≡ 1 + inside.entry.1) }
+    ensures gives { Gives (λ x. (expr_tree x.0, x.1, views x.2)) result (made_of {B = ReadExpr} (expect (Fixed.Mark Mark.CloseParen) (views inside.entry.2)) (λ after. (Paren (expr_tree inside.entry.0), 1 + inside.entry.1, after))) }
+{
+    let (inside, height, rest) = ended(Fixed::Mark(Mark::CloseParen), inside)?;
+    Ok((paren(alloc, inside)?, 1 + height, rest))
+}
+
+/// A name with its index, and what comes after it.
+#[inline(always)]
+fn element_of<'t>(
+    alloc: Global,
+    name: &[u8],
+    index: ReadExpr<'t>,
+) -> Result<ReadExpr<'t>, ParseFault>
+    requires { index.1 < 32 }
+    ensures low { IfOk result (λ x. x.1 ≡ 1 + index.entry.1) }
+    ensures gives { Gives {Y = ReadExpr} (λ x. (expr_tree x.0, x.1, views x.2)) result (Ok (Element name.now (expr_tree index.entry.0), 1 + index.entry.1, views index.entry.2)) }
+{
+    let height = 1 + index.1;
+    Ok((indexed(alloc, name, index.0)?, height, index.2))
+}
+
+/// The operator that comes next, where it is of this level or tighter.
+#[inline(always)]
+fn operator_within(least: u32, rest: Cursor<'_>) -> Option<BinaryOp>
+    ensures { option_map binary_tree result ≡ within least (operator_at (views rest.entry)) }
+{
+    match operator(rest) {
+        Some(op) if level(op) >= least => Some(op),
+        _ => None,
+    }
+}
+
+/// Whether an operand begins here that holds another expression.
+fn starts_deep(lexemes: Cursor<'_>) -> bool
+    ensures { result ≡ (starts_with (Fixed.Mark Mark.Tilde) (views lexemes.entry) || starts_with (Fixed.Mark Mark.Exclamation) (views lexemes.entry) || starts_with (Fixed.Mark Mark.OpenParen) (views lexemes.entry)) }
+{
+    starts_with(Fixed::Mark(Mark::Tilde), lexemes)
+        || starts_with(Fixed::Mark(Mark::Exclamation), lexemes)
+        || starts_with(Fixed::Mark(Mark::OpenParen), lexemes)
+}
+
 /// Whether a name with an index comes next.
 pub fn starts_element(lexemes: Cursor<'_>) -> bool
     ensures { result ≡ starts_element (views lexemes.entry) }
@@ -181,24 +252,34 @@ pub fn expression(
     ensures gives { Gives (λ x. (expr_tree x.0, x.1, views x.2)) result (expr_at room least (views lexemes.entry)) }
 {
     let (mut left, mut height, mut rest) = operand(alloc, room, lexemes)?;
-    while let Some(op) = operator(rest) {
-        if level(op) < least {
-            break;
-        }
-        if height >= room {
-            return Err(fault_at(Fault::TooHigh, rest));
-        }
-        let (right, right_height, after) = expression(
-            alloc,
-            room - 1,
-            level(op) + 1,
-            rest_of(rest),
-        )?;
+    while let Some(op) = operator_within(least, rest) {
+        let (right, right_height, after) = right_operand(alloc, room, height, op, rest)?;
         left = binary(alloc, op, left, right)?;
         height = 1 + height.max(right_height);
         rest = after;
     }
     Ok((left, height, rest))
+}
+
+/// What comes after this operator, whose left operand has this height.
+#[cycle(expressions)]
+#[tactic(auto, using(crate::proofs::Climbing::deeps))]
+fn right_operand(
+    alloc: Global,
+    room: u32,
+    height: u32,
+    op: BinaryOp,
+    lexemes: Cursor<'_>,
+) -> Result<ReadExpr<'_>, ParseFault>
+    requires { room ≤ 32 }
+    ensures low { IfOk result (λ x. x.1 < room) }
+    ensures room { IfOk result (λ _. height < room) }
+    ensures gives { Gives (λ x. (expr_tree x.0, x.1, views x.2)) result (right_by (deeper room) room height (binary_tree op) (views lexemes.entry)) }
+{
+    if height >= room {
+        return Err(fault_at(Fault::TooHigh, lexemes));
+    }
+    expression(alloc, room - 1, level(op) + 1, rest_of(lexemes))
 }
 
 /// A prefix with its operand, parentheses, an element, or what holds best.
@@ -209,19 +290,16 @@ fn operand(alloc: Global, room: u32, lexemes: Cursor<'_>) -> Result<ReadExpr<'_>
     ensures low { IfOk result (λ x. x.1 ≤ room) }
     ensures gives { Gives (λ x. (expr_tree x.0, x.1, views x.2)) result (operand_at room (views lexemes.entry)) }
 {
-    let is_complement = starts_with(Fixed::Mark(Mark::Tilde), lexemes);
-    let is_negation = starts_with(Fixed::Mark(Mark::Exclamation), lexemes);
-    let is_paren = starts_with(Fixed::Mark(Mark::OpenParen), lexemes);
-    if room == 0 && (is_complement || is_negation || is_paren) {
+    if room == 0 && starts_deep(lexemes) {
         return Err(fault_at(Fault::TooHigh, lexemes));
     }
-    if is_complement {
+    if starts_with(Fixed::Mark(Mark::Tilde), lexemes) {
         return prefixed(alloc, room, PrefixOp::Complement, rest_of(lexemes));
     }
-    if is_negation {
+    if starts_with(Fixed::Mark(Mark::Exclamation), lexemes) {
         return prefixed(alloc, room, PrefixOp::LogicalNot, rest_of(lexemes));
     }
-    if is_paren {
+    if starts_with(Fixed::Mark(Mark::OpenParen), lexemes) {
         return after_paren(alloc, room, rest_of(lexemes));
     }
     if starts_element(lexemes) {
@@ -259,9 +337,8 @@ fn in_parens(alloc: Global, room: u32, lexemes: Cursor<'_>) -> Result<ReadExpr<'
     ensures low { IfOk result (λ x. x.1 ≤ room) }
     ensures gives { Gives (λ x. (expr_tree x.0, x.1, views x.2)) result (in_parens (deeper room) (views lexemes.entry)) }
 {
-    let (inside, height, rest) = expression(alloc, room - 1, 0, lexemes)?;
-    let (inside, height, rest) = closed(Fixed::Mark(Mark::CloseParen), inside, height, rest)?;
-    Ok((paren(alloc, inside)?, 1 + height, rest))
+    let inside = expression(alloc, room - 1, 0, lexemes)?;
+    in_closed_parens(alloc, inside)
 }
 
 /// A name with an index.
@@ -273,8 +350,8 @@ fn element(alloc: Global, room: u32, lexemes: Cursor<'_>) -> Result<ReadExpr<'_>
     ensures gives { Gives (λ x. (expr_tree x.0, x.1, views x.2)) result (element_by room (deeper room) (views lexemes.entry)) }
 {
     let (name, rest) = name_at(lexemes)?;
-    let (index, height, rest) = index(alloc, room, rest)?;
-    Ok((indexed(alloc, name, index)?, 1 + height, rest))
+    let index = index(alloc, room, rest)?;
+    element_of(alloc, name, index)
 }
 
 /// An index in its brackets, which counts one.
@@ -289,8 +366,8 @@ pub fn index(alloc: Global, room: u32, lexemes: Cursor<'_>) -> Result<ReadExpr<'
         return Err(fault_at(Fault::TooHigh, lexemes));
     }
     let rest = expect(Fixed::Mark(Mark::OpenBracket), lexemes)?;
-    let (index, height, rest) = expression(alloc, room - 1, 0, rest)?;
-    closed(Fixed::Mark(Mark::CloseBracket), index, height, rest)
+    let index = expression(alloc, room - 1, 0, rest)?;
+    ended(Fixed::Mark(Mark::CloseBracket), index)
 }
 
 /// The operand of a prefix.
@@ -307,8 +384,8 @@ fn prefixed(
     ensures low { IfOk result (λ x. x.1 ≤ room) }
     ensures gives { Gives (λ x. (expr_tree x.0, x.1, views x.2)) result (under_prefix (deeper room) (prefix_tree op) (views lexemes.entry)) }
 {
-    let (operand, height, rest) = expression(alloc, room - 1, PREFIX_LEVEL, lexemes)?;
-    Ok((prefix(alloc, op, operand)?, 1 + height, rest))
+    let operand = expression(alloc, room - 1, PREFIX_LEVEL, lexemes)?;
+    with_prefix(alloc, op, operand)
 }
 
 /// Whether a number, a named constant or a name comes next.

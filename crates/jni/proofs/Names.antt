@@ -10,14 +10,14 @@ use Rattle.std.proofs.lemmas.List.FromFn.{get_or-map-range_with_len}
 use Rattle.base.specs.Bytes.{Identifier}
 use Rattle.jni.specs.declared.kinds.Prototype.{Prototype as PrototypeInMemory}
 use Rattle.jni.specs.JniFunction.{JniFunction, prototype, all_functions, function_named}
-use Rattle.jni.specs.Table.{Facts, facts, facts_of, has_name}
+use Rattle.jni.specs.Table.{Facts, facts, facts_of, all_rows, has_name}
 
 -- ---- the rows
 
 pub number_is_below : (n : ℕ) (f : JniFunction) → slice_get all_functions n ≡ Some f → n < 77
 number_is_below n f at = slice_get_within all_functions n f at
 
-pub row_is : (n : ℕ) (f : JniFunction) (r : Facts) → slice_get all_functions n ≡ Some f → slice_get (map facts_of all_functions) n ≡ Some r → r ≡ facts_of f
+pub row_is : (n : ℕ) (f : JniFunction) (r : Facts) → slice_get all_functions n ≡ Some f → slice_get all_rows n ≡ Some r → r ≡ facts_of f
 row_is n f r at row = same r (facts_of f) (sym row ∙ slice_get-map facts_of all_functions n ∙ ap (option_map facts_of) at)
   where
     same : (a b : Facts) → Some a ≡ Some b → a ≡ b

@@ -1,21 +1,22 @@
 -- The functions of an element type, or of an access, come one after another in the list of all.
-use Rattle.std.proofs.Common.{arith, ◌≡◌, ◌+◌, ℕ, zero, suc, List, [], ◌∷◌, take, drop, Some, refl, sym, ap, ◌∙◌, subst}
+use Rattle.std.proofs.Common.{arith, ◌≡◌, ◌+◌, ◌-◌, ◌≤◌, ℕ, zero, suc, List, [], ◌∷◌, take, drop, Some, refl, sym, ap, ◌∙◌, subst}
 use Rattle.std.specs.List.{slice_get}
 use Rattle.std.proofs.Math.Seq.{drop-nil}
 use Rattle.std.proofs.lemmas.List.{drop-take}
 use Rattle.base.specs.Element.{ElementType}
 use Rattle.jni.specs.Access.{ElementsCopy}
+use Rattle.jni.specs.Table.{Facts, all_rows}
 use Rattle.jni.specs.JniFunction.{JniFunction, all_functions, typed_functions, access_functions}
 
 -- what is at a place of a part of a list, is in the list too
-in_front : (xs : List JniFunction) (m k : ℕ) (f : JniFunction) → slice_get (take m xs) k ≡ Some f → slice_get xs k ≡ Some f
+in_front : {A : Type 0} (xs : List A) (m k : ℕ) (f : A) → slice_get (take m xs) k ≡ Some f → slice_get xs k ≡ Some f
 in_front [] zero k f h = h
 in_front [] (suc m) k f h = h
 in_front (x ∷ xs) zero k f h = absurd cc
 in_front (x ∷ xs) (suc m) zero f h = h
 in_front (x ∷ xs) (suc m) (suc k) f h = in_front xs m k f h
 
-after : (n k j : ℕ) (xs : List JniFunction) (f : JniFunction) → n + k ≡ j → slice_get (drop n xs) k ≡ Some f → slice_get xs j ≡ Some f
+after : {A : Type 0} (n k j : ℕ) (xs : List A) (f : A) → n + k ≡ j → slice_get (drop n xs) k ≡ Some f → slice_get xs j ≡ Some f
 after zero k j xs f e h = let same : k ≡ j = omega (arith, e) in subst (λ i. slice_get xs i ≡ Some f) same h
 after (suc n) k j [] f e h = absurd cc
 after (suc n) k zero (x ∷ xs) f e h = absurd omega (arith, e)
@@ -30,6 +31,10 @@ pub first_placed : (n m : ℕ) (fs : List JniFunction) (f : JniFunction) → tak
 first_placed n m fs f part at =
     after n 0 n all_functions f (omega arith)
     (in_front (drop n all_functions) m 0 f (subst (λ xs. slice_get xs 0 ≡ Some f) (sym part) at))
+
+-- the row of a number among those that begin with a number
+pub row_there : (first count number : ℕ) (r : Facts) → first ≤ number → slice_get (take count (drop first all_rows)) (number - first) ≡ Some r → slice_get all_rows number ≡ Some r
+row_there first count number r begun at = after first (number - first) number all_rows r (omega (arith, begun)) (in_front (drop first all_rows) count (number - first) r at)
 
 further : (n k j : ℕ) (xs : List JniFunction) → n + k ≡ j → drop j xs ≡ drop k (drop n xs)
 further zero k j xs e = let same : j ≡ k = omega (arith, e) in ap (λ i. drop i xs) same

@@ -1,10 +1,10 @@
 //! The table of the functions of the JNI (JNI Specification, chapter 4), and who has a name.
 
-ghost use Rattle.std.specs.Prelude.{◌≡◌, ◌<◌, [], Some, length, map, find, get_or, take, drop, slice_get};
+ghost use Rattle.std.specs.Prelude.{◌≡◌, ◌<◌, ◌≤◌, ◌-◌, [], Some, length, map, find, get_or, take, drop, slice_get};
 ghost use Rattle.std.specs.Option.{option_map};
 ghost use Rattle.syntax.specs.Views.{element_tree};
 ghost use Rattle.jni.specs.JniFunction.{access_functions, all_functions, function_named, typed_functions};
-ghost use Rattle.jni.specs.Table.{access_value, facts, facts_of, function_value, functions_value, has_name};
+ghost use Rattle.jni.specs.Table.{access_value, all_rows, facts, facts_of, function_value, functions_value, has_name};
 
 use crate::access::Access;
 use crate::access::Access::{ArrayView, CharsCopy, CharsView, ElementsCopy};
@@ -95,10 +95,11 @@ macro_rules! rows {
     };
 }
 
-/// The functions in the order of their numbers. A row has the name, the parameters after `env`, the result, what a call does to buffers,
-/// references and frames, whether it may be called while an exception is pending, and whether it can be called today.
-static FUNCTIONS: [Prototype; 77] = rows! {
-    // classes and references
+// The functions in the order of their numbers, in groups. A row has the name, the parameters after `env`, the result, what a call does to buffers,
+// references and frames, whether it may be called while an exception is pending, and whether it can be called today.
+
+/// Those of classes and references.
+static REFERENCE_ROWS: [Prototype; 14] = rows! {
     b"FindClass"           [TextBytes]                => NewLocal,     Other,   false, true;
     b"GetSuperclass"       [ClassObject]              => NewLocal,     Other,   false, true;
     b"GetObjectClass"      [NonNull]                  => NewLocal,     Other,   false, true;
@@ -113,7 +114,10 @@ static FUNCTIONS: [Prototype; 77] = rows! {
     b"EnsureLocalCapacity" [IntNumber]                => GivesInt,     Other,   false, true;
     b"PushLocalFrame"      [IntNumber]                => GivesInt,     Other,   true,  true;
     b"PopLocalFrame"       [Nullable]                 => NewLocal,     Pops,    true,  true;
-    // fields of references, arrays of objects, and the length of any array
+};
+
+/// Those of fields of references, arrays of objects, and the length of any array.
+static OBJECT_ROWS: [Prototype; 10] = rows! {
     b"GetFieldID"            [ClassObject, TextBytes, TextBytes] => GivesField,   Other, false, true;
     b"GetStaticFieldID"      [ClassObject, TextBytes, TextBytes] => GivesField,   Other, false, true;
     b"GetObjectField"        [NonNull, FieldID]                  => NewLocal,     Other, false, true;
@@ -124,11 +128,13 @@ static FUNCTIONS: [Prototype; 77] = rows! {
     b"NewObjectArray"        [IntNumber, ClassObject, Nullable]  => NewLocal,     Other, false, false;
     b"GetObjectArrayElement" [ObjectArray, IntNumber]            => NewLocal,     Other, false, false;
     b"SetObjectArrayElement" [ObjectArray, IntNumber, Nullable]  => GivesNothing, Other, false, false;
-    // strings
+};
+
+/// Those of strings, exceptions and monitors.
+static STRING_ROWS: [Prototype; 11] = rows! {
     b"NewStringUTF"    [TextBytes]                                                => NewLocal,     Other, false, false;
     b"GetStringLength" [StringObject]                                             => GivesInt,     Other, false, false;
     b"GetStringRegion" [StringObject, IntNumber, IntNumber, ArrayVariable(Jchar)] => GivesNothing, Other, false, false;
-    // exceptions and monitors
     b"Throw"             [NonNull]                => GivesInt,     Other, false, false;
     b"ThrowNew"          [ClassObject, TextBytes] => GivesInt,     Other, false, false;
     b"ExceptionOccurred" []                       => NewLocal,     Other, true,  false;
@@ -137,7 +143,10 @@ static FUNCTIONS: [Prototype; 77] = rows! {
     b"FatalError"        [TextBytes]              => GivesNothing, Other, false, false;
     b"MonitorEnter"      [NonNull]                => GivesInt,     Other, false, false;
     b"MonitorExit"       [NonNull]                => GivesInt,     Other, true,  false;
-    // `jint`
+};
+
+/// Those of elements of `jint`.
+static INT_ROWS: [Prototype; 9] = rows! {
     b"GetIntField"             [NonNull, FieldID]                                             => GivesInt,          Other,          false, true;
     b"SetIntField"             [NonNull, FieldID, IntNumber]                                  => GivesNothing,      Other,          false, true;
     b"GetStaticIntField"       [ClassObject, FieldID]                                         => GivesInt,          Other,          false, true;
@@ -147,7 +156,10 @@ static FUNCTIONS: [Prototype; 77] = rows! {
     b"SetIntArrayRegion"       [NumberArray(Jint), IntNumber, IntNumber, ArrayVariable(Jint)] => GivesNothing,      Other,          false, false;
     b"GetIntArrayElements"     [NumberArray(Jint), IsCopy]                                    => GivesBuffer(INTS), Gets(INTS),     false, false;
     b"ReleaseIntArrayElements" [NumberArray(Jint), BufferVariable(INTS), Mode]                => GivesNothing,      Releases(INTS), true,  false;
-    // `jshort`
+};
+
+/// Those of elements of `jshort`.
+static SHORT_ROWS: [Prototype; 9] = rows! {
     b"GetShortField"             [NonNull, FieldID]                                                 => GivesInt,            Other,            false, true;
     b"SetShortField"             [NonNull, FieldID, IntNumber]                                      => GivesNothing,        Other,            false, true;
     b"GetStaticShortField"       [ClassObject, FieldID]                                             => GivesInt,            Other,            false, true;
@@ -157,7 +169,10 @@ static FUNCTIONS: [Prototype; 77] = rows! {
     b"SetShortArrayRegion"       [NumberArray(Jshort), IntNumber, IntNumber, ArrayVariable(Jshort)] => GivesNothing,        Other,            false, false;
     b"GetShortArrayElements"     [NumberArray(Jshort), IsCopy]                                      => GivesBuffer(SHORTS), Gets(SHORTS),     false, false;
     b"ReleaseShortArrayElements" [NumberArray(Jshort), BufferVariable(SHORTS), Mode]                => GivesNothing,        Releases(SHORTS), true,  false;
-    // `jbyte`
+};
+
+/// Those of elements of `jbyte`.
+static BYTE_ROWS: [Prototype; 9] = rows! {
     b"GetByteField"             [NonNull, FieldID]                                               => GivesInt,           Other,           false, true;
     b"SetByteField"             [NonNull, FieldID, IntNumber]                                    => GivesNothing,       Other,           false, true;
     b"GetStaticByteField"       [ClassObject, FieldID]                                           => GivesInt,           Other,           false, true;
@@ -167,7 +182,10 @@ static FUNCTIONS: [Prototype; 77] = rows! {
     b"SetByteArrayRegion"       [NumberArray(Jbyte), IntNumber, IntNumber, ArrayVariable(Jbyte)] => GivesNothing,       Other,           false, false;
     b"GetByteArrayElements"     [NumberArray(Jbyte), IsCopy]                                     => GivesBuffer(BYTES), Gets(BYTES),     false, false;
     b"ReleaseByteArrayElements" [NumberArray(Jbyte), BufferVariable(BYTES), Mode]                => GivesNothing,       Releases(BYTES), true,  false;
-    // `jchar`
+};
+
+/// Those of elements of `jchar`.
+static CHAR_ROWS: [Prototype; 9] = rows! {
     b"GetCharField"             [NonNull, FieldID]                                               => GivesInt,           Other,           false, true;
     b"SetCharField"             [NonNull, FieldID, IntNumber]                                    => GivesNothing,       Other,           false, true;
     b"GetStaticCharField"       [ClassObject, FieldID]                                           => GivesInt,           Other,           false, true;
@@ -177,7 +195,10 @@ static FUNCTIONS: [Prototype; 77] = rows! {
     b"SetCharArrayRegion"       [NumberArray(Jchar), IntNumber, IntNumber, ArrayVariable(Jchar)] => GivesNothing,       Other,           false, false;
     b"GetCharArrayElements"     [NumberArray(Jchar), IsCopy]                                     => GivesBuffer(CHARS), Gets(CHARS),     false, false;
     b"ReleaseCharArrayElements" [NumberArray(Jchar), BufferVariable(CHARS), Mode]                => GivesNothing,       Releases(CHARS), true,  false;
-    // views of arrays and strings, and copies of strings
+};
+
+/// Those of views of arrays and strings, and copies of strings.
+static VIEW_ROWS: [Prototype; 6] = rows! {
     b"GetPrimitiveArrayCritical"     [NonNull, IsCopy]                          => GivesBuffer(ArrayView), Gets(ArrayView),     false, false;
     b"ReleasePrimitiveArrayCritical" [NonNull, BufferVariable(ArrayView), Mode] => GivesNothing,           Releases(ArrayView), true,  false;
     b"GetStringChars"                [StringObject, IsCopy]                     => GivesBuffer(CharsCopy), Gets(CharsCopy),     false, false;
@@ -210,12 +231,101 @@ fn buffer_number(access: Access) -> usize
     }
 }
 
-/// The row of a number.
-fn row_at(rows: &'static [Prototype], number: usize) -> &'static Prototype
-    requires { number < length rows.now }
-    ensures { slice_get (map facts rows.now) number ≡ Some (facts result.now) }
+/// The row of a number among those that begin with a number.
+fn row_at(rows: &'static [Prototype], first: usize, number: usize) -> &'static Prototype
+    requires begun { first ≤ number }
+    requires inside { number - first < length rows.now }
+    ensures { slice_get (map facts rows.now) (number - first) ≡ Some (facts result.now) }
 {
-    &rows[number]
+    &rows[number - first]
+}
+
+/// The row of a number of classes and references.
+fn reference_row(number: usize) -> &'static Prototype
+    requires { number < 14 }
+    ensures { slice_get all_rows number ≡ Some (facts result.now) }
+{
+    row_at(&REFERENCE_ROWS, 0, number)
+}
+
+/// The row of a number of fields of references, arrays of objects, and the length of any array.
+fn object_row(number: usize) -> &'static Prototype
+    requires begun { 14 ≤ number }
+    requires inside { number < 24 }
+    ensures { slice_get all_rows number ≡ Some (facts result.now) }
+{
+    row_at(&OBJECT_ROWS, 14, number)
+}
+
+/// The row of a number of strings, exceptions and monitors.
+fn string_row(number: usize) -> &'static Prototype
+    requires begun { 24 ≤ number }
+    requires inside { number < 35 }
+    ensures { slice_get all_rows number ≡ Some (facts result.now) }
+{
+    row_at(&STRING_ROWS, 24, number)
+}
+
+/// The row of a number of elements of `jint`.
+fn int_row(number: usize) -> &'static Prototype
+    requires begun { 35 ≤ number }
+    requires inside { number < 44 }
+    ensures { slice_get all_rows number ≡ Some (facts result.now) }
+{
+    row_at(&INT_ROWS, 35, number)
+}
+
+/// The row of a number of elements of `jshort`.
+fn short_row(number: usize) -> &'static Prototype
+    requires begun { 44 ≤ number }
+    requires inside { number < 53 }
+    ensures { slice_get all_rows number ≡ Some (facts result.now) }
+{
+    row_at(&SHORT_ROWS, 44, number)
+}
+
+/// The row of a number of elements of `jbyte`.
+fn byte_row(number: usize) -> &'static Prototype
+    requires begun { 53 ≤ number }
+    requires inside { number < 62 }
+    ensures { slice_get all_rows number ≡ Some (facts result.now) }
+{
+    row_at(&BYTE_ROWS, 53, number)
+}
+
+/// The row of a number of elements of `jchar`.
+fn char_row(number: usize) -> &'static Prototype
+    requires begun { 62 ≤ number }
+    requires inside { number < 71 }
+    ensures { slice_get all_rows number ≡ Some (facts result.now) }
+{
+    row_at(&CHAR_ROWS, 62, number)
+}
+
+/// The row of a number of views of arrays and strings, and copies of strings.
+fn view_row(number: usize) -> &'static Prototype
+    requires begun { 71 ≤ number }
+    requires inside { number < 77 }
+    ensures { slice_get all_rows number ≡ Some (facts result.now) }
+{
+    row_at(&VIEW_ROWS, 71, number)
+}
+
+/// The row of a number.
+fn row(number: usize) -> &'static Prototype
+    requires { number < 77 }
+    ensures { slice_get all_rows number ≡ Some (facts result.now) }
+{
+    match number {
+        ..14 => reference_row(number),
+        14..24 => object_row(number),
+        24..35 => string_row(number),
+        35..44 => int_row(number),
+        44..53 => short_row(number),
+        53..62 => byte_row(number),
+        62..71 => char_row(number),
+        _ => view_row(number),
+    }
 }
 
 impl JniFunction {
@@ -275,7 +385,7 @@ impl JniFunction {
     pub fn prototype(self) -> &'static Prototype
         ensures { facts result.now ≡ facts_of (function_value self) }
     {
-        row_at(&FUNCTIONS, self.number())
+        row(self.number())
     }
 
     /// Whether this is the function's name.

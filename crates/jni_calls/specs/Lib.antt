@@ -8,6 +8,7 @@ pub mod Given
 pub mod Checked
 pub mod Asked
 pub mod WorkedOut
+pub mod CallGroups
 pub mod Answers
 pub mod Made
 pub mod CarriedOut

@@ -11,8 +11,9 @@ ghost use Rattle.code_generator.specs.Coding.{element_of};
 ghost use Rattle.heap.specs.Heap.{IsAddress};
 ghost use Rattle.jni.specs.JniFunction.{is_built_function};
 ghost use Rattle.jni.specs.Table.{function_value};
+ghost use Rattle.jni_calls.specs.CallGroups.{is_further, is_of_fields};
 ghost use Rattle.jni_calls.specs.Checked.{fit_together};
-ghost use Rattle.jni_calls.specs.Given.{class_of_given, field_at, field_there, operand_at, operand_of, AreAddresses, AreHandles};
+ghost use Rattle.jni_calls.specs.Given.{class_of_given, field_at, field_there, name_there, operand_at, operand_of, AreAddresses, AreHandles};
 ghost use Rattle.jni_calls.specs.WorkedOut.{address_in, class_object, count_there, deletes, deletes_global, found_class, frame_for, held_reference, place_there, room_for, top_word, value_there, word_in, writes_there, IsFoundField, IsWorkedOut};
 ghost use Rattle.syntax.specs.Views.{element_tree};
 
@@ -94,114 +95,174 @@ pub fn work_out(
     match function.function {
         JniFunction::FindClass => found_class(loaded, classes.find(text_at(&function.texts, 0))),
         JniFunction::GetSuperclass => {
-            let first = reference_at(heap, references, &function.operands, 0);
-            let above = classes.superclass(name_there(heap, first));
-            Answer::Gives(Given::Reference(class_object(loaded, above)))
+            gives_class(
+                loaded,
+                classes.superclass(name_of(heap, references, function, 0)),
+            )
         }
         JniFunction::GetObjectClass => {
-            let first = reference_at(heap, references, &function.operands, 0);
-            let class = class_of_given(heap, first);
-            Answer::Gives(Given::Reference(class_object(loaded, Some(class))))
+            let first = argument(heap, references, function, 0);
+            gives_class(loaded, Some(class_of_given(heap, first)))
         }
         JniFunction::IsInstanceOf => {
-            let first = reference_at(heap, references, &function.operands, 0);
-            let second = reference_at(heap, references, &function.operands, 1);
-            let fits = fits_there(classes, heap, first, name_there(heap, second));
-            Answer::Gives(Given::Number(word_of_truth(fits)))
+            let first = argument(heap, references, function, 0);
+            let class = name_of(heap, references, function, 1);
+            gives_truth(fits_there(classes, heap, first, class))
         }
         JniFunction::IsAssignableFrom => {
-            let first = reference_at(heap, references, &function.operands, 0);
-            let second = reference_at(heap, references, &function.operands, 1);
-            let fits = classes.assignable(name_there(heap, first), name_there(heap, second));
-            Answer::Gives(Given::Number(word_of_truth(fits)))
+            let below = name_of(heap, references, function, 0);
+            let above = name_of(heap, references, function, 1);
+            gives_truth(classes.assignable(below, above))
         }
-        JniFunction::AllocObject => {
-            let first = reference_at(heap, references, &function.operands, 0);
-            Answer::Makes(name_there(heap, first))
+        JniFunction::AllocObject => Answer::Makes(name_of(heap, references, function, 0)),
+        JniFunction::GetArrayLength => {
+            let first = argument(heap, references, function, 0);
+            Answer::Gives(Given::Number(count_there(heap, first)))
         }
+        _ => { work_out_further(classes, heap, loaded, references, fields, stack, function) }
+    }
+}
+
+/// What a function of references, frames, fields or statics does.
+#[inline(always)]
+fn work_out_further(
+    classes: &ClassTable,
+    heap: &Heap,
+    loaded: &[Addr],
+    references: &References<'_>,
+    fields: &[Option<FieldHandle>],
+    stack: &Stack,
+    function: &Call,
+) -> Answer
+    requires grown { IsGrown classes.now }
+    requires loaded { (i a : ℕ) → slice_get loaded.now i ≡ Some a → IsAddress heap.now a }
+    requires objects { AreAddresses heap.now references.now function.now.operands.items }
+    requires handles { AreHandles classes.now fields.now function.now.operands.items }
+    requires further { is_further (function_value function.now.function) ≡ true }
+    requires passed { fit_together classes.now heap.now references.now fields.now function.now.operands.items (function_value function.now.function) ≡ true }
+    ensures { IsWorkedOut classes.now heap.now loaded.now references.now fields.now stack.now (call_view function.now) (function_value function.now.function) result }
+{
+    match function.function {
         JniFunction::NewLocalRef => {
-            let first = reference_at(heap, references, &function.operands, 0);
-            Answer::Gives(Given::Reference(first))
+            Answer::Gives(Given::Reference(argument(heap, references, function, 0)))
         }
-        JniFunction::NewGlobalRef => {
-            let first = reference_at(heap, references, &function.operands, 0);
-            Answer::MakesGlobal(first)
-        }
+        JniFunction::NewGlobalRef => Answer::MakesGlobal(argument(heap, references, function, 0)),
         JniFunction::DeleteGlobalRef => {
-            let first = reference_at(heap, references, &function.operands, 0);
+            let first = argument(heap, references, function, 0);
             deletes_global(first, operand_of(&function.operands, 0))
         }
         JniFunction::IsSameObject => {
-            let first = reference_at(heap, references, &function.operands, 0);
-            let second = reference_at(heap, references, &function.operands, 1);
-            let same = name_there(heap, first) == name_there(heap, second);
-            Answer::Gives(Given::Number(word_of_truth(same)))
+            let first = name_of(heap, references, function, 0);
+            let second = name_of(heap, references, function, 1);
+            gives_truth(first == second)
         }
         JniFunction::DeleteLocalRef => {
             deletes(key_in(references, operand_of(&function.operands, 0)))
         }
         JniFunction::EnsureLocalCapacity => room_for(top_word(stack).cast_signed()),
         JniFunction::PushLocalFrame => frame_for(top_word(stack).cast_signed()),
-        JniFunction::PopLocalFrame => {
-            let first = reference_at(heap, references, &function.operands, 0);
-            Answer::Pops(first)
-        }
+        JniFunction::PopLocalFrame => Answer::Pops(argument(heap, references, function, 0)),
+        _ => { work_out_field(classes, heap, loaded, references, fields, stack, function) }
+    }
+}
+
+/// What a function of fields or statics does.
+#[inline(always)]
+fn work_out_field(
+    classes: &ClassTable,
+    heap: &Heap,
+    loaded: &[Addr],
+    references: &References<'_>,
+    fields: &[Option<FieldHandle>],
+    stack: &Stack,
+    function: &Call,
+) -> Answer
+    requires grown { IsGrown classes.now }
+    requires loaded { (i a : ℕ) → slice_get loaded.now i ≡ Some a → IsAddress heap.now a }
+    requires objects { AreAddresses heap.now references.now function.now.operands.items }
+    requires handles { AreHandles classes.now fields.now function.now.operands.items }
+    requires of_fields { is_of_fields (function_value function.now.function) ≡ true }
+    requires passed { fit_together classes.now heap.now references.now fields.now function.now.operands.items (function_value function.now.function) ≡ true }
+    ensures { IsWorkedOut classes.now heap.now loaded.now references.now fields.now stack.now (call_view function.now) (function_value function.now.function) result }
+{
+    match function.function {
         JniFunction::GetFieldID => {
-            let first = reference_at(heap, references, &function.operands, 0);
-            find_field(classes, name_there(heap, first), &function.texts, false)
+            let class = name_of(heap, references, function, 0);
+            find_field(classes, class, &function.texts, false)
         }
         JniFunction::GetStaticFieldID => {
-            let first = reference_at(heap, references, &function.operands, 0);
-            find_field(classes, name_there(heap, first), &function.texts, true)
+            let class = name_of(heap, references, function, 0);
+            find_field(classes, class, &function.texts, true)
         }
         JniFunction::GetField(_) => {
-            let first = reference_at(heap, references, &function.operands, 0);
-            let place = place_of_field(classes, heap, references, fields, &function.operands);
-            Answer::Gives(Given::Number(word_in(value_there(heap, first, place))))
+            let value = value_of_field(classes, heap, references, fields, function);
+            Answer::Gives(Given::Number(word_in(value)))
         }
         JniFunction::SetField(element) => {
-            let first = reference_at(heap, references, &function.operands, 0);
-            let place = place_of_field(classes, heap, references, fields, &function.operands);
-            writes_there(heap, first, place, stored(element, stack))
+            let value = stored(element, stack);
+            writes_field(classes, heap, references, fields, function, value)
         }
         JniFunction::GetObjectField => {
-            let first = reference_at(heap, references, &function.operands, 0);
-            let place = place_of_field(classes, heap, references, fields, &function.operands);
-            Answer::Gives(Given::Reference(address_in(value_there(heap, first, place))))
+            let value = value_of_field(classes, heap, references, fields, function);
+            Answer::Gives(Given::Reference(address_in(value)))
         }
         JniFunction::SetObjectField => {
-            let first = reference_at(heap, references, &function.operands, 0);
-            let third = reference_at(heap, references, &function.operands, 2);
-            let place = place_of_field(classes, heap, references, fields, &function.operands);
-            writes_there(heap, first, place, held_reference(third))
+            let value = held_reference(argument(heap, references, function, 2));
+            writes_field(classes, heap, references, fields, function, value)
         }
         JniFunction::GetStaticField(_) => {
-            let holder = holder_of_static(classes, loaded, fields, &function.operands);
-            let place = place_of_static(classes, fields, &function.operands);
-            Answer::Gives(Given::Number(word_in(value_there(heap, holder, place))))
+            let value = value_of_static(classes, heap, loaded, fields, function);
+            Answer::Gives(Given::Number(word_in(value)))
         }
         JniFunction::SetStaticField(element) => {
-            let holder = holder_of_static(classes, loaded, fields, &function.operands);
-            let place = place_of_static(classes, fields, &function.operands);
-            writes_there(heap, holder, place, stored(element, stack))
+            let value = stored(element, stack);
+            writes_static(classes, heap, loaded, fields, function, value)
         }
         JniFunction::GetStaticObjectField => {
-            let holder = holder_of_static(classes, loaded, fields, &function.operands);
-            let place = place_of_static(classes, fields, &function.operands);
-            Answer::Gives(Given::Reference(address_in(value_there(heap, holder, place))))
+            let value = value_of_static(classes, heap, loaded, fields, function);
+            Answer::Gives(Given::Reference(address_in(value)))
         }
         JniFunction::SetStaticObjectField => {
-            let third = reference_at(heap, references, &function.operands, 2);
-            let holder = holder_of_static(classes, loaded, fields, &function.operands);
-            let place = place_of_static(classes, fields, &function.operands);
-            writes_there(heap, holder, place, held_reference(third))
-        }
-        JniFunction::GetArrayLength => {
-            let first = reference_at(heap, references, &function.operands, 0);
-            Answer::Gives(Given::Number(count_there(heap, first)))
+            let value = held_reference(argument(heap, references, function, 2));
+            writes_static(classes, heap, loaded, fields, function, value)
         }
         _ => unreachable!(),
     }
+}
+
+/// The reference of the operand at a place.
+#[inline(always)]
+fn argument(heap: &Heap, references: &References<'_>, function: &Call, place: usize) -> Option<Addr>
+    requires { AreAddresses heap.now references.now function.now.operands.items }
+    ensures reference { result ≡ operand_at references.now (operand_of function.now.operands.items place) }
+    ensures there { (a : ℕ) → result ≡ Some a → IsAddress heap.now a }
+{
+    reference_at(heap, references, &function.operands, place)
+}
+
+/// The name of its object, and 0 for NULL.
+#[inline(always)]
+fn name_of(heap: &Heap, references: &References<'_>, function: &Call, place: usize) -> usize
+    requires { AreAddresses heap.now references.now function.now.operands.items }
+    ensures { result ≡ name_there heap.now (operand_at references.now (operand_of function.now.operands.items place)) }
+{
+    name_there(heap, argument(heap, references, function, place))
+}
+
+/// A class object is given, or NULL.
+#[inline(always)]
+fn gives_class(loaded: &[Addr], class: Option<usize>) -> Answer
+    ensures { result ≡ Answer.Gives (Given.Reference (class_object loaded.now class)) }
+{
+    Answer::Gives(Given::Reference(class_object(loaded, class)))
+}
+
+/// A truth is given.
+#[inline(always)]
+fn gives_truth(truth: bool) -> Answer
+    ensures { result ≡ Answer.Gives (Given.Number (truth_word truth)) }
+{
+    Answer::Gives(Given::Number(u32::from(truth)))
 }
 
 /// A text of a call, and an empty one where there is none.
@@ -276,13 +337,6 @@ fn find_field(classes: &ClassTable, class: usize, texts: &[Vec<u8>], is_static: 
     }
 }
 
-/// The word of a truth.
-fn word_of_truth(truth: bool) -> u32
-    ensures { result ≡ truth_word truth }
-{
-    u32::from(truth)
-}
-
 /// The number of values of an object, and 0 for NULL.
 fn count_there(heap: &Heap, reference: Option<Addr>) -> u32
     requires { (a : ℕ) → reference ≡ Some a → IsAddress heap.now a }
@@ -342,6 +396,82 @@ fn place_of_static(
         → result ≡ place_there classes.now (field_at fields.now (operand_of operands.now 1)) (own_statics classes.now (field_there classes.now (field_at fields.now (operand_of operands.now 1))).class) }
 {
     static_place(classes, handle_at(classes, fields, operands, 1))
+}
+
+/// The value of the field of operand 1 in operand 0.
+#[inline(always)]
+fn value_of_field(
+    classes: &ClassTable,
+    heap: &Heap,
+    references: &References<'_>,
+    fields: &[Option<FieldHandle>],
+    function: &Call,
+) -> Option<Value>
+    requires grown { IsGrown classes.now }
+    requires objects { AreAddresses heap.now references.now function.now.operands.items }
+    requires handles { AreHandles classes.now fields.now function.now.operands.items }
+    ensures { (field_there classes.now (field_at fields.now (operand_of function.now.operands.items 1))).is_static ≡ false → result ≡ value_there heap.now (operand_at references.now (operand_of function.now.operands.items 0)) (place_there classes.now (field_at fields.now (operand_of function.now.operands.items 1)) (layout classes.now (class_of_given heap.now (operand_at references.now (operand_of function.now.operands.items 0))))) }
+{
+    let first = argument(heap, references, function, 0);
+    let place = place_of_field(classes, heap, references, fields, &function.operands);
+    value_there(heap, first, place)
+}
+
+/// The field of operand 1 in operand 0 changes to this value.
+#[inline(always)]
+fn writes_field(
+    classes: &ClassTable,
+    heap: &Heap,
+    references: &References<'_>,
+    fields: &[Option<FieldHandle>],
+    function: &Call,
+    value: Value,
+) -> Answer
+    requires grown { IsGrown classes.now }
+    requires objects { AreAddresses heap.now references.now function.now.operands.items }
+    requires handles { AreHandles classes.now fields.now function.now.operands.items }
+    ensures { (field_there classes.now (field_at fields.now (operand_of function.now.operands.items 1))).is_static ≡ false → result ≡ writes_there heap.now (operand_at references.now (operand_of function.now.operands.items 0)) (place_there classes.now (field_at fields.now (operand_of function.now.operands.items 1)) (layout classes.now (class_of_given heap.now (operand_at references.now (operand_of function.now.operands.items 0))))) value }
+{
+    let first = argument(heap, references, function, 0);
+    let place = place_of_field(classes, heap, references, fields, &function.operands);
+    writes_there(heap, first, place, value)
+}
+
+/// The value of the static of operand 1.
+#[inline(always)]
+fn value_of_static(
+    classes: &ClassTable,
+    heap: &Heap,
+    loaded: &[Addr],
+    fields: &[Option<FieldHandle>],
+    function: &Call,
+) -> Option<Value>
+    requires loaded { (i a : ℕ) → slice_get loaded.now i ≡ Some a → IsAddress heap.now a }
+    requires handles { AreHandles classes.now fields.now function.now.operands.items }
+    ensures { (field_there classes.now (field_at fields.now (operand_of function.now.operands.items 1))).is_static ≡ true → result ≡ value_there heap.now (class_object loaded.now (Some (field_there classes.now (field_at fields.now (operand_of function.now.operands.items 1))).class)) (place_there classes.now (field_at fields.now (operand_of function.now.operands.items 1)) (own_statics classes.now (field_there classes.now (field_at fields.now (operand_of function.now.operands.items 1))).class)) }
+{
+    let holder = holder_of_static(classes, loaded, fields, &function.operands);
+    let place = place_of_static(classes, fields, &function.operands);
+    value_there(heap, holder, place)
+}
+
+/// The static of operand 1 changes to this value.
+#[inline(always)]
+fn writes_static(
+    classes: &ClassTable,
+    heap: &Heap,
+    loaded: &[Addr],
+    fields: &[Option<FieldHandle>],
+    function: &Call,
+    value: Value,
+) -> Answer
+    requires loaded { (i a : ℕ) → slice_get loaded.now i ≡ Some a → IsAddress heap.now a }
+    requires handles { AreHandles classes.now fields.now function.now.operands.items }
+    ensures { (field_there classes.now (field_at fields.now (operand_of function.now.operands.items 1))).is_static ≡ true → result ≡ writes_there heap.now (class_object loaded.now (Some (field_there classes.now (field_at fields.now (operand_of function.now.operands.items 1))).class)) (place_there classes.now (field_at fields.now (operand_of function.now.operands.items 1)) (own_statics classes.now (field_there classes.now (field_at fields.now (operand_of function.now.operands.items 1))).class)) value }
+{
+    let holder = holder_of_static(classes, loaded, fields, &function.operands);
+    let place = place_of_static(classes, fields, &function.operands);
+    writes_there(heap, holder, place, value)
 }
 
 /// The place of the field of a handle among those of a class, and 0 for NULL.

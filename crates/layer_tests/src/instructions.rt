@@ -9,6 +9,7 @@ use code::plain::plain;
 use code::slots::SlotCounts;
 use code::stack::Stack;
 use jni::JniFunction;
+use std::alloc::Global;
 use std::test::Fail;
 
 const NO_SLOTS: SlotCounts = SlotCounts {
@@ -24,20 +25,23 @@ fn an_instruction_takes_16_bytes_at_most(rt: HostRuntime) {
     assert!(rt; size_of::<Instr>() <= 16, "{}", size_of::<Instr>());
 }
 
-// jint n = GetArrayLength(a); while (n > 0) { put_jint(n); } return; with a in the second slot of references.
-#[test]
-fn code_keeps_its_instructions(rt: HostRuntime) -> Result<(), Fail> {
-    let call = BoxedCall::of(
-        rt.alloc(),
-        Call::new(
-            3,
-            Target::Number(0),
-            JniFunction::GetArrayLength,
-            vec![in rt.alloc(); Operand::Local(1)]?,
-            Vec::new(rt.alloc()),
-        ),
-    )?;
-    let instrs = vec![in rt.alloc();
+/// jint n = GetArrayLength(a);, in line 3, with a in the second slot of references.
+fn length_call(alloc: Global) -> Result<BoxedCall, Fail> {
+    let operands = vec![in alloc; Operand::Local(1)]?;
+    let call = Call::new(
+        3,
+        Target::Number(0),
+        JniFunction::GetArrayLength,
+        operands,
+        Vec::new(alloc),
+    );
+    Ok(BoxedCall::of(alloc, call)?)
+}
+
+/// The code of jint n = GetArrayLength(a); while (n > 0) { put_jint(n); } return;
+fn counting_code(alloc: Global) -> Result<Code, Fail> {
+    let call = length_call(alloc)?;
+    let instrs = vec![in alloc;
         Instr::Call(call),
         Instr::Load(0),
         Instr::Push(0),
@@ -53,13 +57,23 @@ fn code_keeps_its_instructions(rt: HostRuntime) -> Result<(), Fail> {
         references: 2,
         ..NO_SLOTS
     };
-    let Some(code) = Code::of(instrs, slots)? else {
-        return Err(Fail::new("refused"));
-    };
-    let line = match code.get(0) {
+    match Code::of(instrs, slots)? {
+        Some(code) => Ok(code),
+        None => Err(Fail::new("refused")),
+    }
+}
+
+/// The line of the call at a place, or 0.
+fn line_of_call(code: &Code, place: usize) -> u32 {
+    match code.get(place) {
         Some(Instr::Call(call)) => call.call().line,
         _ => 0,
-    };
+    }
+}
+
+#[test]
+fn code_keeps_its_instructions(rt: HostRuntime) -> Result<(), Fail> {
+    let code = counting_code(rt.alloc())?;
     let jumps = matches!(code.get(7), Some(Instr::JumpBack(6)));
     let kept = code.slots();
     let counts = [
@@ -69,7 +83,9 @@ fn code_keeps_its_instructions(rt: HostRuntime) -> Result<(), Fail> {
         kept.field_ids,
         kept.buffers,
     ];
-    assert!(rt; (code.len(), counts, line, jumps) == (9, [1, 2, 0, 0, 0], 3, true));
+    assert!(rt;
+        jumps && counts == [1, 2, 0, 0, 0] && code.len() == 9 && line_of_call(&code, 0) == 3
+    );
     Ok(())
 }
 

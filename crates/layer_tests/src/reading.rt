@@ -2,7 +2,9 @@
 
 use classes::mangling::{is_mangled, mangle, unmangle};
 use std::test::Fail;
-use world::{Entry, ObjectValue, Repetition, ScheduleWord, read_journal, read_schedule};
+use world::{
+    Call, Entry, Object, ObjectValue, Repetition, ScheduleWord, World, read_journal, read_schedule,
+};
 use world_text::read_world;
 
 #[test]
@@ -34,39 +36,68 @@ const WORLD: &[u8] =
 fn classes_of_a_world(rt: HostRuntime) -> Result<(), Fail> {
     let world = read_world(rt.alloc(), WORLD)?;
     let classes = world.classes();
-    assert!(rt; world.cells() == 1024 && classes.len() == 46);
-    assert!(rt; classes.find(b"p/B") == Some(45) && classes.superclass(45) == Some(43));
-    assert!(rt; classes.name(44) == b"[LA;".as_slice() && classes.layout_len(45) == 1);
-    assert!(rt; classes.own_statics(45).len() == 1);
+    let got = [
+        world.cells() == 1024,
+        classes.len() == 46,
+        classes.find(b"p/B") == Some(45),
+        classes.superclass(45) == Some(43),
+        classes.name(44) == b"[LA;".as_slice(),
+        classes.layout_len(45) == 1,
+        classes.own_statics(45).len() == 1,
+    ];
+    assert!(rt; got == [true; 7]);
     Ok(())
 }
 
+/// Whether an object has this class and these values.
+fn is_object(object: &Object, class: usize, values: &[ObjectValue]) -> bool {
+    object.class() == class && object.values() == values
+}
+
+// Objects are named from 46 on, after those of the classes and the OutOfMemoryError object: here from 48, after two classes more.
 #[test]
 fn objects_of_a_world(rt: HostRuntime) -> Result<(), Fail> {
     let world = read_world(rt.alloc(), WORLD)?;
-    let [o, r, b, t] = world.objects() else {
+    let [o, r, _, _] = world.objects() else {
         return Err(Fail::new("four objects"));
     };
-    assert!(rt; o.class() == 45 && o.values() == [ObjectValue::Number(7)].as_slice());
     let elements = [
         ObjectValue::Reference(Some(48)),
         ObjectValue::Reference(None),
     ];
-    assert!(rt; r.class() == 44 && r.values() == elements.as_slice());
-    let numbers = [7, 8, -9].map(ObjectValue::Number);
-    assert!(rt; b.class() == 23 && b.values() == numbers.as_slice());
-    let units = [97, 32, 98].map(ObjectValue::Number);
-    assert!(rt; t.class() == 3 && t.values() == units.as_slice());
+    assert!(rt; is_object(o, 45, &[ObjectValue::Number(7)]) && is_object(r, 44, &elements));
     Ok(())
+}
+
+#[test]
+fn numbers_and_text_of_a_world(rt: HostRuntime) -> Result<(), Fail> {
+    let world = read_world(rt.alloc(), WORLD)?;
+    let [_, _, b, t] = world.objects() else {
+        return Err(Fail::new("four objects"));
+    };
+    let numbers = [7, 8, -9].map(ObjectValue::Number);
+    let units = [97, 32, 98].map(ObjectValue::Number);
+    assert!(rt; is_object(b, 23, &numbers) && is_object(t, 3, &units));
+    Ok(())
+}
+
+/// Whether a call is of this function, from this line, with these arguments.
+fn is_call(call: &Call, function: &[u8], line: usize, arguments: &[ObjectValue]) -> bool {
+    call.function() == function && call.line() == line && call.arguments() == arguments
+}
+
+/// The calls of the only thread of a world.
+fn calls_of(world: &World) -> &[Call] {
+    match world.threads() {
+        [calls] => calls.as_slice(),
+        _ => &[],
+    }
 }
 
 #[test]
 fn calls_of_a_world(rt: HostRuntime) -> Result<(), Fail> {
     let world = read_world(rt.alloc(), WORLD)?;
-    let [calls] = world.threads() else {
-        return Err(Fail::new("one thread"));
-    };
-    let [first, second] = calls.as_slice() else {
+    let [first, second] = calls_of(&world) else {
         return Err(Fail::new("two calls"));
     };
     let arguments = [
@@ -75,15 +106,9 @@ fn calls_of_a_world(rt: HostRuntime) -> Result<(), Fail> {
         ObjectValue::Reference(None),
         ObjectValue::Reference(Some(43)),
     ];
+    let text = [ObjectValue::Reference(Some(51))];
     assert!(rt;
-        first.function() == b"Java_A_f".as_slice()
-            && first.line() == 11
-            && first.arguments() == arguments.as_slice()
-    );
-    assert!(rt;
-        second.function() == b"Java_A_g".as_slice()
-            && second.line() == 12
-            && second.arguments() == [ObjectValue::Reference(Some(51))].as_slice()
+        is_call(first, b"Java_A_f", 11, &arguments) && is_call(second, b"Java_A_g", 12, &text)
     );
     Ok(())
 }

@@ -1,7 +1,7 @@
 -- A list up to an element, and from it on.
-use Rattle.std.proofs.Common.{◌≡◌, ℕ, ◌+◌, List, [], ◌∷◌, ◌++◌, drop, take, Some, ap, ◌∙◌}
+use Rattle.std.proofs.Common.{◌≡◌, ℕ, zero, suc, ◌+◌, ◌≤◌, List, [], ◌∷◌, ◌++◌, length, map, drop, take, Some, refl, sym, ap, ◌∙◌, arith}
 use Rattle.std.specs.Prelude.{slice_get}
-use Rattle.std.proofs.lemmas.List.{take_more, at_drop_more}
+use Rattle.std.proofs.lemmas.List.{take_more, at_drop_more, map-append}
 use Rattle.std.proofs.lemmas.Option.{get_or_from_slice_get, slice_get_within}
 
 -- up to an element and with it
@@ -11,3 +11,21 @@ take_next xs i x at = take_more xs i x (slice_get_within xs i x at) ∙ ap (λ y
 -- the element, and those after it
 pub drop_next : {A : Type 0} (xs : List A) (i : ℕ) (x : A) → slice_get xs i ≡ Some x → drop i xs ≡ x ∷ drop (i + 1) xs
 drop_next xs i x at = at_drop_more (λ ys. ys) xs i x (slice_get_within xs i x at) ∙ ap (λ y. y ∷ drop (i + 1) xs) (get_or_from_slice_get xs i x x at)
+
+-- all of it, up to its end
+pub take_all : {A : Type 0} (xs : List A) (i : ℕ) → length xs ≤ i → take i xs ≡ xs
+take_all [] zero h = refl
+take_all [] (suc i) h = refl
+take_all (x ∷ xs) zero h = absurd (omega arith)
+take_all (x ∷ xs) (suc i) h = ap (λ ys. x ∷ ys) (take_all xs i (omega (arith, h)))
+
+-- what was made of the elements so far, and of one more
+pub mapped_more : {A B C : Type 0} (view : A → C) (f : B → C) (made : List A) (a : A) (xs : List B) (i : ℕ) (x : B) → slice_get xs i ≡ Some x → view a ≡ f x → map view made ≡ map f (take i xs) → map view (made ++ a ∷ []) ≡ map f (take (i + 1) xs)
+mapped_more view f made a xs i x at same so_far =
+    map-append view made (a ∷ [])
+    ∙ (λ k. so_far k ++ same k ∷ [])
+    ∙ sym (ap (map f) (take_next xs i x at) ∙ map-append f (take i xs) (x ∷ []))
+
+-- and of all
+pub mapped_all : {B C : Type 0} (f : B → C) (made : List C) (xs : List B) (i : ℕ) → length xs ≤ i → made ≡ map f (take i xs) → made ≡ map f xs
+mapped_all f made xs i past so_far = so_far ∙ ap (map f) (take_all xs i past)

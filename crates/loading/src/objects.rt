@@ -36,11 +36,7 @@ pub fn load_store(alloc: Global, items: &[Item], world: &World) -> Result<Store,
     ensures globals { IfOk result (λ store. store.globals ≡ []) }
 {
     let mut heap = Heap::new(alloc, world.cells())?;
-    let mut loaded = Vec::new(alloc);
-    make_class_objects(alloc, &mut heap, &mut loaded, world)?;
-    let error = fresh_values(alloc, world.classes(), OUT_OF_MEMORY_ERROR)?;
-    make(&mut heap, &mut loaded, OUT_OF_MEMORY_ERROR, &error)?;
-    make_objects(&mut heap, &mut loaded, world)?;
+    let loaded = load_objects(alloc, &mut heap, world)?;
     // The proof reads off this call that there are few objects.
     let _ = heap.cells();
     let births = loaded.len() as u32;
@@ -51,6 +47,20 @@ pub fn load_store(alloc: Global, items: &[Item], world: &World) -> Result<Store,
         statics: empty_statics(alloc, items)?,
         globals: Globals::new(alloc),
     })
+}
+
+/// Makes all objects in an empty heap, and answers their addresses.
+fn load_objects(alloc: Global, heap: &mut Heap, world: &World) -> Result<Vec<Addr>, AllocError>
+    requires none { AreMade heap.old [] [] }
+    requires cells { heap.old.cells ≡ world.now.cells }
+    ensures made { IfOk result (λ loaded. AreMade heap.new loaded.items (loaded_objects world.now)) }
+    ensures cells { OnOk result (heap.new.cells ≡ world.now.cells) }
+{
+    let mut loaded = Vec::new(alloc);
+    make_class_objects(alloc, heap, &mut loaded, world)?;
+    make_error(alloc, heap, &mut loaded, world)?;
+    make_objects(heap, &mut loaded, world)?;
+    Ok(loaded)
 }
 
 /// The unit's statics, which are NULL.
@@ -85,6 +95,22 @@ fn make_class_objects(
         make(heap, loaded, CLASS, &values)?;
     }
     Ok(())
+}
+
+/// Makes the OutOfMemoryError object.
+fn make_error(
+    alloc: Global,
+    heap: &mut Heap,
+    loaded: &mut Vec<Addr>,
+    world: &World,
+) -> Result<(), AllocError>
+    requires classes { AreMade heap.old loaded.old.items (take (length world.now.classes) (loaded_objects world.now)) }
+    requires cells { heap.old.cells ≡ world.now.cells }
+    ensures made { OnOk result (AreMade heap.new loaded.new.items (take (length world.now.classes + 1) (loaded_objects world.now))) }
+    ensures cells { OnOk result (heap.new.cells ≡ world.now.cells) }
+{
+    let error = fresh_values(alloc, world.classes(), OUT_OF_MEMORY_ERROR)?;
+    make(heap, loaded, OUT_OF_MEMORY_ERROR, &error)
 }
 
 /// Makes the world's objects.

@@ -3,7 +3,7 @@ use Rattle.std.proofs.Common.{◌≡◌, ℕ, ◌+◌, ◌<◌, ◌≤◌, ◌||
 use Rattle.std.specs.Prelude.{IsTrue}
 use Rattle.std.specs.List.{list_any}
 use Rattle.std.proofs.Math.ListN.{drop_of_length-le}
-use Rattle.std.proofs.lemmas.Bool.{le-ltb, lt-ltb}
+use Rattle.std.proofs.lemmas.Bool.{le-ltb}
 use Rattle.std.proofs.lemmas.List.{append-nil}
 use Rattle.syntax.specs.declared.unit.Item.{Item as ItemInMemory}
 use Rattle.syntax.specs.Tree.{Function, Item, StaticItem, FunctionItem, Static}
@@ -11,6 +11,7 @@ use Rattle.syntax.specs.Views.{item_tree}
 use Rattle.code.specs.Depth.{Listing}
 use Rattle.code_generator.specs.Layout.{Known, with_static}
 use Rattle.lower.specs.Length.{function_steps, step_limit, is_long}
+use Rattle.lower.specs.Items.{ItemFits, IsItemDone}
 use Rattle.lower.specs.Lowered.{IsCodeOf, AreCodesOf}
 use Rattle.lower.proofs.AcceptedFacts.{AllFit}
 
@@ -34,8 +35,19 @@ function_done all statics f rest codes c h is = record {
   long = h.long ∙ ap (λ b. b || list_any is_long rest) (le-ltb step_limit (function_steps f) is.short);
 }
 
-pub too_long : (all : List Item) (statics : Known) (f : Function) (rest : List Item) (codes : List Listing) → AreLeft all statics (FunctionItem f ∷ rest) codes → step_limit < function_steps f → IsTrue (list_any is_long all)
-too_long all statics f rest codes h long = h.long ∙ ap (λ b. b || list_any is_long rest) (lt-ltb step_limit (function_steps f) long)
+-- an item that is left can be lowered
+pub item_fits : (all : List Item) (statics : Known) (item : Item) (rest : List Item) (codes : List Listing) → AreLeft all statics (item ∷ rest) codes → ItemFits statics item
+item_fits all statics (StaticItem s) rest codes h = tt
+item_fits all statics (FunctionItem f) rest codes h = (h.fit.0, h.fit.1, h.fit.2, h.fit.3)
+
+-- and those after it are left then
+pub item_done : (all : List Item) (statics : Known) (item : Item) (rest : List Item) (codes : List Listing) (after : Known) (done : List Listing) → AreLeft all statics (item ∷ rest) codes → IsItemDone statics codes item after done → AreLeft all after rest done
+item_done all statics (StaticItem s) rest codes after done h is = rw (is.0, is.1) (static_done all statics s rest codes h)
+item_done all statics (FunctionItem f) rest codes after done h is = rw (is.0, is.1.1) (function_done all statics f rest codes is.1.0 h is.1.2)
+
+-- the first item that is left is too long
+pub item_long : (all : List Item) (statics : Known) (item : Item) (rest : List Item) (codes : List Listing) → AreLeft all statics (item ∷ rest) codes → IsTrue (is_long item) → IsTrue (list_any is_long all)
+item_long all statics item rest codes h long = h.long ∙ ap (λ b. b || list_any is_long rest) long
 
 pub all_done : (all : List Item) (statics : Known) (codes : List Listing) → AreLeft all statics [] codes → AreCodesOf [] all codes
 all_done all statics codes h = subst (AreCodesOf [] all) (append-nil codes) (h.lowered [] tt)

@@ -1,6 +1,6 @@
 //! Which functions are too long, told from the tree alone. A walk counts down from the limit, and stops where nothing is left.
 
-ghost use Rattle.std.specs.Prelude.{◌≡◌, ℕ, ◌+◌, ◌<◌, is_some, nat_lt, IfSome, IfNone, map, zip};
+ghost use Rattle.std.specs.Prelude.{◌≡◌, ℕ, ◌+◌, ◌<◌, is_some, nat_lt, IfSome, IfNone, IsTrue, map, zip};
 ghost use Rattle.std.specs.List.{list_any, sum_by};
 ghost use Rattle.std.specs.Option.{option_map};
 ghost use Rattle.syntax.specs.Parts.{null_tested};
@@ -8,6 +8,7 @@ ghost use Rattle.syntax.specs.Tree.{Binary};
 ghost use Rattle.syntax.specs.Views.{expr_tree, binary_tree, argument_tree, call_tree, right_side_tree, test_tree, result_tree, form_tree, block_tree, function_tree, item_tree, unit_tree};
 ghost use Rattle.jni.specs.JniFunction.{function_named};
 ghost use Rattle.jni.specs.Table.{parameter_value};
+ghost use Rattle.code_generator.specs.Plain.{is_plain};
 ghost use Rattle.lower.specs.Length.{step_limit, expr_steps, argument_steps, call_steps, value_steps, right_steps, test_steps, return_steps, stmt_steps, block_steps, function_steps, is_long};
 
 use crate::lowering::MOST_STEPS;
@@ -51,6 +52,14 @@ fn after_expr(left: usize, e: &Expr) -> Option<usize>
         }
         Expr::Paren(a) => after_expr(left, a),
     }
+}
+
+/// The same after an expression and a step that takes its value.
+fn after_number(left: usize, e: &Expr) -> Option<usize>
+    ensures some { IfSome result (λ rest. rest + expr_steps (expr_tree e.now) + 1 ≡ left) }
+    ensures none { IfNone result (left < expr_steps (expr_tree e.now) + 1) }
+{
+    after_one(after_expr(left, e)?)
 }
 
 /// The same after what is worked out of an argument before the call.
@@ -108,7 +117,7 @@ fn after_value(left: usize, e: &Expr) -> Option<usize>
 {
     match e {
         Expr::Named(Constant::Null) => after_one(left),
-        e => after_one(after_expr(left, e)?),
+        e => after_number(left, e),
     }
 }
 
@@ -129,7 +138,7 @@ fn after_test(left: usize, test: &Test) -> Option<usize>
     ensures none { IfNone result (left < test_steps (test_tree test.now)) }
 {
     match test {
-        Test::Expr(e) => after_one(after_expr(left, e)?),
+        Test::Expr(e) => after_number(left, e),
         Test::Call(call) => after_one(after_call(left, call)?),
     }
 }
@@ -140,7 +149,7 @@ fn after_return(left: usize, returns: ResultType, e: &Expr) -> Option<usize>
     ensures none { IfNone result (left < return_steps (result_tree returns) (expr_tree e.now)) }
 {
     match returns {
-        ResultType::Jint => after_one(after_expr(left, e)?),
+        ResultType::Jint => after_number(left, e),
         ResultType::Void | ResultType::Reference(_) => after_one(left),
     }
 }
@@ -152,23 +161,42 @@ fn after_form(left: usize, returns: ResultType, form: &Form) -> Option<usize>
     ensures none { (line : ℕ) → IfNone result (left < stmt_steps (result_tree returns) (form_tree line form.now)) }
 {
     match form {
+        Form::If(test, block) => after_one(after_first(left, returns, test, block)?),
+        Form::IfElse(test, block, other) => {
+            after_way(after_first(left, returns, test, block)?, returns, other)
+        }
+        Form::While(test, body) => after_way(after_number(left, test)?, returns, body),
+        _ => after_plain(left, returns, form),
+    }
+}
+
+/// The same after a test and the way that is taken where it holds.
+#[cycle(statements)]
+fn after_first(left: usize, returns: ResultType, test: &Test, block: &Block) -> Option<usize>
+    ensures some { IfSome result (λ rest. rest + (test_steps (test_tree test.now) + (block_steps (result_tree returns) (block_tree block.now) + 1)) ≡ left) }
+    ensures none { IfNone result (left < test_steps (test_tree test.now) + (block_steps (result_tree returns) (block_tree block.now) + 1)) }
+{
+    after_way(after_test(left, test)?, returns, block)
+}
+
+/// The same after a statement without blocks.
+fn after_plain(left: usize, returns: ResultType, form: &Form) -> Option<usize>
+    requires { IsTrue (is_plain form.now) }
+    ensures some { (line : ℕ) → IfSome result (λ rest. rest + stmt_steps (result_tree returns) (form_tree line form.now) ≡ left) }
+    ensures none { (line : ℕ) → IfNone result (left < stmt_steps (result_tree returns) (form_tree line form.now)) }
+{
+    match form {
         Form::Declare(_, _, right) => after_right(left, right),
         Form::DeclareBuffer(_, _, right) => after_right(left, right),
         Form::DeclareChars(_, right) => after_right(left, right),
         Form::DeclareArray(..) => after_one(left),
         Form::Assign(_, right) => after_right(left, right),
-        Form::AssignElement(_, i, e) => after_one(after_expr(after_expr(left, i)?, e)?),
+        Form::AssignElement(_, i, e) => after_number(after_expr(left, i)?, e),
         Form::Perform(call) => after_call(left, call),
-        Form::PutJint(e) => after_one(after_expr(left, e)?),
-        Form::If(test, block) => { after_one(after_way(after_test(left, test)?, returns, block)?) }
-        Form::IfElse(test, block, other) => after_way(
-            after_way(after_test(left, test)?, returns, block)?,
-            returns,
-            other,
-        ),
-        Form::While(test, body) => after_way(after_one(after_expr(left, test)?)?, returns, body),
+        Form::PutJint(e) => after_number(left, e),
         Form::Return(None) => after_one(left),
         Form::Return(Some(e)) => after_return(left, returns, e),
+        Form::If(..) | Form::IfElse(..) | Form::While(..) => Some(left),
     }
 }
 

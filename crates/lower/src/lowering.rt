@@ -1,17 +1,20 @@
 //! From checked programs to code.
 
-ghost use Rattle.std.specs.Prelude.{◌≡◌, ◌+◌, ◌<◌, [], length, Err, IfOk, OnOk, IsTrue};
-ghost use Rattle.syntax.specs.Views.{function_tree, unit_tree};
-ghost use Rattle.code_generator.specs.Coding.{function_code};
-ghost use Rattle.lower.specs.Fits.{AreStatics, FunctionFits};
-ghost use Rattle.lower.specs.Stands.{block_returns};
-ghost use Rattle.lower.specs.Length.{function_steps, step_limit, IsTooLong};
+ghost use Rattle.std.specs.Prelude.{◌≡◌, ◌<◌, [], length, Err, IfOk, OnOk, IsTrue};
+ghost use Rattle.syntax.specs.Tree.{FunctionItem};
+ghost use Rattle.syntax.specs.Views.{function_tree, item_tree, unit_tree};
+ghost use Rattle.code.specs.Depth.{IsValid};
+ghost use Rattle.code_generator.specs.Layout.{entry_layout, function_slots};
+ghost use Rattle.code_generator.specs.Coding.{block_code};
+ghost use Rattle.lower.specs.Items.{ItemFits, IsItemDone};
+ghost use Rattle.lower.specs.Length.{function_steps, step_limit, is_long, IsTooLong};
 ghost use Rattle.lower.specs.Lowered.{IsCodeOf};
 
 use crate::fault::LowerFault;
 use crate::program::Program;
 use code::code::Code;
 use code::instr::Instr;
+use code::slots::SlotCounts;
 use code_generator::{Names, emit, emit_block};
 use regions::Checked;
 use std::alloc::{AllocError, Global};
@@ -33,41 +36,72 @@ pub fn lower<'a>(alloc: Global, checked: &'a Checked) -> Result<Program<'a>, Low
     let mut names = Names::new(alloc);
     let mut codes = Vec::new(alloc);
     for item in checked.items() {
-        match item {
-            Item::Static(named) => names.declare_static(named)?,
-            Item::Function(function) => match lower_function(alloc, &mut names, function) {
-                Ok(code) => codes.push(code)?,
-                Err(fault) => return Err(fault),
-            },
-        }
+        lower_item(alloc, &mut names, &mut codes, item)?;
     }
     Ok(Program::of(checked, codes))
 }
 
+/// One static more, or the code of one function more.
+fn lower_item<'a>(
+    alloc: Global,
+    names: &mut Names<'a>,
+    codes: &mut Vec<Code>,
+    item: &'a Item,
+) -> Result<(), LowerFault>
+    requires { ItemFits names.old.known (item_tree item.now) }
+    ensures done { OnOk result (IsItemDone names.old.known codes.old.items (item_tree item.now) names.new.known codes.new.items) }
+    ensures too_long { result ≡ Err LowerFault.TooLong → IsTrue (is_long (item_tree item.now)) }
+{
+    match item {
+        Item::Static(named) => names.declare_static(named)?,
+        Item::Function(function) => codes.push(lower_function(alloc, names, function)?)?,
+    }
+    Ok(())
+}
+
 /// The code of a function, where the statics before it are known. After it they alone are known again.
-pub(crate) fn lower_function<'a>(
+fn lower_function<'a>(
     alloc: Global,
     names: &mut Names<'a>,
     function: &'a Function,
 ) -> Result<Code, LowerFault>
-    requires statics { AreStatics names.old.known }
-    requires fits { FunctionFits names.old.known (function_tree function.now) }
-    requires returns { IsTrue (block_returns (function_tree function.now).body) }
-    requires counted { length (function_code names.old.known (function_tree function.now)) ≡ function_steps (function_tree function.now) + 1 }
+    requires { ItemFits names.old.known (FunctionItem (function_tree function.now)) }
     ensures ok { IfOk result (IsCodeOf names.old.known (function_tree function.now)) }
     ensures statics { OnOk result (names.new.known ≡ names.old.known) }
     ensures too_long { result ≡ Err LowerFault.TooLong → step_limit < function_steps (function_tree function.now) }
+{
+    let mut instrs = body_instrs(alloc, names, function)?;
+    if instrs.len() > MOST_STEPS {
+        return Err(LowerFault::TooLong);
+    }
+    emit(&mut instrs, Instr::Return)?;
+    Ok(valid_code(instrs, names.slots())?)
+}
+
+/// The instructions of a function's body. After it the statics alone are known again.
+fn body_instrs<'a>(
+    alloc: Global,
+    names: &mut Names<'a>,
+    function: &'a Function,
+) -> Result<Vec<Instr>, AllocError>
+    ensures instrs { IfOk result (λ instrs. instrs.items ≡ block_code (entry_layout names.old.known (function_tree function.now)) (function_tree function.now).body) }
+    ensures slots { OnOk result (names.new.slots ≡ function_slots names.old.known (function_tree function.now)) }
+    ensures statics { OnOk result (names.new.known ≡ names.old.known) }
 {
     let statics = names.len();
     names.enter(function)?;
     let mut instrs = Vec::new(alloc);
     emit_block(&mut instrs, names, &function.body)?;
     names.leave(statics);
-    if instrs.len() > MOST_STEPS {
-        return Err(LowerFault::TooLong);
-    }
-    emit(&mut instrs, Instr::Return)?;
-    match Code::of(instrs, names.slots())? {
+    Ok(instrs)
+}
+
+/// The code of instructions that are as code has to be.
+fn valid_code(instrs: Vec<Instr>, slots: SlotCounts) -> Result<Code, AllocError>
+    requires { IsValid (record { instrs = instrs.items; slots = slots }) }
+    ensures { IfOk result (λ code. code ≡ record { instrs = instrs.items; slots = slots }) }
+{
+    match Code::of(instrs, slots)? {
         Some(code) => Ok(code),
         None => unreachable!(),
     }

@@ -5,12 +5,13 @@ ghost use Rattle.std.specs.List.{list_all, enumerate_from};
 ghost use Rattle.syntax.specs.Views.{unit_tree};
 ghost use Rattle.report.specs.Sink.{CanFail};
 ghost use Rattle.report.specs.ThreadStatus.{standing_view};
+ghost use Rattle.heap.specs.Heap.{left_of};
 ghost use Rattle.source.specs.Load.{first_load_fault};
 ghost use Rattle.source.specs.Object.{sizes};
 ghost use Rattle.source.specs.World.{loaded_objects};
 ghost use Rattle.loading.specs.Loading.{IsLoadFault};
 ghost use Rattle.source.specs.declared.journal.Entry.TheVariants.{Step};
-ghost use Rattle.machine.specs.Run.{replay_of, IsUnstarted, CouldStep, TurnHolds, RunsAlong, RunsInto, PrintedBy, IsFinished, has_ended, ReportsRun, GivesNoStep, GivesStep, StoppedBy, printed_after};
+ghost use Rattle.machine.specs.Run.{replay_of, Corresponds, IsUnstarted, CouldStep, TurnHolds, RunsAlong, RunsInto, PrintedBy, IsFinished, has_ended, ReportsRun, GivesNoStep, GivesStep, StoppedBy, printed_after};
 ghost use Rattle.machine.specs.Stops.{stop_after, standing_of, standing_by_ending};
 
 use crate::fault::{ReportFault, RunFault};
@@ -75,12 +76,8 @@ impl<'a> Machine<'a> {
         ensures left { IfOk result (λ m. m.left ≡ world.cells - sizes (loaded_objects world)) }
         ensures fault { IfErr result (IsLoadFault (unit_tree program.entry.unit) world) }
     {
-        // The proof reads off this call what is known of a world.
-        let _ = world.threads();
-        accepted_is_safe();
-        let store = load_store(alloc, program.items(), &world)?;
-        match load_threads(alloc, &program, &world) {
-            Ok(threads) => Ok(Machine {
+        match load_parts(alloc, &program, &world) {
+            Ok((store, threads)) => Ok(Machine {
                 program,
                 world,
                 store,
@@ -277,6 +274,27 @@ impl<'a> Machine<'a> {
             Ok(()) => Ok(()),
             Err(_) => Err(ReportFault::Sink),
         }
+    }
+}
+
+/// The store and the threads before the first step.
+fn load_parts(
+    alloc: Global,
+    program: &Program<'_>,
+    world: &World,
+) -> Result<(Store, Vec<Thread>), LoadFault>
+    ensures begins { IfOk result (λ parts. Corresponds program.now world.now parts.0 parts.1.items [] None []) }
+    ensures fits { OnOk result (first_load_fault (unit_tree program.now.unit) world.now ≡ None) }
+    ensures left { IfOk result (λ parts. left_of parts.0.heap ≡ world.now.cells - sizes (loaded_objects world.now)) }
+    ensures fault { IfErr result (IsLoadFault (unit_tree program.now.unit) world.now) }
+{
+    // The proof reads off this call what is known of a world.
+    let _ = world.threads();
+    accepted_is_safe();
+    let store = load_store(alloc, program.items(), world)?;
+    match load_threads(alloc, program, world) {
+        Ok(threads) => Ok((store, threads)),
+        Err(fault) => Err(fault),
     }
 }
 

@@ -9,3 +9,5 @@ pub mod Again
 pub mod Ranges
 pub mod Trees
 pub mod Whole
+pub mod Regrouped
+pub mod Ways

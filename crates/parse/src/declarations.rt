@@ -4,6 +4,7 @@ ghost use Rattle.std.specs.Prelude.{◌≡◌, ◌≤◌};
 ghost use Rattle.syntax.specs.Views.{element_tree, variable_type_tree, stmt_tree};
 ghost use Rattle.lexemes.specs.Results.{Gives};
 ghost use Rattle.lexemes.specs.Lexemes.{views};
+ghost use Rattle.parse.specs.Steps.{array_head_at};
 ghost use Rattle.parse.specs.Reading.{zeros_at, array_at, is_array, after_element, after_variable, after_const, declared_at, starts_declaration};
 
 use expressions::setting;
@@ -30,8 +31,21 @@ fn zeros(lexemes: Cursor<'_>) -> Result<Cursor<'_>, ParseFault>
     expect(Fixed::Mark(Mark::Semicolon), rest)
 }
 
+/// The name and the size of a local array, in its brackets.
+#[inline]
+#[tactic(auto, unfolding(crate::specs::Steps::array_head_at))]
+fn array_head(lexemes: Cursor<'_>) -> Result<(&[u8], u32, Cursor<'_>), ParseFault>
+    ensures { Gives (λ x. (x.0.now, x.1, views x.2)) result (array_head_at (views lexemes.entry)) }
+{
+    let (name, rest) = name_at(lexemes)?;
+    let rest = expect(Fixed::Mark(Mark::OpenBracket), rest)?;
+    let (size, rest) = number_at(1, ELEMENTS, rest)?;
+    let rest = expect(Fixed::Mark(Mark::CloseBracket), rest)?;
+    Ok((name, size, rest))
+}
+
 /// The name, the size and the zeros of a local array.
-#[tactic(auto, unfolding(crate::specs::Reading::array_at))]
+#[tactic(auto, using(crate::proofs::Regrouped::array_is))]
 fn array(
     alloc: Global,
     line: usize,
@@ -40,10 +54,7 @@ fn array(
 ) -> Result<(Stmt, Cursor<'_>), ParseFault>
     ensures { Gives (λ x. (stmt_tree x.0, views x.1)) result (array_at line (element_tree element) (views lexemes.entry)) }
 {
-    let (name, rest) = name_at(lexemes)?;
-    let rest = expect(Fixed::Mark(Mark::OpenBracket), rest)?;
-    let (size, rest) = number_at(1, ELEMENTS, rest)?;
-    let rest = expect(Fixed::Mark(Mark::CloseBracket), rest)?;
+    let (name, size, rest) = array_head(lexemes)?;
     let rest = zeros(rest)?;
     let form = Form::DeclareArray(element, Name::new(alloc, name)?, size);
     Ok((Stmt { line, form }, rest))
@@ -60,7 +71,7 @@ fn is_array(element: ElementType, lexemes: Cursor<'_>) -> bool
 }
 
 /// What comes after an element's type.
-#[tactic(auto, unfolding(crate::specs::Reading::after_element))]
+#[tactic(auto, unfolding(crate::specs::Reading::after_element, crate::specs::Reading::after_variable))]
 fn after_element(
     alloc: Global,
     room: u32,
@@ -79,9 +90,7 @@ fn after_element(
     if is_array(element, lexemes) {
         return array(alloc, line, element, lexemes);
     }
-    let (name, right, rest) = setting(alloc, room, lexemes)?;
-    let form = Form::Declare(VariableType::Jint, name, right);
-    Ok((Stmt { line, form }, rest))
+    after_variable(alloc, room, line, VariableType::Jint, lexemes)
 }
 
 /// What comes after another variable's type.

@@ -3,10 +3,11 @@
 ghost use Rattle.std.specs.Prelude.{◌≡◌, ℕ, ◌+◌, List, length, map, IfOk, Ok};
 ghost use Rattle.scan.specs.Spelling.{Spells};
 ghost use Rattle.syntax.specs.Tree.{SourceUnit};
-ghost use Rattle.syntax.specs.Views.{result_tree, block_tree, function_tree, static_tree, item_tree, unit_tree};
+ghost use Rattle.syntax.specs.Views.{parameter_tree, reference_tree, result_tree, block_tree, function_tree, static_tree, item_tree, unit_tree};
 ghost use Rattle.lexemes.specs.Results.{Gives};
 ghost use Rattle.lexemes.specs.Lexemes.{views, lexemes};
 ghost use Rattle.parse.specs.Spelling.{SpellsUnit};
+ghost use Rattle.parse.specs.Steps.{exported_at, function_item_at, static_head_at, static_item_at};
 ghost use Rattle.parse.specs.Reading.{head_at, body_at, signature_at, function_at, static_at, item_at, items_at, unit_at};
 
 use crate::parameters::{NAMES, parameters};
@@ -16,8 +17,8 @@ use lexemes::{
     rest_of, result_type, start, starts_with, unexpected,
 };
 use scan::{Mark, Token, Word, one_spelling};
-use std::alloc::Global;
-use syntax::{Block, Function, Item, Name, ResultType, Static, Unit};
+use std::alloc::{AllocError, Global};
+use syntax::{Block, Function, Item, Name, Parameter, ReferenceType, ResultType, Static, Unit};
 
 /// How high the trees in a function's block may be, which counts one itself.
 const ROOM: u32 = 31;
@@ -52,16 +53,26 @@ fn body(alloc: Global, free: usize, lexemes: Cursor<'_>) -> Result<(Block, Curso
     Ok((body, rest))
 }
 
-/// The result, the name and the class of a function, and what comes after them.
-#[tactic(auto, unfolding(crate::specs::Reading::signature_at))]
-fn signature(lexemes: Cursor<'_>) -> Result<(ResultType, &[u8], &[u8], Cursor<'_>), ParseFault>
-    ensures { Gives (λ x. (result_tree x.0, x.1.now, x.2.now, views x.3)) result (signature_at (views lexemes.entry)) }
+/// The result of a function, up to its name.
+#[inline]
+#[tactic(auto, unfolding(crate::specs::Steps::exported_at))]
+fn exported(lexemes: Cursor<'_>) -> Result<(ResultType, Cursor<'_>), ParseFault>
+    ensures { Gives (λ x. (result_tree x.0, views x.1)) result (exported_at (views lexemes.entry)) }
 {
     let rest = expect(Fixed::Word(Word::JniExport), lexemes)?;
     let Some(result) = result_type(rest) else {
         return Err(unexpected(rest));
     };
     let rest = expect(Fixed::Word(Word::JniCall), rest_of(rest))?;
+    Ok((result, rest))
+}
+
+/// The result, the name and the class of a function, and what comes after them.
+#[tactic(auto, using(crate::proofs::Regrouped::signature_is))]
+fn signature(lexemes: Cursor<'_>) -> Result<(ResultType, &[u8], &[u8], Cursor<'_>), ParseFault>
+    ensures { Gives (λ x. (result_tree x.0, x.1.now, x.2.now, views x.3)) result (signature_at (views lexemes.entry)) }
+{
+    let (result, rest) = exported(lexemes)?;
     let (name, rest) = name_at(rest)?;
     let rest = head(rest)?;
     let (class_name, rest) = name_at(rest)?;
@@ -77,31 +88,57 @@ fn function(alloc: Global, lexemes: Cursor<'_>) -> Result<(Function, Cursor<'_>)
     let (result, name, class_name, rest) = signature(lexemes)?;
     let (parameters, rest) = parameters(alloc, rest)?;
     let (body, rest) = body(alloc, NAMES - parameters.len(), rest)?;
-    Ok((
-        Function {
-            line,
-            result,
-            name: Name::new(alloc, name)?,
-            class_name: Name::new(alloc, class_name)?,
-            parameters,
-            body,
-        },
-        rest,
-    ))
+    let function = made(alloc, line, result, name, class_name, parameters, body)?;
+    Ok((function, rest))
 }
 
-/// A reference that all functions share.
-#[tactic(auto, unfolding(crate::specs::Reading::static_at))]
-fn static_reference(alloc: Global, lexemes: Cursor<'_>) -> Result<(Static, Cursor<'_>), ParseFault>
-    ensures { Gives (λ x. (static_tree x.0, views x.1)) result (static_at (views lexemes.entry)) }
+/// A function of its parts.
+#[inline]
+fn made(
+    alloc: Global,
+    line: usize,
+    kind: ResultType,
+    name: &[u8],
+    class_name: &[u8],
+    parameters: Vec<Parameter>,
+    body: Block,
+) -> Result<Function, AllocError>
+    ensures { IfOk result (λ f. function_tree f ≡ record { line = line; result = result_tree kind; name = name.now; class_name = class_name.now; parameters = map parameter_tree parameters.items; body = block_tree body }) }
 {
-    let line = line_at(lexemes);
+    let name = Name::new(alloc, name)?;
+    let class_name = Name::new(alloc, class_name)?;
+    Ok(Function {
+        line,
+        result: kind,
+        name,
+        class_name,
+        parameters,
+        body,
+    })
+}
+
+/// The type and the name of a reference that all functions share, up to the equals sign.
+#[inline]
+#[tactic(auto, unfolding(crate::specs::Steps::static_head_at))]
+fn static_head(lexemes: Cursor<'_>) -> Result<(ReferenceType, &[u8], Cursor<'_>), ParseFault>
+    ensures { Gives (λ x. (reference_tree x.0, x.1.now, views x.2)) result (static_head_at (views lexemes.entry)) }
+{
     let rest = expect(Fixed::Word(Word::Static), lexemes)?;
     let Some(kind) = reference_type(rest) else {
         return Err(unexpected(rest));
     };
     let (name, rest) = name_at(rest_of(rest))?;
     let rest = expect(Fixed::Mark(Mark::Assign), rest)?;
+    Ok((kind, name, rest))
+}
+
+/// A reference that all functions share.
+#[tactic(auto, using(crate::proofs::Regrouped::static_is))]
+fn static_reference(alloc: Global, lexemes: Cursor<'_>) -> Result<(Static, Cursor<'_>), ParseFault>
+    ensures { Gives (λ x. (static_tree x.0, views x.1)) result (static_at (views lexemes.entry)) }
+{
+    let line = line_at(lexemes);
+    let (kind, name, rest) = static_head(lexemes)?;
     let rest = expect(Fixed::Word(Word::Null), rest)?;
     let rest = expect(Fixed::Mark(Mark::Semicolon), rest)?;
     let name = Name::new(alloc, name)?;
@@ -111,8 +148,44 @@ fn static_reference(alloc: Global, lexemes: Cursor<'_>) -> Result<(Static, Curso
 /// An item, how many more functions and statics there may be after it, and what comes after it.
 type ReadItem<'t> = (Item, usize, usize, Cursor<'t>);
 
+/// A function, where there may be this many more functions and statics.
+#[inline]
+#[tactic(auto, unfolding(crate::specs::Steps::function_item_at))]
+fn function_item(
+    alloc: Global,
+    functions: usize,
+    statics: usize,
+    lexemes: Cursor<'_>,
+) -> Result<ReadItem<'_>, ParseFault>
+    ensures { Gives (λ x. (item_tree x.0, x.1, x.2, views x.3)) result (function_item_at functions statics (views lexemes.entry)) }
+{
+    if functions == 0 {
+        return Err(fault_at(Fault::TooMany, lexemes));
+    }
+    let (function, rest) = function(alloc, lexemes)?;
+    Ok((Item::Function(function), functions - 1, statics, rest))
+}
+
+/// A static, where there may be this many more functions and statics.
+#[inline]
+#[tactic(auto, unfolding(crate::specs::Steps::static_item_at))]
+fn static_item(
+    alloc: Global,
+    functions: usize,
+    statics: usize,
+    lexemes: Cursor<'_>,
+) -> Result<ReadItem<'_>, ParseFault>
+    ensures { Gives (λ x. (item_tree x.0, x.1, x.2, views x.3)) result (static_item_at functions statics (views lexemes.entry)) }
+{
+    if statics == 0 {
+        return Err(fault_at(Fault::TooMany, lexemes));
+    }
+    let (shared, rest) = static_reference(alloc, lexemes)?;
+    Ok((Item::Static(shared), functions, statics - 1, rest))
+}
+
 /// An item, where there may be this many more functions and statics.
-#[tactic(auto, unfolding(crate::specs::Reading::item_at))]
+#[tactic(auto, unfolding(crate::specs::Reading::item_at, crate::specs::Steps::function_item_at, crate::specs::Steps::static_item_at))]
 fn item(
     alloc: Global,
     functions: usize,
@@ -122,18 +195,10 @@ fn item(
     ensures { Gives (λ x. (item_tree x.0, x.1, x.2, views x.3)) result (item_at functions statics (views lexemes.entry)) }
 {
     if starts_with(Fixed::Word(Word::JniExport), lexemes) {
-        if functions == 0 {
-            return Err(fault_at(Fault::TooMany, lexemes));
-        }
-        let (function, rest) = function(alloc, lexemes)?;
-        return Ok((Item::Function(function), functions - 1, statics, rest));
+        return function_item(alloc, functions, statics, lexemes);
     }
     if starts_with(Fixed::Word(Word::Static), lexemes) {
-        if statics == 0 {
-            return Err(fault_at(Fault::TooMany, lexemes));
-        }
-        let (shared, rest) = static_reference(alloc, lexemes)?;
-        return Ok((Item::Static(shared), functions, statics - 1, rest));
+        return static_item(alloc, functions, statics, lexemes);
     }
     Err(unexpected(lexemes))
 }

@@ -3,7 +3,7 @@
 ghost use Rattle.std.specs.Prelude.{◌≡◌, ◌≤◌};
 ghost use Rattle.syntax.specs.Views.{expr_tree, stmt_tree};
 ghost use Rattle.lexemes.specs.Results.{Gives};
-ghost use Rattle.parse.specs.Steps.{element_set_at};
+ghost use Rattle.parse.specs.Steps.{assigned_at, element_set_at};
 ghost use Rattle.lexemes.specs.Lexemes.{views};
 ghost use Rattle.parse.specs.Reading.{put_at, return_at, perform_at, set_element_at, set_at, plain_at};
 
@@ -70,8 +70,21 @@ fn perform(
     Ok((Stmt { line, form }, rest))
 }
 
+/// What comes after an equals sign up to the semicolon.
+#[inline]
+#[tactic(auto, unfolding(crate::specs::Steps::assigned_at))]
+fn assigned(alloc: Global, room: u32, lexemes: Cursor<'_>) -> Result<(Expr, Cursor<'_>), ParseFault>
+    requires { room ≤ 32 }
+    ensures { Gives (λ x. (expr_tree x.0, views x.1)) result (assigned_at room (views lexemes.entry)) }
+{
+    let rest = expect(Fixed::Mark(Mark::Assign), lexemes)?;
+    let (value, height, rest) = expression(alloc, room, 0, rest)?;
+    let (value, _, rest) = closed(Fixed::Mark(Mark::Semicolon), value, height, rest)?;
+    Ok((value, rest))
+}
+
 /// What an element of this name and index is set to.
-#[tactic(auto, unfolding(crate::specs::Steps::element_set_at))]
+#[tactic(auto, using(crate::proofs::Regrouped::element_set_is))]
 fn set_to(
     alloc: Global,
     room: u32,
@@ -83,9 +96,7 @@ fn set_to(
     requires { room ≤ 32 }
     ensures { Gives (λ x. (stmt_tree x.0, views x.1)) result (element_set_at room line name (expr_tree index) (views lexemes.entry)) }
 {
-    let rest = expect(Fixed::Mark(Mark::Assign), lexemes)?;
-    let (value, height, rest) = expression(alloc, room, 0, rest)?;
-    let (value, _, rest) = closed(Fixed::Mark(Mark::Semicolon), value, height, rest)?;
+    let (value, rest) = assigned(alloc, room, lexemes)?;
     let form = Form::AssignElement(name, index, value);
     Ok((Stmt { line, form }, rest))
 }

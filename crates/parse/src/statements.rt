@@ -1,10 +1,14 @@
 //! Statements and blocks (ISO/IEC 9899:1999, 6.8).
 
 ghost use Rattle.std.specs.Prelude.{◌≡◌, ◌≤◌};
+ghost use Rattle.std.specs.Option.{option_map};
+ghost use Rattle.syntax.specs.Tree.{While};
 ghost use Rattle.syntax.specs.Views.{expr_tree, test_tree, stmt_tree, block_tree};
 ghost use Rattle.lexemes.specs.Results.{Gives};
-ghost use Rattle.lexemes.specs.Lexemes.{views};
-ghost use Rattle.parse.specs.Reading.{simple_at, inner, if_test_at, if_by, else_by, while_test_at, while_by, is_return, statement_at, block_at};
+ghost use Rattle.lexemes.specs.Lexemes.{views, expect};
+ghost use Rattle.expressions.specs.Steps.{made_of};
+ghost use Rattle.parse.specs.Steps.{ReadTest, if_made, other_at, ways_at};
+ghost use Rattle.parse.specs.Reading.{simple_at, inner, if_test_at, if_by, while_test_at, while_by, is_return, statement_at, block_at};
 
 use crate::declarations::{declared, starts_declaration};
 use crate::plain::plain;
@@ -21,6 +25,12 @@ type ReadStmt<'t> = (Stmt, usize, Cursor<'t>);
 
 /// A block, how many more names may be declared after it, and what comes after it.
 type ReadBlock<'t> = (Block, usize, Cursor<'t>);
+
+/// The second block of an `if`, where it has one, how many more names may be declared after it, and what comes after it.
+type ReadOther<'t> = (Option<Block>, usize, Cursor<'t>);
+
+/// Both blocks of an `if`, how many more names may be declared after them, and what comes after them.
+type ReadWays<'t> = (Block, Option<Block>, usize, Cursor<'t>);
 
 /// A statement without a block, where `free` more names may be declared.
 #[tactic(auto, unfolding(crate::specs::Reading::simple_at))]
@@ -51,6 +61,15 @@ fn is_return(stmt: &Stmt) -> bool
     matches!(stmt.form, Form::Return(_))
 }
 
+/// A test, and what comes after this lexeme, which stands after it.
+#[inline]
+fn tested(end: Fixed, test: Test, lexemes: Cursor<'_>) -> Result<(Test, Cursor<'_>), ParseFault>
+    ensures { Gives (λ x. (test_tree x.0, views x.1)) result (made_of {B = ReadTest} (expect end (views lexemes.entry)) (λ after. (test_tree test, after))) }
+{
+    let rest = expect(end, lexemes)?;
+    Ok((test, rest))
+}
+
 /// What an `if` tests, in its parentheses, and what comes after the brace of its block.
 #[tactic(auto, unfolding(crate::specs::Reading::if_test_at))]
 fn if_test(alloc: Global, room: u32, lexemes: Cursor<'_>) -> Result<(Test, Cursor<'_>), ParseFault>
@@ -59,9 +78,8 @@ fn if_test(alloc: Global, room: u32, lexemes: Cursor<'_>) -> Result<(Test, Curso
 {
     let rest = expect(Fixed::Mark(Mark::OpenParen), lexemes)?;
     let (test, rest) = test(alloc, room, rest)?;
-    let rest = expect(Fixed::Mark(Mark::CloseParen), rest)?;
-    let rest = expect(Fixed::Mark(Mark::OpenBrace), rest)?;
-    Ok((test, rest))
+    let (test, rest) = tested(Fixed::Mark(Mark::CloseParen), test, rest)?;
+    tested(Fixed::Mark(Mark::OpenBrace), test, rest)
 }
 
 /// What a `while` tests, in its parentheses, and what comes after the brace of its block.
@@ -81,9 +99,24 @@ fn while_test(
     Ok((test, rest))
 }
 
+/// An `if` of this line, with its test and its blocks.
+#[inline]
+fn if_of<'t>(line: usize, test: Test, ways: ReadWays<'t>) -> ReadStmt<'t>
+    ensures tree { stmt_tree result.0 ≡ if_made line (test_tree test) (block_tree ways.entry.0) (option_map block_tree ways.entry.1) }
+    ensures free { result.1 ≡ ways.entry.2 }
+    ensures rest { result.2 ≡ ways.entry.3 }
+{
+    let (body, other, free, rest) = ways;
+    let form = match other {
+        None => Form::If(test, body),
+        Some(other) => Form::IfElse(test, body, other),
+    };
+    (Stmt { line, form }, free, rest)
+}
+
 /// What comes after the `if` of this line.
 #[cycle(blocks)]
-#[tactic(auto, using(crate::proofs::Blocks::inners), unfolding(crate::specs::Reading::if_by))]
+#[tactic(auto, using(crate::proofs::Ways::if_is))]
 fn if_statement(
     alloc: Global,
     room: u32,
@@ -96,34 +129,59 @@ fn if_statement(
     ensures { Gives (λ x. (stmt_tree x.0, x.1, views x.2)) result (if_by (inner room) room free line (views lexemes.entry)) }
 {
     let (test, rest) = if_test(alloc, room, lexemes)?;
-    let (body, left, rest) = block(alloc, room - 1, free, rest)?;
-    else_block(alloc, room, line, test, body, left, rest)
+    let ways = ways(alloc, room, free, rest)?;
+    Ok(if_of(line, test, ways))
 }
 
-/// What comes after the first block of an `if`.
+/// The blocks of an `if`.
 #[cycle(blocks)]
-#[tactic(auto, using(crate::proofs::Blocks::inners), unfolding(crate::specs::Reading::else_by))]
-fn else_block(
+#[tactic(auto, using(crate::proofs::Blocks::inners), unfolding(crate::specs::Steps::ways_at))]
+fn ways(
     alloc: Global,
     room: u32,
-    line: usize,
-    test: Test,
-    body: Block,
     free: usize,
     lexemes: Cursor<'_>,
-) -> Result<ReadStmt<'_>, ParseFault>
+) -> Result<ReadWays<'_>, ParseFault>
     requires some { 1 ≤ room }
     requires bound { room ≤ 32 }
-    ensures { Gives (λ x. (stmt_tree x.0, x.1, views x.2)) result (else_by (inner room) line (test_tree test) (block_tree body) free (views lexemes.entry)) }
+    ensures { Gives (λ x. (block_tree x.0, option_map block_tree x.1, x.2, views x.3)) result (ways_at (inner room) free (views lexemes.entry)) }
+{
+    let (body, left, rest) = block(alloc, room - 1, free, lexemes)?;
+    let (other, left, rest) = other_block(alloc, room, left, rest)?;
+    Ok((body, other, left, rest))
+}
+
+/// The second block of an `if`, where it has one.
+#[cycle(blocks)]
+#[tactic(auto, using(crate::proofs::Blocks::inners), unfolding(crate::specs::Steps::other_at))]
+fn other_block(
+    alloc: Global,
+    room: u32,
+    free: usize,
+    lexemes: Cursor<'_>,
+) -> Result<ReadOther<'_>, ParseFault>
+    requires some { 1 ≤ room }
+    requires bound { room ≤ 32 }
+    ensures { Gives (λ x. (option_map block_tree x.0, x.1, views x.2)) result (other_at (inner room) free (views lexemes.entry)) }
 {
     if !starts_with(Fixed::Word(Word::Else), lexemes) {
-        let form = Form::If(test, body);
-        return Ok((Stmt { line, form }, free, lexemes));
+        return Ok((None, free, lexemes));
     }
     let rest = expect(Fixed::Mark(Mark::OpenBrace), rest_of(lexemes))?;
     let (other, left, rest) = block(alloc, room - 1, free, rest)?;
-    let form = Form::IfElse(test, body, other);
-    Ok((Stmt { line, form }, left, rest))
+    Ok((Some(other), left, rest))
+}
+
+/// A `while` of this line, with its test and its block.
+#[inline]
+fn while_of<'t>(line: usize, test: Expr, body: ReadBlock<'t>) -> ReadStmt<'t>
+    ensures tree { stmt_tree result.0 ≡ While line (expr_tree test) (block_tree body.entry.0) }
+    ensures free { result.1 ≡ body.entry.1 }
+    ensures rest { result.2 ≡ body.entry.2 }
+{
+    let (body, free, rest) = body;
+    let form = Form::While(test, body);
+    (Stmt { line, form }, free, rest)
 }
 
 /// What comes after the `while` of this line.
@@ -141,9 +199,8 @@ fn while_statement(
     ensures { Gives (λ x. (stmt_tree x.0, x.1, views x.2)) result (while_by (inner room) room free line (views lexemes.entry)) }
 {
     let (test, rest) = while_test(alloc, room, lexemes)?;
-    let (body, left, rest) = block(alloc, room - 1, free, rest)?;
-    let form = Form::While(test, body);
-    Ok((Stmt { line, form }, left, rest))
+    let body = block(alloc, room - 1, free, rest)?;
+    Ok(while_of(line, test, body))
 }
 
 /// A statement, where `free` more names may be declared.

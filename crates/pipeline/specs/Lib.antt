@@ -4,5 +4,6 @@ pub mod Passes
 pub mod Checks
 pub mod Texts
 pub mod Runs
+pub mod Running
 pub mod Replays
 pub mod ReplayLaws

@@ -1,20 +1,25 @@
 //! A replay, from its texts to its report.
 
-ghost use Rattle.std.specs.Prelude.{◌≡◌};
+ghost use Rattle.std.specs.Prelude.{◌≡◌, ℕ, List, Ok};
+ghost use Rattle.syntax.specs.Views.{unit_tree};
 ghost use Rattle.report.specs.Sink.{CanFail};
 ghost use Rattle.pipeline.specs.Errors.{of_replay};
+ghost use Rattle.pipeline.specs.Programs.{IsProgram};
 ghost use Rattle.pipeline.specs.Runs.{RunsTexts};
 ghost use Rattle.pipeline.specs.ReplayLaws.{RunsAreReplayed};
 ghost use Rattle.pipeline.specs.Replays.{EndsReplay, AreRefusedReplays, IsPossible, IsReplayOrFails};
+ghost use Rattle.world.specs.WorldRules.{IsWorldText};
+ghost use Rattle.world_text.specs.ReadingWorlds.{world_of_text};
 
 use crate::fault::RunError;
 use crate::program::program;
-use crate::run::of_reading;
+use crate::run::{of_reading, thread_count};
 use commands::{Place, Text};
 use parse::one_unit;
+use regions::Checked;
 use replay::{ReplayFault, TrapAt, replay};
 use std::alloc::Global;
-use world::{Sink, read_journal};
+use world::{Sink, World, read_journal};
 use world_text::read_world;
 
 fn of_replay(fault: ReplayFault) -> RunError
@@ -25,6 +30,49 @@ fn of_replay(fault: ReplayFault) -> RunError
         ReplayFault::Impossible(entry) => RunError::Fault(91, Place::Entry(entry)),
         ReplayFault::Memory => RunError::Memory,
         ReplayFault::Writer => RunError::Writer,
+    }
+}
+
+/// Replays the journal of an accepted program in the world of a text.
+fn replay_checked<W: Sink>(
+    alloc: Global,
+    checked: &Checked,
+    world_text: &[u8],
+    journal_text: &[u8],
+    out: &mut W,
+) -> Result<Option<TrapAt>, RunError>
+    requires { CanFail (W.written out.old) }
+    ensures replay { (program : List ℕ) → IsProgram program (unit_tree checked.now)
+        → RunsTexts (W.written out.old) (W.written out.new) result (EndsReplay program world_text.now journal_text.now) (AreRefusedReplays program world_text.now journal_text.now) }
+    ensures accepted { (program : List ℕ) (p : IsPossible program world_text.now journal_text.now) → unit_tree checked.now ≡ p.meaning.unit → IsReplayOrFails result }
+{
+    match read_world(alloc, world_text) {
+        Ok(world) => replay_world(alloc, checked, &world, journal_text, out),
+        Err(error) => Err(of_reading(Text::World, error)),
+    }
+}
+
+/// Replays the journal of an accepted program in a world.
+fn replay_world<W: Sink>(
+    alloc: Global,
+    checked: &Checked,
+    world: &World,
+    journal_text: &[u8],
+    out: &mut W,
+) -> Result<Option<TrapAt>, RunError>
+    requires { CanFail (W.written out.old) }
+    ensures replay { (program text : List ℕ) → IsProgram program (unit_tree checked.now) → world_of_text text ≡ Ok world.now → IsWorldText text world.now
+        → RunsTexts (W.written out.old) (W.written out.new) result (EndsReplay program text journal_text.now) (AreRefusedReplays program text journal_text.now) }
+    ensures accepted { (program text : List ℕ) → world_of_text text ≡ Ok world.now → (p : IsPossible program text journal_text.now) → unit_tree checked.now ≡ p.meaning.unit
+        → IsReplayOrFails result }
+{
+    let threads = thread_count(world);
+    match read_journal(alloc, journal_text, threads) {
+        Ok(journal) => match replay(alloc, checked, world, &journal, out) {
+            Ok(trap) => Ok(trap),
+            Err(fault) => Err(of_replay(fault)),
+        },
+        Err(error) => Err(of_reading(Text::Journal, error)),
     }
 }
 
@@ -48,22 +96,9 @@ pub fn replay_text<W: Sink>(
     // Texts whose journal is possible are refused for memory or by the writer alone.
     ensures accepted { IsPossible program_text.now world_text.now journal_text.now → IsReplayOrFails result }
 {
-    let checked = match program(alloc, program_text) {
-        Ok(checked) => checked,
-        Err(error) => return Err(error),
-    };
-    let world = match read_world(alloc, world_text) {
-        Ok(world) => world,
-        Err(error) => return Err(of_reading(Text::World, error)),
-    };
-    let threads = world.threads().len() as u8;
-    let journal = match read_journal(alloc, journal_text, threads) {
-        Ok(journal) => journal,
-        Err(error) => return Err(of_reading(Text::Journal, error)),
-    };
-    match replay(alloc, &checked, &world, &journal, out) {
-        Ok(trap) => Ok(trap),
-        Err(fault) => Err(of_replay(fault)),
+    match program(alloc, program_text) {
+        Ok(checked) => replay_checked(alloc, &checked, world_text, journal_text, out),
+        Err(error) => Err(error),
     }
 }
 

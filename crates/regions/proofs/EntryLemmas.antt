@@ -6,9 +6,9 @@ use Rattle.std.proofs.lemmas.Map.Keys.{IsDistinct-head, IsDistinct-tail}
 use Rattle.base.specs.Bytes.{Identifier}
 use Rattle.syntax.specs.declared.unit.Parameter.{Parameter as ParameterInMemory}
 use Rattle.syntax.specs.Views.{parameter_tree}
-use Rattle.regions.specs.RegionStates.{parameter_state}
-use Rattle.regions.specs.SameStates.{NamedState}
-use Rattle.regions.proofs.ScopeLemmas.{any_reverse}
+use Rattle.region_states.specs.RegionStates.{parameter_state}
+use Rattle.region_states.specs.SameStates.{NamedState}
+use Rattle.region_states.proofs.ScopeLemmas.{any_reverse}
 
 abbrev named : List NamedState → List Identifier
 named vs = map (λ v. v.0) vs

@@ -10,13 +10,13 @@ use Rattle.syntax.specs.Parts.{line_of, statements_of, statements_within, declar
 use Rattle.syntax.specs.Tree.{ResultType, Void, ParameterType, IntParameter, ReferenceParameter, Parameter, ReferenceVariable, Stmt, Declare, DeclareBuffer, DeclareChars, If, IfElse, While, Block, End, Next, Function, Item, StaticItem, FunctionItem, SourceUnit}
 use Rattle.types.specs.Sorts.{Scope, Ref, Global}
 use Rattle.types.specs.SortRules.{SortRule, UnknownName, DeclaredTwice, SortMisfit, UnknownFunction, ArgumentCount, ReferenceCopied, BadMode, ReadOnlyWrite, sort_rules, Place, StaticForm, HeadForm, StatementForm, has_name, has_repeated, breaks, broken_at, places_within, places_of, function_places, item_places, with_declared, parameter_sort, IsSorted}
-use Rattle.regions.specs.NewNames.{own_names, AreNew, DeclaresNew, DeclareNew, DeclaresOnce, ItemOnce}
-use Rattle.regions.specs.RegionStates.{ReferenceAt, parameter_state, state_at_entry}
-use Rattle.regions.specs.SameStates.{NamedState}
-use Rattle.regions.specs.StatesInMemory.{names_of}
+use Rattle.region_states.specs.NewNames.{own_names, AreNew, DeclaresNew, DeclareNew, DeclaresOnce, ItemOnce}
+use Rattle.region_states.specs.RegionStates.{ReferenceAt, parameter_state, state_at_entry}
+use Rattle.region_states.specs.SameStates.{NamedState}
+use Rattle.region_states.specs.StatesInMemory.{names_of}
 use Rattle.regions.proofs.PlaceLists.{AreUnbroken, first_empty, second_empty, front_unbroken, back_unbroken, none_broken, first_false, second_false}
-use Rattle.regions.proofs.ScopeLemmas.{any_reverse}
-use Rattle.regions.proofs.StateLemmas.{none_alike}
+use Rattle.region_states.proofs.ScopeLemmas.{any_reverse}
+use Rattle.region_states.proofs.StateLemmas.{none_alike}
 
 -- ---- the rule
 

@@ -3,8 +3,8 @@ use Rattle.std.proofs.Common.{◌≡◌, inl, inr, List, [], ◌∷◌, refl, su
 use Rattle.std.specs.List.{AllByRecursion}
 use Rattle.syntax.specs.Tree.{Stmt, Declare, DeclareBuffer, DeclareChars, DeclareArray, Assign, AssignElement, Perform, PutJint, If, IfElse, While, Return, ReturnValue, Block, End, Next, Function}
 use Rattle.regions.specs.Endings.{EndsByReturn}
-use Rattle.regions.specs.RegionStates.{RegionState, state_at_entry}
-use Rattle.regions.specs.Regions.{Way, On, Returned, Join, IsEnd, Keeps, KeepsBlock, AcceptedFunction, where_true, where_false}
+use Rattle.region_states.specs.RegionStates.{RegionState, state_at_entry}
+use Rattle.region_states.specs.Regions.{Way, On, Returned, Join, IsEnd, Keeps, KeepsBlock, AcceptedFunction, where_true, where_false}
 
 goes_on : (a : RegionState) → On a ≡ Returned → ⊥
 goes_on a e = cc

@@ -1,5 +1,5 @@
 -- The walk over the ways in memory is that of the definitions.
-use Rattle.std.proofs.Common.{◌≡◌, ℕ, zero, suc, ◌+◌, ◌<◌, ◌≤◌, true, false, not, List, [], ◌∷◌, length, get_or, drop, Some, None, Result, Ok, Err, refl, sym, ap, ap₂, ◌∙◌, subst, arith, add-one, drop-cons}
+use Rattle.std.proofs.Common.{◌≡◌, ℕ, zero, suc, ◌+◌, ◌<◌, ◌≤◌, true, false, not, List, [], ◌∷◌, length, get_or, drop, Some, None, Result, Ok, Err, refl, sym, ap, ◌∙◌, subst, arith, add-one, drop-cons}
 use Rattle.std.specs.Prelude.{IfOk}
 use Rattle.syntax.specs.declared.stmt.Form.{Form as FormInMemory}
 use Rattle.syntax.specs.declared.stmt.Form.TheVariants as form
@@ -11,16 +11,18 @@ use Rattle.syntax.specs.Views.{form_tree, stmt_tree, statements_tree, block_tree
 use Rattle.syntax.proofs.Blocks.{block_is}
 use Rattle.regions.specs.declared.fault.CheckFault.{CheckFault}
 use Rattle.regions.specs.declared.fault.CheckFault.TheVariants.{Memory, Broken}
-use Rattle.regions.specs.declared.walk.Way.{Way as WayInMemory}
+use Rattle.regions.specs.declared.joins.Way.{Way as WayInMemory}
 use Rattle.regions.specs.Findings.{fault_of, end_line_of}
-use Rattle.regions.specs.FirstFaults.{first_broken}
-use Rattle.regions.specs.RegionRules.{RegionRule, HeldBuffer, NoReturn}
-use Rattle.regions.specs.RegionStates.{RegionState}
-use Rattle.regions.specs.Regions.{Way, On, Returned, left}
-use Rattle.regions.specs.Walks.{holds_other, Stops, Goes, go_on, inner_way}
+use Rattle.region_states.specs.FirstFaults.{first_broken}
+use Rattle.region_states.specs.RegionRules.{RegionRule, HeldBuffer, WaysDiffer, NoReturn}
+use Rattle.region_states.specs.RegionStates.{RegionState}
+use Rattle.region_states.specs.Regions.{Way, On, Returned, left}
+use Rattle.regions.specs.Walks.{Stops, Goes, go_on, inner_way}
+use Rattle.region_states.specs.StatesInMemory.{holds_other}
 use Rattle.regions.specs.Ways.{Fault, way_if, own_way, way_after, returned_before, join_ways, turn_way, way_of, way_of_block}
 use Rattle.syntax.specs.declared.unit.Item.{Item as ItemInMemory}
-use Rattle.regions.proofs.StateLemmas.{own_is}
+use Rattle.region_states.proofs.Same.{same_swapped}
+use Rattle.region_states.proofs.StateLemmas.{own_is}
 
 -- ---- answers along equations
 
@@ -94,17 +96,19 @@ pub first_stops : (line : ℕ) (r q : Result Way Fault) (e : CheckFault) → Sto
 first_stops line r q Memory h = tt
 first_stops line r q (Broken f) h = ap (λ x. join_ways line x q) h
 
-pub second_stops : (line : ℕ) (a : Way) (r q : Result Way Fault) (e : CheckFault) → r ≡ Ok a → Stops e q → Stops e (join_ways line r q)
-second_stops line a r q Memory h k = tt
-second_stops line a r q (Broken f) h k = ap₂ (join_ways line) h k ∙ last line a (fault_of f)
+pub second_stops : (line : ℕ) (a : Way) (q : Result Way Fault) (e : CheckFault) → Stops e q → Stops e (join_ways line (Ok a) q)
+second_stops line a q Memory k = tt
+second_stops line a q (Broken f) k = ap (join_ways line (Ok a)) k ∙ last line a (fault_of f)
   where
     last : (line : ℕ) (a : Way) (f : Fault) → join_ways line (Ok a) (Err f) ≡ Err f
     last line (On s) f = refl
     last line Returned f = refl
 
-pub turn_stops : (line : ℕ) (before : RegionState) (r : Result Way Fault) (e : CheckFault) → Stops e r → Stops e (turn_way line before r)
-turn_stops line before r Memory h = tt
-turn_stops line before r (Broken f) h = ap (turn_way line before) h
+-- the way after a loop is that of two that become one: of none of its turns, and of one
+pub turn_is_join : (line : ℕ) (before : RegionState) (r : Result Way Fault) → turn_way line before r ≡ join_ways line (Ok (On before)) r
+turn_is_join line before (Err e) = refl
+turn_is_join line before (Ok Returned) = refl
+turn_is_join line before (Ok (On after)) = ap (λ b. way_if b (On before) (line, WaysDiffer)) (same_swapped after before)
 
 -- ---- functions
 

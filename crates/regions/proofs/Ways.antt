@@ -2,13 +2,13 @@
 use Rattle.std.proofs.Common.{◌≡◌, ℕ, Bool, true, false, not, ◌&&◌, ◌⊎◌, List, [], ◌∷◌, Option, Some, None, Result, Ok, Err, refl, sym, ap, ◌∙◌, subst, inl, inr, find, cond, true≢false}
 use Rattle.std.specs.List.{list_all}
 use Rattle.syntax.specs.Tree.{Stmt, Declare, DeclareBuffer, DeclareChars, DeclareArray, Assign, AssignElement, Perform, PutJint, If, IfElse, While, Return, ReturnValue, Block, End, Next}
-use Rattle.regions.specs.FirstFaults.{first_broken}
-use Rattle.regions.specs.RegionRules.{RegionRule, HeldBuffer, WaysDiffer, breaks_region_rule, own_rules, Obeys}
-use Rattle.regions.specs.RegionStates.{RegionState}
-use Rattle.regions.specs.Regions.{Way, On, Returned, Join, ComesBack, IsEnd, Keeps, KeepsBlock, holds_own, left, where_true, where_false}
-use Rattle.regions.specs.SameStates.{same_state}
+use Rattle.region_states.specs.FirstFaults.{first_broken}
+use Rattle.region_states.specs.RegionRules.{RegionRule, HeldBuffer, WaysDiffer, breaks_region_rule, own_rules, Obeys}
+use Rattle.region_states.specs.RegionStates.{RegionState}
+use Rattle.region_states.specs.Regions.{Way, On, Returned, Join, ComesBack, IsEnd, Keeps, KeepsBlock, holds_own, left, where_true, where_false}
+use Rattle.region_states.specs.SameStates.{same_state}
 use Rattle.regions.specs.Ways.{Fault, own_way, way_after, way_if, returned_before, join_ways, turn_way, way_of, way_of_block}
-use Rattle.regions.proofs.Same.{state_decides}
+use Rattle.region_states.proofs.Same.{state_decides}
 
 -- ---- the first rule of a list that is broken
 

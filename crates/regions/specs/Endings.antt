@@ -3,7 +3,7 @@ use Rattle.std.specs.Prelude.{◌⊎◌}
 use Rattle.std.specs.List.{AllByRecursion}
 use Rattle.syntax.specs.Parts.{functions_of}
 use Rattle.syntax.specs.Tree.{IfElse, Return, ReturnValue, Block, End, Next, SourceUnit}
-use Rattle.regions.specs.Regions.{IsEnd}
+use Rattle.region_states.specs.Regions.{IsEnd}
 
 -- the block ends with a return, or with an if of which both ways do, and nothing stands after that
 abbrev pub EndsByReturn : Block → Type 0

@@ -5,9 +5,9 @@ ghost use Rattle.syntax.specs.Limits.{IsTree};
 ghost use Rattle.syntax.specs.Views.{unit_tree};
 ghost use Rattle.types.specs.SortRules.{IsSorted};
 ghost use Rattle.types.specs.BuiltCalls.{calls_are_built};
-ghost use Rattle.regions.specs.Regions.{HasRegions, BreaksRegionRule};
+ghost use Rattle.region_states.specs.Regions.{HasRegions, BreaksRegionRule};
 ghost use Rattle.regions.specs.Endings.{AreEnded};
-ghost use Rattle.regions.specs.FirstFaults.{IsFirstRegionFault};
+ghost use Rattle.region_states.specs.FirstFaults.{IsFirstRegionFault};
 ghost use Rattle.regions.specs.Findings.{rule_of, IfBroken};
 
 use crate::fault::CheckFault;
@@ -29,7 +29,7 @@ impl Model for Checked {
     ghost use Rattle.syntax.specs.declared.unit.Item.{Item};
     ghost use Rattle.syntax.specs.contracts.unit.Item as item;
     ghost use Rattle.syntax.specs.Views.{unit_tree};
-    ghost use Rattle.regions.specs.Regions.{HasRegions};
+    ghost use Rattle.region_states.specs.Regions.{HasRegions};
 
     ghost Value = { List Item };
 

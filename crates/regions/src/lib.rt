@@ -1,18 +1,13 @@
 //! The rules on ways through a function: which uses of buffers, references and frames are accepted.
 #![tactic(auto)]
 
-mod calls;
-mod changes;
 mod checked;
 mod fault;
-mod holders;
-mod names;
+mod joins;
 mod rules;
-mod scope;
-mod states;
 mod walk;
 
-ghost use Rattle.regions.specs.FirstFaults.{AcceptedBreaksNothing, AcceptedOrBroken, AcceptedOrFirst, FirstIsBroken, NotBoth, OneFirst, OneFirstOfUnit};
+ghost use Rattle.region_states.specs.FirstFaults.{AcceptedBreaksNothing, AcceptedOrBroken, AcceptedOrFirst, FirstIsBroken, NotBoth, OneFirst, OneFirstOfUnit};
 
 pub use checked::{Checked, check};
 pub use fault::{CheckFault, RegionFault, RegionRule};

@@ -5,25 +5,27 @@ ghost use Rattle.std.specs.Option.{option_map, is_some};
 ghost use Rattle.base.specs.Options.{some_passes};
 ghost use Rattle.syntax.specs.Parts.{assigned_name};
 ghost use Rattle.syntax.specs.Views.{form_tree};
-ghost use Rattle.regions.specs.FirstFaults.{first_broken};
-ghost use Rattle.regions.specs.RegionRules.{CallWhileCritical, ReturnWithBuffer, HeldBuffer, UntestedBuffer, WrongBuffer, ReturnInFrame, PopLastFrame, DeadReference, ArrayInUse, WrongLevel, is_return, is_put_jint, is_level, is_mismatched};
-ghost use Rattle.regions.specs.RegionStates.{state_of};
-ghost use Rattle.regions.specs.StatesInMemory.{variable_state, is_holder, asks};
-ghost use Rattle.regions.specs.StateEffects.{made_value, release_value, got};
+ghost use Rattle.region_states.specs.FirstFaults.{first_broken};
+ghost use Rattle.region_states.specs.RegionRules.{CallWhileCritical, ReturnWithBuffer, HeldBuffer, UntestedBuffer, WrongBuffer, ReturnInFrame, PopLastFrame, DeadReference, ArrayInUse, WrongLevel, is_return, is_put_jint, is_level, is_mismatched};
+ghost use Rattle.region_states.specs.RegionStates.{state_of};
+ghost use Rattle.region_states.specs.StatesInMemory.{variable_state, asks};
+ghost use Rattle.region_states.specs.StateEffects.{made_value, release_value, got};
 ghost use Rattle.regions.specs.Findings.{rule_of};
-ghost use Rattle.regions.specs.Judgements.{judged, first_judged, is_wrong_release, is_other_level, frames_after, has_young_array, pops_array, gets_elsewhere};
+ghost use Rattle.region_states.specs.Judgements.{judged, first_judged, is_wrong_release, is_other_level, frames_after, pops_array, gets_elsewhere};
 
-use crate::calls::{MadeCall, Release, called, deleted, got, is_forbidden, popped, released};
 use crate::fault::RegionRule;
-use crate::names::{reads, uses};
-use crate::states::{
-    Condition, StaticState, VariableState, frames, held_of, holds_buffer, holds_critical, is_level,
-    is_same, is_some_in_use, known_of, meets, some_meets,
+use region_states::calls::{
+    MadeCall, Release, called, deleted, got, is_forbidden, popped, released,
+};
+use region_states::names::{reads, uses};
+use region_states::states::{
+    Condition, StaticState, VariableState, frames, has_young_array, holds_buffer, holds_critical,
+    is_level, is_same, is_some_in_use, known_of, meets, some_meets,
 };
 use syntax::Form;
 
 /// Whether a statement returns.
-fn is_return(form: &Form) -> bool
+pub(crate) fn is_return(form: &Form) -> bool
     ensures { (line : ℕ) → result ≡ is_return (form_tree line form.now) }
 {
     match form {
@@ -203,28 +205,6 @@ fn breaks_dead(state: &StaticState, form: &Form, call: Option<MadeCall>) -> bool
     ensures { (line : ℕ) → result ≡ judged DeadReference state.now (form_tree line form.now) (option_map made_value call.entry) }
 {
     uses(state, Condition::Dead, form)
-}
-
-/// Whether the array variable of a held buffer is of the level of the youngest frame.
-fn is_array_young(state: &StaticState, known: VariableState) -> bool
-    ensures { result ≡ is_holder (λ held. is_level state.now.frames (state_of state.now held.1)) (variable_state known.entry) }
-{
-    match held_of(known) {
-        Some((_, array)) => is_level(frames(state), known_of(state, array)),
-        None => false,
-    }
-}
-
-/// Whether the array variable of some held buffer is.
-fn has_young_array(state: &StaticState) -> bool
-    ensures { result ≡ has_young_array state.now }
-{
-    for v in &state.facts.variables {
-        if is_array_young(state, *v) {
-            return true;
-        }
-    }
-    false
 }
 
 fn pops_array(state: &StaticState, call: Option<MadeCall>) -> bool

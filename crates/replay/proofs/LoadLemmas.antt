@@ -8,11 +8,11 @@ use Rattle.classes.specs.Class.{Classes}
 use Rattle.source.specs.World.{Invocation}
 use Rattle.source.specs.Load.{call_loads}
 use Rattle.source.specs.Start.{waiting_thread}
-use Rattle.replay.specs.declared.thread.Thread.{Thread as ThreadInMemory}
+use Rattle.threads.specs.declared.thread.Thread.{Thread as ThreadInMemory}
 use Rattle.replay.specs.Loading.{refused_calls, first_line, IsWaiting, AreWaiting}
-use Rattle.replay.specs.States.{ThreadsStand}
-use Rattle.replay.specs.Threads.{ThreadStands, WorkStands, tasks_in, ending_view}
-use Rattle.tasks.specs.declared.activation.Activation.{Activation}
+use Rattle.threads.specs.States.{ThreadsStand}
+use Rattle.threads.specs.Threads.{ThreadStands, WorkStands, tasks_in, ending_view}
+use Rattle.steps.specs.declared.activation.Activation.{Activation}
 
 -- the calls of each thread
 abbrev pub calls_of : List (Vec Invocation) → List (List Invocation)

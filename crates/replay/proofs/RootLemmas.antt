@@ -12,16 +12,16 @@ use Rattle.source.specs.State.{State, views}
 use Rattle.source.specs.Thread.{Frame, Monitor, Shared, Thread, viewed_by}
 use Rattle.source.specs.Variable.{Variable, Variables, viewed}
 use Rattle.source.specs.World.{World}
-use Rattle.tasks.specs.declared.activation.Activation.{Activation}
-use Rattle.tasks.specs.Frames.{references_in}
+use Rattle.steps.specs.declared.activation.Activation.{Activation}
+use Rattle.object_store.specs.Frames.{references_in}
 use Rattle.terms.specs.declared.variable.Content.{Content}
 use Rattle.terms.specs.declared.variable.Content.TheVariants as content
 use Rattle.terms.specs.Views.{Contents, content_view, variable_view, variables_view}
-use Rattle.replay.specs.declared.state.State.{State as StateInMemory}
-use Rattle.replay.specs.declared.thread.Thread.{Thread as ThreadInMemory}
-use Rattle.replay.specs.Rows.{thread_names, activation_names}
-use Rattle.replay.specs.States.{Stands, ThreadsStand}
-use Rattle.replay.specs.Threads.{WorkStands}
+use Rattle.threads.specs.declared.state.State.{State as StateInMemory}
+use Rattle.threads.specs.declared.thread.Thread.{Thread as ThreadInMemory}
+use Rattle.threads.specs.Rows.{thread_names, activation_names}
+use Rattle.threads.specs.States.{Stands, ThreadsStand}
+use Rattle.threads.specs.Threads.{WorkStands}
 
 -- ---- no variable is a view
 

@@ -27,17 +27,17 @@ use Rattle.source.specs.State.{State}
 use Rattle.source.proofs.RunLaws.{replay_from-append, replay_more}
 use Rattle.replay.specs.declared.fault.ReplayFault.{ReplayFault}
 use Rattle.replay.specs.declared.fault.ReplayFault.TheVariants.{DoesNotFit, Impossible, Memory, Writer}
-use Rattle.replay.specs.declared.state.State.{State as StateInMemory}
-use Rattle.replay.specs.States.{Stands, TakesEntry, AreInRange, standings_in, stop_view, shown_stop}
+use Rattle.threads.specs.declared.state.State.{State as StateInMemory}
+use Rattle.threads.specs.States.{Stands, TakesEntry, AreInRange, standings_in, stop_view}
 use Rattle.replay.specs.TrapAt.{trap_at}
-use Rattle.replay.specs.declared.state.Stop.{Stop as StopInMemory}
+use Rattle.threads.specs.declared.state.Stop.{Stop as StopInMemory}
 use Rattle.report.specs.declared.thread_status.ThreadStatus.{ThreadStatus}
 use Rattle.report.specs.ThreadStatus.{standing_view}
-use Rattle.replay.specs.Rows.{thread_names}
-use Rattle.replay.specs.Replays.{IsFirstImpossible, Replayed, IsRefused, IsLoadFault, IsStoppedBy, IsReplayable, IsFromOutside, EndsBy}
+use Rattle.threads.specs.Rows.{thread_names}
+use Rattle.replay.specs.Replays.{IsFirstImpossible, Replayed, IsRefused, IsLoadFault, IsStoppedBy, IsReplayable, IsFromOutside, EndsBy, shown_stop}
 use Rattle.replay.proofs.LoadLemmas.{drop_more, take_more}
 use Rattle.replay.proofs.RootLemmas.{roots_are}
-use Rattle.replay.proofs.StateLemmas.{report_same}
+use Rattle.threads.proofs.StateLemmas.{report_same}
 
 module _ (unit : SourceUnit) (w : World) (journal : Journal) (i : ℕ) (e : Entry) (old new : StateInMemory) (at : slice_get journal i ≡ Some e) (h : Replayed unit w (take i journal) old) where
   -- the entry isn't possible

@@ -4,8 +4,8 @@ use Rattle.syntax.specs.Tree.{SourceUnit}
 use Rattle.classes.specs.Class.{Classes}
 use Rattle.source.specs.World.{Invocation}
 use Rattle.source.specs.Load.{call_loads}
-use Rattle.replay.specs.declared.thread.Ending.TheVariants.{Unfinished}
-use Rattle.replay.specs.declared.thread.Thread.{Thread as ThreadInMemory}
+use Rattle.threads.specs.declared.thread.Ending.TheVariants.{Unfinished}
+use Rattle.threads.specs.declared.thread.Thread.{Thread as ThreadInMemory}
 
 -- the calls that don't fit
 abbrev pub refused_calls : SourceUnit → Classes → List Invocation → List Invocation

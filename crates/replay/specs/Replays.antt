@@ -13,10 +13,11 @@ use Rattle.source.specs.State.{State}
 use Rattle.source.specs.Step.{world_step}
 use Rattle.replay.specs.declared.fault.ReplayFault.{ReplayFault}
 use Rattle.replay.specs.declared.fault.ReplayFault.TheVariants.{DoesNotFit, Impossible, Memory, Writer}
-use Rattle.replay.specs.declared.state.State.{State as StateInMemory}
+use Rattle.threads.specs.declared.state.State.{State as StateInMemory}
+use Rattle.threads.specs.declared.state.Stop.{Stop as StopInMemory}
 use Rattle.replay.specs.declared.trap_at.TrapAt.{TrapAt}
 use Rattle.replay.specs.TrapAt.{trap_at}
-use Rattle.replay.specs.States.{Stands, AreInRange}
+use Rattle.threads.specs.States.{Stands, AreInRange, stop_view}
 
 -- entry i, counted from 1, is the first that isn't possible
 pub record IsFirstImpossible (unit : SourceUnit) (w : World) (journal : Journal) (i : ℕ) : Type 0 where
@@ -42,6 +43,10 @@ pub record StopsInRun (unit : SourceUnit) (w : World) (journal : Journal) (old n
   pub text : List ℕ
   pub is : Writes unit w journal text
   pub stopped : StopsWithin old new text
+
+-- the number and the line of the trap in memory, where there is one
+abbrev pub shown_stop : Option StopInMemory → Option TrapAt
+shown_stop stop = option_map (λ s. trap_at (stop_view s)) stop
 
 -- the trap that stops the journal's run, if one does
 pub record EndsBy (unit : SourceUnit) (w : World) (journal : Journal) (trap : Option TrapAt) : Type 0 where
@@ -77,6 +82,10 @@ pub record Replayed (unit : SourceUnit) (w : World) (journal : Journal) (m : Sta
   pub replays : replay unit w journal ≡ Some end
   pub stands : Stands unit w m end
   pub range : AreInRange m.threads.items
+
+-- the same of each unit and world whose replay leads to this state
+abbrev pub EachRun : StateInMemory → Journal → (SourceUnit → World → Type 0) → Type 0
+EachRun m journal P = (unit : SourceUnit) (w : World) → Replayed unit w journal m → P unit w
 
 -- why a replay didn't begin
 abbrev pub IsLoadFault : SourceUnit → World → ReplayFault → Type 0

@@ -1,24 +1,27 @@
 //! Replays of journals.
 
-ghost use Rattle.std.specs.Prelude.{◌≡◌, IfOk, IfErr, OnOk, IsTrue};
+ghost use Rattle.std.specs.Prelude.{◌≡◌, ◌++◌, IfOk, IfErr, OnOk, IsTrue, flat_map, map};
 ghost use Rattle.syntax.specs.Limits.{IsTree};
 ghost use Rattle.syntax.specs.Views.{unit_tree};
 ghost use Rattle.types.specs.BuiltCalls.{calls_are_built};
 ghost use Rattle.types.specs.SortRules.{IsSorted};
 ghost use Rattle.report.specs.Sink.{CanFail};
-ghost use Rattle.replay.specs.Replays.{Replayed, IsRefused, WritesRun, IsStoppedBy, IsReplayable, IsFromOutside, EndsBy};
+ghost use Rattle.report.specs.ThreadStatus.{standing_view};
+ghost use Rattle.threads.specs.Rows.{thread_names};
+ghost use Rattle.threads.specs.States.{standings_in};
+ghost use Rattle.replay.specs.Replays.{EachRun, Replayed, IsRefused, WritesRun, IsStoppedBy, IsReplayable, IsFromOutside, EndsBy, shown_stop};
 
 use crate::fault::ReplayFault;
 use crate::load::start;
-use crate::rows::{NamedObjects, root_names};
-use crate::state::{State, shown_stop, standings_of, take_entry};
 use crate::trap_at::TrapAt;
 use functions::Functions;
+use object_store::made_before;
 use reached::reached_rows;
 use regions::Checked;
 use std::alloc::Global;
-use tasks::made_before;
-use world::{Entry, Sink, World, write_run};
+use terms::trap_number;
+use threads::{NamedObjects, State, Stop, root_names, standings_of, take_entry};
+use world::{Entry, Sink, ThreadStatus, World, write_run};
 
 /// The state that the journal leads to.
 fn run<'a>(
@@ -43,6 +46,64 @@ fn run<'a>(
         }
     }
     Ok(state)
+}
+
+/// Writes the report of the state that a journal led to, with these standings and the rows of what these names refer to, and the
+/// journal.
+fn write_rows<W: Sink>(
+    alloc: Global,
+    state: &State<'_>,
+    standings: &[ThreadStatus<'_>],
+    names: &[usize],
+    journal: &[Entry],
+    out: &mut W,
+) -> Result<(), ReplayFault>
+    requires sink { CanFail (W.written out.old) }
+    requires standings { map standing_view standings.now ≡ standings_in state.now }
+    requires names { names.now ≡ state.now.shared.globals ++ flat_map thread_names state.now.threads.items }
+    ensures ok { OnOk result (EachRun state.now journal.now (λ unit w. WritesRun unit w journal.now (W.written out.old) (W.written out.new))) }
+    ensures none_waits { OnOk result ((W.written out.new).waiting ≡ 0) }
+    ensures err { IfErr result (λ fault. EachRun state.now journal.now (λ unit w. IsStoppedBy unit w journal.now (W.written out.old) (W.written out.new) fault)) }
+    ensures only { IfErr result IsFromOutside }
+{
+    let objects = NamedObjects {
+        store: &state.shared.store,
+    };
+    let loaded = made_before(state.world) + state.world.objects().len();
+    let rows = reached_rows(alloc, state.world.classes(), &objects, loaded, names)?;
+    match write_run(out, &state.printed, standings, &rows, journal) {
+        Ok(()) => Ok(()),
+        Err(_) => Err(ReplayFault::Writer),
+    }
+}
+
+/// Writes the report of the state that a journal led to, and the journal.
+fn write_report<W: Sink>(
+    alloc: Global,
+    state: &State<'_>,
+    journal: &[Entry],
+    out: &mut W,
+) -> Result<(), ReplayFault>
+    requires { CanFail (W.written out.old) }
+    ensures ok { OnOk result (EachRun state.now journal.now (λ unit w. WritesRun unit w journal.now (W.written out.old) (W.written out.new))) }
+    ensures none_waits { OnOk result ((W.written out.new).waiting ≡ 0) }
+    ensures err { IfErr result (λ fault. EachRun state.now journal.now (λ unit w. IsStoppedBy unit w journal.now (W.written out.old) (W.written out.new) fault)) }
+    ensures only { IfErr result IsFromOutside }
+{
+    let standings = standings_of(alloc, state)?;
+    let names = root_names(alloc, &state.shared.globals, &state.threads)?;
+    write_rows(alloc, state, &standings, &names, journal, out)
+}
+
+/// The trap's number and line.
+fn shown_stop(stop: Option<Stop>) -> Option<TrapAt>
+    ensures { result ≡ shown_stop stop }
+{
+    let stop = stop?;
+    Some(TrapAt {
+        number: trap_number(stop.trap),
+        line: stop.line,
+    })
 }
 
 /// Writes the report of a run that took these steps, and their journal, without code, addresses or a collector. Answers the
@@ -71,15 +132,8 @@ pub fn replay<W: Sink>(
         Ok(state) => state,
         Err(fault) => return Err(fault),
     };
-    let standings = standings_of(alloc, &state)?;
-    let objects = NamedObjects {
-        store: &state.shared.store,
-    };
-    let names = root_names(alloc, &state.shared.globals, &state.threads)?;
-    let loaded = made_before(state.world) + state.world.objects().len();
-    let rows = reached_rows(alloc, state.world.classes(), &objects, loaded, &names)?;
-    match write_run(out, &state.printed, &standings, &rows, journal) {
+    match write_report(alloc, &state, journal, out) {
         Ok(()) => Ok(shown_stop(state.stop)),
-        Err(_) => Err(ReplayFault::Writer),
+        Err(fault) => Err(fault),
     }
 }

@@ -4,9 +4,6 @@
 mod fault;
 mod journal;
 mod load;
-mod rows;
-mod state;
-mod thread;
 mod trap_at;
 
 pub use fault::ReplayFault;

@@ -6,19 +6,19 @@ ghost use Rattle.types.specs.SortRules.{IsSorted};
 ghost use Rattle.world.specs.Views.{object_value_view};
 ghost use Rattle.source.specs.Load.{call_loads, fits_parameter, fit_parameters, is_callable, first_load_fault};
 ghost use Rattle.source.specs.Start.{start};
-ghost use Rattle.tasks.specs.Shares.{shared_view};
-ghost use Rattle.replay.specs.States.{AreInRange, Stands};
+ghost use Rattle.call_checks.specs.Shares.{shared_view};
+ghost use Rattle.threads.specs.States.{AreInRange, Stands};
 ghost use Rattle.replay.specs.Loading.{refused_calls, first_line, AreWaiting};
 ghost use Rattle.replay.specs.Replays.{IsLoadFault};
 
 use crate::fault::ReplayFault;
-use crate::state::State;
-use crate::thread::{Ending, Thread, class_of};
+use call_checks::Shared;
 use functions::Functions;
+use object_store::{Names, loaded_store};
 use std::alloc::{AllocError, Global};
 use syntax::{Function, Item, Parameter, ParameterType};
-use tasks::{Names, Shared, loaded_store};
 use terms::null_statics;
+use threads::{Ending, State, Thread, class_of};
 use world::{Call, ObjectValue, World};
 
 /// Whether a parameter can have this argument.

@@ -1,6 +1,6 @@
 //! What a run printed, and how its threads stand.
 
-ghost use Rattle.std.specs.Prelude.{◌≡◌, ℕ, List, [], ◌∷◌, ◌++◌, codes, map};
+ghost use Rattle.std.specs.Prelude.{◌≡◌, ℕ, List, [], ◌∷◌, ◌++◌, codes, decimal, map};
 ghost use Rattle.std.specs.List.{flat_map, enumerate_from};
 ghost use Rattle.report.specs.Sink.{CanFail, Writes};
 ghost use Rattle.report.specs.ReportText.{thread_line};
@@ -49,6 +49,49 @@ impl Text for Printed {
     }
 }
 
+/// Puts the line of a thread of this number and these words.
+fn put_words<S: Sink>(sink: &mut S, thread: &str, words: &[u8]) -> Result<(), SinkFailed>
+    requires { CanFail (S.written sink.old) }
+    ensures { Writes (S.written sink.old) (S.written sink.new) result (codes "T" ++ thread.now ++ words.now ++ codes "\n") }
+{
+    put_pieces(sink, &[b"T", thread.as_bytes(), words, b"\n"])
+}
+
+/// Puts the line of a thread whose step was a trap.
+fn put_trap<S: Sink>(sink: &mut S, thread: &str, trap: u8, line: usize) -> Result<(), SinkFailed>
+    requires { CanFail (S.written sink.old) }
+    ensures { Writes (S.written sink.old) (S.written sink.new) result
+        (codes "T" ++ thread.now ++ codes " trap " ++ decimal trap ++ codes " line " ++ decimal line ++ codes "\n") }
+{
+    let mut number = Buffer::new();
+    let mut place = Buffer::new();
+    let number = number.format(trap);
+    let place = place.format(line);
+    put_pieces(
+        sink,
+        &[
+            b"T",
+            thread.as_bytes(),
+            b" trap ",
+            number.as_bytes(),
+            b" line ",
+            place.as_bytes(),
+            b"\n",
+        ],
+    )
+}
+
+/// Puts the line of a thread whose call returned with an exception pending, of the class of this name.
+fn put_uncaught<S: Sink>(sink: &mut S, thread: &str, class: &[u8]) -> Result<(), SinkFailed>
+    requires { CanFail (S.written sink.old) }
+    ensures { Writes (S.written sink.old) (S.written sink.new) result (codes "T" ++ thread.now ++ codes " uncaught " ++ class.now ++ codes "\n") }
+{
+    put_pieces(
+        sink,
+        &[b"T", thread.as_bytes(), b" uncaught ", class, b"\n"],
+    )
+}
+
 /// Puts the line of a thread.
 fn put_standing<S: Sink>(
     sink: &mut S,
@@ -61,31 +104,11 @@ fn put_standing<S: Sink>(
     let mut name = Buffer::new();
     let name = name.format(thread);
     match standing {
-        ThreadStatus::Ended => put_pieces(sink, &[b"T", name.as_bytes(), b" ended\n"]),
-        ThreadStatus::Uncaught(class) => put_pieces(
-            sink,
-            &[b"T", name.as_bytes(), b" uncaught ", class, b"\n"],
-        ),
-        ThreadStatus::Blocked => put_pieces(sink, &[b"T", name.as_bytes(), b" blocked\n"]),
-        ThreadStatus::Running => put_pieces(sink, &[b"T", name.as_bytes(), b" running\n"]),
-        ThreadStatus::Trapped(trap, line) => {
-            let mut number = Buffer::new();
-            let mut place = Buffer::new();
-            let number = number.format(trap);
-            let place = place.format(line);
-            put_pieces(
-                sink,
-                &[
-                    b"T",
-                    name.as_bytes(),
-                    b" trap ",
-                    number.as_bytes(),
-                    b" line ",
-                    place.as_bytes(),
-                    b"\n",
-                ],
-            )
-        }
+        ThreadStatus::Ended => put_words(sink, name, b" ended"),
+        ThreadStatus::Uncaught(class) => put_uncaught(sink, name, class),
+        ThreadStatus::Blocked => put_words(sink, name, b" blocked"),
+        ThreadStatus::Running => put_words(sink, name, b" running"),
+        ThreadStatus::Trapped(trap, line) => put_trap(sink, name, trap, line),
     }
 }
 

@@ -1,10 +1,11 @@
 -- A reserved word is found among those of its first letter.
-use Rattle.std.proofs.Common.{◌≡◌, ℕ, ◌<◌, ◌≤◌, ◌%◌, Bool, true, false, List, [], ◌∷◌, ◌++◌, length, map, get_or, Option, Some, None, refl, sym, ap, ◌∙◌, bytes_eq, if◌then◌else◌, arith}
+use Rattle.std.proofs.Common.{◌≡◌, ℕ, ◌+◌, ◌-◌, ◌<◌, ◌≤◌, ◌%◌, take, drop, Bool, true, false, List, [], ◌∷◌, ◌++◌, length, map, get_or, Option, Some, None, refl, sym, ap, ◌∙◌, bytes_eq, if◌then◌else◌, arith}
 use Rattle.std.specs.Prelude.{◌==◌, ◌||◌}
 use Rattle.std.specs.List.{list_any, filter, range_with_len}
 use Rattle.std.specs.Option.{option_or}
 use Rattle.std.proofs.lemmas.Bool.{eq-eqb}
 use Rattle.std.proofs.lemmas.Slice.Eq.{bytes_eq-Decides}
+use Rattle.std.proofs.lemmas.List.{get_or-take, get_or-drop}
 use Rattle.std.proofs.lemmas.List.Folds.{list_any-append}
 use Rattle.std.proofs.lemmas.List.FromFn.{get_or-map-range_with_len}
 use Rattle.base.specs.Bytes.{ByName, lookup}
@@ -92,6 +93,18 @@ listed bytes d some =
     let low : place < 32 = omega arith in
     let f : get_or by_letter place [] ≡ filter (λ r. letter r.0 == place) all_words = get_or-map-range_with_len (λ k. filter (λ r. letter r.0 == k) all_words) 0 32 place place [] low (omega arith) in
     ap (lookup bytes) (f ∙ ap (λ k. filter (λ r. letter r.0 == k) all_words) (sym (first_letter bytes d place some refl))) ∙ filtered all_words bytes ∙ all_is bytes
+
+-- the words of a letter before j, of j, and of one after it
+pub listed_early : (bytes : List ℕ) (letter : ℕ) → letter < 10 → 1 ≤ length bytes → letter ≡ get_or bytes 0 0 % 32 → lookup bytes (get_or (take 10 by_letter) letter []) ≡ word_of bytes
+listed_early bytes letter early some first = ap (lookup bytes) (get_or-take 10 by_letter letter [] early ∙ ap (λ k. get_or by_letter k []) first) ∙ listed bytes 0 some
+
+pub listed_j : (bytes : List ℕ) → 1 ≤ length bytes → get_or bytes 0 0 % 32 ≡ 10 → lookup bytes (get_or by_letter 10 []) ≡ word_of bytes
+listed_j bytes some first = ap (λ k. lookup bytes (get_or by_letter k [])) (sym first) ∙ listed bytes 0 some
+
+pub listed_late : (bytes : List ℕ) (letter : ℕ) → 11 ≤ letter → 1 ≤ length bytes → letter ≡ get_or bytes 0 0 % 32 → lookup bytes (get_or (drop 11 by_letter) (letter - 11) []) ≡ word_of bytes
+listed_late bytes letter late some first =
+    let place : 11 + (letter - 11) ≡ letter = omega (arith, late) in
+    ap (lookup bytes) (get_or-drop 11 by_letter (letter - 11) [] ∙ ap (λ k. get_or by_letter k []) (place ∙ first)) ∙ listed bytes 0 some
 
 pub no_word : (bytes : List ℕ) → length bytes < 1 → None ≡ word_of bytes
 unfolding word_of keyword interface_word reference_word constant_word unused_word is_unused_type is_unused_declaration is_unused_statement

@@ -1,6 +1,6 @@
 //! Reserved words.
 
-ghost use Rattle.std.specs.Prelude.{◌≡◌, ◌<◌, [], length, map, get_or};
+ghost use Rattle.std.specs.Prelude.{◌≡◌, ◌<◌, ◌≤◌, ◌%◌, [], length, map, get_or};
 ghost use Rattle.base.specs.Bytes.{lookup};
 ghost use Rattle.scan.specs.Words.{word_of};
 ghost use Rattle.scan.specs.WordTable.{row_value, rows_value};
@@ -85,8 +85,10 @@ pub enum Word {
 /// A word's bytes, and the word.
 type Row = (&'static [u8], Word);
 
-/// The reserved words by their first letter, small or capital: `a` is 1, and `_` is 31.
-static WORDS: [&[Row]; 32] = [
+// The reserved words by their first letter, small or capital: `a` is 1, `j` is 10, and `_` is 31.
+
+/// Those before `j`.
+static EARLY_WORDS: [&[Row]; 10] = [
     &[],
     &[(b"auto", Word::Unused)],
     &[(b"break", Word::Unused)],
@@ -115,32 +117,38 @@ static WORDS: [&[Row]; 32] = [
         (b"int", Word::Unused),
         (b"inline", Word::Unused),
     ],
-    &[
-        (b"JNIEXPORT", Word::JniExport),
-        (b"JNICALL", Word::JniCall),
-        (b"JNIEnv", Word::JniEnv),
-        (b"jint", Word::Jint),
-        (b"jsize", Word::Jsize),
-        (b"jboolean", Word::Jboolean),
-        (b"jshort", Word::Jshort),
-        (b"jbyte", Word::Jbyte),
-        (b"jchar", Word::Jchar),
-        (b"jfieldID", Word::JfieldId),
-        (b"jobject", Word::Jobject),
-        (b"jclass", Word::Jclass),
-        (b"jstring", Word::Jstring),
-        (b"jarray", Word::Jarray),
-        (b"jthrowable", Word::Jthrowable),
-        (b"jintArray", Word::JintArray),
-        (b"jshortArray", Word::JshortArray),
-        (b"jbyteArray", Word::JbyteArray),
-        (b"jcharArray", Word::JcharArray),
-        (b"jobjectArray", Word::JobjectArray),
-        (b"JNI_TRUE", Word::JniTrue),
-        (b"JNI_FALSE", Word::JniFalse),
-        (b"JNI_COMMIT", Word::JniCommit),
-        (b"JNI_ABORT", Word::JniAbort),
-    ],
+];
+
+/// Those of `j`.
+static J_WORDS: [Row; 24] = [
+    (b"JNIEXPORT", Word::JniExport),
+    (b"JNICALL", Word::JniCall),
+    (b"JNIEnv", Word::JniEnv),
+    (b"jint", Word::Jint),
+    (b"jsize", Word::Jsize),
+    (b"jboolean", Word::Jboolean),
+    (b"jshort", Word::Jshort),
+    (b"jbyte", Word::Jbyte),
+    (b"jchar", Word::Jchar),
+    (b"jfieldID", Word::JfieldId),
+    (b"jobject", Word::Jobject),
+    (b"jclass", Word::Jclass),
+    (b"jstring", Word::Jstring),
+    (b"jarray", Word::Jarray),
+    (b"jthrowable", Word::Jthrowable),
+    (b"jintArray", Word::JintArray),
+    (b"jshortArray", Word::JshortArray),
+    (b"jbyteArray", Word::JbyteArray),
+    (b"jcharArray", Word::JcharArray),
+    (b"jobjectArray", Word::JobjectArray),
+    (b"JNI_TRUE", Word::JniTrue),
+    (b"JNI_FALSE", Word::JniFalse),
+    (b"JNI_COMMIT", Word::JniCommit),
+    (b"JNI_ABORT", Word::JniAbort),
+];
+
+/// Those after `j`.
+static LATE_WORDS: [&[Row]; 21] = [
     &[],
     &[(b"long", Word::Unused)],
     &[],
@@ -204,6 +212,38 @@ fn listed_at(table: &[&[Row]], letter: usize, bytes: &[u8]) -> Option<Word>
     listed_in(table[letter], bytes)
 }
 
+/// The reserved word of these bytes, which begin with a letter before `j`.
+#[inline]
+fn early_word(letter: usize, bytes: &[u8]) -> Option<Word>
+    requires early { letter < 10 }
+    requires some { 1 ≤ length bytes.now }
+    requires first { letter ≡ get_or bytes.now 0 0 % 32 }
+    ensures { result ≡ word_of bytes.now }
+{
+    listed_at(&EARLY_WORDS, letter, bytes)
+}
+
+/// The reserved word of these bytes, which begin with `j`.
+#[inline]
+fn j_word(bytes: &[u8]) -> Option<Word>
+    requires some { 1 ≤ length bytes.now }
+    requires first { get_or bytes.now 0 0 % 32 ≡ 10 }
+    ensures { result ≡ word_of bytes.now }
+{
+    listed_in(&J_WORDS, bytes)
+}
+
+/// The reserved word of these bytes, which begin with a letter after `j`, or with `_`.
+#[inline]
+fn late_word(letter: usize, bytes: &[u8]) -> Option<Word>
+    requires late { 11 ≤ letter }
+    requires some { 1 ≤ length bytes.now }
+    requires first { letter ≡ get_or bytes.now 0 0 % 32 }
+    ensures { result ≡ word_of bytes.now }
+{
+    listed_at(&LATE_WORDS, letter - 11, bytes)
+}
+
 /// The reserved word of these bytes, if they are one.
 pub(crate) fn word_of(bytes: &[u8]) -> Option<Word>
     ensures { result ≡ word_of bytes.now }
@@ -211,5 +251,9 @@ pub(crate) fn word_of(bytes: &[u8]) -> Option<Word>
     let [first, ..] = bytes else {
         return None;
     };
-    listed_at(&WORDS, (*first % 32) as usize, bytes)
+    match (*first % 32) as usize {
+        10 => j_word(bytes),
+        letter if letter < 10 => early_word(letter, bytes),
+        letter => late_word(letter, bytes),
+    }
 }

@@ -23,8 +23,9 @@ use Rattle.syntax.proofs.Blocks.{block_is}
 use Rattle.types.specs.BuiltCalls.{calls_are_built}
 use Rattle.source.specs.Activation.{function_at}
 use Rattle.source.specs.Task.{Task, operand, task_of, tasks_of}
-use Rattle.tasks.specs.declared.task.Operand.{Operand}
-use Rattle.tasks.specs.Tasks.{operand_view, ArgumentsInRange, OperandInRange, OperandsInRange, tasks_of_statements, has_numbers_in_range, calls_built, BlockInRange, InsideInRange, StatementsInRange}
+use Rattle.call_checks.specs.declared.operand.Operand.{Operand}
+use Rattle.call_checks.specs.Actuals.{operand_view}
+use Rattle.tasks.specs.Tasks.{ArgumentsInRange, OperandInRange, OperandsInRange, tasks_of_statements, has_numbers_in_range, calls_built, BlockInRange, InsideInRange, StatementsInRange}
 
 -- the tasks of statements, by their tree
 pub tasks_of-statements : (statements : List Stmt) (end_line : ℕ) → tasks_of_statements statements ≡ tasks_of (statements_tree statements end_line)

@@ -1,13 +1,2 @@
-pub mod Names
-pub mod Frames
-pub mod Stores
-pub mod Shares
-pub mod Actuals
-pub mod Answers
-pub mod WorkedOut
-pub mod Checked
 pub mod Outcomes
 pub mod Tasks
-pub mod Steps
-pub mod Calls
-pub mod Activations

@@ -10,28 +10,25 @@ use Rattle.syntax.specs.declared.stmt.Stmt.{Stmt as StmtInMemory}
 use Rattle.syntax.specs.Limits.{numbers_in_range}
 use Rattle.syntax.specs.Parts.{argument_expressions, statements_of, own_expressions, right_side_expressions, test_expressions, call_of_right_side}
 use Rattle.syntax.specs.Tree.{Argument, Call, Expr, RightSide, Test, TestExpr, TestCall, Stmt, If, IfElse, While, Block}
-use Rattle.syntax.specs.Views.{argument_tree, expr_tree, element_tree, stmt_tree, block_tree}
+use Rattle.syntax.specs.Views.{expr_tree, element_tree, stmt_tree, block_tree}
 use Rattle.jni.specs.JniFunction.{is_built_function}
 use Rattle.jni.specs.Table.{function_value}
 use Rattle.types.specs.BuiltCalls.{is_built_call, calls_unbuilt}
-use Rattle.source.specs.Task.{Operand, NumberOperand, Given, Task, SetScalar, SetElement, SetNull, MakeArray, Invoke, Print, Branch, EndIf, Loop, EndTurn, Return, ReturnValue, task_of}
+use Rattle.source.specs.Task.{Task, SetScalar, SetElement, SetNull, MakeArray, Invoke, Print, Branch, EndIf, Loop, EndTurn, Return, ReturnValue, task_of}
 use Rattle.tasks.specs.declared.outcome.End.{End as EndInMemory}
 use Rattle.tasks.specs.declared.outcome.End.TheVariants as end
 use Rattle.tasks.specs.declared.outcome.Outcome.{Outcome}
 use Rattle.tasks.specs.declared.outcome.Outcome.TheVariants as outcome
 use Rattle.tasks.specs.declared.outcome.Purpose.{Purpose}
 use Rattle.tasks.specs.declared.outcome.Purpose.TheVariants as purpose
-use Rattle.tasks.specs.declared.task.Operand.{Operand as OperandInMemory}
-use Rattle.tasks.specs.declared.task.Operand.TheVariants as operands
+use Rattle.call_checks.specs.Actuals.{operand_view}
+use Rattle.call_checks.specs.declared.operand.Operand.{Operand as OperandInMemory}
+use Rattle.call_checks.specs.declared.operand.Operand.TheVariants as operands
 use Rattle.tasks.specs.declared.task.Task.{Task as TaskInMemory}
 use Rattle.tasks.specs.declared.task.Task.TheVariants as task
 use Rattle.terms.specs.declared.term.Term.{Term as TermInMemory}
 use Rattle.tasks.specs.Outcomes.{else_tree, purpose_view, target_view}
 use Rattle.terms.specs.Views.{term_view, NumbersInRange}
-
-abbrev pub operand_view : OperandInMemory → Operand
-operand_view (operands.Number t) = NumberOperand (term_view t)
-operand_view (operands.Given a) = Given (argument_tree a.now)
 
 abbrev pub task_view : TaskInMemory → Task
 task_view (task.Print e) = Print e.line (term_view e.term)

@@ -5,7 +5,7 @@ ghost use Rattle.syntax.specs.Views.{variable_type_tree};
 ghost use Rattle.source.specs.Task.{kind_of};
 ghost use Rattle.tasks.specs.Outcomes.{kind_view};
 
-use crate::given::Given;
+use call_answers::Given;
 use syntax::{Block, ElementType, Expr, Name, Stmt, VariableType};
 use terms::{Trap, Value};
 

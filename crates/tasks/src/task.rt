@@ -10,9 +10,11 @@ ghost use Rattle.types.specs.BuiltCalls.{is_built_call};
 ghost use Rattle.source.specs.Task.{Declared, Loop, Print, ReturnValue, SetElement, set_task, right_side_task, if_task, task_of, call_task, operand};
 ghost use Rattle.source.specs.Term.{term_of};
 ghost use Rattle.tasks.specs.Outcomes.{else_tree, kind_view, purpose_view, target_view};
-ghost use Rattle.tasks.specs.Tasks.{task_view, operand_view, ArgumentsInRange, OperandInRange, OperandsInRange, ExprInRange, RightSideInRange, TestInRange, BlockInRange, PurposeInRange, ElseInRange, StatementInRange, TaskInRange};
+ghost use Rattle.call_checks.specs.Actuals.{operand_view};
+ghost use Rattle.tasks.specs.Tasks.{task_view, ArgumentsInRange, OperandInRange, OperandsInRange, ExprInRange, RightSideInRange, TestInRange, BlockInRange, PurposeInRange, ElseInRange, StatementInRange, TaskInRange};
 
 use crate::outcome::{Purpose, Target, VariableKind, kind_of};
+use call_checks::Operand;
 use jni::{JniFunction, ParameterKind, function_named};
 use std::alloc::{AllocError, Global};
 use syntax::{
@@ -28,13 +30,6 @@ pub struct Invocation<'a> {
     pub function: JniFunction,
     /// The arguments after `env`.
     pub operands: Vec<Operand<'a>>,
-}
-
-/// An argument of a call: a number on the way to its value, or one that is looked up in the call's own step.
-#[derive(Drop)]
-pub enum Operand<'a> {
-    Number(Term<'a>),
-    Given(&'a Argument),
 }
 
 /// An `if`, with its test's term and its two ways.
@@ -274,7 +269,7 @@ fn print_task<'a>(alloc: Global, line: usize, e: &'a Expr) -> Result<Task<'a>, A
 }
 
 /// The task of a loop.
-fn loop_task<'a>(
+pub fn loop_task<'a>(
     alloc: Global,
     line: usize,
     test: &'a Expr,
@@ -305,7 +300,7 @@ fn return_task<'a>(alloc: Global, line: usize, e: &'a Expr) -> Result<Task<'a>, 
 }
 
 /// The task that a statement begins as.
-pub(crate) fn task_of(alloc: Global, s: &Stmt) -> Result<Task<'_>, AllocError>
+pub fn task_of(alloc: Global, s: &Stmt) -> Result<Task<'_>, AllocError>
     requires { StatementInRange s.now }
     ensures view { IfOk result (λ t. task_view t ≡ task_of (stmt_tree s.now)) }
     ensures range { IfOk result TaskInRange }

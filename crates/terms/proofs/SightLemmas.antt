@@ -13,5 +13,3 @@ not_null Stuck = refl
 pub ruleset null_rules = (not_null)
 
 pub ruleset place_rules = (not_null)
-
-pub ruleset element_rules = (not_null)

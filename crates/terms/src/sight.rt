@@ -1,12 +1,12 @@
 //! What can be seen in the variables and the statics.
 
-ghost use Rattle.std.specs.Prelude.{◌≡◌};
+ghost use Rattle.std.specs.Prelude.{◌≡◌, slice_get};
 ghost use Rattle.std.specs.Option.{option_map};
 ghost use Rattle.base.specs.Bytes.{lookup};
 ghost use Rattle.source.specs.Heap.{Heap};
-ghost use Rattle.source.specs.Sight.{scalar, seen, elements_of, variable_is_null, holds_null};
+ghost use Rattle.source.specs.Sight.{scalar, seen, elements_of, in_range, variable_is_null, holds_null};
 ghost use Rattle.source.specs.Term.{IsNull, done, index_of, element_value, reduce};
-ghost use Rattle.source.specs.Value.{outcome_map, Truth};
+ghost use Rattle.source.specs.Value.{outcome_map, outcome_then, Int, Truth};
 ghost use Rattle.source.specs.Variable.{Statics};
 ghost use Rattle.terms.specs.Views.{value_view, evaluated_view, indexed_view, content_view, variables_view, if_there, negated, place_in};
 
@@ -141,19 +141,25 @@ pub fn place_in(variables: &Variables<'_>, name: &Name, v: Value) -> Indexed
     }
 }
 
+/// The element at a place of the array of this name.
+fn element_at(variables: &Variables<'_>, name: &Name, i: usize) -> Evaluated
+    ensures { (heap : Heap) → evaluated_view result ≡ outcome_map Int (outcome_then (λ zs. in_range (slice_get zs i)) (elements_of heap (lookup name.now (variables_view variables.now)))) }
+{
+    match numbers_in(variables, name) {
+        None => Evaluated::Stuck,
+        Some(numbers) => match numbers.get(i) {
+            Some(number) => Evaluated::Gives(Value::Int(*number)),
+            None => Evaluated::Traps(Trap::OutOfRange),
+        },
+    }
+}
+
 /// An element of the array of this name.
-#[tactic(auto, using(crate::proofs::SightLemmas::element_rules))]
 pub(crate) fn element_in(variables: &Variables<'_>, name: &Name, v: Value) -> Evaluated
     ensures { (statics : Statics) (heap : Heap) → evaluated_view result ≡ element_value (seen (variables_view variables.now) statics heap) name.now (value_view v) }
 {
     match index_of(v) {
-        Indexed::At(i) => match numbers_in(variables, name) {
-            None => Evaluated::Stuck,
-            Some(numbers) => match numbers.get(i) {
-                Some(number) => Evaluated::Gives(Value::Int(*number)),
-                None => Evaluated::Traps(Trap::OutOfRange),
-            },
-        },
+        Indexed::At(i) => element_at(variables, name, i),
         Indexed::Traps(trap) => Evaluated::Traps(trap),
         Indexed::Stuck => Evaluated::Stuck,
     }

@@ -4,8 +4,8 @@ ghost use Rattle.std.specs.Prelude.{◌≡◌, IfOk, IfSome, IfNone, IsTrue, Non
 ghost use Rattle.syntax.specs.Limits.{numbers_in_range};
 ghost use Rattle.syntax.specs.Parts.{null_tested};
 ghost use Rattle.syntax.specs.Tree.{Binary};
-ghost use Rattle.syntax.specs.Views.{expr_tree, binary_tree};
-ghost use Rattle.source.specs.Term.{term_of, binary_term};
+ghost use Rattle.syntax.specs.Views.{expr_tree, prefix_tree, binary_tree};
+ghost use Rattle.source.specs.Term.{Element, Prefix, term_of, binary_term};
 ghost use Rattle.terms.specs.Views.{term_view, NumbersInRange, ComparesNull};
 
 use crate::value::Value;
@@ -57,8 +57,50 @@ fn null_test<'a>(op: BinaryOp, a: &'a Expr, b: &Expr) -> Option<(bool, &'a Name)
     Some((wanted, name))
 }
 
+/// The term of an element, from that of its index.
+fn element_term<'a>(
+    alloc: Global,
+    name: &'a Name,
+    index: Term<'a>,
+) -> Result<Term<'a>, AllocError>
+    requires { NumbersInRange index }
+    ensures view { IfOk result (λ t. term_view t ≡ Element name.entry.now (term_view index.entry)) }
+    ensures numbers { IfOk result NumbersInRange }
+{
+    let index = Box::new(alloc, index)?;
+    Ok(Term::Element(name, index))
+}
+
+/// The term of a prefix operator before a term.
+fn prefix_term<'a>(
+    alloc: Global,
+    op: PrefixOp,
+    operand: Term<'a>,
+) -> Result<Term<'a>, AllocError>
+    requires { NumbersInRange operand }
+    ensures view { IfOk result (λ t. term_view t ≡ Prefix (prefix_tree op) (term_view operand.entry)) }
+    ensures numbers { IfOk result NumbersInRange }
+{
+    let operand = Box::new(alloc, operand)?;
+    Ok(Term::Prefix(op, operand))
+}
+
 /// The term of an operator between two terms.
 #[tactic(auto, using(crate::proofs::TermLemmas::operator_rules))]
+fn operator_term<'a>(op: BinaryOp, left: Box<Term<'a>>, right: Box<Term<'a>>) -> Term<'a>
+    requires left { NumbersInRange left.value }
+    requires right { NumbersInRange right.value }
+    ensures view { term_view result ≡ binary_term (binary_tree op) None (term_view left.entry.value) (term_view right.entry.value) }
+    ensures numbers { NumbersInRange result }
+{
+    match op {
+        BinaryOp::LogicalAnd => Term::And(left, right),
+        BinaryOp::LogicalOr => Term::Or(left, right),
+        op => Term::Binary(op, left, right),
+    }
+}
+
+/// The term of an operator between two terms, on the heap.
 fn binary_term<'a>(
     alloc: Global,
     op: BinaryOp,
@@ -72,40 +114,54 @@ fn binary_term<'a>(
 {
     let left = Box::new(alloc, a)?;
     let right = Box::new(alloc, b)?;
-    match op {
-        BinaryOp::LogicalAnd => Ok(Term::And(left, right)),
-        BinaryOp::LogicalOr => Ok(Term::Or(left, right)),
-        op => Ok(Term::Binary(op, left, right)),
+    Ok(operator_term(op, left, right))
+}
+
+/// The term of an operator between two expressions.
+#[cycle(term_of)]
+fn operation_of<'a>(
+    alloc: Global,
+    op: BinaryOp,
+    operands: &'a (Expr, Expr),
+) -> Result<Term<'a>, AllocError>
+    requires left { IsTrue (numbers_in_range (expr_tree operands.now.0)) }
+    requires right { IsTrue (numbers_in_range (expr_tree operands.now.1)) }
+    ensures view { IfOk result (λ t. term_view t ≡ term_of (Binary (binary_tree op) (expr_tree operands.entry.now.0) (expr_tree operands.entry.now.1))) }
+    ensures numbers { IfOk result NumbersInRange }
+{
+    match null_test(op, &operands.0, &operands.1) {
+        Some((wanted, name)) => Ok(Term::IsNull(wanted, name)),
+        None => {
+            let left = term_of(alloc, &operands.0)?;
+            let right = term_of(alloc, &operands.1)?;
+            binary_term(alloc, op, left, right)
+        }
     }
 }
 
 /// The term that an expression begins as. Its names are those of the tree.
+#[cycle(term_of)]
 pub fn term_of(alloc: Global, e: &Expr) -> Result<Term<'_>, AllocError>
     requires { IsTrue (numbers_in_range (expr_tree e.now)) }
     ensures view { IfOk result (λ t. term_view t ≡ term_of (expr_tree e.now)) }
     ensures numbers { IfOk result NumbersInRange }
 {
-    let term = match e {
-        Expr::Number { value, unsigned } => Term::Number {
+    match e {
+        Expr::Number { value, unsigned } => Ok(Term::Number {
             value: *value,
             unsigned: *unsigned,
-        },
-        Expr::Named(c) => Term::Named(*c),
-        Expr::Variable(name) => Term::Read(name),
+        }),
+        Expr::Named(c) => Ok(Term::Named(*c)),
+        Expr::Variable(name) => Ok(Term::Read(name)),
         Expr::Element(name, i) => {
-            let index = Box::new(alloc, term_of(alloc, i)?)?;
-            Term::Element(name, index)
+            let index = term_of(alloc, i)?;
+            element_term(alloc, name, index)
         }
-        Expr::Prefix(op, a) => Term::Prefix(*op, Box::new(alloc, term_of(alloc, a)?)?),
-        Expr::Binary(op, operands) => match null_test(*op, &operands.0, &operands.1) {
-            Some((wanted, name)) => Term::IsNull(wanted, name),
-            None => {
-                let left = term_of(alloc, &operands.0)?;
-                let right = term_of(alloc, &operands.1)?;
-                binary_term(alloc, *op, left, right)?
-            }
-        },
-        Expr::Paren(a) => return term_of(alloc, a),
-    };
-    Ok(term)
+        Expr::Prefix(op, a) => {
+            let operand = term_of(alloc, a)?;
+            prefix_term(alloc, *op, operand)
+        }
+        Expr::Binary(op, operands) => operation_of(alloc, *op, operands),
+        Expr::Paren(a) => term_of(alloc, a),
+    }
 }

@@ -11,7 +11,7 @@ use crate::known::Known;
 use crate::scope::take;
 use crate::sort::{Sort, variable_sort};
 use crate::statements::check_statement;
-use std::alloc::{AllocError, Global};
+use std::alloc::Global;
 use syntax::{Block, ElementType, Form, Name, ResultType};
 
 /// One name more is known and taken.
@@ -21,7 +21,8 @@ fn add<'a>(
     taken: &mut Vec<Name>,
     name: &'a Name,
     sort: Sort,
-) -> Result<(), AllocError>
+) -> Result<(), TypeFault>
+    ensures finds { Finds result [] }
     ensures scope { OnOk result (scope_of known.new ≡ (name.now, sort_value sort) ∷ scope_of known.old) }
     ensures above { OnOk result (IsAbove known.new known.old) }
     ensures taken { OnOk result (taken.new.items ≡ taken.old.items ++ name.now ∷ []) }
@@ -29,6 +30,43 @@ fn add<'a>(
     known.declare(name, sort)?;
     take(alloc, taken, name)?;
     Ok(())
+}
+
+/// The name that a statement declares is known and taken.
+fn declare<'a>(
+    alloc: Global,
+    known: &mut Known<'a, Sort>,
+    taken: &mut Vec<Name>,
+    form: &'a Form,
+) -> Result<(), TypeFault>
+    ensures finds { Finds result [] }
+    ensures scope { OnOk result ((line : ℕ) → scope_of known.new ≡ with_declared (scope_of known.old) (form_tree line form.now)) }
+    ensures above { OnOk result (IsAbove known.new known.old) }
+    ensures taken { OnOk result ((line : ℕ) → taken.new.items ≡ taken.old.items ++ names_declared (form_tree line form.now ∷ [])) }
+{
+    match form {
+        Form::Declare(t, x, _) => add(alloc, known, taken, x, variable_sort(*t)),
+        Form::DeclareBuffer(t, x, _) => add(alloc, known, taken, x, Sort::Buffer(*t, true)),
+        Form::DeclareChars(x, _) => {
+            add(
+                alloc,
+                known,
+                taken,
+                x,
+                Sort::Buffer(ElementType::Jchar, false),
+            )
+        }
+        Form::DeclareArray(t, x, size) => add(alloc, known, taken, x, Sort::Array(*t, *size)),
+        Form::Assign(..) => Ok(()),
+        Form::AssignElement(..) => Ok(()),
+        Form::Perform(_) => Ok(()),
+        Form::PutJint(_) => Ok(()),
+        Form::If(..) => Ok(()),
+        Form::IfElse(..) => Ok(()),
+        Form::While(..) => Ok(()),
+        Form::Return(None) => Ok(()),
+        Form::Return(Some(_)) => Ok(()),
+    }
 }
 
 /// The blocks inside a statement, and the name that it declares.
@@ -47,30 +85,13 @@ fn check_inside<'a>(
     ensures taken { OnOk result ((line : ℕ) → taken.new.items ≡ taken.old.items ++ names_declared (statements_within (form_tree line form.now))) }
 {
     match form {
-        Form::Declare(t, x, _) => Ok(add(alloc, known, taken, x, variable_sort(*t))?),
-        Form::DeclareBuffer(t, x, _) => Ok(add(alloc, known, taken, x, Sort::Buffer(*t, true))?),
-        Form::DeclareChars(x, _) => {
-            Ok(add(
-                alloc,
-                known,
-                taken,
-                x,
-                Sort::Buffer(ElementType::Jchar, false),
-            )?)
-        }
-        Form::DeclareArray(t, x, size) => Ok(add(alloc, known, taken, x, Sort::Array(*t, *size))?),
-        Form::Assign(..) => Ok(()),
-        Form::AssignElement(..) => Ok(()),
-        Form::Perform(_) => Ok(()),
-        Form::PutJint(_) => Ok(()),
         Form::If(_, b) => check_block(alloc, known, taken, returns, b),
         Form::IfElse(_, b, d) => {
             check_block(alloc, known, taken, returns, b)?;
             check_block(alloc, known, taken, returns, d)
         }
         Form::While(_, b) => check_block(alloc, known, taken, returns, b),
-        Form::Return(None) => Ok(()),
-        Form::Return(Some(_)) => Ok(()),
+        _ => declare(alloc, known, taken, form),
     }
 }
 

@@ -3,8 +3,8 @@
 ghost use Rattle.std.specs.Prelude.{◌≡◌, [], ◌∷◌, OnOk, map};
 ghost use Rattle.syntax.specs.Parts.{item_name};
 ghost use Rattle.syntax.specs.Views.{function_tree, item_tree};
-ghost use Rattle.types.specs.SortRules.{function_places, item_places};
-ghost use Rattle.types.specs.Faults.{Finds, scope_of, found, head_faults, own_places, with_static};
+ghost use Rattle.types.specs.SortRules.{DeclaredTwice, has_name, function_places, item_places};
+ghost use Rattle.types.specs.Faults.{Finds, broken_if, scope_of, sort_value, found, head_faults, own_places, with_static};
 
 use crate::blocks::check_block;
 use crate::fault::{SortRule, TypeFault, refuse_if};
@@ -12,7 +12,7 @@ use crate::known::Known;
 use crate::scope::{enter, has_name, has_repeated};
 use crate::sort::Sort;
 use classes::mangling::is_mangled;
-use std::alloc::Global;
+use std::alloc::{AllocError, Global};
 use syntax::{Function, Item, Name, Static};
 
 /// The head of a function after items of these names, where its parameters and the statics have those.
@@ -50,6 +50,48 @@ fn check_function<'a>(
     checked
 }
 
+/// One name more, before the others.
+fn put_first(alloc: Global, names: &mut Vec<Name>, name: &Name) -> Result<(), AllocError>
+    ensures { OnOk result (names.new.items ≡ name.now ∷ names.old.items) }
+{
+    let first = Name::new(alloc, name.as_bytes())?;
+    names.insert(0, first)?;
+    Ok(())
+}
+
+/// A static after items of these names and these statics, which become more by it.
+fn check_static<'a>(
+    alloc: Global,
+    names: &mut Vec<Name>,
+    statics: &mut Known<'a, Sort>,
+    s: &'a Static,
+) -> Result<(), TypeFault>
+    ensures finds { Finds result (broken_if (has_name names.old.items s.now.name) DeclaredTwice s.now.line) }
+    ensures names { OnOk result (names.new.items ≡ s.now.name ∷ names.old.items) }
+    ensures statics { OnOk result (scope_of statics.new ≡ (s.now.name, sort_value Sort.Global) ∷ scope_of statics.old) }
+{
+    refuse_if(has_name(names, &s.name), SortRule::DeclaredTwice, s.line)?;
+    statics.declare(&s.name, Sort::Global)?;
+    put_first(alloc, names, &s.name)?;
+    Ok(())
+}
+
+/// A function after items of these names and these statics, whose name is one more of those.
+fn check_named<'a>(
+    alloc: Global,
+    names: &mut Vec<Name>,
+    statics: &mut Known<'a, Sort>,
+    f: &'a Function,
+) -> Result<(), TypeFault>
+    ensures finds { Finds result (found (function_places names.old.items (scope_of statics.old) (function_tree f.now))) }
+    ensures names { OnOk result (names.new.items ≡ f.now.name ∷ names.old.items) }
+    ensures statics { OnOk result (statics.new ≡ statics.old) }
+{
+    check_function(alloc, names, statics, f)?;
+    put_first(alloc, names, &f.name)?;
+    Ok(())
+}
+
 /// An item after items of these names and these statics, which become more by it.
 fn check_item<'a>(
     alloc: Global,
@@ -62,17 +104,9 @@ fn check_item<'a>(
     ensures statics { OnOk result (scope_of statics.new ≡ with_static (scope_of statics.old) (item_tree item.now)) }
 {
     match item {
-        Item::Static(s) => {
-            refuse_if(has_name(names, &s.name), SortRule::DeclaredTwice, s.line)?;
-            statics.declare(&s.name, Sort::Global)?;
-            names.insert(0, Name::new(alloc, s.name.as_bytes())?)?;
-        }
-        Item::Function(f) => {
-            check_function(alloc, names, statics, f)?;
-            names.insert(0, Name::new(alloc, f.name.as_bytes())?)?;
-        }
+        Item::Static(s) => check_static(alloc, names, statics, s),
+        Item::Function(f) => check_named(alloc, names, statics, f),
     }
-    Ok(())
 }
 
 /// The items of a unit. Each name is compared with those of the items before it, which are 512 at most.

@@ -8,36 +8,47 @@ use clap::error::ErrorKind;
 use clap::{Arg, ArgAction, ArgMatches, Error};
 use commands::Command;
 use explanations::Explanation;
-use std::alloc::Global;
+use std::alloc::{AllocError, Global};
 use std::convert::AsStr;
 
-/// A word that must be there.
-fn word<'a>(alloc: Global, name: &'a str, help: &'a str) -> Arg<'a> {
-    Arg::new(alloc, name)
+/// A command that takes one word more, which must be there.
+fn with_word<'a>(
+    alloc: Global,
+    command: clap::Command<'a>,
+    name: &'a str,
+    help: &'a str,
+) -> Result<clap::Command<'a>, AllocError> {
+    let word = Arg::new(alloc, name)
         .required(true)
         .action(ArgAction::Set)
-        .help(help)
+        .help(help);
+    command.arg(word)
 }
 
 /// The word of the program.
-fn with_program<'a>(alloc: Global, command: clap::Command<'a>) -> Result<clap::Command<'a>, Error> {
-    let command = command.arg(word(alloc, "PROG", "The text of the native methods"))?;
-    Ok(command)
+fn with_program<'a>(
+    alloc: Global,
+    command: clap::Command<'a>,
+) -> Result<clap::Command<'a>, AllocError> {
+    with_word(alloc, command, "PROG", "The text of the native methods")
 }
 
 /// The words of the program and the world.
-fn with_world<'a>(alloc: Global, command: clap::Command<'a>) -> Result<clap::Command<'a>, Error> {
+fn with_world<'a>(
+    alloc: Global,
+    command: clap::Command<'a>,
+) -> Result<clap::Command<'a>, AllocError> {
     let command = with_program(alloc, command)?;
-    let command = command.arg(word(
+    with_word(
         alloc,
+        command,
         "WORLD",
         "The heap, the classes, the objects and the threads",
-    ))?;
-    Ok(command)
+    )
 }
 
 /// `check PROG`.
-fn check_command<'a>(alloc: Global) -> Result<clap::Command<'a>, Error> {
+fn check_command<'a>(alloc: Global) -> Result<clap::Command<'a>, AllocError> {
     let command = clap::Command::new(alloc, "check").about(
         "Checks a program, and prints ok or its first fault",
     );
@@ -53,27 +64,26 @@ fn schedule<'a>(alloc: Global) -> Arg<'a> {
 }
 
 /// `run PROG WORLD --schedule FILE`.
-fn run_command<'a>(alloc: Global) -> Result<clap::Command<'a>, Error> {
+fn run_command<'a>(alloc: Global) -> Result<clap::Command<'a>, AllocError> {
     let command = clap::Command::new(alloc, "run").about(
         "Runs a program in a world, and prints its report and its journal",
     );
     let command = with_world(alloc, command)?;
-    let command = command.arg(schedule(alloc))?;
-    Ok(command)
+    command.arg(schedule(alloc))
 }
 
 /// `replay PROG WORLD JOURNAL`.
-fn replay_command<'a>(alloc: Global) -> Result<clap::Command<'a>, Error> {
+fn replay_command<'a>(alloc: Global) -> Result<clap::Command<'a>, AllocError> {
     let command = clap::Command::new(alloc, "replay").about(
         "Takes the steps of a journal again, and prints the report and the journal",
     );
     let command = with_world(alloc, command)?;
-    let command = command.arg(word(
+    with_word(
         alloc,
+        command,
         "JOURNAL",
         "The steps that were taken, in their order",
-    ))?;
-    Ok(command)
+    )
 }
 
 /// The number of a trap.
@@ -84,13 +94,12 @@ fn number<'a>(alloc: Global) -> Arg<'a> {
 }
 
 /// `explain N` or `explain trap N`.
-fn explain_command<'a>(alloc: Global) -> Result<clap::Command<'a>, Error> {
+fn explain_command<'a>(alloc: Global) -> Result<clap::Command<'a>, AllocError> {
     let command = clap::Command::new(alloc, "explain").about(
         "Explains fault N, or trap N: its rule, the smallest text that has it, and its cure",
     );
-    let command = command.arg(word(alloc, "N", "The number of a fault, or `trap`"))?;
-    let command = command.arg(number(alloc))?;
-    Ok(command)
+    let command = with_word(alloc, command, "N", "The number of a fault, or `trap`")?;
+    command.arg(number(alloc))
 }
 
 /// The file of a check.
@@ -166,17 +175,24 @@ fn asked_of<'a>(matches: &ArgMatches<'a>) -> Request<'a>
     }
 }
 
+/// A command that takes the words of one command more.
+fn with_command<'a>(
+    command: clap::Command<'a>,
+    other: Result<clap::Command<'a>, AllocError>,
+) -> Result<clap::Command<'a>, AllocError> {
+    command.subcommand(other?)
+}
+
 /// The words that are taken.
-fn command_line<'a>(alloc: Global) -> Result<clap::Command<'a>, Error> {
+fn command_line<'a>(alloc: Global) -> Result<clap::Command<'a>, AllocError> {
     let command = clap::Command::new(alloc, "jnirun")
         .version("0.1.0")
         .about("Runs Java native methods on a heap whose objects move")
-        .subcommand_required(true)
-        .subcommand(check_command(alloc)?)?
-        .subcommand(run_command(alloc)?)?
-        .subcommand(replay_command(alloc)?)?
-        .subcommand(explain_command(alloc)?)?;
-    Ok(command)
+        .subcommand_required(true);
+    let command = with_command(command, check_command(alloc))?;
+    let command = with_command(command, run_command(alloc))?;
+    let command = with_command(command, replay_command(alloc))?;
+    with_command(command, explain_command(alloc))
 }
 
 /// What the words ask for, as `clap` reads them. Which word is the program, the world, the schedule and the journal is `clap`'s doing; no clause

@@ -2,6 +2,7 @@ pub mod ReadingValues
 pub mod LineViews
 pub mod NameViews
 pub mod ReadingLines
+pub mod LineKinds
 pub mod ReadingWorlds
 pub mod TextLaws
 pub mod Gathered

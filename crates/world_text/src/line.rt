@@ -7,6 +7,7 @@ ghost use Rattle.base.specs.Bytes.{is_some_byte};
 ghost use Rattle.class_table.specs.Views.{element_view};
 ghost use Rattle.texts.specs.Split.{parts_of};
 ghost use Rattle.world_text.specs.LineViews.{value_view, line_view};
+ghost use Rattle.world_text.specs.LineKinds.{calls_by_kind, objects_by_kind};
 ghost use Rattle.world_text.specs.ReadingLines.{class_by_words, field_by_words, object_by_words, array_by_words, call_by_words, string_by_words, words_by_kind, line_by_words, line_of};
 ghost use Rattle.world.specs.WorldLines.{FieldLine as DeclaredField, StaticLine, ObjectLine as WrittenObject, ObjectsLine, StringLine, ThreadLine, CallLine as FurtherCall, spaced};
 
@@ -181,6 +182,42 @@ fn call_line<'a>(
     }))
 }
 
+/// A call's line of this first word.
+fn call_of_kind<'a>(
+    alloc: Global,
+    word: &[u8],
+    words: &[&'a [u8]],
+) -> Result<Option<Line<'a>>, AllocError>
+    ensures { IfOk result (λ line. option_map line_view line ≡ calls_by_kind word.now (map (λ w. w.now) words.now)) }
+{
+    if word == b"thread".as_slice() {
+        call_line(alloc, words, true)
+    } else if word == b"call".as_slice() {
+        call_line(alloc, words, false)
+    } else {
+        Ok(None)
+    }
+}
+
+/// An object's line of this first word, and no string's, or a call's.
+fn object_of_kind<'a>(
+    alloc: Global,
+    word: &[u8],
+    words: &[&'a [u8]],
+) -> Result<Option<Line<'a>>, AllocError>
+    ensures { IfOk result (λ line. option_map line_view line ≡ objects_by_kind word.now (map (λ w. w.now) words.now)) }
+{
+    if word == b"object".as_slice() {
+        object_line(alloc, words, false)
+    } else if word == b"objects".as_slice() {
+        object_line(alloc, words, true)
+    } else if word == b"array".as_slice() {
+        array_line(alloc, words)
+    } else {
+        call_of_kind(alloc, word, words)
+    }
+}
+
 /// A line of this first word, and no string's.
 fn line_of_kind<'a>(
     alloc: Global,
@@ -195,18 +232,8 @@ fn line_of_kind<'a>(
         Ok(field_line(words, false))
     } else if word == b"static".as_slice() {
         Ok(field_line(words, true))
-    } else if word == b"object".as_slice() {
-        object_line(alloc, words, false)
-    } else if word == b"objects".as_slice() {
-        object_line(alloc, words, true)
-    } else if word == b"array".as_slice() {
-        array_line(alloc, words)
-    } else if word == b"thread".as_slice() {
-        call_line(alloc, words, true)
-    } else if word == b"call".as_slice() {
-        call_line(alloc, words, false)
     } else {
-        Ok(None)
+        object_of_kind(alloc, word, words)
     }
 }
 

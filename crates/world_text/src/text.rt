@@ -186,6 +186,21 @@ pub fn read_world(alloc: Global, text: &[u8]) -> Result<World, ReadError>
     finished(builder, last)
 }
 
+/// The world that the lines make.
+fn taken_apart(builder: WorldBuilder) -> World
+    requires { IsSound (gathered_world (gathered_of builder)) }
+    ensures { result ≡ gathered_world (gathered_of builder) }
+{
+    let WorldBuilder {
+        cells,
+        classes,
+        objects,
+        threads,
+        ..
+    } = builder;
+    World::new(cells, classes, objects, threads)
+}
+
 /// The world that the lines make, the last of which had this number.
 fn finished(builder: WorldBuilder, last: usize) -> Result<World, ReadError>
     requires { IsSound (gathered_world (gathered_of builder)) }
@@ -195,12 +210,5 @@ fn finished(builder: WorldBuilder, last: usize) -> Result<World, ReadError>
         let rule = Rule::Limit;
         return Err(ReadError::Fault(TextFault { rule, line: last }));
     }
-    let WorldBuilder {
-        cells,
-        classes,
-        objects,
-        threads,
-        ..
-    } = builder;
-    Ok(World::new(cells, classes, objects, threads))
+    Ok(taken_apart(builder))
 }

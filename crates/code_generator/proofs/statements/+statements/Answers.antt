@@ -1,4 +1,4 @@
-use Rattle.std.proofs.Common.{◌≡◌, ℕ, ◌+◌, ◌-◌, List, [], ◌∷◌, ◌++◌, length, Result, Ok, Err, OnOk, ◌∙◌, sym, ap, refl, arith, length-append}
+use Rattle.std.proofs.Common.{◌≡◌, ℕ, ◌+◌, ◌-◌, List, [], ◌∷◌, ◌++◌, length, ◌∙◌, sym, ap, refl, arith, length-append}
 use Rattle.std.specs.Prelude.{slice_set, vec_len}
 use Rattle.std.proofs.Math.ListN.{drop_of_length-le}
 use Rattle.std.proofs.lemmas.List.{append-nil}
@@ -11,12 +11,8 @@ use Rattle.code.specs.declared.instr.Instr.TheVariants as instr
 use Rattle.code_generator.specs.Layout.{block_layout}
 use Rattle.code_generator.specs.Coding.{first_code, ways_code, loop_code, stmt_code, block_code}
 use Rattle.code_generator.proofs.BlockNames.{block_closed}
-use Rattle.code_generator.proofs.Jumps.{first_made, ways_made, loop_made}
+use Rattle.code_generator.proofs.Jumps.{on_ok, first_made, ways_made, loop_made}
 use Rattle.code_generator.proofs.statements.+statements.Goals as goal
-
-on_ok : {A E : Type 0} (r : Result A E) (P Q : Type 0) → (P → Q) → OnOk r P → OnOk r Q
-on_ok (Ok x) P Q f h = f h
-on_ok (Err e) P Q f h = h
 
 -- what three calls append, and the jumps at the end
 first_whole : (old a b c new test then' : List Instr) (jump : ℕ) → a ≡ old ++ test → b ≡ a ++ instr.JumpIfFalse 0 ∷ [] → c ≡ b ++ then' → jump ≡ length a → new ≡ slice_set (c ++ instr.Jump 0 ∷ []) jump (instr.JumpIfFalse (length c - jump)) → new ≡ old ++ first_code test then'

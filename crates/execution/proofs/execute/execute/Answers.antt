@@ -1,6 +1,5 @@
-use Rattle.std.proofs.Common.{rules, Option, ◌≡◌, ℕ, ◌+◌, ◌-◌, Some, ◌∷◌, List, length, refl, sym, ap, ◌∙◌, subst, arith, ℤ, Bool, ◌⊎◌, ⊎_elim}
-use Rattle.std.specs.Prelude.{slice_get}
-use Rattle.std.specs.Bool.{beq}
+use Rattle.std.proofs.Common.{rules, Result, Ok, Err, Option, ◌≡◌, ℕ, ◌+◌, Some, ◌∷◌, List, length, refl, sym, ap, ◌∙◌, subst, arith, ℤ, ◌⊎◌, ⊎_elim}
+use Rattle.std.specs.Prelude.{slice_get, IfOk}
 use Rattle.std.specs.Option.{option_copied}
 use Rattle.std.specs.Int.{w32, cast_signed, cast_unsigned}
 use Rattle.std.specs.Vec.{with_items}
@@ -13,8 +12,7 @@ use Rattle.code.specs.declared.instr.Instr.TheVariants as instr
 use Rattle.code.specs.declared.instr.Plain.{Plain}
 use Rattle.code.specs.declared.instr.ReferenceOperand.{ReferenceOperand}
 use Rattle.code.specs.declared.instr.Plain.TheVariants as plain
-use Rattle.code.specs.Effect.{truth_word, plain_of}
-use Rattle.code.specs.Depth.{Listing}
+use Rattle.code.specs.Depth.{Listing, LeadsInside}
 use Rattle.source.specs.Effect.{effect_of}
 use Rattle.source.specs.Task.{Task}
 use Rattle.source.specs.Thread.{sight_of}
@@ -23,25 +21,23 @@ use Rattle.lower.specs.Does.{IsReturn}
 use Rattle.safety.specs.Owners.{Owners}
 use Rattle.lower.specs.Lowered.{Lowered, IsLowered}
 use Rattle.jni_calls.specs.declared.activation.Activation.{Activation}
-use Rattle.execution.specs.declared.execute.Event.TheVariants.{Quiet, Printed, Trapped}
+use Rattle.execution.specs.declared.execute.Event.TheVariants.{Printed}
 use Rattle.execution.specs.declared.execute.Executed.TheVariants.{Did}
 use Rattle.std.specs.Prelude.{◌<◌, ◌^◌, None, OnSome}
 use Rattle.classes.specs.Class.{Classes}
-use Rattle.class_table.specs.declared.class.FieldHandle.{FieldHandle}
 use Rattle.source.specs.Thread.{Frame, Shared, Thread}
 use Rattle.execution.specs.Executes.{CallStands, IsExecuting, Executes}
 use Rattle.source.specs.World.{World}
 use Rattle.code.specs.declared.instr.Call.{Call as CallInMemory}
 use Rattle.jni_calls.specs.declared.store.Store.{Store}
-use Rattle.execution.specs.Invoked.{AtCall, executed_as}
-use Rattle.execution.specs.declared.invoke.Invoked.{Invoked}
-use Rattle.jni_calls.specs.Asked.{references_of}
-use Rattle.jni_calls.specs.Statics.{References, all_held, held}
+use Rattle.execution.specs.Invoked.{AtCall}
+use Rattle.execution.specs.Moved.{IsReachable}
+use Rattle.jni_calls.specs.Statics.{all_held, held}
 use Rattle.jni_calls.specs.declared.statics.StaticReference.{StaticReference}
 use Rattle.jni_calls.proofs.HeldStatics.{statics_count}
-use Rattle.execution.specs.Variables.{is_null, HasSlot, nulled_references, nulled_fields, nulled_statics}
-use Rattle.execution.proofs.Calls.{Ready, ready, here, room, is_there, positive}
-use Rattle.execution.proofs.Effects.{Answer, few_words, slot_there as variable_there, plain_executes, test_executes, store_executes, put_executes, return_executes}
+use Rattle.execution.specs.Variables.{HasSlot, nulled_statics}
+use Rattle.execution.proofs.Calls.{Ready, ready, here, room, leads, is_there, positive}
+use Rattle.execution.proofs.Effects.{few_words, slot_there as variable_there, plain_executes, test_executes, store_executes, put_executes, return_executes}
 use Rattle.execution.proofs.execute.execute.Goals as goal
 use Rattle.execution.proofs.execute.execute.Goals.{After-unwrap-instr}
 
@@ -73,23 +69,36 @@ unwrap-instr-requires c =
     let h = here c.args.program.now c.args.world.now.classes c.args.store.now.heap c.args.call.now c.unwrap-code.result.now (visible_to s.0 s.1 s.2) s.2.frames s.3 s.4 (ready _ _ _ _ _ (visible_to s.0 s.1 s.2) s.2.frames s.3 s.4 c.requires.lowered code_at s.5.stands) in
     is_there c.get.result h.0 (c.get.ensures.instr ∙ h.1)
 
-pub push-requires : goal.push-requires
-push-requires c =
+pub test_null-requires-clause-room : goal.test_null-requires-clause-room
+test_null-requires-clause-room c =
     let s = c.requires.stands in
-    let f = fetched (goal.at.push-requires c).After-unwrap-instr in
+    let f = fetched (goal.at.test_null-requires-clause-room c).After-unwrap-instr in
     few_words c.in-TestNull.variable c.in-TestNull.equal (length c.args.call.now.stack)
     (room _ _ _ _ f.code (visible_to s.0 s.1 s.2) s.2.frames s.3 s.4 (ready_for _ c.args.world.now.classes c.args.store.now.heap _ _ f (visible_to s.0 s.1 s.2) s.2.frames s.3 s.4 s.5.stands) (instr.TestNull c.in-TestNull.variable c.in-TestNull.equal) (f.at ∙ ap (λ i. Some i) c.in-TestNull.is))
 
-pub set_null-requires : goal.set_null-requires
-set_null-requires c =
+pub store_null-requires-clause-slot : goal.store_null-requires-clause-slot
+store_null-requires-clause-slot c =
     let s = c.requires.stands in
-    let f = fetched (goal.at.set_null-requires c).After-unwrap-instr in
+    let f = fetched (goal.at.store_null-requires-clause-slot c).After-unwrap-instr in
     let count : length s.1.statics ≡ length c.args.store.now.statics.items =
     sym (statics_count c.args.store.now.heap (all_held c.args.store.now.globals c.args.store.now.statics.items) s.1.statics s.5.store_agrees.statics) ∙ length-map c.args.store.now.statics.items (held c.args.store.now.globals) in
     let there = variable_there _ c.args.world.now.classes c.args.store.now.heap _ f.code (visible_to s.0 s.1 s.2) s.2.frames s.3 s.4 (ready_for _ c.args.world.now.classes c.args.store.now.heap _ _ f (visible_to s.0 s.1 s.2) s.2.frames s.3 s.4 s.5.stands) c.unwrap-instr.result.now f.at c.in-StoreNull.variable (length c.args.store.now.statics.items) c.in-StoreNull.is count in
-    subst (λ (l : List (Option ℕ)). HasSlot (length l) (length c.deref_mut-in-StoreNull.result.now) (length c.deref_mut-in-StoreNull-2.result.now) c.in-StoreNull.variable) (sym c.deref_mut.ensures.value)
-    (subst (λ (l : List (Option FieldHandle)). HasSlot (length c.args.call.now.references.items) (length l) (length c.deref_mut-in-StoreNull-2.result.now) c.in-StoreNull.variable) (sym c.deref_mut-in-StoreNull.ensures.value)
-    (subst (λ (l : List StaticReference). HasSlot (length c.args.call.now.references.items) (length c.args.call.now.fields.items) (length l) c.in-StoreNull.variable) (sym c.deref_mut-in-StoreNull-2.ensures.value) there))
+    subst (λ (l : List StaticReference). HasSlot (length c.args.call.now.references.items) (length c.args.call.now.fields.items) (length l) c.in-StoreNull.variable) (sym c.deref_mut.ensures.value) there
+
+-- a way that leads inside code can be gone
+reachable : (instrs : List Instr) (place : ℕ) (way : Plain) (depth : ℕ) → length instrs < 2 ^ 64 → LeadsInside instrs place way depth → IsReachable place way
+reachable instrs place plain.Next depth few h = let inside : place + 1 < length instrs = h.inside in omega (arith, inside)
+reachable instrs place (plain.Skip n) depth few h = let inside : place + 1 + n < length instrs = h.inside in omega (arith, inside)
+reachable instrs place (plain.Back n) depth few h = h.0
+reachable instrs place (plain.Trap trap line) depth few h = tt
+
+pub run_plain-requires-clause-leads : goal.run_plain-requires-clause-leads
+unfolding fetched
+run_plain-requires-clause-leads c way stack numbers is =
+    let s = c.requires.stands in
+    let f = fetched (goal.at.run_plain-requires-clause-leads c).After-unwrap-instr in
+    reachable f.code.instrs c.args.call.now.place way (length stack) c.get.ensures.few
+    (leads _ _ _ _ f.code (visible_to s.0 s.1 s.2) s.2.frames s.3 s.4 (ready_for _ c.args.world.now.classes c.args.store.now.heap _ _ f (visible_to s.0 s.1 s.2) s.2.frames s.3 s.4 s.5.stands) c.unwrap-instr.result.now f.at way stack numbers is)
 
 pub pop-word-requires : goal.pop-word-requires
 pop-word-requires c =
@@ -122,47 +131,39 @@ pub invoke-requires : goal.invoke-requires
 invoke-requires c =
     let s = c.requires.stands in
     let f = fetched (goal.at.invoke-requires c).After-unwrap-instr in
-    record { at_call = (c.args.program.now, s.0, s.1, s.2, s.3, s.4, at_call c.args.program.now c.args.world.now c.args.store.now c.args.pending.now c.args.call.now c.unwrap-instr.result.now f c.call-function.result.now (c.in-Call.is ∙ ap (λ (x : Call). instr.Call x) (sym c.call-function.ensures.view)) s.0 s.1 s.2 s.3 s.4 s.5); place = limit_of c.get.result c.unwrap-instr.result (c.args.call.now.place + 1 < 2 ^ 64) c.get.ensures.limit c.unwrap-instr.ensures; prepared = c.call-function.ensures.prepared }
+    record { at_call = (c.args.program.now, s.0, s.1, s.2, s.3, s.4, at_call c.args.program.now c.args.world.now c.args.store.now c.args.pending.now c.args.call.now c.unwrap-instr.result.now f c.call.result.now (c.in-Call.is ∙ ap (λ (x : Call). instr.Call x) (sym c.call.ensures.view)) s.0 s.1 s.2 s.3 s.4 s.5); place = limit_of c.get.result c.unwrap-instr.result (c.args.call.now.place + 1 < 2 ^ 64) c.get.ensures.limit c.unwrap-instr.ensures; prepared = c.call.ensures.prepared }
 
 pub returns-in-TestNull-clause-done : goal.returns-in-TestNull-clause-done
 returns-in-TestNull-clause-done c lent k own shared s task rest e =
     let f = fetched (goal.at.returns-in-TestNull-clause-done c).After-unwrap-instr in
-    let after : Activation = record c.args.call.now { place = c.args.call.now.place + 1; stack = c.push.new.self } in
-    let named : c.new-references.result ≡ references_of c.args.store.now c.args.call.now =
-    c.new-references.ensures
-    ∙ ap (λ (l : List (Option ℕ)). let r : References = record { keys = l; locals = c.args.call.now.locals; statics = all_held c.args.store.now.globals c.deref-in-TestNull.result.now } in r) c.deref.ensures.value
-    ∙ ap (λ (l : List StaticReference). let r : References = record { keys = c.args.call.now.references.items; locals = c.args.call.now.locals; statics = all_held c.args.store.now.globals l } in r) c.deref-in-TestNull.ensures.value in
-    let null : c.is_null-null.result ≡ is_null (references_of c.args.store.now c.args.call.now) c.args.call.now.fields.items c.in-TestNull.variable =
-    c.is_null-null.ensures ∙ ap (λ (r : References). is_null r c.deref-in-TestNull-2.result.now c.in-TestNull.variable) named ∙ ap (λ (l : List (Option FieldHandle)). is_null (references_of c.args.store.now c.args.call.now) l c.in-TestNull.variable) c.deref-in-TestNull-2.ensures.value in
-    let word : c.from.result ≡ truth_word (beq c.is_null-null.result c.in-TestNull.equal) = c.from.ensures in
     test_executes c.args.program.now c.args.world.now c.args.store.now lent k own shared e.store_agrees s c.args.pending.now e.pending_agrees e.viewless c.args.call.now f.code task rest (ready_for _ c.args.world.now.classes c.args.store.now.heap _ _ f (visible_to own shared s) s.frames task rest e.stands) c.unwrap-instr.result.now f.at
-    c.in-TestNull.variable c.in-TestNull.equal after c.in-TestNull.is
-    (record {
-      function = refl;
-      place = refl;
-      stack = c.push.ensures ∙ ap (λ (w : ℕ). w ∷ c.args.call.now.stack) (word ∙ ap (λ (b : Bool). truth_word (beq b c.in-TestNull.equal)) null);
-      numbers = refl;
-      references = refl;
-      fields = refl;
-      locals = refl;
-    })
+    c.in-TestNull.variable c.in-TestNull.equal c.test_null.new.call c.in-TestNull.is c.test_null.ensures
 
 pub returns-in-StoreNull-clause-done : goal.returns-in-StoreNull-clause-done
 returns-in-StoreNull-clause-done c lent k own shared s task rest e =
     let f = fetched (goal.at.returns-in-StoreNull-clause-done c).After-unwrap-instr in
-    let after : Activation = record c.args.call.now { place = c.args.call.now.place + 1; references = with_items c.args.call.now.references c.set_null.new.references; fields = with_items c.args.call.now.fields c.set_null.new.fields } in
     store_executes c.args.program.now c.args.world.now c.args.store.now lent k own shared e.store_agrees s c.args.pending.now e.pending_agrees e.viewless c.args.call.now f.code task rest (ready_for _ c.args.world.now.classes c.args.store.now.heap _ _ f (visible_to own shared s) s.frames task rest e.stands) c.unwrap-instr.result.now f.at
-    c.in-StoreNull.variable after (with_items c.args.store.now.statics c.set_null.new.statics) c.in-StoreNull.is
-    (with_items_is c.args.store.now.statics c.set_null.new.statics (search (rules, places)) ∙ c.set_null.ensures.statics ∙ ap (λ (l : List StaticReference). nulled_statics c.in-StoreNull.variable l) c.deref_mut-in-StoreNull-2.ensures.value)
-    (record {
-      function = refl;
-      place = refl;
-      stack = refl;
-      numbers = refl;
-      references = with_items_is c.args.call.now.references c.set_null.new.references (search (rules, places)) ∙ c.set_null.ensures.references ∙ ap (λ (l : List (Option ℕ)). nulled_references c.in-StoreNull.variable l) c.deref_mut.ensures.value;
-      fields = with_items_is c.args.call.now.fields c.set_null.new.fields (search (rules, places)) ∙ c.set_null.ensures.fields ∙ ap (λ (l : List (Option FieldHandle)). nulled_fields c.in-StoreNull.variable l) c.deref_mut-in-StoreNull.ensures.value;
-      locals = refl;
-    })
+    c.in-StoreNull.variable c.store_null.new.call (with_items c.args.store.now.statics c.store_null.new.statics) c.in-StoreNull.is
+    (with_items_is c.args.store.now.statics c.store_null.new.statics (search (rules, places)) ∙ c.store_null.ensures.statics ∙ ap (λ (l : List StaticReference). nulled_statics c.in-StoreNull.variable l) c.deref_mut.ensures.value)
+    c.store_null.ensures.call
+
+pub returns-in_default-clause-done : goal.returns-in_default-clause-done
+returns-in_default-clause-done c lent k own shared s task rest e =
+    let f = fetched (goal.at.returns-in_default-clause-done c).After-unwrap-instr in
+    let m = c.run_plain.ensures in
+    plain_executes c.args.program.now c.args.world.now c.args.store.now lent k own shared e.store_agrees s c.args.pending.now e.pending_agrees e.viewless c.args.call.now f.code task rest (ready_for _ c.args.world.now.classes c.args.store.now.heap _ _ f (visible_to own shared s) s.frames task rest e.stands) c.unwrap-instr.result.now f.at e.tasks
+    c.run_plain.new.call c.run_plain.result m.way m.stack m.numbers m.is m.moved m.way_seen
+
+-- what is known of an answer is known of it in other words
+if_ok : {A E : Type 0} (r : Result A E) {P Q : A → Type 0} → ((a : A) → P a → Q a) → IfOk r P → IfOk r Q
+if_ok (Ok a) f h = f a h
+if_ok (Err e) f h = h
+
+pub returns-in-Call-clause-done : goal.returns-in-Call-clause-done
+returns-in-Call-clause-done c =
+    let f = fetched (goal.at.returns-in-Call-clause-done c).After-unwrap-instr in
+    if_ok c.invoke.result (λ done h lent k own shared s task rest e. h c.args.program.now lent k own shared s task rest
+    (at_call c.args.program.now c.args.world.now c.args.store.now c.args.pending.now c.args.call.now c.unwrap-instr.result.now f c.call.result.now (c.in-Call.is ∙ ap (λ (x : Call). instr.Call x) (sym c.call.ensures.view)) own shared s task rest e)) c.invoke.ensures.done
 
 pub returns-in-PutJint-clause-done : goal.returns-in-PutJint-clause-done
 returns-in-PutJint-clause-done c lent k own shared s task rest e =
@@ -173,27 +174,6 @@ returns-in-PutJint-clause-done c lent k own shared s task rest e =
     (put_executes c.args.program.now c.args.world.now c.args.store.now lent k own shared e.store_agrees s c.args.pending.now e.pending_agrees e.viewless c.args.call.now f.code task rest (ready_for _ c.args.world.now.classes c.args.store.now.heap _ _ f (visible_to own shared s) s.frames task rest e.stands) c.unwrap-instr.result.now f.at
     c.pop-word.result after c.pop-word.new.self c.in-PutJint.is c.pop-word.ensures.words
     (record { function = refl; place = refl; stack = refl; numbers = refl; references = refl; fields = refl; locals = refl }))
-
-pub returns-in-Done-clause-done : goal.returns-in-Done-clause-done
-returns-in-Done-clause-done c lent k own shared s task rest e =
-    let f = fetched (goal.at.returns-in-Done-clause-done c).After-unwrap-instr in
-    subst (λ (x : Invoked). Executes c.args.program.now c.args.world.now c.args.store.now.heap c.invoke.new.store lent k own shared s rest c.invoke.new.call c.invoke.new.pending (effect_of (sight_of shared s) task) (executed_as c.call-function.result.now.line x)) c.in-Done.is
-    (c.in_ok-invoke-in-Call.ensures.done c.args.program.now lent k own shared s task rest
-    (at_call c.args.program.now c.args.world.now c.args.store.now c.args.pending.now c.args.call.now c.unwrap-instr.result.now f c.call-function.result.now (c.in-Call.is ∙ ap (λ (x : Call). instr.Call x) (sym c.call-function.ensures.view)) own shared s task rest e))
-
-pub returns-in-Refused-clause-done : goal.returns-in-Refused-clause-done
-returns-in-Refused-clause-done c lent k own shared s task rest e =
-    let f = fetched (goal.at.returns-in-Refused-clause-done c).After-unwrap-instr in
-    subst (λ (x : Invoked). Executes c.args.program.now c.args.world.now c.args.store.now.heap c.invoke.new.store lent k own shared s rest c.invoke.new.call c.invoke.new.pending (effect_of (sight_of shared s) task) (executed_as c.call-function.result.now.line x)) c.in-Refused.is
-    (c.in_ok-invoke-in-Call.ensures.done c.args.program.now lent k own shared s task rest
-    (at_call c.args.program.now c.args.world.now c.args.store.now c.args.pending.now c.args.call.now c.unwrap-instr.result.now f c.call-function.result.now (c.in-Call.is ∙ ap (λ (x : Call). instr.Call x) (sym c.call-function.ensures.view)) own shared s task rest e))
-
-pub returns-in-Trapped-clause-done : goal.returns-in-Trapped-clause-done
-returns-in-Trapped-clause-done c lent k own shared s task rest e =
-    let f = fetched (goal.at.returns-in-Trapped-clause-done c).After-unwrap-instr in
-    subst (λ (x : Invoked). Executes c.args.program.now c.args.world.now c.args.store.now.heap c.invoke.new.store lent k own shared s rest c.invoke.new.call c.invoke.new.pending (effect_of (sight_of shared s) task) (executed_as c.call-function.result.now.line x)) c.in-Trapped.is
-    (c.in_ok-invoke-in-Call.ensures.done c.args.program.now lent k own shared s task rest
-    (at_call c.args.program.now c.args.world.now c.args.store.now c.args.pending.now c.args.call.now c.unwrap-instr.result.now f c.call-function.result.now (c.in-Call.is ∙ ap (λ (x : Call). instr.Call x) (sym c.call-function.ensures.view)) own shared s task rest e))
 
 pub returns-in-Return-clause-done : goal.returns-in-Return-clause-done
 returns-in-Return-clause-done c lent k own shared s task rest e =
@@ -209,51 +189,3 @@ pub returns-in-Return-3-clause-done : goal.returns-in-Return-3-clause-done
 returns-in-Return-3-clause-done c lent k own shared s task rest e =
     let f = fetched (goal.at.returns-in-Return-3-clause-done c).After-unwrap-instr in
     return_executes _ c.args.world.now c.args.store.now lent k own shared e.store_agrees s c.args.pending.now e.pending_agrees e.viewless _ f.code task rest (ready_for _ c.args.world.now.classes c.args.store.now.heap _ _ f (visible_to own shared s) s.frames task rest e.stands) c.unwrap-instr.result.now f.at (returns_is _ c.in-Return.is) c.args.call.now
-
-pub returns-in-Next-clause-done : goal.returns-in-Next-clause-done
-returns-in-Next-clause-done c lent k own shared s task rest e =
-    let f = fetched (goal.at.returns-in-Next-clause-done c).After-unwrap-instr in
-    let i = c.unwrap-instr.result.now in
-    let stack = c.args.call.now.stack in
-    let is : ◌≡◌ {A = Answer} (plain_of i stack c.args.call.now.numbers.items) (Some (plain.Next, c.plain.new.stack, c.plain.new.numbers)) =
-    ap (plain_of i stack) (sym c.deref_mut-in_default.ensures.value) ∙ c.plain.ensures ∙ ap (λ (o : Plain). let x : Answer = Some (o, c.plain.new.stack, c.plain.new.numbers) in x) c.in-Next.is in
-    let after : Activation = record c.args.call.now { place = c.args.call.now.place + 1; stack = c.plain.new.stack; numbers = with_items c.args.call.now.numbers c.plain.new.numbers } in
-    plain_executes c.args.program.now c.args.world.now c.args.store.now lent k own shared e.store_agrees s c.args.pending.now e.pending_agrees e.viewless c.args.call.now f.code task rest (ready_for _ c.args.world.now.classes c.args.store.now.heap _ _ f (visible_to own shared s) s.frames task rest e.stands) i f.at e.tasks
-    after Quiet plain.Next c.plain.new.stack c.plain.new.numbers is
-    (record { function = refl; place = refl; stack = refl; numbers = with_items_is c.args.call.now.numbers c.plain.new.numbers (search (rules, places)); references = refl; fields = refl; locals = refl }) refl
-
-pub returns-in-Skip-clause-done : goal.returns-in-Skip-clause-done
-returns-in-Skip-clause-done c lent k own shared s task rest e =
-    let f = fetched (goal.at.returns-in-Skip-clause-done c).After-unwrap-instr in
-    let i = c.unwrap-instr.result.now in
-    let stack = c.args.call.now.stack in
-    let is : ◌≡◌ {A = Answer} (plain_of i stack c.args.call.now.numbers.items) (Some (plain.Skip c.in-Skip.skipped, c.plain.new.stack, c.plain.new.numbers)) =
-    ap (plain_of i stack) (sym c.deref_mut-in_default.ensures.value) ∙ c.plain.ensures ∙ ap (λ (o : Plain). let x : Answer = Some (o, c.plain.new.stack, c.plain.new.numbers) in x) c.in-Skip.is in
-    let after : Activation = record c.args.call.now { place = c.args.call.now.place + (1 + c.in-Skip.skipped); stack = c.plain.new.stack; numbers = with_items c.args.call.now.numbers c.plain.new.numbers } in
-    plain_executes c.args.program.now c.args.world.now c.args.store.now lent k own shared e.store_agrees s c.args.pending.now e.pending_agrees e.viewless c.args.call.now f.code task rest (ready_for _ c.args.world.now.classes c.args.store.now.heap _ _ f (visible_to own shared s) s.frames task rest e.stands) i f.at e.tasks
-    after Quiet (plain.Skip c.in-Skip.skipped) c.plain.new.stack c.plain.new.numbers is
-    (record { function = refl; place = omega arith; stack = refl; numbers = with_items_is c.args.call.now.numbers c.plain.new.numbers (search (rules, places)); references = refl; fields = refl; locals = refl }) refl
-
-pub returns-in-Back-clause-done : goal.returns-in-Back-clause-done
-returns-in-Back-clause-done c lent k own shared s task rest e =
-    let f = fetched (goal.at.returns-in-Back-clause-done c).After-unwrap-instr in
-    let i = c.unwrap-instr.result.now in
-    let stack = c.args.call.now.stack in
-    let is : ◌≡◌ {A = Answer} (plain_of i stack c.args.call.now.numbers.items) (Some (plain.Back c.in-Back.back, c.plain.new.stack, c.plain.new.numbers)) =
-    ap (plain_of i stack) (sym c.deref_mut-in_default.ensures.value) ∙ c.plain.ensures ∙ ap (λ (o : Plain). let x : Answer = Some (o, c.plain.new.stack, c.plain.new.numbers) in x) c.in-Back.is in
-    let after : Activation = record c.args.call.now { place = c.args.call.now.place - c.in-Back.back; stack = c.plain.new.stack; numbers = with_items c.args.call.now.numbers c.plain.new.numbers } in
-    plain_executes c.args.program.now c.args.world.now c.args.store.now lent k own shared e.store_agrees s c.args.pending.now e.pending_agrees e.viewless c.args.call.now f.code task rest (ready_for _ c.args.world.now.classes c.args.store.now.heap _ _ f (visible_to own shared s) s.frames task rest e.stands) i f.at e.tasks
-    after Quiet (plain.Back c.in-Back.back) c.plain.new.stack c.plain.new.numbers is
-    (record { function = refl; place = refl; stack = refl; numbers = with_items_is c.args.call.now.numbers c.plain.new.numbers (search (rules, places)); references = refl; fields = refl; locals = refl }) refl
-
-pub returns-in-Trap-clause-done : goal.returns-in-Trap-clause-done
-returns-in-Trap-clause-done c lent k own shared s task rest e =
-    let f = fetched (goal.at.returns-in-Trap-clause-done c).After-unwrap-instr in
-    let i = c.unwrap-instr.result.now in
-    let stack = c.args.call.now.stack in
-    let is : ◌≡◌ {A = Answer} (plain_of i stack c.args.call.now.numbers.items) (Some (plain.Trap c.in-Trap.trap c.in-Trap.line, c.plain.new.stack, c.plain.new.numbers)) =
-    ap (plain_of i stack) (sym c.deref_mut-in_default.ensures.value) ∙ c.plain.ensures ∙ ap (λ (o : Plain). let x : Answer = Some (o, c.plain.new.stack, c.plain.new.numbers) in x) c.in-Trap.is in
-    let after : Activation = record c.args.call.now { stack = c.plain.new.stack; numbers = with_items c.args.call.now.numbers c.plain.new.numbers } in
-    plain_executes c.args.program.now c.args.world.now c.args.store.now lent k own shared e.store_agrees s c.args.pending.now e.pending_agrees e.viewless c.args.call.now f.code task rest (ready_for _ c.args.world.now.classes c.args.store.now.heap _ _ f (visible_to own shared s) s.frames task rest e.stands) i f.at e.tasks
-    after (Trapped c.trap_of.result c.in-Trap.line) (plain.Trap c.in-Trap.trap c.in-Trap.line) c.plain.new.stack c.plain.new.numbers is
-    (record { function = refl; place = refl; stack = refl; numbers = with_items_is c.args.call.now.numbers c.plain.new.numbers (search (rules, places)); references = refl; fields = refl; locals = refl }) (c.trap_of.result, c.trap_of.ensures, refl)

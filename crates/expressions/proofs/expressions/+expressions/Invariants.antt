@@ -8,6 +8,9 @@ use Rattle.expressions.proofs.expressions.+expressions.Given as goal
 abbrev pub decreases-expression : goal.decreases-expression
 decreases-expression l = 4 * l.room + 3
 
+abbrev pub decreases-right_operand : goal.decreases-right_operand
+decreases-right_operand l = 4 * l.room
+
 abbrev pub decreases-operand : goal.decreases-operand
 decreases-operand l = 4 * l.room + 2
 

@@ -1,20 +1,12 @@
-use Rattle.std.proofs.Common.{◌≡◌, ℕ, ◌+◌, List, [], ◌∷◌, ◌++◌, Some, map, take, sym, ap, ◌∙◌}
-use Rattle.std.specs.Prelude.{slice_get}
+use Rattle.std.proofs.Common.{◌≡◌, ◌≤◌, length, map, sym, ap, ◌∙◌, arith}
+use Rattle.std.specs.Prelude.{slice_get, Some}
 use Rattle.std.specs.Option.{option_map}
-use Rattle.std.proofs.lemmas.List.{map-append}
 use Rattle.classes.specs.Fields.{FieldId, layout}
 use Rattle.class_table.specs.FieldViews.{field_id_view}
-use Rattle.source.specs.Object.{ObjectValue}
 use Rattle.source.specs.World.{initial}
 use Rattle.world.specs.Views.{object_value_view}
-use Rattle.loading.proofs.Lists.{take_next}
+use Rattle.loading.proofs.Lists.{mapped_more, mapped_all}
 use Rattle.loading.proofs.objects.fresh_values.Goals as goal
-
--- what the fields hold, with one field more
-value_more : (fields : List FieldId) (i : ℕ) (f : FieldId) → slice_get fields i ≡ Some f → map (λ (g : FieldId). initial g.field.type) (take (i + 1) fields) ≡ map (λ (g : FieldId). initial g.field.type) (take i fields) ++ initial f.field.type ∷ []
-value_more fields i f at =
-    ap (map (λ (g : FieldId). initial g.field.type)) (take_next fields i f at)
-    ∙ map-append (λ (g : FieldId). initial g.field.type) (take i fields) (f ∷ [])
 
 pub loop-place-preserved : goal.loop-place-preserved
 loop-place-preserved c =
@@ -22,7 +14,10 @@ loop-place-preserved c =
     let id = c.unwrap-id.result in
     let at : slice_get fields c.loop-place.place ≡ Some (field_id_view id) = sym c.layout_field.ensures ∙ ap (option_map field_id_view) c.unwrap-id.ensures in
     ap (map object_value_view) c.in_ok-push.ensures.items
-    ∙ map-append object_value_view c.loop-place.values.items (c.initial.result ∷ [])
-    ∙ ap (λ (l : List ObjectValue). l ++ object_value_view c.initial.result ∷ []) c.loop-place.invariant
-    ∙ ap (λ (v : ObjectValue). map (λ (g : FieldId). initial g.field.type) (take c.loop-place.place fields) ++ v ∷ []) c.initial.ensures
-    ∙ sym (value_more fields c.loop-place.place (field_id_view id) at)
+    ∙ mapped_more object_value_view (λ (g : FieldId). initial g.field.type) c.loop-place.values.items c.initial.result fields c.loop-place.place (field_id_view id) at c.initial.ensures c.loop-place.invariant
+
+pub returns : goal.returns
+returns c =
+    let fields = layout c.args.classes.now c.args.class in
+    let past : length fields ≤ c.loop-place.place = omega (arith, c.layout_len-place-end.ensures, c.loop-place-test.false) in
+    mapped_all (λ (g : FieldId). initial g.field.type) (map object_value_view c.loop-place.values.items) fields c.loop-place.place past c.loop-place.invariant

@@ -1,4 +1,4 @@
-use Rattle.std.proofs.Common.{rules, length, ◌+◌, ◌++◌, [], subst, List, drop, Ok, append-nil, sym, ap, ap₂, ◌∙◌}
+use Rattle.std.proofs.Common.{rules, ◌+◌, ◌++◌, [], subst, List, drop, Ok, refl, append-nil, sym, ap, ◌∙◌}
 use Rattle.std.proofs.lemmas.List.{append_assoc}
 use Rattle.base.specs.Bytes.{Identifier}
 use Rattle.syntax.specs.declared.stmt.Stmt.{Stmt as StmtInMemory}
@@ -7,16 +7,16 @@ use Rattle.syntax.specs.declared.stmt.Form.{the_lemmas}
 use Rattle.syntax.specs.Tree.{Block, Next}
 use Rattle.syntax.specs.Views.{block_tree, stmt_tree, statements_tree, test_tree}
 use Rattle.syntax.proofs.Blocks.{block_is}
-use Rattle.regions.specs.declared.walk.Way.{Way as WayInMemory}
+use Rattle.regions.specs.declared.joins.Way.{Way as WayInMemory}
 use Rattle.regions.specs.Findings.{rule_of}
-use Rattle.regions.specs.NewNames.{own_names, DeclareNew}
-use Rattle.regions.specs.RegionStates.{RegionState}
-use Rattle.regions.specs.Regions.{On, where_false}
-use Rattle.regions.specs.StatesInMemory.{names_of}
-use Rattle.regions.specs.Walks.{way_value, go_on}
+use Rattle.region_states.specs.NewNames.{own_names, DeclareNew}
+use Rattle.region_states.specs.RegionStates.{RegionState}
+use Rattle.region_states.specs.Regions.{On, where_true, where_false}
+use Rattle.region_states.specs.StatesInMemory.{names_of}
+use Rattle.regions.specs.Walks.{WayOrFault, way_value, go_on}
 use Rattle.regions.specs.Ways.{join_ways, way_of_block}
-use Rattle.regions.proofs.NameLemmas.{where_true_names, where_false_names}
-use Rattle.regions.proofs.WayLemmas.{Goes-along, if_ok_weaker, stmt_fault, stmt_next, go_rest, go_step, after_line}
+use Rattle.region_states.proofs.NameLemmas.{where_true_names, where_false_names}
+use Rattle.regions.proofs.WayLemmas.{Goes-along, if_ok_weaker, stmt_fault, stmt_next, go_rest, go_step, after_line, turn_is_join}
 use Rattle.regions.proofs.walk.+walk.Goals as goal
 
 -- ---- the loop over a block's statements
@@ -86,74 +86,77 @@ stmt_way-returns-in-Some-clause-goes t c =
 
 -- ---- the ways of a test
 
-pub then_way-returns-clause-goes : goal.then_way-returns-clause-goes
-then_way-returns-clause-goes t c =
+pub then_way-block_way-first-requires : goal.then_way-block_way-first-requires
+then_way-block_way-first-requires t c = (
+  search rules,
+  subst (λ (names : List Identifier). DeclareNew names (block_tree c.args.then.now))
+      (sym (ap names_of c.in_ok-before.ensures.after ∙ where_true_names c.args.state.now (test_tree c.args.test.now))) c.requires,
+)
+
+pub then_way-returns : goal.then_way-returns
+then_way-returns t c =
     let now = c.args.state.now in
     let test = test_tree c.args.test.now in
-    Goes-along c.block_way.result c.block_way.new.state _ _
-    (ap (λ (s : RegionState). way_of_block now s (block_tree c.args.then.now)) (sym c.in_ok-take_true.ensures))
-    (c.block_way.ensures.goes now (sym (ap names_of c.in_ok-take_true.ensures ∙ where_true_names now test)))
-
-pub then_way-returns-clause-names : goal.then_way-returns-clause-names
-then_way-returns-clause-names t c =
-    if_ok_weaker c.block_way.result
-    (λ w e. e ∙ ap names_of c.in_ok-take_true.ensures ∙ where_true_names c.args.state.now (test_tree c.args.test.now))
-    c.block_way.ensures.names
-
-pub else_way-returns-clause-goes : goal.else_way-returns-clause-goes
-else_way-returns-clause-goes t c =
-    let now = c.args.state.now in
-    let test = test_tree c.args.test.now in
-    Goes-along c.block_way.result c.block_way.new.state _ _
-    (ap (λ (s : RegionState). way_of_block now s (block_tree c.args.otherwise.now)) (sym c.take_false.ensures))
-    (c.block_way.ensures.goes now (sym (ap names_of c.take_false.ensures ∙ where_false_names now test)))
-
-pub else_way-returns-clause-names : goal.else_way-returns-clause-names
-else_way-returns-clause-names t c =
-    if_ok_weaker c.block_way.result
-    (λ w e. e ∙ ap names_of c.take_false.ensures ∙ where_false_names c.args.state.now (test_tree c.args.test.now))
-    c.block_way.ensures.names
+    let body = block_tree c.args.then.now in
+    let begun = c.in_ok-before.ensures.after in
+    let names = ap names_of begun ∙ where_true_names now test in
+    c.take_else.ensures now (way_of_block now (where_true now test) body) c.in_ok-before.ensures.before
+    (if_ok_weaker c.block_way-first.result (λ w e. sym (e ∙ names)) c.block_way-first.ensures.names)
+    (Goes-along c.block_way-first.result c.block_way-first.new.state _ _ (ap (λ (s : RegionState). way_of_block now s body) (sym begun)) (c.block_way-first.ensures.goes now (sym names)))
 
 pub if_way-returns-clause-goes : goal.if_way-returns-clause-goes
 if_way-returns-clause-goes t c =
-    let now = c.args.state.now in
     let test = test_tree c.args.test.now in
-    let first = c.then_way.new.state in
-    let back = c.exchange-known.ensures.after now c.in_ok-before.ensures (sym c.in_ok-first.ensures.names) in
-    let passed = c.take_false.ensures ∙ ap (λ (s : RegionState). where_false s test) back in
-    Goes-along c.join_ways.result c.join_ways.new.state _ _
-    (ap₂ (join_ways c.args.line) c.in_ok-first.ensures.goes (ap (λ (s : RegionState). Ok (On s)) (sym passed)))
-    (c.join_ways.ensures.goes first c.exchange-known.ensures.before (c.in_ok-first.ensures.names ∙ sym (ap names_of passed ∙ where_false_names now test)))
+    let passed : WayOrFault = Ok (On (where_false c.args.state.now test)) in
+    let first = c.in_ok-first.ensures in
+    Goes-along c.join.result c.join.new.state _ _
+    (ap (λ (r : WayOrFault). join_ways c.args.line r passed) first.3)
+    (c.join.ensures.goes first.0 passed first.1 first.2 (ap (λ (s : RegionState). Ok (On s)) (sym first.4)))
 
 pub if_way-returns-clause-names : goal.if_way-returns-clause-names
 if_way-returns-clause-names t c =
-    let now = c.args.state.now in
-    let test = test_tree c.args.test.now in
-    let first = c.then_way.new.state in
-    let back = c.exchange-known.ensures.after now c.in_ok-before.ensures (sym c.in_ok-first.ensures.names) in
-    let passed = c.take_false.ensures ∙ ap (λ (s : RegionState). where_false s test) back in
-    let names = ap names_of passed ∙ where_false_names now test in
-    if_ok_weaker c.join_ways.result (λ w e. e ∙ names) (c.join_ways.ensures.names first c.exchange-known.ensures.before (c.in_ok-first.ensures.names ∙ sym names))
+    let first = c.in_ok-first.ensures in
+    if_ok_weaker c.join.result
+    (λ w e. e ∙ first.2 ∙ ap names_of first.4 ∙ where_false_names c.args.state.now (test_tree c.args.test.now))
+    (c.join.ensures.names first.0 first.1 first.2)
 
-pub if_way-join_ways-requires-clause-long : goal.if_way-join_ways-requires-clause-long
-if_way-join_ways-requires-clause-long t c =
-    let now = c.args.state.now in
-    let test = test_tree c.args.test.now in
-    let back = c.exchange-known.ensures.after now c.in_ok-before.ensures (sym c.in_ok-first.ensures.names) in
-    let passed = c.take_false.ensures ∙ ap (λ (s : RegionState). where_false s test) back in
-    let names = ap names_of passed ∙ where_false_names now test in
-    c.exchange-known.ensures.before.0 ∙ ap (λ (ns : List Identifier). length ns) (c.in_ok-first.ensures.names ∙ sym names)
-
-pub then_way-block_way-requires : goal.then_way-block_way-requires
-then_way-block_way-requires t c = (
-  search rules,
-  subst (λ (names : List Identifier). DeclareNew names (block_tree c.args.then.now))
-      (sym (ap names_of c.in_ok-take_true.ensures ∙ where_true_names c.args.state.now (test_tree c.args.test.now))) c.requires,
-)
-
-pub else_way-block_way-requires : goal.else_way-block_way-requires
-else_way-block_way-requires t c = (
+pub if_else_way-block_way-second-requires : goal.if_else_way-block_way-second-requires
+if_else_way-block_way-second-requires t c = (
   search rules,
   subst (λ (names : List Identifier). DeclareNew names (block_tree c.args.otherwise.now))
-      (sym (ap names_of c.take_false.ensures ∙ where_false_names c.args.state.now (test_tree c.args.test.now))) c.requires,
+      (sym (ap names_of (c.in_ok-first.ensures).4 ∙ where_false_names c.args.state.now (test_tree c.args.test.now))) c.requires.otherwise,
 )
+
+pub if_else_way-returns-clause-goes : goal.if_else_way-returns-clause-goes
+if_else_way-returns-clause-goes t c =
+    let now = c.args.state.now in
+    let test = test_tree c.args.test.now in
+    let otherwise = block_tree c.args.otherwise.now in
+    let passed = way_of_block now (where_false now test) otherwise in
+    let first = c.in_ok-first.ensures in
+    Goes-along c.join.result c.join.new.state _ _
+    (ap (λ (r : WayOrFault). join_ways c.args.line r passed) first.3)
+    (c.join.ensures.goes first.0 passed first.1
+    (if_ok_weaker c.block_way-second.result (λ w e. first.2 ∙ sym e) c.block_way-second.ensures.names)
+    (Goes-along c.block_way-second.result c.block_way-second.new.state _ _
+    (ap (λ (s : RegionState). way_of_block now s otherwise) (sym first.4))
+    (c.block_way-second.ensures.goes now (sym (ap names_of first.4 ∙ where_false_names now test)))))
+
+pub if_else_way-returns-clause-names : goal.if_else_way-returns-clause-names
+if_else_way-returns-clause-names t c =
+    let first = c.in_ok-first.ensures in
+    if_ok_weaker c.join.result
+    (λ w e. e ∙ first.2 ∙ ap names_of first.4 ∙ where_false_names c.args.state.now (test_tree c.args.test.now))
+    (c.join.ensures.names first.0 first.1 (if_ok_weaker c.block_way-second.result (λ w e. first.2 ∙ sym e) c.block_way-second.ensures.names))
+
+-- ---- loops
+
+pub while_way-returns-clause-goes : goal.while_way-returns-clause-goes
+while_way-returns-clause-goes t c =
+    let now = c.args.state.now in
+    let turn = way_of_block now now (block_tree c.args.body.now) in
+    Goes-along c.join.result c.join.new.state _ _
+    (turn_is_join c.args.line now turn)
+    (c.join.ensures.goes now turn c.in_ok-known.ensures
+    (if_ok_weaker c.block_way-turn.result (λ w e. sym e) c.block_way-turn.ensures.names)
+    (c.block_way-turn.ensures.goes now refl))

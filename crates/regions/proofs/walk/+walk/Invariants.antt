@@ -1,9 +1,11 @@
-use Rattle.std.proofs.Common.{◌≡◌, drop, length}
-use Rattle.syntax.specs.declared.stmt.Block.{out-Block}
+use Rattle.std.proofs.Common.{◌≡◌, ◌+◌, ◌*◌, max, drop, length}
+use Rattle.syntax.specs.declared.stmt.Stmt.{size-Stmt}
+use Rattle.syntax.specs.declared.stmt.Form.{size-Form}
+use Rattle.syntax.specs.declared.stmt.Block.{out-Block, size-Block}
 use Rattle.syntax.specs.Views.{block_tree, statements_tree}
-use Rattle.regions.specs.RegionStates.{RegionState}
-use Rattle.regions.specs.StatesInMemory.{names_of, Grows}
-use Rattle.regions.specs.NewNames.{DeclareNew}
+use Rattle.region_states.specs.RegionStates.{RegionState}
+use Rattle.region_states.specs.StatesInMemory.{names_of, Grows}
+use Rattle.region_states.specs.NewNames.{DeclareNew}
 use Rattle.regions.specs.Walks.{way_value, go_on}
 use Rattle.regions.specs.Ways.{way_of_block}
 use Rattle.regions.proofs.walk.+walk.Given as goal
@@ -16,3 +18,26 @@ invariant-block_way-loop-stmt l = record {
   goes : (outer : RegionState) → names_of outer ≡ names_of l.initial.state
       → way_of_block outer l.initial.state (block_tree l.block) ≡ go_on outer (way_value l.way l.state) (statements_tree (drop l.stmt-index l.stmt-items) (out-Block l.block).end_line);
 }
+
+-- ---- what falls: the depth of what is left, and which function it is handed to
+
+abbrev pub decreases-block_way : goal.decreases-block_way
+decreases-block_way l = 4 * size-Block l.block.now
+
+abbrev pub decreases-stmt_way : goal.decreases-stmt_way
+decreases-stmt_way l = 4 * size-Stmt l.stmt.now + 1
+
+abbrev pub decreases-inner_way : goal.decreases-inner_way
+decreases-inner_way l = 4 * size-Form l.form.now
+
+abbrev pub decreases-then_way : goal.decreases-then_way
+decreases-then_way l = 4 * size-Block l.then.now + 1
+
+abbrev pub decreases-if_way : goal.decreases-if_way
+decreases-if_way l = 4 * size-Block l.then.now + 2
+
+abbrev pub decreases-if_else_way : goal.decreases-if_else_way
+decreases-if_else_way l = 4 * max (size-Block l.then.now) (size-Block l.otherwise.now) + 2
+
+abbrev pub decreases-while_way : goal.decreases-while_way
+decreases-while_way l = 4 * size-Block l.body.now + 1

@@ -3,7 +3,7 @@ use Rattle.std.proofs.lemmas.Option.{slice_get-get_or}
 use Rattle.syntax.specs.Views.{unit_tree}
 use Rattle.source.specs.declared.journal.Entry.{Entry}
 use Rattle.source.specs.declared.journal.Entry.TheVariants.{Step}
-use Rattle.replay.specs.States.{TakesEntry}
+use Rattle.threads.specs.States.{TakesEntry}
 use Rattle.replay.proofs.RunLemmas.{stops, goes_on}
 use Rattle.replay.proofs.journal.run.Goals as goal
 

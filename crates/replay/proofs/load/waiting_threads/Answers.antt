@@ -3,9 +3,9 @@ use Rattle.std.specs.Global.{Vec}
 use Rattle.std.proofs.lemmas.List.{append-nil}
 use Rattle.std.proofs.Math.ListN.{drop_of_length-le}
 use Rattle.source.specs.World.{Invocation}
-use Rattle.replay.specs.declared.thread.Thread.{Thread}
+use Rattle.threads.specs.declared.thread.Thread.{Thread}
 use Rattle.replay.specs.Loading.{AreWaiting}
-use Rattle.replay.specs.States.{AreInRange}
+use Rattle.threads.specs.States.{AreInRange}
 use Rattle.replay.proofs.load.waiting_threads.Goals as goal
 
 -- all threads are made

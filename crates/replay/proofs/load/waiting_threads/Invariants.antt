@@ -1,7 +1,7 @@
 use Rattle.std.proofs.Common.{◌++◌, drop, map, List}
-use Rattle.replay.specs.declared.thread.Thread.{Thread}
+use Rattle.threads.specs.declared.thread.Thread.{Thread}
 use Rattle.replay.specs.Loading.{AreWaiting}
-use Rattle.replay.specs.States.{AreInRange}
+use Rattle.threads.specs.States.{AreInRange}
 use Rattle.replay.proofs.load.waiting_threads.Given as goal
 
 abbrev pub invariant-loop-calls : goal.invariant-loop-calls

@@ -6,9 +6,10 @@ use Rattle.jni.specs.declared.kinds.ParameterKind.{ParameterKind}
 use Rattle.jni.specs.declared.kinds.ParameterKind.TheVariants as kind
 use Rattle.jni.specs.Table.{parameter_value}
 use Rattle.source.specs.Task.{Operand, operand}
-use Rattle.tasks.specs.declared.task.Operand.{Operand as OperandInMemory}
-use Rattle.tasks.specs.Tasks.{operand_view, OperandsInRange}
-use Rattle.tasks.proofs.CallLemmas.{if_ok}
+use Rattle.call_checks.specs.declared.operand.Operand.{Operand as OperandInMemory}
+use Rattle.call_checks.specs.Actuals.{operand_view}
+use Rattle.tasks.specs.Tasks.{OperandsInRange}
+use Rattle.object_store.proofs.Results.{if_ok}
 use Rattle.tasks.proofs.RangeLemmas.{after_first, first_is, operand_first, operands_pushed, rest_in_range, shorter}
 use Rattle.tasks.proofs.task.+push_operands.Goals as goal
 

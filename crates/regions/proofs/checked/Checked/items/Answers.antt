@@ -1,7 +1,7 @@
 use Rattle.std.proofs.Common.{sym, subst}
 use Rattle.syntax.specs.Parts.{functions_of}
 use Rattle.syntax.specs.Views.{unit_tree}
-use Rattle.regions.specs.Regions.{HasRegions}
+use Rattle.region_states.specs.Regions.{HasRegions}
 use Rattle.regions.proofs.Returns.{are_ended}
 use Rattle.regions.proofs.checked.Checked.items.Goals as goal
 

@@ -1,0 +1,58 @@
+use Rattle.types.specs.SortRules.{IsSorted}
+use Rattle.regions.specs.Regions.{HasRegions}
+use Rattle.machine.proofs.SafeLoads.{all_load, all_have_calls}
+use Rattle.std.proofs.Common.{◌≡◌, ℕ, List, [], Option, length, replicate, refl, sym, ap, ◌∙◌, subst, arith}
+use Rattle.syntax.specs.Views.{unit_tree}
+use Rattle.source.specs.Start.{start, waiting_thread}
+use Rattle.std.proofs.lemmas.List.{length-map}
+use Rattle.jni_calls.proofs.Classed.{classed_loaded}
+use Rattle.loading.proofs.ThreadLoads.{agree_length}
+use Rattle.syntax.specs.Parts.{statics_of}
+use Rattle.syntax.specs.declared.unit.Item.{Item}
+use Rattle.jni_calls.specs.StoreAgrees.{StaticsAgree}
+use Rattle.jni_calls.specs.HeapAgrees.{SlotsAgree}
+use Rattle.safety.specs.Owners.{AllOwners, owners_after}
+use Rattle.jni_calls.specs.Statics.{HaveKeys, all_held}
+use Rattle.jni_calls.specs.declared.statics.StaticReference.{StaticReference}
+use Rattle.jni_calls.specs.declared.statics.StaticReference.TheVariants.{Empty}
+use Rattle.jni_calls.proofs.HeldStatics.{names_begin, no_keys, statics_begin}
+use Rattle.machine.proofs.machine.load_parts.Goals as goal
+
+pub returns-in-Ok-clause-begins : goal.returns-in-Ok-clause-begins
+returns-in-Ok-clause-begins c =
+    let w = c.args.world.now in
+    let s = start (unit_tree c.args.program.now.unit) w in
+    let made = c.in_ok-store.ensures.made in
+    let owners : AllOwners = owners_after (unit_tree c.args.program.now.unit) w [] in
+    let agree = c.in-Ok.ensures.agree c.in_ok-store.store.heap owners 1 s.shared in
+    let count : length c.in-Ok.threads.items ≡ length c.args.world.now.threads = agree_length _ _ _ _ _ _ _ _ _ agree ∙ length-map c.args.world.now.threads waiting_thread in
+    record {
+      lowered = c.items.ensures.lowered;
+      safe = c.accepted_is_safe.ensures (unit_tree c.args.program.now.unit) w
+          (subst (λ (l : List Item). IsSorted (unit_tree l)) c.items.ensures.items c.items.ensures.sorted) (subst (λ (l : List Item). HasRegions (unit_tree l)) c.items.ensures.items c.items.ensures.regions)
+          (all_load (unit_tree c.args.program.now.unit) w.classes w.threads c.in-Ok.ensures.all) (all_have_calls w.threads c.threads.ensures.sound.calls);
+      state = s;
+      replays = refl;
+      store_agrees = record {
+        heap = made.agree;
+        laid_out = made.laid_out;
+        filled = made.filled;
+        cells = c.in_ok-store.ensures.cells;
+        table = made.table;
+        begun = omega arith;
+        births = c.in_ok-store.ensures.births;
+        classed = classed_loaded w c.threads.ensures.sound;
+        statics = subst (λ (globals : List (Option ℕ)). StaticsAgree c.in_ok-store.store.heap (all_held globals c.in_ok-store.store.statics.items) s.shared.statics) (sym c.in_ok-store.ensures.globals)
+            (subst (λ (l : List StaticReference). StaticsAgree c.in_ok-store.store.heap (all_held [] l) s.shared.statics) (sym (c.in_ok-store.ensures.statics ∙ ap (λ (items : List Item). replicate (length (statics_of (unit_tree items))) Empty) c.items.ensures.items)) (statics_begin c.in_ok-store.store.heap (statics_of (unit_tree c.args.program.now.unit))));
+        named = names_begin (statics_of (unit_tree c.args.program.now.unit));
+        keys = subst (HaveKeys c.in_ok-store.store.globals) (sym c.in_ok-store.ensures.statics) (no_keys c.in_ok-store.store.globals (length (statics_of (unit_tree c.items.result.now))));
+        globals = subst (λ (globals : List (Option ℕ)). SlotsAgree c.in_ok-store.store.heap globals []) (sym c.in_ok-store.ensures.globals) (record { names = []; agree = tt; same = λ n. refl });
+        monitors = refl;
+      };
+      threads_agree = agree;
+      same_printed = refl;
+      same_stop = refl;
+      fits = tt;
+      count = count;
+      few = omega (arith, count, c.threads.ensures.sound.few_threads);
+    }

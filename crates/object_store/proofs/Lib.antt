@@ -1,0 +1,4 @@
+mod Lists
+pub mod Results
+mod LoadedLemmas
+mod FrameLemmas

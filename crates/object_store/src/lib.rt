@@ -1,0 +1,12 @@
+//! The objects of a run by their names, and the local references to them, as a replay has them.
+#![tactic(auto)]
+
+mod frame;
+mod loaded;
+mod names;
+mod store;
+
+pub use frame::Frames;
+pub use loaded::{fresh_values, loaded_store, made_before};
+pub use names::Names;
+pub use store::Store;

@@ -1,0 +1,17 @@
+use Rattle.std.proofs.Common.{ap, ap₂, sym, Ok, ◌∙◌}
+use Rattle.regions.specs.declared.joins.Way.{Way as WayInMemory}
+use Rattle.region_states.specs.RegionRules.{WaysDiffer}
+use Rattle.region_states.specs.RegionStates.{RegionState}
+use Rattle.region_states.specs.Regions.{On}
+use Rattle.regions.specs.Walks.{way_value}
+use Rattle.regions.specs.Ways.{join_ways, way_if}
+use Rattle.region_states.proofs.Same.{state_decides}
+use Rattle.regions.proofs.joins.join_ways.Goals as goal
+
+pub returns-then-is_as_saved-clause-goes : goal.returns-then-is_as_saved-clause-goes
+returns-then-is_as_saved-clause-goes c = λ a saved same.
+    let now = c.args.state.now in
+    let is = c.if-is_as_saved.ensures a saved same in
+    ap₂ (λ (v w : WayInMemory). join_ways c.args.line (Ok (way_value v a)) (Ok (way_value w now))) c.in-On.is c.in-On-second.is
+    ∙ ap (λ b. way_if b (On a) (c.args.line, WaysDiffer)) (sym is)
+    ∙ ap (λ (s : RegionState). Ok (On s)) ((state_decides a now).0 (sym is))

@@ -1,0 +1,119 @@
+//! How ways go on, and how two of them become one.
+
+ghost use Rattle.std.specs.Prelude.{◌≡◌, Ok, Err, length, OnOk, IfOk};
+ghost use Rattle.syntax.specs.Views.{test_tree};
+ghost use Rattle.region_states.specs.RegionStates.{RegionState};
+ghost use Rattle.region_states.specs.Regions.{where_true, where_false};
+ghost use Rattle.regions.specs.Ways.{join_ways};
+ghost use Rattle.region_states.specs.StatesInMemory.{names_of, IsSaved, HasCounts};
+ghost use Rattle.regions.specs.Findings.{rule_of};
+ghost use Rattle.regions.specs.Walks.{WayOrFault, way_value, Goes, Branches};
+
+use crate::fault::{CheckFault, RegionFault, RegionRule};
+use region_states::changes::{take_false, take_true};
+use region_states::states::{Facts, StaticState, exchange, is_as_saved, save};
+use std::alloc::{AllocError, Global};
+use syntax::Test;
+
+/// How a way goes on after a statement: with a state, or not at all.
+#[derive(Clone, Copy)]
+pub(crate) enum Way {
+    On,
+    Returned,
+}
+
+/// One of two ways that become one: how it goes on, and what is known after it.
+#[derive(Drop)]
+pub(crate) struct Branch<'a> {
+    pub way: Way,
+    pub known: Facts<'a>,
+}
+
+/// The fault of a rule on this line.
+pub(crate) fn refuse(rule: RegionRule, line: usize) -> Result<Way, CheckFault>
+    ensures fault { (after : RegionState) → Goes result after (Err (line, rule_of rule)) }
+    ensures never { IfOk result (λ _. ⊥) }
+{
+    Err(CheckFault::Broken(RegionFault { rule, line }))
+}
+
+/// Two ways become one: the first, after which this is known, and the second, which came to this state.
+fn join_ways<'a>(
+    state: &mut StaticState<'a>,
+    line: usize,
+    first: Way,
+    known: &mut Facts<'a>,
+    second: Way,
+) -> Result<Way, CheckFault>
+    requires long { length known.old.variables.items ≡ length (names_of state.old) }
+    requires counted { HasCounts known.old }
+    ensures goes { (a : RegionState) → IsSaved known.old a → names_of a ≡ names_of state.old → Goes result state.new (join_ways line (Ok (way_value first a)) (Ok (way_value second state.old))) }
+    ensures names { (a : RegionState) → IsSaved known.old a → names_of a ≡ names_of state.old → IfOk result (λ _. names_of state.new ≡ names_of state.old) }
+{
+    match first {
+        Way::Returned => Ok(second),
+        Way::On => match second {
+            Way::Returned => {
+                exchange(state, known);
+                Ok(Way::On)
+            }
+            Way::On => {
+                if is_as_saved(known, state) {
+                    return Ok(Way::On);
+                }
+                refuse(RegionRule::WaysDiffer, line)
+            }
+        },
+    }
+}
+
+/// The way after both branches, of which the second came to this state.
+pub(crate) fn join<'a>(
+    state: &mut StaticState<'a>,
+    line: usize,
+    first: Branch<'a>,
+    second: Result<Way, CheckFault>,
+) -> Result<Way, CheckFault>
+    requires long { IfOk second (λ _. length first.known.variables.items ≡ length (names_of state.old)) }
+    requires counted { HasCounts first.known }
+    ensures goes { (a : RegionState) (expected : WayOrFault) → IsSaved first.entry.known a → IfOk second (λ _. names_of a ≡ names_of state.old) → Goes second state.old expected → Goes result state.new (join_ways line (Ok (way_value first.entry.way a)) expected) }
+    ensures names { (a : RegionState) → IsSaved first.entry.known a → IfOk second (λ _. names_of a ≡ names_of state.old) → IfOk result (λ _. names_of state.new ≡ names_of a) }
+{
+    let mut known = first.known;
+    match second {
+        Ok(way) => join_ways(state, line, first.way, &mut known, way),
+        Err(e) => Err(e),
+    }
+}
+
+/// The beginning of the branch where a test holds. What was known before the test is answered.
+pub(crate) fn take_then<'a>(
+    alloc: Global,
+    state: &mut StaticState<'a>,
+    test: &'a Test,
+) -> Result<Facts<'a>, AllocError>
+    ensures before { IfOk result (λ known. IsSaved known state.old) }
+    ensures after { OnOk result (state.new ≡ where_true state.old (test_tree test.now)) }
+{
+    let known = save(alloc, state)?;
+    take_true(state, test)?;
+    Ok(known)
+}
+
+/// The end of that branch, which went so, and the beginning of the other, where before the test this was known.
+pub(crate) fn take_else<'a>(
+    state: &mut StaticState<'a>,
+    test: &'a Test,
+    first: Result<Way, CheckFault>,
+    before: Facts<'a>,
+) -> Result<Branch<'a>, CheckFault>
+    requires long { IfOk first (λ _. length before.variables.items ≡ length (names_of state.old)) }
+    requires counted { HasCounts before }
+    ensures { (s : RegionState) (expected : WayOrFault) → IsSaved before.entry s → IfOk first (λ _. names_of s ≡ names_of state.old) → Goes first state.old expected → Branches result state.new expected (where_false s (test_tree test.now)) }
+{
+    let way = first?;
+    let mut known = before;
+    exchange(state, &mut known);
+    take_false(state, test);
+    Ok(Branch { way, known })
+}

@@ -1,0 +1,178 @@
+-- The step of a call in memory, up to the call's own step and with it.
+use Rattle.std.proofs.Common.{◌≡◌, ℕ, zero, suc, ◌+◌, ◌<◌, Bool, true, false, List, [], ◌∷◌, length, map, Option, Some, None, nat_lt, slice_get, refl, sym, ap, ◌∙◌, subst, arith}
+use Rattle.std.specs.Prelude.{is_some, slice_set}
+use Rattle.std.proofs.lemmas.Bool.Decides.{nat_tests}
+use Rattle.classes.specs.Class.{Classes}
+use Rattle.jni.specs.Table.{function_value}
+use Rattle.source.specs.Arguments.{Actual, actuals}
+use Rattle.source.specs.Effect.{Becomes, Calls, effect_of, goes_on, is_ready, reduce_first, reduce_number, is_given}
+use Rattle.source.specs.Heap.{Heap}
+use Rattle.source.specs.Object.{Reference}
+use Rattle.source.specs.Sight.{Sight, seen}
+use Rattle.source.specs.Task as source
+use Rattle.source.specs.Term as terms
+use Rattle.source.specs.Term.{reduce}
+use Rattle.source.specs.Thread.{Frame, Thread, Shared, sight_of}
+use Rattle.source.specs.ThreadStep.{after_effect, after_refused_effect}
+use Rattle.source.specs.Value.{Outcome as Outcomes, outcome_map}
+use Rattle.source.specs.Variable.{Statics, Variables}
+use Rattle.tasks.specs.declared.outcome.Outcome.{Outcome}
+use Rattle.tasks.specs.declared.task.Invocation.{Invocation}
+use Rattle.call_checks.specs.declared.operand.Operand.{Operand}
+use Rattle.call_checks.specs.declared.operand.Operand.TheVariants as operands
+use Rattle.tasks.specs.declared.task.Task.TheVariants as task
+use Rattle.terms.specs.declared.reduction.Reduction.{Reduction}
+use Rattle.terms.specs.declared.reduction.Reduction.TheVariants as reduction
+use Rattle.terms.specs.declared.term.Term.{Term}
+use Rattle.terms.specs.declared.term.Term.TheVariants as term
+use Rattle.terms.specs.declared.value.Value.{Value}
+use Rattle.steps.specs.Calls.{MakesCall, ReducesFirst, ReducesOne}
+use Rattle.tasks.specs.Outcomes.{purpose_view}
+use Rattle.call_checks.specs.Shares.{sight_in}
+use Rattle.steps.specs.Steps.{Scene, Sees, Does, HasEffect, reduced, scene_with}
+use Rattle.call_checks.specs.Actuals.{operand_view}
+use Rattle.tasks.specs.Tasks.{task_view}
+use Rattle.terms.specs.Views.{Contents, term_view, Reduces}
+use Rattle.steps.proofs.TaskLemmas.{sees_so}
+
+-- ---- the first number that isn't worked out
+
+first_given : (sight : Sight) (o : Operand) (rest : List source.Operand) → is_given (operand_view o) ≡ true → reduce_first sight (operand_view o ∷ rest) ≡ outcome_map (λ os. operand_view o ∷ os) (reduce_first sight rest)
+first_given sight (operands.Given a) rest given = refl
+first_given sight (operands.Number (term.Done v)) rest given = refl
+first_given sight (operands.Number (term.Number n unsigned)) rest given = absurd (cc)
+first_given sight (operands.Number (term.Named c)) rest given = absurd (cc)
+first_given sight (operands.Number (term.Read x)) rest given = absurd (cc)
+first_given sight (operands.Number (term.Element' x p i)) rest given = absurd (cc)
+first_given sight (operands.Number (term.IsNull wanted x)) rest given = absurd (cc)
+first_given sight (operands.Number (term.Prefix' op p t)) rest given = absurd (cc)
+first_given sight (operands.Number (term.And' p s q t)) rest given = absurd (cc)
+first_given sight (operands.Number (term.Or' p s q t)) rest given = absurd (cc)
+first_given sight (operands.Number (term.Binary' op p s q t)) rest given = absurd (cc)
+
+-- a number that has no value yet
+pub record IsOpen (u : terms.Term) : Type 0 where
+  pub unready : is_given (source.NumberOperand u) ≡ false
+  pub reduces : (rest : List source.Operand) (step : Outcomes terms.Term) (further : Outcomes (List source.Operand)) → reduce_number u rest step further ≡ outcome_map (λ (w : terms.Term). source.NumberOperand w ∷ rest) step
+
+is_open : (t : Term) → ((v : Value) → t ≡ term.Done v → ⊥) → IsOpen (term_view t)
+is_open (term.Done v) none = absurd (none v refl)
+is_open (term.Number n unsigned) none = record { unready = refl; reduces = λ rest step further. refl }
+is_open (term.Named c) none = record { unready = refl; reduces = λ rest step further. refl }
+is_open (term.Read x) none = record { unready = refl; reduces = λ rest step further. refl }
+is_open (term.Element' x p i) none = record { unready = refl; reduces = λ rest step further. refl }
+is_open (term.IsNull wanted x) none = record { unready = refl; reduces = λ rest step further. refl }
+is_open (term.Prefix' op p t) none = record { unready = refl; reduces = λ rest step further. refl }
+is_open (term.And' p s q t) none = record { unready = refl; reduces = λ rest step further. refl }
+is_open (term.Or' p s q t) none = record { unready = refl; reduces = λ rest step further. refl }
+is_open (term.Binary' op p s q t) none = record { unready = refl; reduces = λ rest step further. refl }
+
+-- the first n are worked out
+abbrev pub AreGiven : List Operand → ℕ → Type 0
+AreGiven os n = (i : ℕ) (o : Operand) → i < n → slice_get os i ≡ Some o → is_given (operand_view o) ≡ true
+
+pub given_more : (os : List Operand) (n : ℕ) (o : Operand) → slice_get os n ≡ Some o → is_given (operand_view o) ≡ true → AreGiven os n → AreGiven os (n + 1)
+given_more os n o at given before = λ i p low there. by_place i p low there (nat_lt i n) refl
+  where
+    by_place : (i : ℕ) (p : Operand) → i < n + 1 → slice_get os i ≡ Some p → (b : Bool) → nat_lt i n ≡ b → is_given (operand_view p) ≡ true
+    by_place i p low there true is = before i p (grind (arith, nat_tests, is)) there
+    by_place i p low there false is =
+        let last : i ≡ n = grind (arith, nat_tests, is, low) in
+        let same : Some o ≡ Some p = sym at ∙ ap (slice_get os) (sym last) ∙ there in
+        let equal : o ≡ p = cc in
+        ap (λ (q : Operand). is_given (operand_view q)) (sym equal) ∙ given
+
+-- an element in its own place
+set_same : {A : Type 0} (xs : List A) (n : ℕ) (x : A) → slice_get xs n ≡ Some x → slice_set xs n x ≡ xs
+set_same [] n x at = refl
+set_same (y ∷ xs) zero x at = let same : y ≡ x = cc in ap (λ z. z ∷ xs) (sym same)
+set_same (y ∷ xs) (suc n) x at = ap (λ zs. y ∷ zs) (set_same xs n x at)
+
+module _ (vs : Variables) (ss : Statics) where
+  -- what comes before it stays
+  pub after_given : (o : Operand) (old new : List Operand) (took : Option Reduction) → is_given (operand_view o) ≡ true → ReducesFirst vs ss old took new → ReducesFirst vs ss (o ∷ old) took (o ∷ new)
+  after_given o old new None given h = (rw (given, h.0) refl, ap (λ (os : List Operand). o ∷ os) h.1)
+  after_given o old new (Some reduction.Reduced) given h =
+      (rw (given, h.0) refl, λ heap. first_given (seen vs ss heap) o (map operand_view old) given ∙ ap (outcome_map (λ os. operand_view o ∷ os)) (h.1 heap))
+  after_given o old new (Some (reduction.Trapped trap)) given h =
+      (rw (given, h.0) refl, λ heap. first_given (seen vs ss heap) o (map operand_view old) given ∙ ap (outcome_map (λ os. operand_view o ∷ os)) (h.1 heap), ap (λ (os : List Operand). o ∷ os) h.2)
+  after_given o old new (Some reduction.Stuck) given h =
+      (rw (given, h.0) refl, λ heap. first_given (seen vs ss heap) o (map operand_view old) given ∙ ap (outcome_map (λ os. operand_view o ∷ os)) (h.1 heap))
+
+  -- it takes its step
+  pub takes_first : (t t' : Term) (rest : List Operand) (took : Reduction) → ((v : Value) → t ≡ term.Done v → ⊥) → Reduces vs ss t took t' → ReducesFirst vs ss (operands.Number t ∷ rest) (Some took) (operands.Number t' ∷ rest)
+  takes_first t t' rest reduction.Reduced none h =
+      let o = is_open t none in
+      (rw o.unready refl, λ heap. o.reduces (map operand_view rest) (reduce (seen vs ss heap) (term_view t)) (reduce_first (seen vs ss heap) (map operand_view rest)) ∙ ap (outcome_map (λ (w : terms.Term). source.NumberOperand w ∷ map operand_view rest)) (h heap))
+  takes_first t t' rest (reduction.Trapped trap) none h =
+      let o = is_open t none in (
+        rw o.unready refl,
+        λ heap. o.reduces (map operand_view rest) (reduce (seen vs ss heap) (term_view t)) (reduce_first (seen vs ss heap) (map operand_view rest)) ∙ ap (outcome_map (λ (w : terms.Term). source.NumberOperand w ∷ map operand_view rest)) (h.0 heap),
+        ap (λ (u : Term). operands.Number u ∷ rest) h.1,
+      )
+  takes_first t t' rest reduction.Stuck none h =
+      let o = is_open t none in
+      (rw o.unready refl, λ heap. o.reduces (map operand_view rest) (reduce (seen vs ss heap) (term_view t)) (reduce_first (seen vs ss heap) (map operand_view rest)) ∙ ap (outcome_map (λ (w : terms.Term). source.NumberOperand w ∷ map operand_view rest)) (h heap))
+
+  -- the one after them takes its step
+  pub first_in : (os : List Operand) (n : ℕ) (o o' : Operand) (took : Reduction) → slice_get os n ≡ Some o → AreGiven os n → ReducesOne vs ss o (Some took) o' → ReducesFirst vs ss os (Some took) (slice_set os n o')
+  first_in [] n o o' took at given h = absurd (cc)
+  first_in (p ∷ os) zero o o' took at given h = let same : p ≡ o = cc in subst (λ (q : Operand). ReducesFirst vs ss (q ∷ os) (Some took) (o' ∷ os)) (sym same) (h os)
+  first_in (p ∷ os) (suc n) o o' took at given h = after_given p os (slice_set os n o') (Some took) (given 0 p (omega arith) refl) (first_in os n o o' took at (λ i q low there. given (suc i) q (omega arith) there) h)
+
+  pub first_step : (os : List Operand) (n : ℕ) (o o' : Operand) (took : Option Reduction) → is_some took ≡ true → slice_get os n ≡ Some o → AreGiven os n → ReducesOne vs ss o took o' → ReducesFirst vs ss os took (slice_set os n o')
+  first_step os n o o' None some at given h = absurd (cc)
+  first_step os n o o' (Some r) some at given h = first_in os n o o' r at given h
+
+  -- or is worked out already
+  pub none_step : (os : List Operand) (n : ℕ) (o o' : Operand) (took : Option Reduction) → is_some took ≡ false → slice_get os n ≡ Some o → AreGiven os n → ReducesOne vs ss o took o' → (slice_set os n o' ≡ os) × AreGiven os (n + 1)
+  none_step os n o o' None none at given h = (ap (slice_set os n) h.1 ∙ set_same os n o at, given_more os n o at h.0 given)
+  none_step os n o o' (Some r) none at given h = absurd (cc)
+
+  -- or each is worked out
+  pub none_first : (os : List Operand) → AreGiven os (length os) → ReducesFirst vs ss os None os
+  none_first [] given = (refl, refl)
+  none_first (p ∷ os) given = after_given p os os None (given 0 p (omega arith) refl) (none_first os (λ i q low there. given (suc i) q (omega arith) there))
+
+  -- ---- the step of a call
+
+  module _ (i i' : Invocation) (line : i'.line ≡ i.line) (purpose : i'.purpose ≡ i.purpose) (function : i'.function ≡ i.function) where
+    abbrev whole : List source.Operand → source.Task
+    whole os = source.Invoke i.line (purpose_view i.line i.purpose) (function_value i.function) os
+
+    abbrev before : List source.Operand
+    before = map operand_view i.operands.items
+
+    pub same_call : (os : List source.Operand) → map operand_view i'.operands.items ≡ os → task_view (task.Invoke i') ≡ whole os
+    same_call os same = rw (line, purpose, function, same) refl
+
+    goes : (heap : Heap) → is_ready before ≡ false → effect_of (seen vs ss heap) (task_view (task.Invoke i)) ≡ goes_on i.line whole (reduce_first (seen vs ss heap) before)
+    goes heap unready = rw unready refl
+
+    -- a number takes its step
+    pub number_reduces : (took : Reduction) → ReducesFirst vs ss i.operands.items (Some took) i'.operands.items → HasEffect vs ss (task.Invoke i) (reduced i.line took) (task.Invoke i')
+    number_reduces reduction.Reduced h = λ heap. goes heap h.0 ∙ ap (goes_on i.line whole) (h.1 heap) ∙ ap (λ (u : source.Task). Becomes (u ∷ [])) (sym (same_call (map operand_view i'.operands.items) refl))
+    number_reduces (reduction.Trapped trap) h = (λ heap. goes heap h.0 ∙ ap (goes_on i.line whole) (h.1 heap), same_call before (ap (map operand_view) h.2))
+    number_reduces reduction.Stuck h = λ heap. goes heap h.0 ∙ ap (goes_on i.line whole) (h.1 heap)
+
+-- ---- with its object refused, or not
+
+module _ (classes : Classes) (s : Shared) (variables : Contents) (frames : List Frame) (pending : Reference) where
+  abbrev scene : Scene
+  scene = scene_with classes s variables frames pending
+
+  module _ (i i' : Invocation) (scene' : Scene) (same : task_view (task.Invoke i') ≡ task_view (task.Invoke i)) (ready : is_ready (map operand_view i.operands.items) ≡ true)
+      (args : List Actual) (looked_up : args ≡ actuals (sight_in s variables) (function_value i.function) (map operand_view i.operands.items)) where
+    calls : (t : Thread) → Sees scene t → effect_of (sight_of s t) (task_view (task.Invoke i)) ≡ Calls i.line (purpose_view i.line i.purpose) (function_value i.function) args
+    calls t sees =
+        ap (λ (sight : Sight). effect_of sight (task_view (task.Invoke i))) (sees_so scene t sees)
+        ∙ rw (ready, looked_up) refl
+
+    -- the call's own step is the step of the task
+    pub call_does : (refused : Bool) (took : Outcome) → MakesCall refused scene i.line i.purpose (function_value i.function) args took scene' → Does refused scene (task.Invoke i) took scene' (task.Invoke i')
+    call_does false took makes = λ other lent k t rest sees has.
+        ap (after_effect classes lent k s t rest) (calls t sees)
+        ∙ makes lent k t rest (task.Invoke i') sees (has ∙ ap (λ (u : source.Task). let o : Option (List source.Task) = Some (u ∷ rest) in o) (sym same))
+    call_does true took makes = λ other lent k t rest sees has.
+        ap (after_refused_effect classes lent k s t rest) (calls t sees)
+        ∙ makes lent k t rest (task.Invoke i') sees (has ∙ ap (λ (u : source.Task). let o : Option (List source.Task) = Some (u ∷ rest) in o) (sym same))

@@ -1,0 +1,5 @@
+mod PutLemmas
+pub mod TaskLemmas
+mod CallLemmas
+mod Invocations
+mod ActivationLemmas

@@ -1,0 +1,17 @@
+use Rattle.std.proofs.Common.{◌≡◌, true}
+use Rattle.syntax.specs.Views.{block_tree}
+use Rattle.source.specs.Task.{EndIf}
+use Rattle.terms.specs.declared.term.Term.TheVariants as term
+use Rattle.terms.specs.declared.value.Value.TheVariants as value
+use Rattle.terms.specs.Views.{variables_view}
+use Rattle.steps.proofs.TaskLemmas.{way_entered, branch_reduces}
+use Rattle.steps.proofs.step.branch.Goals as goal
+
+pub returns-in_default-clause-step : goal.returns-in_default-clause-step
+returns-in_default-clause-step c =
+    rw c.reduced.ensures.view (branch_reduces (variables_view c.args.variables.now) c.args.statics.now c.args.line _ _ _ c.in_default.not-Done c.reduce.ensures.step c.args.block c.args.otherwise)
+
+pub returns-in-Truth-true-clause-step : goal.returns-in-Truth-true-clause-step
+returns-in-Truth-true-clause-step c =
+    let shape : c.args.t.now ≡ term.Done (value.Truth true) = cc in
+    λ heap. rw shape (way_entered c.statements_of.result.now (block_tree c.args.block.now) EndIf (c.statements_of.ensures.view c.args.line))

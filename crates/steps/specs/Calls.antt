@@ -1,0 +1,45 @@
+-- What a call in memory does.
+use Rattle.std.specs.Prelude.{◌≡◌, ℕ, Bool, true, false, List, ◌∷◌, map, Option, Some, None}
+use Rattle.jni.specs.JniFunction.{JniFunction}
+use Rattle.source.specs.Arguments.{Actual}
+use Rattle.source.specs.CallStep.{call_step}
+use Rattle.source.specs.Effect.{is_given, is_ready, reduce_first}
+use Rattle.source.specs.Heap.{Heap}
+use Rattle.source.specs.Sight.{seen}
+use Rattle.source.specs.Task.{Task}
+use Rattle.source.specs.Thread.{Thread, BuffersInUse}
+use Rattle.source.specs.Value.{Gives, Traps, Stuck}
+use Rattle.source.specs.Variable.{Statics, Variables}
+use Rattle.tasks.specs.declared.outcome.Outcome.{Outcome}
+use Rattle.tasks.specs.declared.outcome.Purpose.{Purpose as PurposeInMemory}
+use Rattle.call_checks.specs.declared.operand.Operand.{Operand}
+use Rattle.tasks.specs.declared.task.Task.{Task as TaskInMemory}
+use Rattle.terms.specs.declared.reduction.Reduction.{Reduction as ReductionInMemory}
+use Rattle.terms.specs.declared.reduction.Reduction.TheVariants as reduction
+use Rattle.tasks.specs.Outcomes.{purpose_view}
+use Rattle.steps.specs.Steps.{Scene, Sees, in_frames, left_by}
+use Rattle.call_checks.specs.Actuals.{operand_view}
+use Rattle.tasks.specs.Tasks.{task_view}
+use Rattle.terms.specs.Views.{trap_view}
+
+-- With these variables and statics, each number is worked out already, or what was done is the step of the first that isn't.
+abbrev pub ReducesFirst : Variables → Statics → List Operand → Option ReductionInMemory → List Operand → Type 0
+ReducesFirst vs ss old None new = (is_ready (map operand_view old) ≡ true) × (new ≡ old)
+ReducesFirst vs ss old (Some reduction.Reduced) new =
+    (is_ready (map operand_view old) ≡ false) × ((heap : Heap) → reduce_first (seen vs ss heap) (map operand_view old) ≡ Gives (map operand_view new))
+ReducesFirst vs ss old (Some (reduction.Trapped trap)) new =
+    (is_ready (map operand_view old) ≡ false) × ((heap : Heap) → reduce_first (seen vs ss heap) (map operand_view old) ≡ Traps (trap_view trap)) × (new ≡ old)
+ReducesFirst vs ss old (Some reduction.Stuck) new =
+    (is_ready (map operand_view old) ≡ false) × ((heap : Heap) → reduce_first (seen vs ss heap) (map operand_view old) ≡ Stuck)
+
+-- the same of one of them, with others after it
+abbrev pub ReducesOne : Variables → Statics → Operand → Option ReductionInMemory → Operand → Type 0
+ReducesOne vs ss old None new = (is_given (operand_view old) ≡ true) × (new ≡ old)
+ReducesOne vs ss old (Some took) new = (rest : List Operand) → ReducesFirst vs ss (old ∷ rest) (Some took) (new ∷ rest)
+
+-- What was done is the call's own step, for each thread of the scene before it, or what it does with its object refused. It leaves
+-- the scene after it.
+abbrev pub MakesCall : (refused : Bool) → Scene → (line : ℕ) → PurposeInMemory → JniFunction → List Actual → Outcome → Scene → Type 0
+MakesCall refused before line purpose f args took after =
+    (lent : BuffersInUse) (k : ℕ) (t : Thread) (rest : List Task) (new : TaskInMemory) → Sees before t → t.tasks ≡ Some (task_view new ∷ rest)
+    → call_step before.classes lent k before.shared t line (purpose_view line purpose) f args rest refused ≡ left_by k after.shared (in_frames t after.frames after.pending) rest took new

@@ -1,0 +1,170 @@
+//! Activations: calls in progress.
+
+ghost use Rattle.std.specs.Prelude.{◌≡◌, IfOk, None, []};
+ghost use Rattle.classes.specs.Class.{Classes};
+ghost use Rattle.classes.specs.Grown.{IsGrown};
+ghost use Rattle.source.specs.Thread.{Shared as SharedOfThreads};
+ghost use Rattle.steps.specs.Activations.{tasks_left, IsInRange, AreSet, Advances, KeepsScene};
+ghost use Rattle.call_checks.specs.Shares.{shared_view};
+
+use crate::put::set_variables;
+use crate::step::step;
+use call_checks::Shared;
+use class_table::table::ClassTable;
+use object_store::Frames;
+use std::alloc::{AllocError, Global};
+use std::mem;
+use syntax::Stmt;
+use tasks::{Choice, End, Outcome, Task, loop_task, task_of};
+use terms::{Term, Value, Variables};
+
+/// What is still to do around a block: what comes at the block's end, and the statements after it.
+#[derive(Clone, Copy)]
+pub struct Outer<'a> {
+    pub end: End<'a>,
+    pub rest: &'a [Stmt],
+}
+
+/// A call in progress: the task that is begun, the statements after it in its block, what is to do around the block,
+/// the outermost first, the variables, in the order in which they came to be, the frames of local references, and the pending
+/// exception.
+#[derive(Drop)]
+pub struct Activation<'a> {
+    pub task: Option<Task<'a>>,
+    pub rest: &'a [Stmt],
+    pub outer: Vec<Outer<'a>>,
+    pub variables: Variables<'a>,
+    pub frames: Frames,
+    pub pending: Option<usize>,
+}
+
+/// Puts a task in the place of the one that is begun.
+fn put_task<'a>(place: &mut Option<Task<'a>>, task: Option<Task<'a>>)
+    ensures { place.new ≡ task.entry }
+{
+    drop(mem::replace(place, task));
+}
+
+/// Begins the block's next statement, where none is begun.
+fn begin<'a>(alloc: Global, activation: &mut Activation<'a>) -> Result<(), AllocError>
+    requires { IsInRange activation.old }
+    ensures tasks { IfOk result (λ _. tasks_left activation.new ≡ tasks_left activation.old) }
+    ensures range { IfOk result (λ _. IsInRange activation.new) }
+    ensures kept { IfOk result (λ _. KeepsScene activation.old activation.new) }
+    ensures begun { IfOk result (λ _. activation.new.task ≡ None → activation.new.rest.now ≡ []) }
+{
+    if activation.task.is_some() {
+        return Ok(());
+    }
+    let Some((first, after)) = activation.rest.split_first() else {
+        return Ok(());
+    };
+    let task = task_of(alloc, first)?;
+    put_task(&mut activation.task, Some(task));
+    activation.rest = after;
+    Ok(())
+}
+
+/// Goes on after a block whose statements are all done: after an `if`, or with its loop's test.
+fn leave_block<'a>(
+    alloc: Global,
+    refused: bool,
+    activation: &mut Activation<'a>,
+) -> Result<Outcome<'a>, AllocError>
+    requires range { IsInRange activation.old }
+    requires task { activation.old.task ≡ None }
+    requires rest { activation.old.rest.now ≡ [] }
+    ensures step { IfOk result (λ o. (classes : Classes) (shared : SharedOfThreads) → Advances classes refused shared activation.old o shared activation.new) }
+    ensures range { IfOk result (λ _. IsInRange activation.new) }
+{
+    if refused {
+        return Ok(Outcome::Impossible);
+    }
+    let Some(outer) = activation.outer.pop() else {
+        return Ok(Outcome::Impossible);
+    };
+    activation.rest = outer.rest;
+    match outer.end {
+        End::If => Ok(Outcome::Ends),
+        End::Turn(line, test, body) => {
+            let task = loop_task(alloc, line, test, body)?;
+            put_task(&mut activation.task, Some(task));
+            Ok(Outcome::Stays)
+        }
+    }
+}
+
+/// Does what a step did to the tasks.
+fn set_tasks<'a>(activation: &mut Activation<'a>, outcome: Outcome<'a>) -> Result<(), AllocError>
+    ensures { IfOk result (λ _. AreSet activation.old outcome.entry activation.new) }
+{
+    match outcome {
+        Outcome::Stays | Outcome::Returned | Outcome::Trapped(_, _) | Outcome::Impossible => {}
+        Outcome::Enters(statements, end) => {
+            let rest = activation.rest;
+            activation.outer.push(Outer { end, rest })?;
+            put_task(&mut activation.task, None);
+            activation.rest = statements;
+        }
+        Outcome::Printed(_) | Outcome::Sets(_, _) | Outcome::SetsNull(_) => {
+            put_task(&mut activation.task, None);
+        }
+        Outcome::Gives(_, _) | Outcome::SetsElement(_, _, _) => {
+            put_task(&mut activation.task, None);
+        }
+        Outcome::Tests(line, zero, block, otherwise) => {
+            let test = Term::Done(Value::Truth(zero));
+            let choice = Choice {
+                line,
+                test,
+                block,
+                otherwise,
+            };
+            put_task(&mut activation.task, Some(Task::Branch(choice)));
+        }
+        Outcome::Makes(_, _, _) | Outcome::Ends => put_task(&mut activation.task, None),
+    }
+    Ok(())
+}
+
+/// Lets an activation take its next step, or the same with its object refused.
+pub fn advance<'a>(
+    alloc: Global,
+    classes: &'a ClassTable,
+    shared: &mut Shared<'a>,
+    refused: bool,
+    activation: &mut Activation<'a>,
+) -> Result<Outcome<'a>, AllocError>
+    requires range { IsInRange activation.old }
+    requires grown { IsGrown classes.now }
+    ensures step { IfOk result (λ o. Advances classes.now refused (shared_view shared.old) activation.old o (shared_view shared.new) activation.new) }
+    ensures range { IfOk result (λ _. IsInRange activation.new) }
+{
+    begin(alloc, activation)?;
+    let Some(task) = &mut activation.task else {
+        return leave_block(alloc, refused, activation);
+    };
+    let outcome = step(
+        alloc,
+        classes,
+        shared,
+        &activation.variables,
+        &mut activation.frames,
+        &mut activation.pending,
+        refused,
+        task,
+    )?;
+    let frames = activation.frames.len();
+    let done = set_variables(
+        alloc,
+        &mut shared.statics,
+        frames,
+        &mut activation.variables,
+        outcome,
+    )?;
+    if !done {
+        return Ok(Outcome::Impossible);
+    }
+    set_tasks(activation, outcome)?;
+    Ok(outcome)
+}

@@ -1,0 +1,180 @@
+//! Calls of functions of the JNI (JNI Specification, chapter 4).
+
+ghost use Rattle.std.specs.Prelude.{◌≡◌, IfOk, IfSome, IsTrue, None, map};
+ghost use Rattle.classes.specs.Grown.{IsGrown};
+ghost use Rattle.jni.specs.JniFunction.{is_built_function};
+ghost use Rattle.jni.specs.Table.{function_value};
+ghost use Rattle.tasks.specs.declared.task.Task.TheVariants as task;
+ghost use Rattle.call_checks.specs.Actuals.{actual_view};
+ghost use Rattle.steps.specs.Calls.{MakesCall, ReducesFirst, ReducesOne};
+ghost use Rattle.tasks.specs.Outcomes.{outcome_for};
+ghost use Rattle.steps.specs.Steps.{Does, scene_with};
+ghost use Rattle.call_checks.specs.Shares.{shared_view};
+ghost use Rattle.tasks.specs.Tasks.{OperandInRange, OperandsInRange, OutcomeInRange, PurposeInRange};
+ghost use Rattle.terms.specs.Views.{variables_view};
+
+use crate::step::reduced;
+use call_answers::carry_out::{carry_out, makes_object, put_local, refuse};
+use call_answers::{Given, is_zero, work_out};
+use call_checks::actual::{Actual, actuals};
+use call_checks::check::check;
+use call_checks::{Operand, Shared};
+use class_table::table::ClassTable;
+use jni::JniFunction;
+use object_store::Frames;
+use std::alloc::{AllocError, Global};
+use tasks::{Invocation, Outcome, Purpose};
+use terms::{Reduction, Statics, Term, Variables, reduce};
+
+/// The step of a call: the first of its numbers that isn't worked out takes a step, or else the call is made. With its object
+/// refused it is possible only where it makes one.
+pub(crate) fn invoke<'a>(
+    alloc: Global,
+    classes: &'a ClassTable,
+    shared: &mut Shared<'a>,
+    variables: &Variables<'a>,
+    frames: &mut Frames,
+    pending: &mut Option<usize>,
+    refused: bool,
+    i: &mut Invocation<'a>,
+) -> Result<Outcome<'a>, AllocError>
+    requires numbers { OperandsInRange i.old.operands.items }
+    requires built { IsTrue (is_built_function (function_value i.old.function)) }
+    requires ways { PurposeInRange i.old.purpose }
+    requires grown { IsGrown classes.now }
+    ensures step { IfOk result (λ o. Does refused (scene_with classes.now (shared_view shared.old) variables.now frames.old pending.old) (task.Invoke i.old) o
+        (scene_with classes.now (shared_view shared.new) variables.now frames.new pending.new) (task.Invoke i.new)) }
+    ensures numbers { IfOk result (λ _. OperandsInRange i.new.operands.items) }
+    ensures function { i.new.function ≡ i.old.function }
+    ensures purpose { i.new.purpose ≡ i.old.purpose }
+    ensures range { IfOk result OutcomeInRange }
+{
+    let (line, purpose, function) = (i.line, i.purpose, i.function);
+    if let Some(reduction) = reduce_number(&shared.statics, variables, i) {
+        if refused {
+            return Ok(Outcome::Impossible);
+        }
+        return Ok(reduced(line, reduction));
+    }
+    let actuals = actuals(alloc, shared, variables, function, &i.operands)?;
+    call(
+        alloc, classes, shared, variables, frames, pending, refused, line, purpose, function,
+        &actuals,
+    )
+}
+
+/// Lets the first number of a call that isn't worked out take a step; none where each is.
+fn reduce_number(
+    statics: &Statics<'_>,
+    variables: &Variables<'_>,
+    i: &mut Invocation<'_>,
+) -> Option<Reduction>
+    requires { OperandsInRange i.old.operands.items }
+    ensures step { ReducesFirst (variables_view variables.now) statics.now i.old.operands.items result i.new.operands.items }
+    ensures numbers { OperandsInRange i.new.operands.items }
+    ensures line { i.new.line ≡ i.old.line }
+    ensures purpose { i.new.purpose ≡ i.old.purpose }
+    ensures function { i.new.function ≡ i.old.function }
+{
+    reduce_first(statics, variables, &mut i.operands)
+}
+
+/// Lets the first of these numbers that isn't worked out take a step; none where each is.
+fn reduce_first(
+    statics: &Statics<'_>,
+    variables: &Variables<'_>,
+    operands: &mut [Operand<'_>],
+) -> Option<Reduction>
+    requires { OperandsInRange operands.old }
+    ensures step { ReducesFirst (variables_view variables.now) statics.now operands.old result operands.new }
+    ensures numbers { OperandsInRange operands.new }
+{
+    for place in 0..operands.len() {
+        let reduction = reduce_one(statics, variables, &mut operands[place]);
+        if reduction.is_some() {
+            return reduction;
+        }
+    }
+    None
+}
+
+/// Lets a number that isn't worked out take a step; none where there is nothing to work out.
+fn reduce_one(
+    statics: &Statics<'_>,
+    variables: &Variables<'_>,
+    operand: &mut Operand<'_>,
+) -> Option<Reduction>
+    requires { OperandInRange operand.old }
+    ensures step { ReducesOne (variables_view variables.now) statics.now operand.old result operand.new }
+    ensures numbers { OperandInRange operand.new }
+{
+    match operand {
+        Operand::Given(_) => None,
+        Operand::Number(t) => match t {
+            Term::Done(_) => None,
+            t => Some(reduce(statics, variables, t)),
+        },
+    }
+}
+
+/// What a call does with what it gave, in a statement of this line.
+fn outcome_for<'a>(line: usize, purpose: Purpose<'a>, given: Given<'a>) -> Outcome<'a>
+    requires { PurposeInRange purpose }
+    ensures step { result ≡ outcome_for line purpose.entry given.entry }
+    ensures range { OutcomeInRange result }
+{
+    match purpose {
+        Purpose::Put(target) => Outcome::Gives(target, given),
+        Purpose::Test(block, otherwise) => {
+            Outcome::Tests(line, is_zero(given), block, otherwise)
+        }
+    }
+}
+
+/// The call's own step.
+fn call<'a>(
+    alloc: Global,
+    classes: &'a ClassTable,
+    shared: &mut Shared<'a>,
+    variables: &Variables<'a>,
+    frames: &mut Frames,
+    pending: &mut Option<usize>,
+    refused: bool,
+    line: usize,
+    purpose: Purpose<'a>,
+    function: JniFunction,
+    actuals: &[Actual<'a>],
+) -> Result<Outcome<'a>, AllocError>
+    requires built { IsTrue (is_built_function (function_value function)) }
+    requires ways { PurposeInRange purpose }
+    requires grown { IsGrown classes.now }
+    ensures step { IfOk result (λ o. MakesCall refused (scene_with classes.now (shared_view shared.old) variables.now frames.old pending.old) line purpose.entry (function_value function) (map actual_view actuals.now) o
+        (scene_with classes.now (shared_view shared.new) variables.now frames.new pending.new)) }
+    ensures range { IfOk result OutcomeInRange }
+{
+    let is_pending = pending.is_some();
+    if let Some(trap) = check(
+        classes,
+        &shared.store,
+        frames,
+        is_pending,
+        function,
+        actuals,
+    ) {
+        if refused {
+            return Ok(Outcome::Impossible);
+        }
+        return Ok(Outcome::Trapped(trap, line));
+    }
+    let answer = work_out(classes, &shared.store, variables, frames, function, actuals);
+    let kind = function.prototype().result;
+    if refused {
+        if !makes_object(answer) {
+            return Ok(Outcome::Impossible);
+        }
+        return Ok(outcome_for(line, purpose, refuse(classes, pending, kind)));
+    }
+    let given = carry_out(alloc, classes, shared, frames, pending, kind, answer)?;
+    put_local(frames, kind, given)?;
+    Ok(outcome_for(line, purpose, given))
+}

@@ -1,0 +1,9 @@
+//! Steps of tasks, and calls in progress in memory.
+#![tactic(auto)]
+
+mod activation;
+mod invoke;
+mod put;
+mod step;
+
+pub use activation::{Activation, Outer, advance};

@@ -1,0 +1,5 @@
+pub mod NamesOnce
+mod PlainTasks
+mod ThreadLemmas
+pub mod StateLemmas
+mod StandingLemmas

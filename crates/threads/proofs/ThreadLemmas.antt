@@ -1,0 +1,161 @@
+-- A thread in memory steps as the thread that it stands for.
+use Rattle.std.proofs.Common.{◌≡◌, ℕ, Bool, true, false, List, [], ◌∷◌, Option, Some, None, refl, sym, ap, ◌∙◌, IsTrue, subst}
+use Rattle.std.specs.List.{list_all}
+use Rattle.std.specs.Option.{option_map}
+use Rattle.source.specs.World.{Invocation}
+use Rattle.source.specs.Load.{call_loads}
+use Rattle.std.proofs.lemmas.Bool.{and_parts}
+use Rattle.std.specs.Borrow.{Bor}
+use Rattle.syntax.specs.Tree.{Function, SourceUnit}
+use Rattle.source.specs.Task.{tasks_of}
+use Rattle.classes.specs.Class.{Classes}
+use Rattle.source.specs.Thread.{Monitor, Thread, Shared, BuffersInUse, Event, Quiet, PrintedNumber, Trapped, Advances as AdvancesTo, NoAdvance, Ending, Unfinished, Ended, Uncaught}
+use Rattle.source.specs.Object.{Reference}
+use Rattle.source.specs.Activation.{named_object, entry_frame, ending_after, monitors_after, calls_after, return_step, enter, entered, entry_advance, entered_function, class_of_function, function_at, parameter_variables}
+use Rattle.source.specs.ThreadStep.{thread_step, step_within}
+use Rattle.steps.specs.declared.activation.Activation.{Activation}
+use Rattle.threads.specs.declared.thread.Thread.{Thread as ThreadInMemory}
+use Rattle.tasks.specs.declared.outcome.Outcome.TheVariants as outcome
+use Rattle.steps.specs.Activations.{tasks_left, thread_in, scene_of, advance_by, Advances}
+use Rattle.call_checks.specs.Shares.{shared_view}
+use Rattle.call_checks.specs.declared.shared.Shared.{Shared as SharedInMemory}
+use Rattle.steps.specs.Steps.{Sees}
+use Rattle.terms.specs.Views.{variables_view, trap_view}
+use Rattle.source.specs.Variable.{LocalRef}
+use Rattle.std.specs.Prelude.{filter_map, zip}
+use Rattle.tasks.specs.declared.outcome.Outcome.{Outcome}
+use Rattle.threads.specs.Threads.{ThreadStands, WorkStands, Leaves, StepIs, step_of, tasks_in, ending_view}
+
+-- a thread that has ended owns nothing where nobody does
+no_monitors : (e : Ending) (k : ℕ) → monitors_after e k [] ≡ []
+no_monitors Unfinished k = refl
+no_monitors Ended k = refl
+no_monitors (Uncaught c) k = refl
+
+module _ (unit : SourceUnit) (classes : Classes) (lent : BuffersInUse) (k : ℕ) where
+  -- a thread after its call that stands so, with these calls to come before
+  abbrev thread_after : Ending → List Invocation → Thread
+  thread_after e calls = record { calls = calls_after e calls; tasks = None; variables = []; frames = []; pending = None; ending = e }
+
+  left_by : (m : SharedInMemory) (s : Thread) (e : Ending) (calls : List Invocation) (pending : Reference) → s.calls ≡ calls → s.pending ≡ pending → e ≡ ending_after m.store pending calls
+      → return_step k (shared_view m) s ≡ AdvancesTo (shared_view m) (thread_after e calls) Quiet
+  left_by m s e calls pending is there stood =
+      let same : ending_after m.store s.pending s.calls ≡ e = ap (λ (r : Reference). ending_after m.store r s.calls) there ∙ ap (ending_after m.store pending) is ∙ sym stood in
+      ap (λ (f : Ending). let t : Thread = thread_after f s.calls in let r : Shared = record (shared_view m) { monitors = monitors_after f k [] } in AdvancesTo r t Quiet) same
+      ∙ ap (λ (ms : List Monitor). let t : Thread = thread_after e s.calls in let r : Shared = record (shared_view m) { monitors = ms } in AdvancesTo r t Quiet) (no_monitors e k)
+      ∙ ap (λ (cs : List Invocation). let t : Thread = thread_after e cs in AdvancesTo (shared_view m) t Quiet) is
+
+  loads_after : (e : Ending) (calls : List Invocation) → IsTrue (list_all (call_loads unit classes) calls) → IsTrue (list_all (call_loads unit classes) (calls_after e calls))
+  loads_after Unfinished calls h = h
+  loads_after Ended calls h = refl
+  loads_after (Uncaught c) calls h = refl
+
+  module _ (refused : Bool) (shared : Shared) (after : SharedInMemory) (t : ThreadInMemory) (a new : Activation) (s : Thread) (is : t.activation ≡ Some a) (h : ThreadStands unit classes t s) where
+    has_tasks : s.tasks ≡ Some (tasks_left a)
+    has_tasks = h.tasks ∙ ap tasks_in is
+
+    work : WorkStands (Some a) s
+    work = subst (λ (o : Option Activation). WorkStands o s) is h.work
+
+    sees : Sees (scene_of classes shared a) s
+    sees = record { variables = work.0; frames = work.1; pending = work.2 }
+
+    advances_so : (o : Outcome) → Advances classes refused shared a o (shared_view after) new → thread_step unit classes lent k shared s refused ≡ advance_by k (shared_view after) s new o
+    advances_so o does = ap (step_within unit classes lent k shared s refused) has_tasks ∙ does unit lent k s sees has_tasks
+
+    -- the call goes on
+    on : (event : Event) → thread_step unit classes lent k shared s refused ≡ AdvancesTo (shared_view after) (thread_in s new) event
+        → Leaves unit classes (shared_view after) (record t { activation = Some new }) event (thread_step unit classes lent k shared s refused)
+    on event does = record {
+      next = thread_in s new;
+      advances = does;
+      stands = record { calls = h.calls; loads = h.loads; tasks = refl; work = (refl, refl, refl); ending = h.ending };
+    }
+
+    pub goes : (o : Outcome) → (o ≡ outcome.Returned → ⊥) → Advances classes refused shared a o (shared_view after) new
+        → StepIs unit classes (shared_view after) (record t { activation = Some new }) (step_of o) (thread_step unit classes lent k shared s refused)
+    goes outcome.Stays other does = on Quiet (advances_so outcome.Stays does)
+    goes (outcome.Printed z) other does = on (PrintedNumber z) (advances_so (outcome.Printed z) does)
+    goes (outcome.Sets x v) other does = on Quiet (advances_so (outcome.Sets x v) does)
+    goes (outcome.SetsNull to) other does = on Quiet (advances_so (outcome.SetsNull to) does)
+    goes (outcome.Gives to g) other does = on Quiet (advances_so (outcome.Gives to g) does)
+    goes (outcome.Tests line zero b d) other does = on Quiet (advances_so (outcome.Tests line zero b d) does)
+    goes (outcome.SetsElement x i z) other does = on Quiet (advances_so (outcome.SetsElement x i z) does)
+    goes (outcome.Makes T x n) other does = on Quiet (advances_so (outcome.Makes T x n) does)
+    goes (outcome.Enters statements e) other does = on Quiet (advances_so (outcome.Enters statements e) does)
+    goes outcome.Ends other does = on Quiet (advances_so outcome.Ends does)
+    goes outcome.Returned other does = absurd (other refl)
+    goes (outcome.Trapped trap line) other does = on (Trapped (trap_view trap) line) (advances_so (outcome.Trapped trap line) does)
+    goes outcome.Impossible other does = advances_so outcome.Impossible does
+
+    -- the call is over
+    pub returns : (left : ThreadInMemory) → Advances classes refused shared a outcome.Returned (shared_view after) new → left.activation ≡ None → ending_view left.ending ≡ ending_after after.store new.pending t.calls.now
+        → left.calls.now ≡ calls_after (ending_view left.ending) t.calls.now → Leaves unit classes (shared_view after) left Quiet (thread_step unit classes lent k shared s refused)
+    returns left does idle ended calls =
+        let e : Ending = ending_view left.ending in
+        record {
+          next = thread_after e t.calls.now;
+          advances = advances_so outcome.Returned does ∙ left_by after (record s { pending = new.pending }) e t.calls.now new.pending h.calls refl ended;
+          stands = record {
+            calls = sym calls;
+            loads = subst (λ (cs : List Invocation). IsTrue (list_all (call_loads unit classes) cs)) (sym calls) (loads_after e t.calls.now h.loads);
+            tasks = ap tasks_in (sym idle);
+            work = subst (λ (o : Option Activation). WorkStands o (thread_after e t.calls.now)) (sym idle) (refl, refl, refl);
+            ending = refl;
+          };
+        }
+
+  -- the entry into the next call
+  pub enters : (shared : Shared) (t : ThreadInMemory) (call : Invocation) (rest : List Invocation) (f : Function) (class : ℕ) (a : Activation) (s : Thread)
+      → t.activation ≡ None → t.calls.now ≡ call ∷ rest → function_at unit call.function ≡ Some f → class_of_function classes f ≡ Some class
+      → tasks_left a ≡ tasks_of f.body → variables_view a.variables ≡ (f.class_name, LocalRef 1 (Some class)) ∷ parameter_variables (zip f.parameters call.arguments) → a.frames ≡ entry_frame (class ∷ filter_map named_object call.arguments) ∷ [] → a.pending ≡ None → ThreadStands unit classes t s
+      → (after : Bor (List Invocation)) → after.now ≡ rest
+      → Leaves unit classes shared (record t { calls = after; activation = Some a }) Quiet (thread_step unit classes lent k shared s false)
+  enters shared t call rest f class a s idle calls found its_class tasks variables frames none h after is = record {
+    next = entered s rest f class call.arguments;
+    advances =
+        ap (step_within unit classes lent k shared s false) (h.tasks ∙ ap tasks_in idle)
+        ∙ ap (λ (cs : List Invocation). entry_advance shared (enter unit classes s cs)) (h.calls ∙ calls)
+        ∙ ap (λ (o : Option Function). entry_advance shared (entered_function classes s call rest o)) found
+        ∙ ap (λ (o : Option ℕ). entry_advance shared (option_map (λ d. entered s rest f d call.arguments) o)) its_class;
+    stands = record {
+      calls = sym is;
+      loads = subst (λ (cs : List Invocation). IsTrue (list_all (call_loads unit classes) cs)) (sym is) parts.1;
+      tasks = ap Some (sym tasks);
+      work = (sym variables, sym frames, (subst (λ (o : Option Activation). WorkStands o s) idle h.work).2 ∙ sym none);
+      ending = h.ending;
+    };
+  }
+    where
+      loads : IsTrue (list_all (call_loads unit classes) (call ∷ rest))
+      loads = subst (λ (cs : List Invocation). IsTrue (list_all (call_loads unit classes) cs)) calls h.loads
+
+      parts : (call_loads unit classes call ≡ true) × (list_all (call_loads unit classes) rest ≡ true)
+      parts = and_parts (call_loads unit classes call) (list_all (call_loads unit classes) rest) loads
+
+  -- an entry makes no object that could be refused
+  pub none_refused : (shared : Shared) (t : ThreadInMemory) (s : Thread) → t.activation ≡ None → ThreadStands unit classes t s → thread_step unit classes lent k shared s true ≡ NoAdvance
+  none_refused shared t s idle h = ap (step_within unit classes lent k shared s true) (h.tasks ∙ ap tasks_in idle)
+
+  -- no call is to come
+  pub no_entry : (shared : Shared) (t : ThreadInMemory) (s : Thread) → t.activation ≡ None → t.calls.now ≡ [] → ThreadStands unit classes t s → thread_step unit classes lent k shared s false ≡ NoAdvance
+  no_entry shared t s idle none h =
+      ap (step_within unit classes lent k shared s false) (h.tasks ∙ ap tasks_in idle)
+      ∙ ap (λ (cs : List Invocation). entry_advance shared (enter unit classes s cs)) (h.calls ∙ none)
+
+  -- the next call's function isn't there
+  pub no_function : (shared : Shared) (t : ThreadInMemory) (call : Invocation) (rest : List Invocation) (s : Thread) → t.activation ≡ None → t.calls.now ≡ call ∷ rest → function_at unit call.function ≡ None → ThreadStands unit classes t s
+      → thread_step unit classes lent k shared s false ≡ NoAdvance
+  no_function shared t call rest s idle calls none h =
+      ap (step_within unit classes lent k shared s false) (h.tasks ∙ ap tasks_in idle)
+      ∙ ap (λ (cs : List Invocation). entry_advance shared (enter unit classes s cs)) (h.calls ∙ calls)
+      ∙ ap (λ (o : Option Function). entry_advance shared (entered_function classes s call rest o)) none
+
+  -- nor its class
+  pub no_class : (shared : Shared) (t : ThreadInMemory) (call : Invocation) (rest : List Invocation) (f : Function) (s : Thread) → t.activation ≡ None → t.calls.now ≡ call ∷ rest → function_at unit call.function ≡ Some f → class_of_function classes f ≡ None → ThreadStands unit classes t s
+      → thread_step unit classes lent k shared s false ≡ NoAdvance
+  no_class shared t call rest f s idle calls found none h =
+      ap (step_within unit classes lent k shared s false) (h.tasks ∙ ap tasks_in idle)
+      ∙ ap (λ (cs : List Invocation). entry_advance shared (enter unit classes s cs)) (h.calls ∙ calls)
+      ∙ ap (λ (o : Option Function). entry_advance shared (entered_function classes s call rest o)) found
+      ∙ ap (λ (o : Option ℕ). entry_advance shared (option_map (λ d. entered s rest f d call.arguments) o)) none

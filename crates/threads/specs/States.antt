@@ -1,0 +1,90 @@
+-- States that lie in memory, as those of the language, and what an entry does to one.
+use Rattle.std.specs.Prelude.{◌≡◌, ℕ, ◌==◌, Bool, true, false, if◌then◌else◌, List, [], ◌∷◌, ◌++◌, map, Option, Some, None}
+use Rattle.std.specs.List.{enumerate_from}
+use Rattle.std.specs.Option.{option_map}
+use Rattle.syntax.specs.Tree.{SourceUnit}
+use Rattle.classes.specs.Class.{Classes}
+use Rattle.source.specs.declared.journal.Entry.{Entry}
+use Rattle.source.specs.declared.printed.Printed.{Printed}
+use Rattle.source.specs.Report.{ThreadStanding, HasTrapped}
+use Rattle.source.specs.ReportOf.{standing_by_ending}
+use Rattle.source.specs.World.{World}
+use Rattle.source.specs.Thread.{Thread}
+use Rattle.source.specs.State.{State, Stop}
+use Rattle.source.specs.Step.{world_step}
+use Rattle.source.specs.Value.{trap_number}
+use Rattle.threads.specs.declared.thread.Thread.{Thread as ThreadInMemory}
+use Rattle.threads.specs.declared.thread.Step.{Step}
+use Rattle.threads.specs.declared.thread.Step.TheVariants as step
+use Rattle.threads.specs.declared.state.State.{State as StateInMemory}
+use Rattle.threads.specs.declared.state.Stop.{Stop as StopInMemory}
+use Rattle.terms.specs.Views.{trap_view}
+use Rattle.threads.specs.Threads.{ThreadStands, WorkInRange, ending_view}
+use Rattle.call_checks.specs.Shares.{shared_view}
+
+-- each thread in memory stands for the one of the same number
+abbrev pub ThreadsStand : SourceUnit → Classes → List ThreadInMemory → List Thread → Type 0
+ThreadsStand unit classes [] [] = Unit {0}
+ThreadsStand unit classes (t ∷ ts) (s ∷ ss) = ThreadStands unit classes t s × ThreadsStand unit classes ts ss
+ThreadsStand unit classes ts ss = ⊥
+
+-- what is known of the calls in progress, as they stand in an accepted program
+abbrev pub AreInRange : List ThreadInMemory → Type 0
+AreInRange [] = Unit {0}
+AreInRange (t ∷ ts) = WorkInRange t.activation × AreInRange ts
+
+abbrev pub stop_view : StopInMemory → Stop
+stop_view stop = record { thread = stop.thread; trap = trap_view stop.trap; line = stop.line }
+
+-- a state in memory stands for one of the language, in the world that it began in
+pub record Stands (unit : SourceUnit) (w : World) (m : StateInMemory) (s : State) : Type 0 where
+  pub world : w ≡ m.world.now
+  pub shared : s.shared ≡ shared_view m.shared
+  pub threads : ThreadsStand unit w.classes m.threads.items s.threads
+  pub printed : s.printed ≡ m.printed.items
+  pub stop : s.stop ≡ option_map stop_view m.stop
+
+-- ---- entries
+
+-- the numbers printed after a step of thread k
+abbrev pub printed_after : List Printed → ℕ → Step → List Printed
+printed_after printed k (step.Printed z) = printed ++ record { thread = k; number = z } ∷ []
+printed_after printed k took = printed
+
+-- the trap that stopped the machine, after it
+abbrev pub stop_after : Option StopInMemory → ℕ → Step → Option StopInMemory
+stop_after stop k (step.Trapped trap line) = Some (record { thread = k; trap = trap; line = line })
+stop_after stop k took = stop
+
+-- what a step of thread k did is written down, and nothing else
+pub record IsNoted (old : StateInMemory) (k : ℕ) (took : Step) (new : StateInMemory) : Type 0 where
+  pub world : new.world ≡ old.world
+  pub shared : new.shared ≡ old.shared
+  pub threads : new.threads ≡ old.threads
+  pub printed : new.printed.items ≡ printed_after old.printed.items k took
+  pub stop : new.stop ≡ stop_after old.stop k took
+
+-- the step was possible
+abbrev pub is_possible : Step → Bool
+is_possible step.Impossible = false
+is_possible took = true
+
+-- an entry is possible and leaves this, or is not possible
+abbrev pub Leads : SourceUnit → World → State → Entry → StateInMemory → (possible : Bool) → Type 0
+Leads unit w s e new true = (next : State) × (world_step unit w.classes s e ≡ Some next) × Stands unit w new next
+Leads unit w s e new false = world_step unit w.classes s e ≡ None
+
+-- the same in each state that it stands for
+abbrev pub TakesEntry : SourceUnit → StateInMemory → Entry → (possible : Bool) → StateInMemory → Type 0
+TakesEntry unit old e possible new = (w : World) (s : State) → Stands unit w old s → Leads unit w s e new possible
+
+-- ---- the report
+
+-- how thread k stands
+abbrev pub standing_in : Classes → Option StopInMemory → ℕ × ThreadInMemory → ThreadStanding
+standing_in classes None (k, t) = standing_by_ending classes false (ending_view t.ending)
+standing_in classes (Some stop) (k, t) = if stop.thread == k then HasTrapped (trap_number (trap_view stop.trap)) stop.line else standing_by_ending classes false (ending_view t.ending)
+
+-- how all threads stand
+abbrev pub standings_in : StateInMemory → List ThreadStanding
+standings_in m = map (standing_in m.world.now.classes m.stop) (enumerate_from 1 m.threads.items)

@@ -1,0 +1,80 @@
+-- Threads that lie in memory, as those of the language, and what a step of one does.
+use Rattle.std.specs.Prelude.{◌≡◌, ℕ, Bool, List, [], Option, Some, None, IsTrue}
+use Rattle.std.specs.List.{list_all}
+use Rattle.syntax.specs.Tree.{SourceUnit}
+use Rattle.classes.specs.Class.{Classes}
+use Rattle.source.specs.Object.{ObjectValue, Number, Refers}
+use Rattle.source.specs.Load.{call_loads}
+use Rattle.source.specs.Task.{Task}
+use Rattle.source.specs.Thread.{Ending, Unfinished, Ended, Uncaught, Thread, Shared, BuffersInUse, Event, Quiet, PrintedNumber, Trapped, Advance, Advances, NoAdvance}
+use Rattle.source.specs.ThreadStep.{thread_step}
+use Rattle.source.specs.Value.{Int}
+use Rattle.source.specs.Variable.{Variable, Scalar, LocalRef}
+use Rattle.steps.specs.declared.activation.Activation.{Activation}
+use Rattle.tasks.specs.declared.outcome.Outcome.{Outcome}
+use Rattle.tasks.specs.declared.outcome.Outcome.TheVariants as outcome
+use Rattle.threads.specs.declared.thread.Thread.{Thread as ThreadInMemory}
+use Rattle.threads.specs.declared.thread.Ending.{Ending as EndingInMemory}
+use Rattle.threads.specs.declared.thread.Ending.TheVariants as ending
+use Rattle.threads.specs.declared.thread.Step.{Step}
+use Rattle.threads.specs.declared.thread.Step.TheVariants as step
+use Rattle.steps.specs.Activations.{tasks_left, IsInRange}
+use Rattle.terms.specs.Views.{variables_view, trap_view}
+
+-- the tasks of the call in progress, if there is one
+abbrev pub tasks_in : Option Activation → Option (List Task)
+tasks_in None = None
+tasks_in (Some a) = Some (tasks_left a)
+
+-- what the call in progress has beside its tasks; where there is none, there is nothing
+abbrev pub WorkStands : Option Activation → Thread → Type 0
+WorkStands None s = (s.variables ≡ []) × (s.frames ≡ []) × (s.pending ≡ None)
+WorkStands (Some a) s = (s.variables ≡ variables_view a.variables) × (s.frames ≡ a.frames) × (s.pending ≡ a.pending)
+
+abbrev pub WorkInRange : Option Activation → Type 0
+WorkInRange None = Unit {0}
+WorkInRange (Some a) = IsInRange a
+
+abbrev pub ending_view : EndingInMemory → Ending
+ending_view ending.Unfinished = Unfinished
+ending_view ending.Ended = Ended
+ending_view (ending.Uncaught class) = Uncaught class
+
+-- what a parameter with this argument holds
+abbrev pub argument_content : ObjectValue → Variable
+argument_content (Number z) = Scalar (Int z)
+argument_content (Refers r) = LocalRef 1 r
+
+-- what others see of what a call in progress did
+abbrev pub step_of : Outcome → Step
+step_of (outcome.Printed z) = step.Printed z
+step_of (outcome.Trapped trap line) = step.Trapped trap line
+step_of outcome.Impossible = step.Impossible
+step_of took = step.Quiet
+
+-- a thread in memory stands for one of the language
+pub record ThreadStands (unit : SourceUnit) (classes : Classes) (t : ThreadInMemory) (s : Thread) : Type 0 where
+  pub calls : s.calls ≡ t.calls.now
+  pub loads : IsTrue (list_all (call_loads unit classes) t.calls.now)
+  pub tasks : s.tasks ≡ tasks_in t.activation
+  pub work : WorkStands t.activation s
+  pub ending : s.ending ≡ ending_view t.ending
+
+-- a step leaves the thread so, and all threads this to share
+pub record Leaves (unit : SourceUnit) (classes : Classes) (shared : Shared) (t : ThreadInMemory) (event : Event) (advance : Advance) : Type 0 where
+  pub next : Thread
+  pub advances : advance ≡ Advances shared next event
+  pub stands : ThreadStands unit classes t next
+
+-- what a step in memory did is the thread's step
+abbrev pub StepIs : SourceUnit → Classes → Shared → ThreadInMemory → Step → Advance → Type 0
+StepIs unit classes shared t step.Quiet advance = Leaves unit classes shared t Quiet advance
+StepIs unit classes shared t (step.Printed z) advance = Leaves unit classes shared t (PrintedNumber z) advance
+StepIs unit classes shared t (step.Trapped trap line) advance = Leaves unit classes shared t (Trapped (trap_view trap) line) advance
+StepIs unit classes shared t step.Impossible advance = advance ≡ NoAdvance
+
+-- the same for each thread that it stands for, with this to share before and after it, or what the step does with its object refused
+abbrev pub TakesStep : SourceUnit → Classes → (refused : Bool) → Shared → ThreadInMemory → Step → Shared → ThreadInMemory → Type 0
+TakesStep unit classes refused shared old took after new =
+    (s : Thread) (lent : BuffersInUse) (k : ℕ) → ThreadStands unit classes old s → s.ending ≡ Unfinished
+    → StepIs unit classes after new took (thread_step unit classes lent k shared s refused)

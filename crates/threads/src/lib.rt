@@ -1,0 +1,10 @@
+//! The threads of a replay in memory: calls in progress and to come, the state of all, and what an entry does to it.
+#![tactic(auto)]
+
+mod rows;
+mod state;
+mod thread;
+
+pub use rows::{NamedObjects, root_names};
+pub use state::{State, Stop, standings_of, take_entry};
+pub use thread::{Ending, Thread, class_of};

@@ -1,0 +1,201 @@
+//! The state of a replay, and what an entry does to it.
+
+ghost use Rattle.std.specs.Prelude.{◌≡◌, [], IfOk, IsTrue, false, map};
+ghost use Rattle.std.specs.List.{enumerate_from};
+ghost use Rattle.syntax.specs.Limits.{IsTree};
+ghost use Rattle.syntax.specs.Views.{unit_tree};
+ghost use Rattle.types.specs.BuiltCalls.{calls_are_built};
+ghost use Rattle.types.specs.SortRules.{IsSorted};
+ghost use Rattle.source.specs.declared.journal.Entry.TheVariants as journal;
+ghost use Rattle.threads.specs.States.{AreInRange, TakesEntry, IsNoted, is_possible, standing_in, standings_in};
+ghost use Rattle.threads.specs.Threads.{ending_view};
+ghost use Rattle.report.specs.ThreadStatus.{standing_view};
+ghost use Rattle.source.specs.ReportOf.{standing_by_ending};
+
+use crate::thread::{Ending, Step, Thread, is_unfinished, take_step};
+use call_checks::Shared;
+use class_table::table::ClassTable;
+use functions::Functions;
+use std::alloc::{AllocError, Global};
+use terms::{Trap, trap_number};
+use world::{Entry, Printed, ThreadStatus, World};
+
+/// The trap that stopped the machine.
+#[derive(Clone, Copy)]
+pub struct Stop {
+    /// The thread's number, from 1.
+    pub thread: u8,
+    pub trap: Trap,
+    /// The line of the statement.
+    pub line: usize,
+}
+
+/// The threads, the world that they began in, what they share, what they printed, and the trap that stopped them.
+pub struct State<'a> {
+    pub world: &'a World,
+    pub shared: Shared<'a>,
+    pub threads: Vec<Thread<'a>>,
+    pub printed: Vec<Printed>,
+    pub stop: Option<Stop>,
+}
+
+impl Drop for State<'_> {
+    fn drop(self) {
+        let State {
+            world: _,
+            shared,
+            threads,
+            printed,
+            stop: _,
+        } = self;
+        drop(shared);
+        drop(threads);
+        drop(printed);
+    }
+}
+
+/// Writes down what thread `k` did; false where it could do nothing.
+fn note(state: &mut State<'_>, k: u8, step: Step) -> Result<bool, AllocError>
+    ensures possible { IfOk result (λ possible. possible ≡ is_possible step) }
+    ensures noted { IfOk result (λ _. IsNoted state.old k step state.new) }
+{
+    match step {
+        Step::Quiet => Ok(true),
+        Step::Printed(number) => {
+            state.printed.push(Printed { thread: k, number })?;
+            Ok(true)
+        }
+        Step::Trapped(trap, line) => {
+            state.stop = Some(Stop {
+                thread: k,
+                trap,
+                line,
+            });
+            Ok(true)
+        }
+        Step::Impossible => Ok(false),
+    }
+}
+
+/// Takes an entry; false where it isn't possible.
+pub fn take_entry<'a>(
+    alloc: Global,
+    functions: &Functions<'a>,
+    state: &mut State<'a>,
+    entry: Entry,
+) -> Result<bool, AllocError>
+    requires tree { IsTree (unit_tree functions.now) }
+    requires sorted { IsSorted (unit_tree functions.now) }
+    requires calls { IsTrue (calls_are_built (unit_tree functions.now)) }
+    requires range { AreInRange state.old.threads.items }
+    ensures step { IfOk result (λ possible. TakesEntry (unit_tree functions.now) state.old entry possible state.new) }
+    ensures range { IfOk result (λ _. AreInRange state.new.threads.items) }
+{
+    match entry {
+        Entry::Step { thread, refused } => take_turn(alloc, functions, state, thread, refused),
+    }
+}
+
+/// Takes the step of thread `k`, its allocation refused or not; false where it isn't possible.
+fn take_turn<'a>(
+    alloc: Global,
+    functions: &Functions<'a>,
+    state: &mut State<'a>,
+    k: u8,
+    refused: bool,
+) -> Result<bool, AllocError>
+    requires tree { IsTree (unit_tree functions.now) }
+    requires sorted { IsSorted (unit_tree functions.now) }
+    requires calls { IsTrue (calls_are_built (unit_tree functions.now)) }
+    requires range { AreInRange state.old.threads.items }
+    ensures step { IfOk result (λ possible. TakesEntry (unit_tree functions.now) state.old (journal.Step k refused) possible state.new) }
+    ensures range { IfOk result (λ _. AreInRange state.new.threads.items) }
+{
+    if state.stop.is_some() {
+        return Ok(false);
+    }
+    let number = usize::from(k);
+    if number == 0 {
+        return Ok(false);
+    }
+    if state.threads.len() < number {
+        return Ok(false);
+    }
+    let thread = &mut state.threads[number - 1];
+    if !is_unfinished(thread.ending) {
+        return Ok(false);
+    }
+    let step = take_step(
+        alloc,
+        functions,
+        state.world,
+        &mut state.shared,
+        refused,
+        thread,
+    )?;
+    let possible = note(state, k, step)?;
+    Ok(possible)
+}
+
+/// The status of a thread that didn't trap. None waits.
+fn standing_by(classes: &ClassTable, ending: Ending) -> ThreadStatus<'_>
+    ensures { standing_view result ≡ standing_by_ending classes.now false (ending_view ending) }
+{
+    match ending {
+        Ending::Unfinished => ThreadStatus::Running,
+        Ending::Ended => ThreadStatus::Ended,
+        Ending::Uncaught(class) => ThreadStatus::Uncaught(classes.name(class)),
+    }
+}
+
+/// The status of thread `k`.
+fn standing_of<'c>(
+    classes: &'c ClassTable,
+    stop: Option<Stop>,
+    k: usize,
+    thread: &Thread<'_>,
+) -> ThreadStatus<'c>
+    ensures { standing_view result ≡ standing_in classes.now stop (k, thread.now) }
+{
+    if let Some(stop) = stop {
+        if usize::from(stop.thread) == k {
+            return ThreadStatus::Trapped(trap_number(stop.trap), stop.line);
+        }
+    }
+    standing_by(classes, thread.ending)
+}
+
+/// Puts the statuses of threads, in their order, into an empty list.
+fn add_standings<'a>(
+    standings: &mut Vec<ThreadStatus<'a>>,
+    classes: &'a ClassTable,
+    stop: Option<Stop>,
+    threads: &[Thread<'_>],
+) -> Result<(), AllocError>
+    requires { standings.old.items ≡ [] }
+    ensures { IfOk result (λ _. map standing_view standings.new.items ≡ map (standing_in classes.entry.now stop) (enumerate_from 1 threads.now)) }
+{
+    let mut k = 0;
+    for thread in threads {
+        k += 1;
+        standings.push(standing_of(classes, stop, k, thread))?;
+    }
+    Ok(())
+}
+
+/// The statuses of the threads.
+pub fn standings_of<'a>(
+    alloc: Global,
+    state: &State<'a>,
+) -> Result<Vec<ThreadStatus<'a>>, AllocError>
+    ensures { IfOk result (λ standings. map standing_view standings.items ≡ standings_in state.now) }
+{
+    let mut standings = Vec::new(alloc);
+    add_standings(
+        &mut standings,
+        state.world.classes(),
+        state.stop,
+        &state.threads,
+    )?;
+    Ok(standings)
+}
