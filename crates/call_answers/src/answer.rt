@@ -204,7 +204,11 @@ fn field_answer<'a>(
             Answer::Gives(Given::Reference(reference_in(store.value_at(object, place))))
         }
         JniFunction::SetObjectField => {
-            Answer::Writes(object, place, ObjectValue::Reference(reference_given(actuals, 2)))
+            Answer::Writes(
+                object,
+                place,
+                ObjectValue::Reference(reference_given(actuals, 2)),
+            )
         }
         _ => unreachable!(),
     }
@@ -236,7 +240,11 @@ fn static_answer<'a>(
             Answer::Gives(Given::Reference(reference_in(store.value_at(class, place))))
         }
         JniFunction::SetStaticObjectField => {
-            Answer::Writes(class, place, ObjectValue::Reference(reference_given(actuals, 2)))
+            Answer::Writes(
+                class,
+                place,
+                ObjectValue::Reference(reference_given(actuals, 2)),
+            )
         }
         _ => unreachable!(),
     }

@@ -58,11 +58,7 @@ fn null_test<'a>(op: BinaryOp, a: &'a Expr, b: &Expr) -> Option<(bool, &'a Name)
 }
 
 /// The term of an element, from that of its index.
-fn element_term<'a>(
-    alloc: Global,
-    name: &'a Name,
-    index: Term<'a>,
-) -> Result<Term<'a>, AllocError>
+fn element_term<'a>(alloc: Global, name: &'a Name, index: Term<'a>) -> Result<Term<'a>, AllocError>
     requires { NumbersInRange index }
     ensures view { IfOk result (λ t. term_view t ≡ Element name.entry.now (term_view index.entry)) }
     ensures numbers { IfOk result NumbersInRange }
@@ -72,11 +68,7 @@ fn element_term<'a>(
 }
 
 /// The term of a prefix operator before a term.
-fn prefix_term<'a>(
-    alloc: Global,
-    op: PrefixOp,
-    operand: Term<'a>,
-) -> Result<Term<'a>, AllocError>
+fn prefix_term<'a>(alloc: Global, op: PrefixOp, operand: Term<'a>) -> Result<Term<'a>, AllocError>
     requires { NumbersInRange operand }
     ensures view { IfOk result (λ t. term_view t ≡ Prefix (prefix_tree op) (term_view operand.entry)) }
     ensures numbers { IfOk result NumbersInRange }
