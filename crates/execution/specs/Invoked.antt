@@ -10,6 +10,11 @@ use Rattle.source.specs.World.{World}
 use Rattle.safety.specs.Owners.{Owners}
 use Rattle.lower.specs.Lowered.{Lowered, IsLowered}
 use Rattle.lower.specs.Slots.{visible_to}
+use Rattle.execution.specs.declared.invoke.Invoked.{Invoked}
+use Rattle.execution.specs.declared.invoke.Invoked.TheVariants as invoked
+use Rattle.execution.specs.declared.execute.Event.TheVariants.{Quiet, Trapped}
+use Rattle.execution.specs.declared.execute.Executed.{Executed}
+use Rattle.execution.specs.declared.execute.Executed.TheVariants.{Did, Refused}
 use Rattle.jni_calls.specs.declared.store.Store.{Store}
 use Rattle.jni_calls.specs.declared.activation.Activation.{Activation}
 use Rattle.jni_calls.specs.StoreAgrees.{StoreAgrees}
@@ -29,3 +34,9 @@ pub record AtCall (p : Lowered) (w : World) (store : Store) (pending : Option �
   pub code : Listing
   pub of_function : slice_get p.codes call.function ≡ Some code
   pub at : slice_get code.instrs call.place ≡ Some (instr.Call (call_view function))
+
+-- what the instruction of a call on this line did, by what the call came to
+abbrev pub executed_as : (line : ℕ) → Invoked → Executed
+executed_as line invoked.Done = Did Quiet
+executed_as line invoked.Refused = Refused
+executed_as line (invoked.Trapped trap) = Did (Trapped trap line)

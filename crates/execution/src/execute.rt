@@ -11,10 +11,11 @@ ghost use Rattle.safety.specs.Owners.{Owners};
 ghost use Rattle.lower.specs.Lowered.{IsLowered};
 ghost use Rattle.jni_calls.specs.Asked.{references_of};
 ghost use Rattle.execution.specs.Executes.{IsExecuting, Executes};
+ghost use Rattle.execution.specs.Invoked.{executed_as};
 ghost use Rattle.execution.specs.Moved.{HasMoved, IsReachable, MovesPlainly};
 ghost use Rattle.execution.specs.Variables.{is_null, HasSlot, nulled_references, nulled_fields, nulled_statics};
 
-use crate::invoke::invoke;
+use crate::invoke::{Invoked, invoke};
 use crate::variable::{is_null, set_null};
 use code::instr::{Instr, NullableVariable, Plain};
 use code::plain::plain;
@@ -80,9 +81,25 @@ pub fn execute(
             call.place += 1;
             Ok(Executed::Did(Event::Printed(word.cast_signed())))
         }
-        Instr::Call(boxed) => invoke(world, store, pending, call, boxed.call()),
+        Instr::Call(boxed) => {
+            let function = boxed.call();
+            let invoked = invoke(world, store, pending, call, function)?;
+            Ok(outcome_of(function.line, invoked))
+        }
         Instr::Return | Instr::ReturnJint | Instr::ReturnReference(_) => Ok(Executed::Returned),
         _ => Ok(Executed::Did(run_plain(instr, call))),
+    }
+}
+
+/// What the instruction of a call on this line did, by what the call came to. A step knows its outcome by cases then, where one from memory would have to be read again.
+#[inline(always)]
+fn outcome_of(line: u32, invoked: Invoked) -> Executed
+    ensures { result ≡ executed_as line invoked }
+{
+    match invoked {
+        Invoked::Done => Executed::Did(Event::Quiet),
+        Invoked::Refused => Executed::Refused,
+        Invoked::Trapped(trap) => Executed::Did(Event::Trapped(trap, line)),
     }
 }
 

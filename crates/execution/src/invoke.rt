@@ -8,9 +8,8 @@ ghost use Rattle.source.specs.Thread.{BuffersInUse, Shared, Thread as SourceThre
 ghost use Rattle.safety.specs.Owners.{Owners};
 ghost use Rattle.lower.specs.Lowered.{Lowered};
 ghost use Rattle.execution.specs.Executes.{Executes};
-ghost use Rattle.execution.specs.Invoked.{AtCall};
+ghost use Rattle.execution.specs.Invoked.{AtCall, executed_as};
 
-use crate::execute::{Event, Executed};
 use crate::receive::receive;
 use code::instr::Call;
 use heap::Addr;
@@ -20,8 +19,18 @@ use jni_calls::carry_out::carry_out;
 use jni_calls::check::check;
 use jni_calls::references::References;
 use jni_calls::store::Store;
+use jni_calls::trap::Trap;
 use std::alloc::AllocError;
 use world::World;
+
+/// What a call of a function of the JNI came to.
+#[derive(Clone, Copy)]
+pub enum Invoked {
+    Done,
+    /// Its allocation was refused.
+    Refused,
+    Trapped(Trap),
+}
 
 /// The instruction that calls a function. Only a new frame and a new global reference take host memory.
 #[inline(never)]
@@ -31,12 +40,12 @@ pub fn invoke(
     pending: &mut Option<Addr>,
     call: &mut Activation,
     function: &Call,
-) -> Result<Executed, AllocError>
+) -> Result<Invoked, AllocError>
     requires at_call { (p : Lowered) × (own : Owners) × (shared : Shared) × (s : SourceThread) × (task : Task) × (rest : List Task) × AtCall p world.now store.old pending.old call.old function.now own shared s task rest }
     requires place { call.old.place + 1 < 2 ^ 64 }
     requires prepared { IsPrepared function.now }
     ensures done { IfOk result (λ done. (p : Lowered) (lent : BuffersInUse) (k : ℕ) (own : Owners) (shared : Shared) (s : SourceThread) (task : Task) (rest : List Task) → AtCall p world.now store.old pending.old call.old function.now own shared s task rest
-        → Executes p world.now store.old.heap store.new lent k own shared s rest call.new pending.new (effect_of (sight_of shared s) task) done) }
+        → Executes p world.now store.old.heap store.new lent k own shared s rest call.new pending.new (effect_of (sight_of shared s) task) (executed_as function.now.line done)) }
     ensures store { OnErr result (store.new ≡ store.old) }
     ensures pending { OnErr result (pending.new ≡ pending.old) }
     ensures call { OnErr result (call.new ≡ call.old) }
@@ -57,7 +66,7 @@ pub fn invoke(
         function,
     );
     if let Some(trap) = trap {
-        return Ok(Executed::Did(Event::Trapped(trap, function.line)));
+        return Ok(Invoked::Trapped(trap));
     }
     let answer = work_out(
         world.classes(),
@@ -80,8 +89,8 @@ pub fn invoke(
         &carried.given,
     );
     if carried.refused {
-        Ok(Executed::Refused)
+        Ok(Invoked::Refused)
     } else {
-        Ok(Executed::Did(Event::Quiet))
+        Ok(Invoked::Done)
     }
 }

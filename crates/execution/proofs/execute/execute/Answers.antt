@@ -22,6 +22,7 @@ use Rattle.safety.specs.Owners.{Owners}
 use Rattle.lower.specs.Lowered.{Lowered, IsLowered}
 use Rattle.jni_calls.specs.declared.activation.Activation.{Activation}
 use Rattle.execution.specs.declared.execute.Event.TheVariants.{Printed}
+use Rattle.execution.specs.declared.execute.Executed.{Executed}
 use Rattle.execution.specs.declared.execute.Executed.TheVariants.{Did}
 use Rattle.std.specs.Prelude.{◌<◌, ◌^◌, None, OnSome}
 use Rattle.classes.specs.Class.{Classes}
@@ -131,7 +132,7 @@ pub invoke-requires : goal.invoke-requires
 invoke-requires c =
     let s = c.requires.stands in
     let f = fetched (goal.at.invoke-requires c).After-unwrap-instr in
-    record { at_call = (c.args.program.now, s.0, s.1, s.2, s.3, s.4, at_call c.args.program.now c.args.world.now c.args.store.now c.args.pending.now c.args.call.now c.unwrap-instr.result.now f c.call.result.now (c.in-Call.is ∙ ap (λ (x : Call). instr.Call x) (sym c.call.ensures.view)) s.0 s.1 s.2 s.3 s.4 s.5); place = limit_of c.get.result c.unwrap-instr.result (c.args.call.now.place + 1 < 2 ^ 64) c.get.ensures.limit c.unwrap-instr.ensures; prepared = c.call.ensures.prepared }
+    record { at_call = (c.args.program.now, s.0, s.1, s.2, s.3, s.4, at_call c.args.program.now c.args.world.now c.args.store.now c.args.pending.now c.args.call.now c.unwrap-instr.result.now f c.call-function.result.now (c.in-Call.is ∙ ap (λ (x : Call). instr.Call x) (sym c.call-function.ensures.view)) s.0 s.1 s.2 s.3 s.4 s.5); place = limit_of c.get.result c.unwrap-instr.result (c.args.call.now.place + 1 < 2 ^ 64) c.get.ensures.limit c.unwrap-instr.ensures; prepared = c.call-function.ensures.prepared }
 
 pub returns-in-TestNull-clause-done : goal.returns-in-TestNull-clause-done
 returns-in-TestNull-clause-done c lent k own shared s task rest e =
@@ -154,16 +155,12 @@ returns-in_default-clause-done c lent k own shared s task rest e =
     plain_executes c.args.program.now c.args.world.now c.args.store.now lent k own shared e.store_agrees s c.args.pending.now e.pending_agrees e.viewless c.args.call.now f.code task rest (ready_for _ c.args.world.now.classes c.args.store.now.heap _ _ f (visible_to own shared s) s.frames task rest e.stands) c.unwrap-instr.result.now f.at e.tasks
     c.run_plain.new.call c.run_plain.result m.way m.stack m.numbers m.is m.moved m.way_seen
 
--- what is known of an answer is known of it in other words
-if_ok : {A E : Type 0} (r : Result A E) {P Q : A → Type 0} → ((a : A) → P a → Q a) → IfOk r P → IfOk r Q
-if_ok (Ok a) f h = f a h
-if_ok (Err e) f h = h
-
-pub returns-in-Call-clause-done : goal.returns-in-Call-clause-done
-returns-in-Call-clause-done c =
-    let f = fetched (goal.at.returns-in-Call-clause-done c).After-unwrap-instr in
-    if_ok c.invoke.result (λ done h lent k own shared s task rest e. h c.args.program.now lent k own shared s task rest
-    (at_call c.args.program.now c.args.world.now c.args.store.now c.args.pending.now c.args.call.now c.unwrap-instr.result.now f c.call.result.now (c.in-Call.is ∙ ap (λ (x : Call). instr.Call x) (sym c.call.ensures.view)) own shared s task rest e)) c.invoke.ensures.done
+pub returns-in_ok-invoked-in-Call-clause-done : goal.returns-in_ok-invoked-in-Call-clause-done
+returns-in_ok-invoked-in-Call-clause-done c lent k own shared s task rest e =
+    let f = fetched (goal.at.returns-in_ok-invoked-in-Call-clause-done c).After-unwrap-instr in
+    subst (λ (done : Executed). Executes c.args.program.now c.args.world.now c.args.store.now.heap c.invoke.new.store lent k own shared s rest c.invoke.new.call c.invoke.new.pending (effect_of (sight_of shared s) task) done) (sym c.outcome_of.ensures)
+    (c.in_ok-invoked-in-Call.ensures.done c.args.program.now lent k own shared s task rest
+    (at_call c.args.program.now c.args.world.now c.args.store.now c.args.pending.now c.args.call.now c.unwrap-instr.result.now f c.call-function.result.now (c.in-Call.is ∙ ap (λ (x : Call). instr.Call x) (sym c.call-function.ensures.view)) own shared s task rest e))
 
 pub returns-in-PutJint-clause-done : goal.returns-in-PutJint-clause-done
 returns-in-PutJint-clause-done c lent k own shared s task rest e =
