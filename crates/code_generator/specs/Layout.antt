@@ -4,8 +4,8 @@ use Rattle.base.specs.Bytes.{Identifier, ByName}
 use Rattle.base.specs.Element.{JChar}
 use Rattle.syntax.specs.Tree as tree
 use Rattle.syntax.specs.Tree.{Stmt, Block, End, Next, Parameter, ParameterType, IntParameter, ReferenceParameter, Function, Static}
-use Rattle.types.specs.Sorts.{Sort, Word, Jint, Flag, Ref, Global, FieldId, Buffer, Array}
-use Rattle.types.specs.SortRules.{variable_sort}
+use Rattle.sorts.specs.Sorts.{Sort, Word, Jint, Flag, Ref, Global, FieldId, Buffer, Array}
+use Rattle.sorts.specs.SortRules.{variable_sort}
 use Rattle.code.specs.declared.slots.SlotCounts.{SlotCounts}
 
 -- ---- slots

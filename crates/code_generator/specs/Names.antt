@@ -2,7 +2,7 @@
 use Rattle.std.specs.Prelude.{map}
 use Rattle.base.specs.Bytes.{ByName}
 use Rattle.syntax.specs.Views.{element_tree}
-use Rattle.types.specs.Sorts.{Sort, Word, Jint, Flag, Ref, Global, FieldId, Buffer, Array}
+use Rattle.sorts.specs.Sorts.{Sort, Word, Jint, Flag, Ref, Global, FieldId, Buffer, Array}
 use Rattle.code_generator.specs.declared.names.Sort.{Sort as SortInMemory}
 use Rattle.code_generator.specs.declared.names.Sort.TheVariants as sorts
 use Rattle.code_generator.specs.declared.names.Slot.{Slot as SlotInMemory}

@@ -4,7 +4,7 @@ ghost use Rattle.std.specs.Prelude.{◌≡◌, ◌+◌, ◌-◌, [], ◌++◌, l
 ghost use Rattle.std.specs.Option.{option_map};
 ghost use Rattle.base.specs.Bytes.{lookup};
 ghost use Rattle.syntax.specs.Views.{static_tree, function_tree, parameter_tree, parameter_type_tree};
-ghost use Rattle.types.specs.SortRules.{parameter_sort};
+ghost use Rattle.sorts.specs.SortRules.{parameter_sort};
 ghost use Rattle.code_generator.specs.Layout.{new_slot, with_static, parameter_slots, numbers_of, references_of, slots_after, with_name, entry_layout};
 ghost use Rattle.code_generator.specs.Names.{sort_view, slot_view};
 
@@ -13,7 +13,7 @@ use code::slots::SlotCounts;
 use std::alloc::{AllocError, Global};
 use std::marker::Model;
 use syntax::{ElementType, Function, Name, Parameter, ParameterType, Static};
-use types::Known;
+use sorts::Known;
 
 /// What a name is.
 #[derive(Clone, Copy)]

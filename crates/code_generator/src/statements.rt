@@ -5,7 +5,7 @@ ghost use Rattle.base.specs.Bytes.{lookup};
 ghost use Rattle.syntax.specs.Views.{element_tree, expr_tree, argument_tree, call_tree, right_side_tree, test_tree, variable_type_tree, form_tree, block_tree};
 ghost use Rattle.jni.specs.JniFunction.{function_named};
 ghost use Rattle.jni.specs.Table.{function_value, parameter_value};
-ghost use Rattle.types.specs.SortRules.{variable_sort};
+ghost use Rattle.sorts.specs.SortRules.{variable_sort};
 ghost use Rattle.source.specs.Arguments.{mode_of};
 ghost use Rattle.source.specs.Term.{term_of};
 ghost use Rattle.code_generator.specs.Layout.{closed, layout_after, block_layout, with_name, new_slot};

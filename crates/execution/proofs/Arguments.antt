@@ -6,8 +6,8 @@ use Rattle.std.proofs.lemmas.Bool.{le-leb}
 use Rattle.classes.specs.Class.{Classes}
 use Rattle.classes.specs.Fields.{FieldId}
 use Rattle.class_table.specs.declared.class.FieldHandle.{FieldHandle}
-use Rattle.types.specs.Sorts.{Ref, Global}
-use Rattle.types.specs.Sorts as sort
+use Rattle.sorts.specs.Sorts.{Ref, Global}
+use Rattle.sorts.specs.Sorts as sort
 use Rattle.heap.specs.Heap.{Space}
 use Rattle.source.specs.Object.{Reference}
 use Rattle.source.specs.Arguments.{Actual, ReferenceActual, FieldActual}

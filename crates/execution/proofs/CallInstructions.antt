@@ -32,7 +32,7 @@ use Rattle.lower.specs.Does.{CallsFunction, IsOperand, OperandFits, TakesResult}
 use Rattle.lower.specs.Lowered.{Lowered}
 use Rattle.lower.specs.Fits.{HaveOwnSlots}
 use Rattle.lower.specs.Slots.{Visible, Shows, visible_to}
-use Rattle.types.specs.Sorts.{Ref}
+use Rattle.sorts.specs.Sorts.{Ref}
 use Rattle.jni_calls.specs.declared.answer.Answer.{Answer}
 use Rattle.jni_calls.specs.declared.answer.Answer.TheVariants as answers
 use Rattle.jni_calls.specs.declared.answer.Given.{Given}

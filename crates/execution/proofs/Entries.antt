@@ -15,7 +15,7 @@ use Rattle.classes.specs.Class.{Classes}
 use Rattle.classes.specs.Fields.{FieldId}
 use Rattle.class_table.specs.declared.class.FieldHandle.{FieldHandle}
 use Rattle.heap.specs.Heap.{Space}
-use Rattle.types.specs.Sorts.{Global}
+use Rattle.sorts.specs.Sorts.{Global}
 use Rattle.world.specs.CallArguments.{is_argument}
 use Rattle.world.specs.Views.{object_value_view}
 use Rattle.source.specs.Object.{ObjectValue, Number, Refers, Reference}

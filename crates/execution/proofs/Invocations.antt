@@ -15,8 +15,8 @@ use Rattle.class_table.specs.declared.class.FieldHandle.{FieldHandle as Handle}
 use Rattle.heap.specs.Heap.{Space}
 use Rattle.jni.specs.JniFunction.{JniFunction, prototype}
 use Rattle.jni.specs.Prototype.{ResultKind, NewLocal, NewGlobal, GivesFlag, GivesInt, GivesField}
-use Rattle.types.specs.Sorts.{Sort, Jint}
-use Rattle.types.specs.Sorts as sort
+use Rattle.sorts.specs.Sorts.{Sort, Jint}
+use Rattle.sorts.specs.Sorts as sort
 use Rattle.source.specs.Arguments.{Actual, variable_given}
 use Rattle.source.specs.CallEffects.{CallResult, NoResult, NullResult, ScalarResult, ReferenceResult, FieldResult, BufferResult}
 use Rattle.source.specs.CallStep.{blank, filled, is_zero, put, put_assigned, static_result, received, tell_copy}

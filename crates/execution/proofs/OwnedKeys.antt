@@ -10,7 +10,7 @@ use Rattle.classes.specs.Class.{Classes}
 use Rattle.heap.specs.Heap.{Space}
 use Rattle.jni.specs.JniFunction.{JniFunction, prototype}
 use Rattle.jni.specs.Prototype.{ParameterKind, FieldID, IntNumber, TextBytes, LocalVariable, ArrayVariable, BufferVariable, Mode, IsCopy}
-use Rattle.types.specs.Sorts.{Ref}
+use Rattle.sorts.specs.Sorts.{Ref}
 use Rattle.safety.specs.Owners.{Owners, IsOwn}
 use Rattle.safety.specs.Used.{operand_names, task_names}
 use Rattle.source.specs.Arguments.{Actual, ReferenceActual, actuals, field_argument, look_up, look_up_expression, reference_argument, reference_given, reference_in_actual, variable_given}

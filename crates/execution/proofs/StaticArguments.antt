@@ -4,7 +4,7 @@ use Rattle.std.specs.List.{AllZip}
 use Rattle.base.specs.Bytes.{Identifier}
 use Rattle.classes.specs.Class.{Classes}
 use Rattle.heap.specs.Heap.{Space}
-use Rattle.types.specs.Sorts.{Global}
+use Rattle.sorts.specs.Sorts.{Global}
 use Rattle.source.specs.Arguments.{Actual, ReferenceActual, reference_given, reference_in_actual, variable_given}
 use Rattle.source.specs.Task.{Task}
 use Rattle.source.specs.Thread.{Shared, Thread}

@@ -4,8 +4,8 @@ use Rattle.std.specs.Prelude.{slice_get}
 use Rattle.source.specs.Thread as source
 use Rattle.source.specs.Thread.{Shared}
 use Rattle.base.specs.Bytes.{Identifier, lookup}
-use Rattle.types.specs.Sorts as sort
-use Rattle.types.specs.Sorts.{Sort}
+use Rattle.sorts.specs.Sorts as sort
+use Rattle.sorts.specs.Sorts.{Sort}
 use Rattle.code.specs.Depth.{Listing}
 use Rattle.code_generator.specs.Layout.{Slot, Known}
 use Rattle.source.specs.Sight.{holds_null, held_reference, in_range, elements_of}

@@ -7,12 +7,12 @@ use Rattle.base.specs.Bytes.{Identifier, lookup}
 use Rattle.syntax.specs.Limits.{numbers_in_range, block_height, block_well_formed, IsTree}
 use Rattle.syntax.specs.Parts.{functions_of, statements_of, own_expressions, parameter_names}
 use Rattle.syntax.specs.Tree.{ParameterType, IntParameter, ReferenceParameter, Parameter, Function, Void, Item, StaticItem, FunctionItem, SourceUnit}
-use Rattle.types.specs.Sorts.{Sort, Jint, Ref, Global, Buffer, Scope}
-use Rattle.types.specs.SortRules.{IsSorted, Place, StaticForm, HeadForm, has_name, parameter_sort, places_of, function_places, item_places}
-use Rattle.types.specs.BuiltCalls.{calls_unbuilt, calls_are_built}
+use Rattle.sorts.specs.Sorts.{Sort, Jint, Ref, Global, Buffer, Scope}
+use Rattle.sorts.specs.SortRules.{IsSorted, Place, StaticForm, HeadForm, has_name, parameter_sort, places_of, function_places, item_places}
+use Rattle.sorts.specs.BuiltCalls.{calls_unbuilt, calls_are_built}
 use Rattle.code.specs.declared.instr.Instr.TheVariants as instr
-use Rattle.regions.specs.RegionStates.{RegionState, state_at_entry}
-use Rattle.regions.specs.Regions.{Returned, AcceptedFunction, HasRegions}
+use Rattle.region_rules.specs.RegionStates.{RegionState, state_at_entry}
+use Rattle.region_rules.specs.Regions.{Returned, AcceptedFunction, HasRegions}
 use Rattle.code_generator.specs.Layout.{Slot, Known, with_static, parameter_slot, parameter_slots, numbers_after, references_after, entry_layout}
 use Rattle.code_generator.specs.Coding.{block_code, function_code}
 use Rattle.lower.specs.Fits.{AreStatics, FunctionFits}

@@ -8,11 +8,11 @@ use Rattle.syntax.specs.Limits.{height, highest, numbers_in_range, statement_hei
 use Rattle.syntax.specs.Parts.{statements_of, statements_within, call_of_right_side, own_call, right_side_expressions, own_expressions, names_declared}
 use Rattle.syntax.specs.Tree as tree
 use Rattle.syntax.specs.Tree.{ResultType, RightSide, FromExpr, FromCall, TestExpr, TestCall, Stmt, Block, End, Next}
-use Rattle.types.specs.Sorts.{Truth, Buffer, Array}
-use Rattle.types.specs.SortRules.{variable_sort, with_declared, places_within, places_of}
-use Rattle.regions.specs.RegionStates.{RegionState, state_of}
-use Rattle.regions.specs.RegionRules.{is_free}
-use Rattle.regions.specs.Regions.{where_true, where_false, Way, On, Returned, IsEnd, Keeps, KeepsBlock}
+use Rattle.sorts.specs.Sorts.{Truth, Buffer, Array}
+use Rattle.sorts.specs.SortRules.{variable_sort, with_declared, places_within, places_of}
+use Rattle.region_rules.specs.RegionStates.{RegionState, state_of}
+use Rattle.region_rules.specs.RegionRules.{is_free}
+use Rattle.region_rules.specs.Regions.{where_true, where_false, Way, On, Returned, IsEnd, Keeps, KeepsBlock}
 use Rattle.code_generator.specs.Layout.{Slot, Known, Layout, new_slot, closed, layout_after, block_layout}
 use Rattle.lower.specs.Fits.{StmtFits, BlockFits}
 use Rattle.lower.proofs.SlotLaws.{first_or_after}

@@ -7,7 +7,7 @@ use Rattle.std.proofs.lemmas.List.{length-replicate}
 use Rattle.std.proofs.lemmas.Option.{slice_get_within}
 use Rattle.base.specs.Bytes.{Identifier, lookup}
 use Rattle.syntax.specs.Tree.{Parameter, ParameterType, IntParameter, ReferenceParameter, Function}
-use Rattle.types.specs.Sorts.{Sort, Jint, Ref, Global}
+use Rattle.sorts.specs.Sorts.{Sort, Jint, Ref, Global}
 use Rattle.source.specs.Object.{ObjectValue, Number, Refers, Reference}
 use Rattle.source.specs.World.{Invocation}
 use Rattle.source.specs.Activation.{entered, parameter_variables}

@@ -2,7 +2,7 @@
 use Rattle.std.proofs.Common.{◌≡◌, ◌≢◌, ℕ, ◌<◌, ◌≤◌, ◌⊎◌, inl, inr, List, [], ◌∷◌, length, Some, None, refl, sym, ap, ◌∙◌, subst, arith}
 use Rattle.base.specs.Bytes.{Identifier, lookup}
 use Rattle.syntax.specs.Tree.{ParameterType, IntParameter, ReferenceParameter, Parameter, Function, Static}
-use Rattle.types.specs.Sorts.{Sort, Jint, Ref, Global, FieldId}
+use Rattle.sorts.specs.Sorts.{Sort, Jint, Ref, Global, FieldId}
 use Rattle.code.specs.declared.slots.SlotCounts.{SlotCounts}
 use Rattle.code_generator.specs.Layout.{Slot, Known, with_static, parameter_slot, parameter_slots, numbers_after, references_after, numbers_of, references_of, entry_names, entry_layout}
 use Rattle.lower.specs.Fits.{IndexWithin, AreApart, IsOwn, IsLaidOut, AreStatics}

@@ -10,9 +10,9 @@ use Rattle.syntax.specs.Tree.{ResultType, Void, IntResult, ReferenceResult, Logi
 use Rattle.base.specs.Element.{JChar}
 use Rattle.jni.specs.JniFunction.{function_named, prototype}
 use Rattle.jni.specs.Prototype.{ParameterKind, IntNumber}
-use Rattle.types.specs.Sorts.{Sort, Jint, Ref, Global, FieldId, Buffer, constant_sort, sort_in, sort_of, is_ref, is_null, name_sort}
-use Rattle.types.specs.Sorts as sort
-use Rattle.types.specs.SortRules.{variable_sort, return_fits, places_within, places_of}
+use Rattle.sorts.specs.Sorts.{Sort, Jint, Ref, Global, FieldId, Buffer, constant_sort, sort_in, sort_of, is_ref, is_null, name_sort}
+use Rattle.sorts.specs.Sorts as sort
+use Rattle.sorts.specs.SortRules.{variable_sort, return_fits, places_within, places_of}
 use Rattle.code.specs.declared.instr.Target.{Target}
 use Rattle.code.specs.declared.instr.Target.TheVariants as destination
 use Rattle.code.specs.declared.instr.Instr.{Instr}

@@ -9,8 +9,8 @@ use Rattle.base.specs.Element.{JChar}
 use Rattle.syntax.specs.Parts.{statements_of, statements_within, declared_name, names_declared}
 use Rattle.syntax.specs.Tree as tree
 use Rattle.syntax.specs.Tree.{ResultType, Stmt, Block, End, Next}
-use Rattle.types.specs.Sorts.{Scope, Buffer, Array}
-use Rattle.types.specs.SortRules.{variable_sort, has_name, places_within, places_of, with_declared}
+use Rattle.sorts.specs.Sorts.{Scope, Buffer, Array}
+use Rattle.sorts.specs.SortRules.{variable_sort, has_name, places_within, places_of, with_declared}
 use Rattle.code_generator.specs.Layout.{Slot, Known, Layout, new_slot, layout_after}
 use Rattle.lower.proofs.PlaceFacts.{or_left, or_right, AreKept, own_kept, block_kept, ways_kept, inside_kept}
 

@@ -3,8 +3,8 @@ use Rattle.std.proofs.Common.{◌≡◌, Bool, true, false, ◌&&◌, ◌||◌, 
 use Rattle.std.specs.Prelude.{IsTrue}
 use Rattle.syntax.specs.Tree as tree
 use Rattle.syntax.specs.Tree.{Stmt, Block, End, Next, Function}
-use Rattle.regions.specs.RegionStates.{RegionState, state_at_entry}
-use Rattle.regions.specs.Regions.{On, Returned, Keeps, KeepsBlock, AcceptedFunction}
+use Rattle.region_rules.specs.RegionStates.{RegionState, state_at_entry}
+use Rattle.region_rules.specs.Regions.{On, Returned, Keeps, KeepsBlock, AcceptedFunction}
 use Rattle.lower.specs.Stands.{stmt_returns, block_returns}
 
 both_true : (a b : Bool) → a ≡ true → b ≡ true → (a && b) ≡ true

@@ -7,8 +7,8 @@ use Rattle.std.proofs.Math.Facts.{to_z-of_z}
 use Rattle.std.proofs.lemmas.List.{append-nil}
 use Rattle.std.proofs.lemmas.Bool.{lt-ltb, le-leb}
 use Rattle.base.specs.Bytes.{Identifier}
-use Rattle.types.specs.Sorts.{Sort, Jint, Ref, Global, FieldId, Buffer, Array}
-use Rattle.types.specs.Sorts as sort
+use Rattle.sorts.specs.Sorts.{Sort, Jint, Ref, Global, FieldId, Buffer, Array}
+use Rattle.sorts.specs.Sorts as sort
 use Rattle.code.specs.declared.instr.NullableVariable.{NullableVariable}
 use Rattle.code.specs.declared.instr.NullableVariable.TheVariants as nullable
 use Rattle.code.specs.declared.instr.Instr.{Instr}

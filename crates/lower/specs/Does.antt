@@ -9,7 +9,7 @@ use Rattle.syntax.specs.Tree.{Block}
 use Rattle.jni.specs.Access.{Access}
 use Rattle.jni.specs.JniFunction.{JniFunction, is_built_function, prototype}
 use Rattle.jni.specs.Prototype.{ParameterKind, FieldID, IntNumber, TextBytes, ArrayVariable, BufferVariable, Mode, IsCopy, ResultKind, NewLocal, NewGlobal, GivesInt, GivesField}
-use Rattle.types.specs.Sorts.{Sort, Flag, Ref, Global, FieldId, Buffer}
+use Rattle.sorts.specs.Sorts.{Sort, Flag, Ref, Global, FieldId, Buffer}
 use Rattle.classes.specs.Fields as source
 use Rattle.source.specs.Object.{Reference}
 use Rattle.source.specs.Arguments.{Actual, ReferenceActual, FieldActual, NumberActual, TextActual, VariableActual, ModeActual, NothingActual, ReleaseMode}

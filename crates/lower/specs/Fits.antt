@@ -8,8 +8,8 @@ use Rattle.syntax.specs.Tree.{LogicalNot, Complement, ToWord, ToInt, Expr, Argum
 use Rattle.jni.specs.Access.{Access}
 use Rattle.jni.specs.JniFunction.{JniFunction, is_built_function, function_named, prototype}
 use Rattle.jni.specs.Prototype.{ParameterKind, Nullable, NonNull, ClassObject, AnyArray, ObjectArray, StringObject, NumberArray, LocalVariable, StaticVariable, FieldID, IntNumber, TextBytes, ArrayVariable, BufferVariable, Mode, IsCopy, ResultKind, NewLocal, NewGlobal, GivesFlag, GivesInt, GivesField}
-use Rattle.types.specs.Sorts.{Sort, Word, Jint, Flag, Truth, Ref, Global, FieldId, Buffer, Array, OperatorGroup, Logic, Equality, Order, OnWords, group, is_buffer_for}
-use Rattle.types.specs.SortRules.{variable_sort, is_mode}
+use Rattle.sorts.specs.Sorts.{Sort, Word, Jint, Flag, Truth, Ref, Global, FieldId, Buffer, Array, OperatorGroup, Logic, Equality, Order, OnWords, group, is_buffer_for}
+use Rattle.sorts.specs.SortRules.{variable_sort, is_mode}
 use Rattle.code.specs.declared.slots.SlotCounts.{SlotCounts}
 use Rattle.source.specs.Term as term
 use Rattle.source.specs.Term.{Term, Done, Read, And, Or, IsNull, Prefix, Binary, term_of}

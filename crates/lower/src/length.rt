@@ -13,7 +13,7 @@ ghost use Rattle.lower.specs.Length.{step_limit, expr_steps, argument_steps, cal
 
 use crate::lowering::MOST_STEPS;
 use jni::{ParameterKind, function_named};
-use regions::Checked;
+use region_rules::Checked;
 use syntax::{
     Argument, BinaryOp, Block, Call, Constant, Expr, Form, Function, Item, ResultType, RightSide,
     Test,

@@ -16,7 +16,7 @@ use code::code::Code;
 use code::instr::Instr;
 use code::slots::SlotCounts;
 use code_generator::{Names, emit, emit_block};
-use regions::Checked;
+use region_rules::Checked;
 use std::alloc::{AllocError, Global};
 use syntax::{Function, Item};
 

@@ -1,7 +1,7 @@
 //! Lowered programs.
 
 use code::code::Code;
-use regions::Checked;
+use region_rules::Checked;
 use std::marker::Model;
 use syntax::Item;
 
@@ -31,8 +31,8 @@ impl<'a> Program<'a> {
     ghost use Rattle.std.specs.Option.{option_copied};
     ghost use Rattle.syntax.specs.Limits.{IsTree};
     ghost use Rattle.syntax.specs.Views.{unit_tree};
-    ghost use Rattle.types.specs.SortRules.{IsSorted};
-    ghost use Rattle.regions.specs.Regions.{HasRegions};
+    ghost use Rattle.sorts.specs.SortRules.{IsSorted};
+    ghost use Rattle.region_rules.specs.Regions.{HasRegions};
     ghost use Rattle.lower.specs.Lowered.{IsLowered};
 
     pub(crate) fn of(checked: &'a Checked, codes: Vec<Code>) -> Self

@@ -4,9 +4,9 @@ use Rattle.syntax.specs.Tree.{SourceUnit}
 use Rattle.lexemes.specs.declared.fault.ParseFault.{ParseFault}
 use Rattle.lexemes.specs.declared.fault.ParseFault.TheVariants as parsing
 use Rattle.lexemes.specs.Results.{Fails}
-use Rattle.types.specs.BuiltCalls.{calls_are_built}
-use Rattle.types.specs.SortRules.{IsSorted}
-use Rattle.regions.specs.Regions.{HasRegions}
+use Rattle.sorts.specs.BuiltCalls.{calls_are_built}
+use Rattle.sorts.specs.SortRules.{IsSorted}
+use Rattle.region_rules.specs.Regions.{HasRegions}
 use Rattle.pipeline.specs.declared.fault.RunError.TheVariants.{Memory}
 use Rattle.pipeline.specs.Errors.{of_parse}
 use Rattle.pipeline.specs.Programs.{IsProgram}

@@ -15,11 +15,11 @@ use Rattle.parse.specs.Spelling.{SpellsUnit}
 use Rattle.types.specs.declared.fault.TypeFault.{TypeFault}
 use Rattle.types.specs.declared.fault.TypeFault.TheVariants as sorting
 use Rattle.types.specs.Faults.{IfBroken, fault_of, rule_of}
-use Rattle.types.specs.BuiltCalls.{calls_are_built, first_refused}
-use Rattle.types.specs.SortRules.{IsSorted}
+use Rattle.sorts.specs.BuiltCalls.{calls_are_built, first_refused}
+use Rattle.sorts.specs.SortRules.{IsSorted}
 use Rattle.regions.specs.declared.fault.CheckFault.{CheckFault}
 use Rattle.regions.specs.declared.fault.CheckFault.TheVariants as region_checking
-use Rattle.regions.specs.FirstFaults.{IsFirstRegionFault}
+use Rattle.region_rules.specs.FirstFaults.{IsFirstRegionFault}
 use Rattle.regions.specs.Findings as findings
 use Rattle.pipeline.specs.Errors.{of_scan, of_parse, of_types, of_regions}
 use Rattle.pipeline.specs.Passes.{IsRefusal}

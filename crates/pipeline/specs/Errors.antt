@@ -8,11 +8,11 @@ use Rattle.lexemes.specs.Faults as parse_faults
 use Rattle.types.specs.declared.fault.TypeFault.{TypeFault}
 use Rattle.types.specs.declared.fault.TypeFault.TheVariants as sorting
 use Rattle.types.specs.Faults as type_faults
-use Rattle.types.specs.SortRules.{sort_rule_number}
+use Rattle.sorts.specs.SortRules.{sort_rule_number}
 use Rattle.regions.specs.declared.fault.CheckFault.{CheckFault}
 use Rattle.regions.specs.declared.fault.CheckFault.TheVariants as region_checking
 use Rattle.regions.specs.Findings as region_faults
-use Rattle.regions.specs.RegionRules.{region_rule_number}
+use Rattle.region_rules.specs.RegionRules.{region_rule_number}
 use Rattle.lower.specs.declared.fault.LowerFault.{LowerFault}
 use Rattle.lower.specs.declared.fault.LowerFault.TheVariants as lowering
 use Rattle.texts.specs.declared.fault.ReadError.{ReadError}

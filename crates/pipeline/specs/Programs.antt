@@ -13,11 +13,11 @@ use Rattle.lexemes.specs.Faults as parse_faults
 use Rattle.lexemes.specs.Lexemes.{lexemes}
 use Rattle.parse.specs.Reading.{unit_at}
 use Rattle.parse.specs.Spelling.{SpellsUnit}
-use Rattle.types.specs.BuiltCalls.{calls_are_built, first_refused}
-use Rattle.types.specs.SortRules.{SortRule, sort_rule_number, IsSorted}
-use Rattle.regions.specs.RegionRules.{RegionRule, region_rule_number}
-use Rattle.regions.specs.Regions.{HasRegions}
-use Rattle.regions.specs.FirstFaults.{IsFirstRegionFault}
+use Rattle.sorts.specs.BuiltCalls.{calls_are_built, first_refused}
+use Rattle.sorts.specs.SortRules.{SortRule, sort_rule_number, IsSorted}
+use Rattle.region_rules.specs.RegionRules.{RegionRule, region_rule_number}
+use Rattle.region_rules.specs.Regions.{HasRegions}
+use Rattle.region_rules.specs.FirstFaults.{IsFirstRegionFault}
 
 -- the unit is the tree that the text spells, it keeps the rules of sorts and regions, and it calls functions that are built
 pub record IsProgram (text : List ℕ) (unit : SourceUnit) : Type 0 where

@@ -16,7 +16,7 @@ use crate::program::program;
 use crate::run::{of_reading, thread_count};
 use commands::{Place, Text};
 use parse::one_unit;
-use regions::Checked;
+use region_rules::Checked;
 use replay::{ReplayFault, TrapAt, replay};
 use std::alloc::Global;
 use world::{Sink, World, read_journal};

@@ -20,7 +20,7 @@ use crate::program::program;
 use commands::{Place, Text};
 use lower::{LowerFault, Program, lower};
 use machine::{LoadFault, Machine, ReportFault, RunFault, Stop};
-use regions::Checked;
+use region_rules::Checked;
 use replay::TrapAt;
 use std::alloc::Global;
 use world::{ReadError, Schedule, Sink, World, read_schedule};

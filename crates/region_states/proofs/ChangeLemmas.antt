@@ -8,8 +8,8 @@ use Rattle.region_states.specs.declared.states.VariableState.{VariableState as V
 use Rattle.syntax.specs.Tree.{Null, BinaryOp, Equal, NotEqual, Named, Variable, Binary, Expr, TestExpr}
 use Rattle.region_states.specs.Changes.{tested_by, null_test_of, taught_true, taught_false}
 use Rattle.region_states.specs.StatesInMemory.{variable_state}
-use Rattle.region_states.specs.RegionStates.{RegionState, VariableState}
-use Rattle.region_states.specs.Regions.{where_true, where_false}
+use Rattle.region_rules.specs.RegionStates.{RegionState, VariableState}
+use Rattle.region_rules.specs.Regions.{where_true, where_false}
 
 pub true_is : (state : RegionState) (e : Expr) → where_true state (TestExpr e) ≡ taught_true state (null_test_of e)
 true_is state (Binary Equal (Variable x) (Named Null)) = refl

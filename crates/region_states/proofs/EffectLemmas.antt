@@ -10,8 +10,8 @@ use Rattle.jni.specs.Access.{Access}
 use Rattle.jni.specs.JniFunction.{JniFunction, GetBuffer, ReleaseBuffer, DeleteLocalRef, PopLocalFrame, function_named}
 use Rattle.jni.specs.StateEffect.{Releases}
 use Rattle.region_states.specs.StateEffects.{call_state_effect, got, released, deleted, popped, is_forbidden}
-use Rattle.region_states.specs.RegionRules.{is_critical_call}
-use Rattle.region_states.specs.RegionStates.{FunctionCall, call_of, get_of, release_of, deleted_name, pops, has_commit}
+use Rattle.region_rules.specs.RegionRules.{is_critical_call}
+use Rattle.region_rules.specs.RegionStates.{FunctionCall, call_of, get_of, release_of, deleted_name, pops, has_commit}
 
 -- ---- a call by its effect
 

@@ -9,8 +9,8 @@ use Rattle.std.proofs.lemmas.List.Folds.{list_any-append}
 use Rattle.std.proofs.lemmas.Map.Keys.{IsDistinct-head, IsDistinct-tail}
 use lib.Pointwise.{bytes_decides}
 use Rattle.base.specs.Bytes.{Identifier}
-use Rattle.region_states.specs.RegionStates.{RegionState, VariableState}
-use Rattle.region_states.specs.Regions.{has_variable}
+use Rattle.region_rules.specs.RegionStates.{RegionState, VariableState}
+use Rattle.region_rules.specs.Regions.{has_variable}
 use Rattle.region_states.specs.StatesInMemory.{names_of}
 use Rattle.region_states.proofs.ScopeLemmas.{any_reverse, any_map}
 

@@ -5,8 +5,8 @@ use Rattle.std.proofs.lemmas.List.{reverse-append}
 use Rattle.base.specs.Bytes.{Identifier}
 use Rattle.syntax.specs.Tree.{Test, TestExpr, TestCall, ReferenceVariable, Stmt, Declare, DeclareBuffer, DeclareChars, Assign}
 use Rattle.region_states.specs.Changes.{Tested, IsNull, IsNotNull, taught_true, taught_false, null_test_of}
-use Rattle.region_states.specs.RegionStates.{RegionState, VariableState, ReferenceAt, BufferIn, buffer_set_to, FunctionCall, Release, with_each, with_changed, with_some_changed, with_new, with_set, after_pop, after_release, after_call, release_of, deleted_name, pops, killed, killed_from, made_free, function_called, state_after}
-use Rattle.region_states.specs.Regions.{where_true, where_false}
+use Rattle.region_rules.specs.RegionStates.{RegionState, VariableState, ReferenceAt, BufferIn, buffer_set_to, FunctionCall, Release, with_each, with_changed, with_some_changed, with_new, with_set, after_pop, after_release, after_call, release_of, deleted_name, pops, killed, killed_from, made_free, function_called, state_after}
+use Rattle.region_rules.specs.Regions.{where_true, where_false}
 use Rattle.region_states.specs.SameStates.{NamedState}
 use Rattle.region_states.specs.StatesInMemory.{names_of}
 use Rattle.region_states.specs.NewNames.{own_names}

@@ -5,9 +5,9 @@ use Rattle.std.specs.Str.{bytes_eq}
 use Rattle.base.specs.Bytes.{Identifier, lookup}
 use Rattle.syntax.specs.Parts.{names_in, elements_in}
 use Rattle.syntax.specs.Tree.{Expr, Argument, Value, Text, AddressOf, RightSide, FromExpr, FromCall, Test, TestExpr, TestCall, Stmt, Declare, DeclareBuffer, DeclareChars, DeclareArray, Assign, AssignElement, Perform, PutJint, If, IfElse, While, Return, ReturnValue}
-use Rattle.types.specs.Uses.{expr_uses, argument_uses, right_uses, test_uses, uses}
+use Rattle.sorts.specs.Uses.{expr_uses, argument_uses, right_uses, test_uses, uses}
 use Rattle.region_states.specs.Reads.{expr_reads, argument_reads, right_reads, test_reads, reads}
-use Rattle.region_states.specs.RegionStates.{RegionState, VariableState}
+use Rattle.region_rules.specs.RegionStates.{RegionState, VariableState}
 use Rattle.region_states.specs.StatesInMemory.{asks, any_asked, condition_holds}
 use Rattle.region_states.specs.SameStates.{NamedState}
 use Rattle.region_states.specs.declared.states.Condition.{Condition}

@@ -9,7 +9,7 @@ use lib.Dec.{eqb→eq, eqb_refl, T}
 use Rattle.base.specs.Bytes.{Identifier}
 use Rattle.base.specs.Element.{ElementType, JInt, JShort, JByte, JChar, same_element}
 use Rattle.jni.specs.Access.{Access, ElementsCopy, ArrayView, CharsCopy, CharsView, same_access}
-use Rattle.region_states.specs.RegionStates.{BufferState, Free, Untested, Usable, VariableState, ReferenceAt, BufferIn, RegionState}
+use Rattle.region_rules.specs.RegionStates.{BufferState, Free, Untested, Usable, VariableState, ReferenceAt, BufferIn, RegionState}
 use Rattle.region_states.specs.SameStates.{same_flag, same_buffer, same_variable, NamedState, same_named, same_state}
 
 both : (s t : Bool) → (s && t) ≡ true → (s ≡ true) × (t ≡ true)

@@ -16,9 +16,9 @@ use Rattle.std.specs.Option.{option_and_then}
 use Rattle.base.specs.Bytes.{Identifier}
 use Rattle.base.specs.Options.{some_passes}
 use Rattle.jni.specs.Access.{Access}
-use Rattle.region_states.specs.RegionStates.{VariableState, RegionState, buffer_of, held_by, held_buffers}
-use Rattle.region_states.specs.RegionRules.{is_held}
-use Rattle.region_states.specs.Regions.{has_variable, holds_own}
+use Rattle.region_rules.specs.RegionStates.{VariableState, RegionState, buffer_of, held_by, held_buffers}
+use Rattle.region_rules.specs.RegionRules.{is_held}
+use Rattle.region_rules.specs.Regions.{has_variable, holds_own}
 use Rattle.region_states.specs.SameStates.{NamedState}
 use Rattle.region_states.specs.StatesInMemory.{held_in, any_holder, variable_state, variables_value, state_value, names_of}
 use Rattle.region_states.specs.StatesInMemory.{holds_other}

@@ -5,14 +5,14 @@ use Rattle.std.specs.Borrow.{Bor}
 use Rattle.base.specs.Bytes.{Identifier}
 use Rattle.syntax.specs.Tree.{BinaryOp, Equal, NotEqual, Variable, Binary, Expr}
 use Rattle.jni.specs.Access.{Access}
-use Rattle.types.specs.Sorts.{is_null}
+use Rattle.sorts.specs.Sorts.{is_null}
 use Rattle.jni.specs.declared.access.Access.{Access as AccessInMemory}
 use Rattle.region_states.specs.declared.changes.Change.{Change}
 use Rattle.region_states.specs.declared.changes.Change.TheVariants as change
 use Rattle.region_states.specs.declared.changes.NullTest.{NullTest}
 use Rattle.region_states.specs.declared.changes.NullTest.TheVariants as tested
-use Rattle.region_states.specs.RegionStates.{VariableState, RegionState, with_changed, made_free, killed}
-use Rattle.region_states.specs.Regions.{made_usable}
+use Rattle.region_rules.specs.RegionStates.{VariableState, RegionState, with_changed, made_free, killed}
+use Rattle.region_rules.specs.Regions.{made_usable}
 use Rattle.jni.specs.Table.{access_value}
 
 -- a Get in memory

@@ -8,10 +8,10 @@ use Rattle.syntax.specs.Tree.{ReferenceVariable, Declare, DeclareBuffer, Declare
 use Rattle.jni.specs.Access.{Access, is_critical}
 use Rattle.region_states.specs.declared.states.Condition.TheVariants as condition
 use Rattle.region_states.specs.StateEffects.{EffectCall, got, released, deleted, popped, is_forbidden}
-use Rattle.region_states.specs.RegionRules.{RegionRule, CallWhileCritical, ReturnWithBuffer, HeldBuffer, UntestedBuffer, WrongBuffer, ReturnInFrame, PopLastFrame, DeadReference, ArrayInUse, WrongLevel, own_rules, is_return, is_put_jint, is_reference_now, is_mismatched, is_level, holds_buffer}
-use Rattle.region_states.specs.RegionStates.{RegionState, VariableState, ReferenceAt, BufferIn, Release, state_of, with_new, with_changed, with_some_changed, after_pop, after_release, killed, buffer_from}
+use Rattle.region_rules.specs.RegionRules.{RegionRule, CallWhileCritical, ReturnWithBuffer, HeldBuffer, UntestedBuffer, WrongBuffer, ReturnInFrame, PopLastFrame, DeadReference, ArrayInUse, WrongLevel, own_rules, is_return, is_put_jint, is_reference_now, is_mismatched, is_level, holds_buffer}
+use Rattle.region_rules.specs.RegionStates.{RegionState, VariableState, ReferenceAt, BufferIn, Release, state_of, with_new, with_changed, with_some_changed, after_pop, after_release, killed, buffer_from}
 use Rattle.region_states.specs.StatesInMemory.{asks, any_holder, holds_critical, holds_of}
-use Rattle.types.specs.Uses.{uses}
+use Rattle.sorts.specs.Uses.{uses}
 use Rattle.region_states.specs.Reads.{reads}
 
 -- a release of a held buffer that is not the one it wants, or that commits a view

@@ -1,10 +1,3 @@
--- Trusted: the rules on ways. A reader holds these against the JNI Specification.
-
--- the region rules: what is known on a way through a function, which units are accepted, and which fault is the first
-pub mod RegionStates
-pub mod RegionRules
-pub mod Regions
-pub mod FirstFaults
 -- Private to the check: how it computes what the rules say. Nothing here is trusted.
 
 -- when two states are the same

@@ -3,7 +3,7 @@ use Rattle.std.specs.Prelude.{◌≡◌, false, List, [], ◌∷◌, ◌++◌, m
 use Rattle.std.specs.List.{AllByRecursion, IsDistinct, list_any}
 use Rattle.base.specs.Bytes.{Identifier}
 use Rattle.syntax.specs.Tree.{ReferenceVariable, Stmt, Declare, DeclareBuffer, DeclareChars, If, IfElse, While, Block, End, Next, Function, Item, StaticItem, FunctionItem}
-use Rattle.region_states.specs.RegionStates.{state_at_entry}
+use Rattle.region_rules.specs.RegionStates.{state_at_entry}
 use Rattle.region_states.specs.StatesInMemory.{names_of}
 
 -- the name of the reference or buffer that a statement declares

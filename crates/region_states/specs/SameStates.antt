@@ -3,7 +3,7 @@ use Rattle.std.specs.Prelude.{Bool, true, false, ◌&&◌, ◌==◌, bytes_eq}
 use lib.Pointwise.{pointwise}
 use Rattle.base.specs.Bytes.{Identifier}
 use Rattle.jni.specs.Access.{same_access}
-use Rattle.region_states.specs.RegionStates.{BufferState, Free, Untested, Usable, VariableState, ReferenceAt, BufferIn, RegionState}
+use Rattle.region_rules.specs.RegionStates.{BufferState, Free, Untested, Usable, VariableState, ReferenceAt, BufferIn, RegionState}
 
 -- both true or both false
 abbrev pub same_flag : Bool → Bool → Bool

@@ -8,7 +8,7 @@ use Rattle.syntax.specs.Views.{argument_tree}
 use Rattle.jni.specs.Access.{Access, is_critical}
 use Rattle.region_states.specs.declared.calls.MadeCall.{MadeCall}
 use Rattle.region_states.specs.declared.calls.Release.{Release as ReleaseInMemory}
-use Rattle.region_states.specs.RegionStates.{FunctionCall, Release, argument_name, first_name, has_commit}
+use Rattle.region_rules.specs.RegionStates.{FunctionCall, Release, argument_name, first_name, has_commit}
 use Rattle.jni.specs.StateEffect.{StateEffect, Gets, Releases, Deletes, Pops, state_effect}
 use Rattle.jni.specs.Table.{access_value, effect_value}
 

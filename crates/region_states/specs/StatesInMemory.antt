@@ -11,9 +11,9 @@ use Rattle.region_states.specs.declared.states.VariableState.TheVariants as know
 use Rattle.region_states.specs.declared.states.Facts.{Facts}
 use Rattle.region_states.specs.declared.states.Condition.{Condition}
 use Rattle.region_states.specs.declared.states.Condition.TheVariants as condition
-use Rattle.region_states.specs.RegionStates.{VariableState, ReferenceAt, BufferIn, Free, Untested, Usable, RegionState, state_of, buffer_of, held_by}
-use Rattle.region_states.specs.Regions.{has_variable}
-use Rattle.region_states.specs.RegionRules.{is_dead, is_reference_now, is_untested, is_free, is_held}
+use Rattle.region_rules.specs.RegionStates.{VariableState, ReferenceAt, BufferIn, Free, Untested, Usable, RegionState, state_of, buffer_of, held_by}
+use Rattle.region_rules.specs.Regions.{has_variable}
+use Rattle.region_rules.specs.RegionRules.{is_dead, is_reference_now, is_untested, is_free, is_held}
 
 -- what is known of a variable
 abbrev pub variable_state : VariableStateInMemory → VariableState

@@ -3,14 +3,14 @@
 ghost use Rattle.std.specs.Prelude.{◌≡◌, ℕ, [], ◌∷◌, map, Some};
 ghost use Rattle.std.specs.Option.{option_map};
 ghost use Rattle.syntax.specs.Views.{argument_tree, form_tree};
-ghost use Rattle.region_states.specs.RegionStates.{argument_name, first_name, has_commit, function_called};
+ghost use Rattle.region_rules.specs.RegionStates.{argument_name, first_name, has_commit, function_called};
 ghost use Rattle.jni.specs.StateEffect.{Releases};
 ghost use Rattle.jni.specs.Table.{access_value, function_value};
 ghost use Rattle.region_states.specs.StateEffects.{call_state_effect, made_value, release_value, got, released, deleted, popped, is_forbidden};
 
 use jni::{Access, JniFunction, StateEffect, function_named};
 use syntax::{Argument, Constant, Expr, Form};
-use types::own_call;
+use sorts::own_call;
 
 /// A call: what it does, and its arguments.
 #[derive(Clone, Copy)]

@@ -3,9 +3,9 @@
 ghost use Rattle.std.specs.Prelude.{◌≡◌, ℕ, true, map, OnOk};
 ghost use Rattle.std.specs.Option.{option_map};
 ghost use Rattle.syntax.specs.Views.{expr_tree, binary_tree, test_tree, form_tree};
-ghost use Rattle.types.specs.Sorts.{is_null};
-ghost use Rattle.region_states.specs.Regions.{made_usable, where_true, where_false};
-ghost use Rattle.region_states.specs.RegionStates.{BufferIn, with_changed, with_some_changed, after_pop, after_release, made_free, killed, killed_from, buffer_from, state_after};
+ghost use Rattle.sorts.specs.Sorts.{is_null};
+ghost use Rattle.region_rules.specs.Regions.{made_usable, where_true, where_false};
+ghost use Rattle.region_rules.specs.RegionStates.{BufferIn, with_changed, with_some_changed, after_pop, after_release, made_free, killed, killed_from, buffer_from, state_after};
 ghost use Rattle.region_states.specs.StatesInMemory.{variable_state, names_of};
 ghost use Rattle.region_states.specs.NewNames.{own_names, AreNew};
 ghost use Rattle.region_states.specs.StateEffects.{made_value, release_value};

@@ -6,9 +6,9 @@ ghost use Rattle.std.specs.Option.{option_map};
 ghost use Rattle.base.specs.Options.{some_passes};
 ghost use Rattle.jni.specs.Access.{is_critical};
 ghost use Rattle.jni.specs.Table.{access_value};
-ghost use Rattle.region_states.specs.RegionStates.{RegionState, state_of, with_new};
-ghost use Rattle.region_states.specs.Regions.{left};
-ghost use Rattle.region_states.specs.RegionRules.{holds_buffer, is_level};
+ghost use Rattle.region_rules.specs.RegionStates.{RegionState, state_of, with_new};
+ghost use Rattle.region_rules.specs.Regions.{left};
+ghost use Rattle.region_rules.specs.RegionRules.{holds_buffer, is_level};
 ghost use lib.Pointwise.{pointwise};
 ghost use Rattle.region_states.specs.SameStates.{same_variable, same_state};
 ghost use Rattle.region_states.specs.StatesInMemory.{any_asked, holds_other, variable_state, names_of, Grows, IsSaved, HasCounts, condition_holds, asks, held_in, is_holder, holds_critical, holds_of};
@@ -50,7 +50,7 @@ pub struct StaticState<'a> {
 impl<'a> Model for StaticState<'a> {
     ghost use Rattle.std.specs.Prelude.{◌≡◌, bytes_eq, length};
     ghost use Rattle.std.specs.List.{IsDistinct};
-    ghost use Rattle.region_states.specs.RegionStates.{RegionState};
+    ghost use Rattle.region_rules.specs.RegionStates.{RegionState};
 
     ghost Value = { RegionState };
 

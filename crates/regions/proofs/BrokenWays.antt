@@ -3,10 +3,11 @@ use Rattle.std.proofs.Common.{◌≡◌, ℕ, zero, suc, slice_get, Bool, true, 
 use Rattle.std.specs.List.{list_all}
 use Rattle.syntax.specs.Parts.{line_of}
 use Rattle.syntax.specs.Tree.{Stmt, Declare, DeclareBuffer, DeclareChars, DeclareArray, Assign, AssignElement, Perform, PutJint, If, IfElse, While, Return, ReturnValue, Block, End, Next, Function}
-use Rattle.region_states.specs.FirstFaults.{first_broken}
-use Rattle.region_states.specs.RegionRules.{RegionRule, CallWhileCritical, ReturnWithBuffer, HeldBuffer, UntestedBuffer, WrongBuffer, ReturnInFrame, PopLastFrame, DeadReference, ArrayInUse, WaysDiffer, WrongLevel, NoReturn, breaks_region_rule, own_rules, Obeys}
-use Rattle.region_states.specs.RegionStates.{RegionState, state_at_entry}
-use Rattle.region_states.specs.Regions.{Way, On, Returned, Join, ComesBack, IsEnd, Keeps, KeepsBlock, holds_own, left, where_true, where_false, Differ, EndLine, BreaksAfter, BreaksHere, BreaksIn, BreaksBlock, BreaksFunction, AcceptedFunction}
+use Rattle.region_rules.specs.FirstFaults.{first_broken}
+use Rattle.region_rules.proofs.KeptRules.{kept}
+use Rattle.region_rules.specs.RegionRules.{RegionRule, CallWhileCritical, ReturnWithBuffer, HeldBuffer, UntestedBuffer, WrongBuffer, ReturnInFrame, PopLastFrame, DeadReference, ArrayInUse, WaysDiffer, WrongLevel, NoReturn, breaks_region_rule, own_rules, Obeys}
+use Rattle.region_rules.specs.RegionStates.{RegionState, state_at_entry}
+use Rattle.region_rules.specs.Regions.{Way, On, Returned, Join, ComesBack, IsEnd, Keeps, KeepsBlock, holds_own, left, where_true, where_false, Differ, EndLine, BreaksAfter, BreaksHere, BreaksIn, BreaksBlock, BreaksFunction, AcceptedFunction}
 use Rattle.region_states.specs.SameStates.{same_state}
 use Rattle.regions.specs.Ways.{Fault, own_way, way_after, way_if, returned_before, join_ways, turn_way, way_of, way_of_block}
 use Rattle.region_states.proofs.Same.{state_decides}
@@ -158,44 +159,6 @@ apart (On a) (On b) w d j = d j.0
 pub not_back : (turn : Way) (before : RegionState) → Differ turn (On before) → ComesBack before turn → ⊥
 not_back Returned before d c = d
 not_back (On after) before d c = d c
-
--- each rule of the list is unbroken
-pub nth : (p : RegionRule → Bool) (rules : List RegionRule) (rule : RegionRule) (k : ℕ) → list_all p rules ≡ true → slice_get rules k ≡ Some rule → p rule ≡ true
-nth p [] rule k h e = cc
-nth p (r ∷ rules) rule zero h e = let b = both_true (p r) (list_all p rules) h in ap p (some_is r rule e) ∙ b.0
-  where
-    some_is : (x y : RegionRule) → Some x ≡ Some y → y ≡ x
-    some_is x y e = cc
-
-    both_true : (s t : Bool) → (s && t) ≡ true → (s ≡ true) × (t ≡ true)
-    both_true true t h = (refl, h)
-    both_true false t h = absurd (true≢false (sym h))
-nth p (r ∷ rules) rule (suc k) h e = nth p rules rule k (second_true (p r) (list_all p rules) h) e
-  where
-    second_true : (s t : Bool) → (s && t) ≡ true → t ≡ true
-    second_true true t h = h
-    second_true false t h = absurd (true≢false (sym h))
-
-pub not_both : (b : Bool) → not b ≡ true → b ≡ true → ⊥
-not_both true h k = true≢false (sym h)
-not_both false h k = true≢false (sym k)
-
-pub unbroken_at : (before : RegionState) (s : Stmt) (rule : RegionRule) (k : ℕ) → slice_get own_rules k ≡ Some rule → Obeys before s → breaks_region_rule rule before s ≡ true → ⊥
-unbroken_at before s rule k e h b = not_both (breaks_region_rule rule before s) (nth (λ r. not (breaks_region_rule r before s)) own_rules rule k h e) b
-
-pub kept : (before : RegionState) (s : Stmt) (rule : RegionRule) → Obeys before s → breaks_region_rule rule before s ≡ true → ⊥
-kept before s CallWhileCritical h b = unbroken_at before s CallWhileCritical 0 refl h b
-kept before s ReturnWithBuffer h b = unbroken_at before s ReturnWithBuffer 1 refl h b
-kept before s HeldBuffer h b = unbroken_at before s HeldBuffer 2 refl h b
-kept before s UntestedBuffer h b = unbroken_at before s UntestedBuffer 3 refl h b
-kept before s WrongBuffer h b = unbroken_at before s WrongBuffer 4 refl h b
-kept before s ReturnInFrame h b = unbroken_at before s ReturnInFrame 5 refl h b
-kept before s PopLastFrame h b = unbroken_at before s PopLastFrame 6 refl h b
-kept before s DeadReference h b = unbroken_at before s DeadReference 7 refl h b
-kept before s ArrayInUse h b = unbroken_at before s ArrayInUse 8 refl h b
-kept before s WrongLevel h b = unbroken_at before s WrongLevel 9 refl h b
-kept before s WaysDiffer h b = absurd (true≢false (sym b))
-kept before s NoReturn h b = absurd (true≢false (sym b))
 
 pub not_end : (rule : RegionRule) (l : ℕ) (rest : Block) → BreaksAfter rule l rest → IsEnd rest → ⊥
 not_end rule l (End line) b e = b

@@ -6,7 +6,7 @@ use Rattle.std.proofs.lemmas.Map.Keys.{IsDistinct-head, IsDistinct-tail}
 use Rattle.base.specs.Bytes.{Identifier}
 use Rattle.syntax.specs.declared.unit.Parameter.{Parameter as ParameterInMemory}
 use Rattle.syntax.specs.Views.{parameter_tree}
-use Rattle.region_states.specs.RegionStates.{parameter_state}
+use Rattle.region_rules.specs.RegionStates.{parameter_state}
 use Rattle.region_states.specs.SameStates.{NamedState}
 use Rattle.region_states.proofs.ScopeLemmas.{any_reverse}
 

@@ -3,10 +3,10 @@ use Rattle.std.proofs.Common.{◌≡◌, ℕ, Bool, true, false, not, ◌⊎◌,
 use Rattle.std.specs.List.{AllByRecursion}
 use Rattle.syntax.specs.Parts.{line_of}
 use Rattle.syntax.specs.Tree.{Stmt, Declare, DeclareBuffer, DeclareChars, DeclareArray, Assign, AssignElement, Perform, PutJint, If, IfElse, While, Return, ReturnValue, Block, End, Next, Function}
-use Rattle.region_states.specs.FirstFaults.{FirstInFunction, FirstInFunctions, first_broken, FirstHere, FirstIn, FirstBlock}
-use Rattle.region_states.specs.RegionRules.{RegionRule, HeldBuffer, WaysDiffer, NoReturn, Obeys}
-use Rattle.region_states.specs.RegionStates.{RegionState, state_at_entry}
-use Rattle.region_states.specs.Regions.{Way, On, Returned, holds_own, left, where_true, where_false, Differ, BreaksAfter, AcceptedFunction}
+use Rattle.region_rules.specs.FirstFaults.{FirstInFunction, FirstInFunctions, first_broken, FirstHere, FirstIn, FirstBlock}
+use Rattle.region_rules.specs.RegionRules.{RegionRule, HeldBuffer, WaysDiffer, NoReturn, Obeys}
+use Rattle.region_rules.specs.RegionStates.{RegionState, state_at_entry}
+use Rattle.region_rules.specs.Regions.{Way, On, Returned, holds_own, left, where_true, where_false, Differ, BreaksAfter, AcceptedFunction}
 use Rattle.region_states.specs.SameStates.{same_state}
 use Rattle.regions.specs.Ways.{Fault, own_way, way_after, way_if, returned_before, join_ways, turn_way, way_of, way_of_block}
 use Rattle.region_states.proofs.Same.{state_decides}

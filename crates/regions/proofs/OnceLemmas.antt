@@ -8,26 +8,15 @@ use Rattle.base.specs.Bytes.{Identifier}
 use Rattle.base.specs.Options.{some_passes}
 use Rattle.syntax.specs.Parts.{line_of, statements_of, statements_within, declared_name, names_declared, parameter_names}
 use Rattle.syntax.specs.Tree.{ResultType, Void, ParameterType, IntParameter, ReferenceParameter, Parameter, ReferenceVariable, Stmt, Declare, DeclareBuffer, DeclareChars, If, IfElse, While, Block, End, Next, Function, Item, StaticItem, FunctionItem, SourceUnit}
-use Rattle.types.specs.Sorts.{Scope, Ref, Global}
-use Rattle.types.specs.SortRules.{SortRule, UnknownName, DeclaredTwice, SortMisfit, UnknownFunction, ArgumentCount, ReferenceCopied, BadMode, ReadOnlyWrite, sort_rules, Place, StaticForm, HeadForm, StatementForm, has_name, has_repeated, breaks, broken_at, places_within, places_of, function_places, item_places, with_declared, parameter_sort, IsSorted}
+use Rattle.sorts.specs.Sorts.{Scope, Ref, Global}
+use Rattle.sorts.specs.SortRules.{SortRule, UnknownName, DeclaredTwice, SortMisfit, UnknownFunction, ArgumentCount, ReferenceCopied, BadMode, ReadOnlyWrite, sort_rules, Place, StaticForm, HeadForm, StatementForm, has_name, has_repeated, breaks, broken_at, places_within, places_of, function_places, item_places, with_declared, parameter_sort, IsSorted}
 use Rattle.region_states.specs.NewNames.{own_names, AreNew, DeclaresNew, DeclareNew, DeclaresOnce, ItemOnce}
-use Rattle.region_states.specs.RegionStates.{ReferenceAt, parameter_state, state_at_entry}
+use Rattle.region_rules.specs.RegionStates.{ReferenceAt, parameter_state, state_at_entry}
 use Rattle.region_states.specs.SameStates.{NamedState}
 use Rattle.region_states.specs.StatesInMemory.{names_of}
-use Rattle.regions.proofs.PlaceLists.{AreUnbroken, first_empty, second_empty, front_unbroken, back_unbroken, none_broken, first_false, second_false}
+use Rattle.sorts.proofs.PlaceLists.{AreUnbroken, first_empty, second_empty, front_unbroken, back_unbroken, first_false, second_false, not_twice}
 use Rattle.region_states.proofs.ScopeLemmas.{any_reverse}
 use Rattle.region_states.proofs.StateLemmas.{none_alike}
-
--- ---- the rule
-
-abbrev after_twice : List SortRule
-after_twice = SortMisfit ∷ UnknownFunction ∷ ArgumentCount ∷ ReferenceCopied ∷ BadMode ∷ ReadOnlyWrite ∷ []
-
--- a place that breaks no rule declares nothing twice
-pub not_twice : (place : Place) → broken_at place ≡ [] → breaks DeclaredTwice place place.form ≡ false
-not_twice place none =
-    let p : SortRule → Bool = λ rule. breaks rule place place.form in
-    first_false (p DeclaredTwice) (list_any p after_twice) (second_false (p UnknownName) (list_any p (DeclaredTwice ∷ after_twice)) (none_broken p place.line sort_rules none))
 
 -- ---- names among others
 

@@ -8,10 +8,10 @@ use Rattle.syntax.specs.Tree.{Block, End, Next, Function, Item, StaticItem, Func
 use Rattle.regions.specs.declared.fault.CheckFault.{CheckFault}
 use Rattle.regions.specs.declared.fault.CheckFault.TheVariants.{Memory, Broken}
 use Rattle.regions.specs.Findings.{Finds, Refuses, IfBroken, rule_of, fault_of, end_line_of, fault_at_end, function_fault, items_fault, first_fault}
-use Rattle.region_states.specs.FirstFaults.{FirstInFunction, FirstInFunctions}
-use Rattle.region_states.specs.RegionRules.{RegionRule, NoReturn}
-use Rattle.region_states.specs.RegionStates.{state_at_entry}
-use Rattle.region_states.specs.Regions.{Way, On, Returned, AcceptedFunction, EndLine, BreaksFunction, BreaksRegionRule}
+use Rattle.region_rules.specs.FirstFaults.{FirstInFunction, FirstInFunctions}
+use Rattle.region_rules.specs.RegionRules.{RegionRule, NoReturn}
+use Rattle.region_rules.specs.RegionStates.{state_at_entry}
+use Rattle.region_rules.specs.Regions.{Way, On, Returned, AcceptedFunction, EndLine, BreaksFunction, BreaksRegionRule}
 use Rattle.regions.specs.Ways.{Fault, way_of_block}
 use Rattle.regions.proofs.Ways.{keeps_block, answers_block}
 use Rattle.regions.proofs.BrokenWays.{faults_block, end_is}

@@ -13,10 +13,10 @@ use Rattle.regions.specs.declared.fault.CheckFault.{CheckFault}
 use Rattle.regions.specs.declared.fault.CheckFault.TheVariants.{Memory, Broken}
 use Rattle.regions.specs.declared.joins.Way.{Way as WayInMemory}
 use Rattle.regions.specs.Findings.{fault_of, end_line_of}
-use Rattle.region_states.specs.FirstFaults.{first_broken}
-use Rattle.region_states.specs.RegionRules.{RegionRule, HeldBuffer, WaysDiffer, NoReturn}
-use Rattle.region_states.specs.RegionStates.{RegionState}
-use Rattle.region_states.specs.Regions.{Way, On, Returned, left}
+use Rattle.region_rules.specs.FirstFaults.{first_broken}
+use Rattle.region_rules.specs.RegionRules.{RegionRule, HeldBuffer, WaysDiffer, NoReturn}
+use Rattle.region_rules.specs.RegionStates.{RegionState}
+use Rattle.region_rules.specs.Regions.{Way, On, Returned, left}
 use Rattle.regions.specs.Walks.{Stops, Goes, go_on, inner_way}
 use Rattle.region_states.specs.StatesInMemory.{holds_other}
 use Rattle.regions.specs.Ways.{Fault, way_if, own_way, way_after, returned_before, join_ways, turn_way, way_of, way_of_block}

@@ -2,10 +2,10 @@
 use Rattle.std.proofs.Common.{◌≡◌, ℕ, Bool, true, false, not, ◌&&◌, ◌⊎◌, List, [], ◌∷◌, Option, Some, None, Result, Ok, Err, refl, sym, ap, ◌∙◌, subst, inl, inr, find, cond, true≢false}
 use Rattle.std.specs.List.{list_all}
 use Rattle.syntax.specs.Tree.{Stmt, Declare, DeclareBuffer, DeclareChars, DeclareArray, Assign, AssignElement, Perform, PutJint, If, IfElse, While, Return, ReturnValue, Block, End, Next}
-use Rattle.region_states.specs.FirstFaults.{first_broken}
-use Rattle.region_states.specs.RegionRules.{RegionRule, HeldBuffer, WaysDiffer, breaks_region_rule, own_rules, Obeys}
-use Rattle.region_states.specs.RegionStates.{RegionState}
-use Rattle.region_states.specs.Regions.{Way, On, Returned, Join, ComesBack, IsEnd, Keeps, KeepsBlock, holds_own, left, where_true, where_false}
+use Rattle.region_rules.specs.FirstFaults.{first_broken}
+use Rattle.region_rules.specs.RegionRules.{RegionRule, HeldBuffer, WaysDiffer, breaks_region_rule, own_rules, Obeys}
+use Rattle.region_rules.specs.RegionStates.{RegionState}
+use Rattle.region_rules.specs.Regions.{Way, On, Returned, Join, ComesBack, IsEnd, Keeps, KeepsBlock, holds_own, left, where_true, where_false}
 use Rattle.region_states.specs.SameStates.{same_state}
 use Rattle.regions.specs.Ways.{Fault, own_way, way_after, way_if, returned_before, join_ways, turn_way, way_of, way_of_block}
 use Rattle.region_states.proofs.Same.{state_decides}

@@ -7,9 +7,9 @@ use Rattle.regions.specs.declared.fault.RegionRule.TheVariants as rules
 use Rattle.regions.specs.declared.fault.RegionFault.{RegionFault}
 use Rattle.regions.specs.declared.fault.CheckFault.{CheckFault}
 use Rattle.regions.specs.declared.fault.CheckFault.TheVariants.{Memory, Broken}
-use Rattle.region_states.specs.RegionRules.{RegionRule, CallWhileCritical, ReturnWithBuffer, HeldBuffer, UntestedBuffer, WrongBuffer, ReturnInFrame, PopLastFrame, DeadReference, ArrayInUse, WaysDiffer, WrongLevel, NoReturn}
-use Rattle.region_states.specs.RegionStates.{state_at_entry}
-use Rattle.region_states.specs.Regions.{Way, On, Returned}
+use Rattle.region_rules.specs.RegionRules.{RegionRule, CallWhileCritical, ReturnWithBuffer, HeldBuffer, UntestedBuffer, WrongBuffer, ReturnInFrame, PopLastFrame, DeadReference, ArrayInUse, WaysDiffer, WrongLevel, NoReturn}
+use Rattle.region_rules.specs.RegionStates.{state_at_entry}
+use Rattle.region_rules.specs.Regions.{Way, On, Returned}
 use Rattle.regions.specs.Ways.{Fault, way_of_block}
 
 -- the rule of the definitions

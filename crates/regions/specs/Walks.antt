@@ -7,9 +7,9 @@ use Rattle.regions.specs.declared.joins.Way.{Way as WayInMemory}
 use Rattle.regions.specs.declared.joins.Way.TheVariants as way
 use Rattle.regions.specs.declared.joins.Branch.{Branch}
 use Rattle.regions.specs.Findings.{fault_of}
-use Rattle.region_states.specs.RegionRules.{is_return}
-use Rattle.region_states.specs.RegionStates.{RegionState, state_after}
-use Rattle.region_states.specs.Regions.{Way, On, Returned, where_true, where_false}
+use Rattle.region_rules.specs.RegionRules.{is_return}
+use Rattle.region_rules.specs.RegionStates.{RegionState, state_after}
+use Rattle.region_rules.specs.Regions.{Way, On, Returned, where_true, where_false}
 use Rattle.region_states.specs.StatesInMemory.{names_of, IsSaved}
 use Rattle.regions.specs.Ways.{Fault, way_after, returned_before, join_ways, turn_way, way_of_block}
 

@@ -2,11 +2,11 @@
 use Rattle.std.specs.Prelude.{ℕ, Bool, true, false, not, Option, Some, None, Result, Ok, Err}
 use Rattle.syntax.specs.Tree.{Stmt, If, IfElse, While, Return, ReturnValue, Block, End, Next}
 use Rattle.syntax.specs.Parts.{line_of}
-use Rattle.region_states.specs.RegionStates.{RegionState, state_after}
-use Rattle.region_states.specs.RegionRules.{RegionRule, HeldBuffer, WaysDiffer, NoReturn}
+use Rattle.region_rules.specs.RegionStates.{RegionState, state_after}
+use Rattle.region_rules.specs.RegionRules.{RegionRule, HeldBuffer, WaysDiffer, NoReturn}
 use Rattle.region_states.specs.SameStates.{same_state}
-use Rattle.region_states.specs.Regions.{Way, On, Returned, holds_own, left, where_true, where_false}
-use Rattle.region_states.specs.FirstFaults.{first_broken}
+use Rattle.region_rules.specs.Regions.{Way, On, Returned, holds_own, left, where_true, where_false}
+use Rattle.region_rules.specs.FirstFaults.{first_broken}
 
 -- a rule that is broken, with its line
 abbrev pub Fault : Type 0

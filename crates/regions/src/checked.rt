@@ -1,66 +1,16 @@
-//! Units that are accepted.
+//! Whether a unit is accepted.
 
-ghost use Rattle.std.specs.Prelude.{◌≡◌, IfOk, IfErr, IsOkUnless, IsTrue};
-ghost use Rattle.syntax.specs.Limits.{IsTree};
+ghost use Rattle.std.specs.Prelude.{◌≡◌, IfOk, IfErr, IsOkUnless};
 ghost use Rattle.syntax.specs.Views.{unit_tree};
-ghost use Rattle.types.specs.SortRules.{IsSorted};
-ghost use Rattle.types.specs.BuiltCalls.{calls_are_built};
-ghost use Rattle.region_states.specs.Regions.{HasRegions, BreaksRegionRule};
-ghost use Rattle.regions.specs.Endings.{AreEnded};
-ghost use Rattle.region_states.specs.FirstFaults.{IsFirstRegionFault};
+ghost use Rattle.region_rules.specs.Regions.{HasRegions, BreaksRegionRule};
+ghost use Rattle.region_rules.specs.FirstFaults.{IsFirstRegionFault};
 ghost use Rattle.regions.specs.Findings.{rule_of, IfBroken};
 
 use crate::fault::CheckFault;
 use crate::walk::check_items;
+use region_rules::Checked;
+use sorts::Typed;
 use std::alloc::Global;
-use std::marker::Model;
-use syntax::Item;
-use types::Typed;
-
-/// A unit that keeps the rules of sorts and regions.
-#[derive(Drop)]
-pub struct Checked {
-    typed: Typed,
-}
-
-impl Model for Checked {
-    ghost use Rattle.std.specs.Prelude.{List, ◌≡◌, IsTrue};
-    ghost use Rattle.std.specs.Coded.{codes};
-    ghost use Rattle.syntax.specs.declared.unit.Item.{Item};
-    ghost use Rattle.syntax.specs.contracts.unit.Item as item;
-    ghost use Rattle.syntax.specs.Views.{unit_tree};
-    ghost use Rattle.region_states.specs.Regions.{HasRegions};
-
-    ghost Value = { List Item };
-
-    ghost coded = { Prim.hlevel (codes, item.the_row.coded) };
-
-    ghost view = { λ c. c.typed };
-
-    ghost invariant = { λ c. HasRegions (unit_tree c.typed) };
-}
-
-impl Checked {
-    /// A unit that is known to keep the rules.
-    pub(crate) fn of(typed: Typed) -> Checked
-        requires { HasRegions (unit_tree typed) }
-        ensures { result ≡ typed }
-    {
-        Checked { typed }
-    }
-
-    /// The items of the unit, in the order of the text.
-    pub fn items(&self) -> &[Item]
-        ensures same { result.now ≡ self.now }
-        ensures tree { IsTree (unit_tree result.now) }
-        ensures sorted { IsSorted (unit_tree result.now) }
-        ensures calls { IsTrue (calls_are_built (unit_tree result.now)) }
-        ensures regions { HasRegions (unit_tree result.now) }
-        ensures ends { AreEnded (unit_tree result.now) }
-    {
-        self.typed.items()
-    }
-}
 
 /// The unit, where each way through its functions keeps the rules. Each statement is read once, with the references and
 /// buffers in scope, among which a name is found in constant time; what is known of these is copied once for each `if`

@@ -2,7 +2,7 @@
 
 ghost use Rattle.std.specs.Prelude.{◌≡◌};
 ghost use Rattle.regions.specs.declared.fault.CheckFault.TheVariants.{Memory};
-ghost use Rattle.region_states.specs.RegionRules.{region_rule_number};
+ghost use Rattle.region_rules.specs.RegionRules.{region_rule_number};
 ghost use Rattle.regions.specs.Findings.{rule_of};
 
 use std::alloc::{AllocError, AllocFailed};

@@ -2,8 +2,8 @@
 
 ghost use Rattle.std.specs.Prelude.{◌≡◌, Ok, Err, length, OnOk, IfOk};
 ghost use Rattle.syntax.specs.Views.{test_tree};
-ghost use Rattle.region_states.specs.RegionStates.{RegionState};
-ghost use Rattle.region_states.specs.Regions.{where_true, where_false};
+ghost use Rattle.region_rules.specs.RegionStates.{RegionState};
+ghost use Rattle.region_rules.specs.Regions.{where_true, where_false};
 ghost use Rattle.regions.specs.Ways.{join_ways};
 ghost use Rattle.region_states.specs.StatesInMemory.{names_of, IsSaved, HasCounts};
 ghost use Rattle.regions.specs.Findings.{rule_of};

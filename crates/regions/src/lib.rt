@@ -7,9 +7,10 @@ mod joins;
 mod rules;
 mod walk;
 
-ghost use Rattle.region_states.specs.FirstFaults.{AcceptedBreaksNothing, AcceptedOrBroken, AcceptedOrFirst, FirstIsBroken, NotBoth, OneFirst, OneFirstOfUnit};
+ghost use Rattle.region_rules.specs.FirstFaults.{AcceptedBreaksNothing, AcceptedOrBroken, AcceptedOrFirst, FirstIsBroken, NotBoth, OneFirst, OneFirstOfUnit};
 
-pub use checked::{Checked, check};
+pub use checked::check;
+pub use region_rules::Checked;
 pub use fault::{CheckFault, RegionFault, RegionRule};
 
 /// A function that is accepted breaks no rule.

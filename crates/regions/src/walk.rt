@@ -4,8 +4,8 @@ ghost use Rattle.std.specs.Prelude.{◌≡◌, ◌≤◌, ◌++◌, ℕ, Ok, map
 ghost use Rattle.std.specs.List.{AllByRecursion};
 ghost use Rattle.syntax.specs.Tree.{End};
 ghost use Rattle.syntax.specs.Views.{block_tree, stmt_tree, test_tree, form_tree, function_tree, item_tree};
-ghost use Rattle.region_states.specs.RegionStates.{RegionState, state_at_entry, state_after};
-ghost use Rattle.region_states.specs.Regions.{On, where_true, where_false};
+ghost use Rattle.region_rules.specs.RegionStates.{RegionState, state_at_entry, state_after};
+ghost use Rattle.region_rules.specs.Regions.{On, where_true, where_false};
 ghost use Rattle.regions.specs.Ways.{join_ways, turn_way, way_of, way_of_block};
 ghost use Rattle.region_states.specs.StatesInMemory.{names_of, Grows};
 ghost use Rattle.region_states.specs.NewNames.{own_names, AreNew, DeclaresNew, DeclareNew, DeclaresOnce, ItemOnce};

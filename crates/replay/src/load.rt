@@ -2,7 +2,7 @@
 
 ghost use Rattle.std.specs.Prelude.{◌≡◌, IfOk, IfErr, map, [], None};
 ghost use Rattle.syntax.specs.Views.{unit_tree, function_tree, parameter_tree};
-ghost use Rattle.types.specs.SortRules.{IsSorted};
+ghost use Rattle.sorts.specs.SortRules.{IsSorted};
 ghost use Rattle.world.specs.Views.{object_value_view};
 ghost use Rattle.source.specs.Load.{call_loads, fits_parameter, fit_parameters, is_callable, first_load_fault};
 ghost use Rattle.source.specs.Start.{start};

@@ -7,9 +7,9 @@ use Rattle.std.proofs.lemmas.Slice.Eq.{bytes_eq-Decides}
 use Rattle.base.specs.Bytes.{Identifier, lookup}
 use Rattle.syntax.specs.Parts.{functions_of, statics_of, parameter_names}
 use Rattle.syntax.specs.Tree.{Void, Static, Function, Item, StaticItem, FunctionItem, SourceUnit}
-use Rattle.types.specs.Sorts.{Sort, Global, Scope, sort_in}
-use Rattle.types.specs.SortRules.{SortRule, UnknownName, DeclaredTwice, SortMisfit, UnknownFunction, ArgumentCount, ReferenceCopied, BadMode, ReadOnlyWrite, sort_rules, Place, StaticForm, HeadForm, has_name, has_repeated, breaks, broken_at, places_of, function_places, item_places, IsSorted}
-use Rattle.regions.specs.Regions.{AcceptedFunction, HasRegions}
+use Rattle.sorts.specs.Sorts.{Sort, Global, Scope, sort_in}
+use Rattle.sorts.specs.SortRules.{SortRule, UnknownName, DeclaredTwice, SortMisfit, UnknownFunction, ArgumentCount, ReferenceCopied, BadMode, ReadOnlyWrite, sort_rules, Place, StaticForm, HeadForm, has_name, has_repeated, breaks, broken_at, places_of, function_places, item_places, IsSorted}
+use Rattle.region_rules.specs.Regions.{AcceptedFunction, HasRegions}
 use Rattle.source.specs.Start.{null_static, null_statics}
 use Rattle.source.specs.Task.{tasks_of}
 use Rattle.source.specs.Variable.{StaticReference, Empty, Statics}
@@ -17,7 +17,7 @@ use Rattle.safety.specs.StepSafe.{AcceptedIsSafe}
 use Rattle.safety.specs.Wanted.{GoesOn}
 use Rattle.safety.proofs.EntryPoints.{entry_scope, entry_point, SeesStatics, HasNamesOnce}
 use Rattle.safety.proofs.NameLaws.{front_same}
-use Rattle.regions.proofs.PlaceLists.{AreUnbroken, first_empty, second_empty, front_unbroken, back_unbroken, none_broken, first_false, second_false}
+use Rattle.sorts.proofs.PlaceLists.{AreUnbroken, first_empty, second_empty, front_unbroken, back_unbroken, none_broken, first_false, second_false}
 use Rattle.safety.proofs.Runs.{Enters, runs_are_safe}
 
 -- ---- heads

@@ -5,9 +5,9 @@ use Rattle.syntax.specs.Tree.{Stmt, If, IfElse, While, Block, End, Next, TestExp
 use Rattle.jni.specs.Access.{Access}
 use Rattle.jni.specs.JniFunction.{JniFunction, prototype, function_named}
 use Rattle.jni.specs.Prototype.{ResultKind, NewLocal, NewGlobal, GivesFlag, GivesInt, GivesField, GivesBuffer}
-use Rattle.types.specs.Sorts.{Sort, sort_in}
-use Rattle.types.specs.Sorts as sort
-use Rattle.regions.specs.RegionStates.{get_of}
+use Rattle.sorts.specs.Sorts.{Sort, sort_in}
+use Rattle.sorts.specs.Sorts as sort
+use Rattle.region_rules.specs.RegionStates.{get_of}
 use Rattle.source.specs.Task as task
 use Rattle.source.specs.Task.{Task, SetScalar, SetElement, SetNull, MakeArray, Invoke, Print, Branch, EndIf, Loop, EndTurn, Impossible, Target, Declared, Assigned, Tested, Dropped, VariableKind, ScalarKind, ReferenceKind, FieldKind, BufferKind, invocation, call_task, task_of, tasks_of}
 use Rattle.source.specs.Term.{Term, term_of}

@@ -14,11 +14,11 @@ use Rattle.syntax.specs.Tree.{Variable, Argument, Value, Stmt}
 use Rattle.jni.specs.Access.{Access, ElementsCopy, ArrayView, CharsCopy, CharsView, is_critical, same_access}
 use Rattle.jni.specs.JniFunction.{JniFunction, GetBuffer, ReleaseBuffer, DeleteLocalRef, PopLocalFrame, prototype}
 use Rattle.jni.specs.Prototype.{ParameterKind, IntNumber, BufferVariable, Mode, owner, release_mode}
-use Rattle.types.specs.Sorts.{arguments_fit}
-use Rattle.types.specs.SortRules.{modes_fit}
-use Rattle.regions.specs.RegionRules.{RegionRule, CallWhileCritical, UntestedBuffer, WrongBuffer, PopLastFrame, DeadReference, ArrayInUse, is_put_jint, is_critical_call, is_dead, is_reference_now, is_untested, is_free, is_mismatched, is_array_in_use, is_level, breaks_region_rule, Obeys}
-use Rattle.regions.specs.RegionStates.{VariableState, BufferState, Untested, Usable, ReferenceAt, BufferIn, RegionState, state_of, buffer_of, held_by, held_buffers, FunctionCall, function_called, argument_name, get_of, has_commit, Release, release_of, deleted_name, pops, after_call}
-use Rattle.regions.proofs.BrokenWays.{kept}
+use Rattle.sorts.specs.Sorts.{arguments_fit}
+use Rattle.sorts.specs.SortRules.{modes_fit}
+use Rattle.region_rules.specs.RegionRules.{RegionRule, CallWhileCritical, UntestedBuffer, WrongBuffer, PopLastFrame, DeadReference, ArrayInUse, is_put_jint, is_critical_call, is_dead, is_reference_now, is_untested, is_free, is_mismatched, is_array_in_use, is_level, breaks_region_rule, Obeys}
+use Rattle.region_rules.specs.RegionStates.{VariableState, BufferState, Untested, Usable, ReferenceAt, BufferIn, RegionState, state_of, buffer_of, held_by, held_buffers, FunctionCall, function_called, argument_name, get_of, has_commit, Release, release_of, deleted_name, pops, after_call}
+use Rattle.region_rules.proofs.KeptRules.{kept}
 use Rattle.source.specs.Task.{Operand, operand}
 use Rattle.safety.specs.Points.{Point, IsLive, IsUsable, NameFits, OperandsFit}
 use Rattle.safety.specs.Wanted.{Holds, CallKeeps, MeetsViews, CallFits, operand_argument, call_seen}

@@ -11,11 +11,11 @@ use Rattle.syntax.specs.Tree.{Argument}
 use Rattle.jni.specs.Access.{Access, is_critical}
 use Rattle.jni.specs.JniFunction.{JniFunction, prototype}
 use Rattle.jni.specs.Prototype.{ParameterKind, FieldID, IntNumber, TextBytes, LocalVariable, StaticVariable, ArrayVariable, BufferVariable, Mode, IsCopy}
-use Rattle.types.specs.Sorts.{Sort, sort_in}
-use Rattle.types.specs.Sorts as sort
+use Rattle.sorts.specs.Sorts.{Sort, sort_in}
+use Rattle.sorts.specs.Sorts as sort
 use Rattle.source.specs.Object.{Reference}
-use Rattle.regions.specs.RegionRules.{is_critical_call}
-use Rattle.regions.specs.RegionStates.{VariableState, Untested, Usable, ReferenceAt, BufferIn, state_of}
+use Rattle.region_rules.specs.RegionRules.{is_critical_call}
+use Rattle.region_rules.specs.RegionStates.{VariableState, Untested, Usable, ReferenceAt, BufferIn, state_of}
 use Rattle.source.specs.Task as task
 use Rattle.source.specs.Task.{Task, SetScalar, SetElement, SetNull, MakeArray, Invoke, Print, Branch, EndIf, Loop, EndTurn, Target, Declared, Assigned, Tested, Dropped, Operand, NumberOperand, Given}
 use Rattle.source.specs.Term as term

@@ -8,11 +8,11 @@ use Rattle.syntax.specs.Tree.{VariableType, UInt32, JIntVariable, JSize, JBoolea
 use Rattle.jni.specs.Access.{Access}
 use Rattle.jni.specs.JniFunction.{JniFunction, GetBuffer, prototype}
 use Rattle.jni.specs.Prototype.{ResultKind, NewLocal, NewGlobal, GivesFlag, GivesInt, GivesField, GivesBuffer}
-use Rattle.types.specs.Sorts.{Sort, Word, Jint, Flag, Ref, Buffer, sort_of, is_word, is_null, name_sort}
-use Rattle.types.specs.Sorts as sort
-use Rattle.types.specs.SortRules as rules
-use Rattle.types.specs.SortRules.{has_name, variable_sort, result_fits, call_fits}
-use Rattle.regions.specs.RegionStates.{Free, BufferIn, ReferenceAt, held_by, get_of, buffer_from, function_called, after_call, with_new, with_set, FunctionCall}
+use Rattle.sorts.specs.Sorts.{Sort, Word, Jint, Flag, Ref, Buffer, sort_of, is_word, is_null, name_sort}
+use Rattle.sorts.specs.Sorts as sort
+use Rattle.sorts.specs.SortRules as rules
+use Rattle.sorts.specs.SortRules.{has_name, variable_sort, result_fits, call_fits}
+use Rattle.region_rules.specs.RegionStates.{Free, BufferIn, ReferenceAt, held_by, get_of, buffer_from, function_called, after_call, with_new, with_set, FunctionCall}
 use Rattle.source.specs.Task.{Declared, ScalarKind, ReferenceKind, FieldKind, BufferKind, set_task, kind_of}
 use Rattle.safety.specs.Points.{Point}
 use Rattle.safety.specs.Wanted.{CallKeeps, DeclaresResult, RunsPlain, at}

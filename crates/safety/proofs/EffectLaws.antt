@@ -7,13 +7,13 @@ use Rattle.syntax.specs.Tree as tree
 use Rattle.syntax.specs.Tree.{Block, Expr, Argument}
 use Rattle.jni.specs.JniFunction.{JniFunction, prototype}
 use Rattle.jni.specs.Prototype.{ParameterKind, IntNumber}
-use Rattle.types.specs.Sorts.{Sort, sort_in}
-use Rattle.types.specs.Sorts as sort
+use Rattle.sorts.specs.Sorts.{Sort, sort_in}
+use Rattle.sorts.specs.Sorts as sort
 use Rattle.source.specs.Arguments.{actuals}
 use Rattle.source.specs.Effect.{Effect, Becomes, Sets, SetsElement, Prints, Calls, Returns, at_line, goes_on, with_value, print_effect, branch_effect, loop_effect, element_effect, is_given, is_ready, reduce_number, reduce_first, call_effect_of, returned_name, return_effect, effect_of}
 use Rattle.source.specs.Heap.{Heap}
-use Rattle.regions.specs.RegionStates.{get_of, after_call, with_changed, made_free}
-use Rattle.regions.specs.Regions.{made_usable}
+use Rattle.region_rules.specs.RegionStates.{get_of, after_call, with_changed, made_free}
+use Rattle.region_rules.specs.Regions.{made_usable}
 use Rattle.source.specs.Sight.{Sight, seen, scalar}
 use Rattle.source.specs.Task as task
 use Rattle.source.specs.Task.{Task, SetScalar, SetElement, SetNull, MakeArray, Invoke, Print, Branch, EndIf, Loop, EndTurn, Impossible, Target, Declared, Assigned, Tested, Dropped, Operand, NumberOperand, Given, tasks_of}

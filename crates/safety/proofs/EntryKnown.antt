@@ -4,9 +4,9 @@ use Rattle.std.specs.List.{cons_option}
 use Rattle.std.specs.Str.{bytes_eq}
 use Rattle.base.specs.Bytes.{Identifier, ByName, lookup}
 use Rattle.syntax.specs.Tree.{ParameterType, IntParameter, ReferenceParameter, Parameter, Function, JClass}
-use Rattle.types.specs.Sorts.{Sort, Jint, Ref, Global, Truth, Buffer, Scope, sort_in}
-use Rattle.types.specs.SortRules.{parameter_sort, has_name, has_repeated}
-use Rattle.regions.specs.RegionStates.{VariableState, BufferState, ReferenceAt, BufferIn}
+use Rattle.sorts.specs.Sorts.{Sort, Jint, Ref, Global, Truth, Buffer, Scope, sort_in}
+use Rattle.sorts.specs.SortRules.{parameter_sort, has_name, has_repeated}
+use Rattle.region_rules.specs.RegionStates.{VariableState, BufferState, ReferenceAt, BufferIn}
 use Rattle.safety.proofs.Accepted.{AreGlobals}
 use Rattle.safety.proofs.EntryPoints.{known, known_at, known_is, once_known, absent_known, or_false, entry_scope, entry_point, HasNamesOnce}
 use Rattle.safety.proofs.KnownPoints.{IsKnown, held_of}

@@ -9,9 +9,9 @@ use Rattle.base.specs.Bytes.{Identifier, ByName, lookup}
 use Rattle.base.specs.Element.{ElementType}
 use Rattle.syntax.specs.Parts.{parameter_names}
 use Rattle.syntax.specs.Tree.{ParameterType, IntParameter, ReferenceParameter, Parameter, Function}
-use Rattle.types.specs.Sorts.{Sort, Ref, Global, Scope, sort_in}
-use Rattle.types.specs.SortRules.{parameter_sort, has_name, has_repeated}
-use Rattle.regions.specs.RegionStates.{VariableState, ReferenceAt, BufferIn, parameter_state, state_at_entry}
+use Rattle.sorts.specs.Sorts.{Sort, Ref, Global, Scope, sort_in}
+use Rattle.sorts.specs.SortRules.{parameter_sort, has_name, has_repeated}
+use Rattle.region_rules.specs.RegionStates.{VariableState, ReferenceAt, BufferIn, parameter_state, state_at_entry}
 use Rattle.source.specs.Activation.{parameter_variable, parameter_variables, named_object, entry_frame}
 use Rattle.source.specs.Load.{fits_parameter, fit_parameters}
 use Rattle.source.specs.Object.{ObjectValue, Number, Refers, Reference}

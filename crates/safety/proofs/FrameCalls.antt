@@ -8,8 +8,8 @@ use Rattle.syntax.specs.Tree.{Block}
 use Rattle.classes.specs.Class.{Classes}
 use Rattle.jni.specs.JniFunction.{DeleteLocalRef, PushLocalFrame, PopLocalFrame}
 use Rattle.jni.specs.Prototype.{NewLocal, GivesInt, GivesNothing, LocalVariable}
-use Rattle.regions.specs.RegionStates as states
-use Rattle.regions.specs.RegionStates.{ReferenceAt, state_of, with_changed, killed, after_pop, get_of}
+use Rattle.region_rules.specs.RegionStates as states
+use Rattle.region_rules.specs.RegionStates.{ReferenceAt, state_of, with_changed, killed, after_pop, get_of}
 use Rattle.source.specs.Arguments.{Actual, ReferenceActual, actuals, reference_in_actual, reference_given, number_given, variable_given}
 use Rattle.source.specs.CallEffects.{ScalarResult, ReferenceResult, NoResult, CallEffect, Leaves, delete_local_effect, push_effect, without_local}
 use Rattle.source.specs.CallStep.{trap_of_call, target_element, checked, after_call, call_step, is_zero, completed, received, tell_copy}

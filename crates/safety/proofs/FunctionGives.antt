@@ -3,9 +3,9 @@ use Rattle.std.proofs.Common.{◌≡◌, List, [], ◌∷◌, ◌++◌, map, ref
 use Rattle.syntax.specs.Parts.{parameter_names}
 use Rattle.syntax.specs.Tree as tree
 use Rattle.syntax.specs.Tree.{RightSide, FromExpr, FromCall, Stmt, Function}
-use Rattle.types.specs.Sorts.{Scope}
-use Rattle.regions.specs.Regions.{On, Returned}
-use Rattle.regions.specs.RegionStates.{RegionState}
+use Rattle.sorts.specs.Sorts.{Scope}
+use Rattle.region_rules.specs.Regions.{On, Returned}
+use Rattle.region_rules.specs.RegionStates.{RegionState}
 use Rattle.source.specs.Task.{Task, tasks_of}
 use Rattle.safety.specs.StepSafe.{AcceptedIsSafe}
 use Rattle.safety.specs.Wanted.{Outside, GoesOn}

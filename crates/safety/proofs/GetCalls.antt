@@ -11,9 +11,9 @@ use Rattle.classes.specs.Class.{Classes}
 use Rattle.jni.specs.Access.{Access, ElementsCopy, ArrayView, CharsCopy, CharsView, is_critical}
 use Rattle.jni.specs.JniFunction.{JniFunction, GetBuffer, PushLocalFrame, is_allowed_pending, prototype}
 use Rattle.jni.specs.Prototype.{GivesBuffer, owner, IsCopy}
-use Rattle.types.specs.Sorts.{Sort, sort_in}
-use Rattle.types.specs.Sorts as sort
-use Rattle.regions.specs.RegionStates.{get_of, VariableState, BufferState, Free, Untested, ReferenceAt, BufferIn, state_of, with_new, with_changed}
+use Rattle.sorts.specs.Sorts.{Sort, sort_in}
+use Rattle.sorts.specs.Sorts as sort
+use Rattle.region_rules.specs.RegionStates.{get_of, VariableState, BufferState, Free, Untested, ReferenceAt, BufferIn, state_of, with_new, with_changed}
 use Rattle.source.specs.Object.{Reference}
 use Rattle.source.specs.Arguments.{Actual, ReferenceActual, look_up, actuals, variable_given, variable_in_actual, reference_in_actual, name_or_zero}
 use Rattle.source.specs.CallEffects.{CallEffect, Leaves, BufferResult}

@@ -8,9 +8,9 @@ use Rattle.base.specs.Options.{some_passes}
 use Rattle.syntax.specs.Parts.{statements_of, line_of, declared_name, right_side, own_call, own_expressions, names_declared}
 use Rattle.syntax.specs.Tree.{ResultType, Stmt, If, IfElse, While}
 use Rattle.jni.specs.JniFunction.{function_named}
-use Rattle.types.specs.Sorts.{Scope, call_arguments_fit}
-use Rattle.types.specs.SortRules.{SortRule, UnknownName, DeclaredTwice, SortMisfit, UnknownFunction, ArgumentCount, ReferenceCopied, BadMode, ReadOnlyWrite, sort_rules, Place, StatementForm, has_name, is_formed, statement_fits, has_wrong_count, has_wrong_mode, copies_reference, set_sort, breaks, broken_at, places_within, places_of}
-use Rattle.regions.proofs.PlaceLists.{AreUnbroken, first_empty, second_empty, none_broken, first_false, second_false}
+use Rattle.sorts.specs.Sorts.{Scope, call_arguments_fit}
+use Rattle.sorts.specs.SortRules.{SortRule, UnknownName, DeclaredTwice, SortMisfit, UnknownFunction, ArgumentCount, ReferenceCopied, BadMode, ReadOnlyWrite, sort_rules, Place, StatementForm, has_name, is_formed, statement_fits, has_wrong_count, has_wrong_mode, copies_reference, set_sort, breaks, broken_at, places_within, places_of}
+use Rattle.sorts.proofs.PlaceLists.{AreUnbroken, first_empty, second_empty, none_broken, first_false, second_false}
 
 -- what a statement that breaks no rule is known for
 pub record IsKept (known : Scope) (taken : List Identifier) (returns : ResultType) (s : Stmt) : Type 0 where

@@ -6,7 +6,7 @@ use Rattle.std.specs.Str.{bytes_eq}
 use Rattle.std.proofs.lemmas.Slice.Eq.{bytes_eq-Decides}
 use Rattle.base.specs.Bytes.{Identifier, ByName, lookup}
 use Rattle.jni.specs.Access.{Access}
-use Rattle.regions.specs.RegionStates.{VariableState, ReferenceAt, BufferIn, with_changed, killed, state_of}
+use Rattle.region_rules.specs.RegionStates.{VariableState, ReferenceAt, BufferIn, with_changed, killed, state_of}
 use Rattle.source.specs.Thread.{Frame}
 use Rattle.source.specs.Variable.{Variable, LocalRef, Variables, Statics}
 use Rattle.safety.specs.Owners.{Owners}

@@ -8,11 +8,11 @@ use Rattle.std.proofs.lemmas.Slice.Eq.{bytes_eq-Decides}
 use Rattle.base.specs.Bytes.{Identifier, ByName, lookup}
 use Rattle.base.specs.Element.{ElementType}
 use Rattle.jni.specs.Access.{Access}
-use Rattle.types.specs.Sorts.{Sort, Ref, Truth, Buffer, sort_in}
-use Rattle.types.specs.SortRules.{has_name}
-use Rattle.regions.specs.RegionRules.{is_held}
-use Rattle.regions.specs.RegionStates.{VariableState, BufferState, Free, Untested, Usable, ReferenceAt, BufferIn, RegionState, state_of, held_by, with_new}
-use Rattle.regions.specs.Regions.{has_variable, left, holds_own}
+use Rattle.sorts.specs.Sorts.{Sort, Ref, Truth, Buffer, sort_in}
+use Rattle.sorts.specs.SortRules.{has_name}
+use Rattle.region_rules.specs.RegionRules.{is_held}
+use Rattle.region_rules.specs.RegionStates.{VariableState, BufferState, Free, Untested, Usable, ReferenceAt, BufferIn, RegionState, state_of, held_by, with_new}
+use Rattle.region_rules.specs.Regions.{has_variable, left, holds_own}
 use Rattle.safety.specs.Points.{Point, AreOnce, owns}
 use Rattle.safety.specs.Wanted.{Holds, Closes, IsNew, at, named}
 use Rattle.safety.proofs.ExpressionFits.{AreStated}

@@ -5,9 +5,9 @@ use Rattle.base.specs.Bytes.{Identifier, lookup}
 use Rattle.jni.specs.Access.{Access}
 use Rattle.jni.specs.JniFunction.{JniFunction, ReleaseBuffer, DeleteLocalRef, PopLocalFrame, prototype}
 use Rattle.jni.specs.Prototype.{ResultKind, NewLocal, GivesNothing}
-use Rattle.regions.specs.RegionStates.{RegionState, get_of, after_call, after_pop}
-use Rattle.types.specs.Sorts.{Sort, sort_in}
-use Rattle.types.specs.Sorts as sort
+use Rattle.region_rules.specs.RegionStates.{RegionState, get_of, after_call, after_pop}
+use Rattle.sorts.specs.Sorts.{Sort, sort_in}
+use Rattle.sorts.specs.Sorts as sort
 use Rattle.source.specs.Checks.{frames_after}
 use Rattle.source.specs.Object.{Reference}
 use Rattle.source.specs.Task.{Assigned, Operand, Invoke}

@@ -4,7 +4,7 @@ use Rattle.std.specs.Option.{option_map}
 use Rattle.std.specs.Str.{bytes_eq}
 use Rattle.std.proofs.lemmas.Slice.Eq.{bytes_eq-Decides}
 use Rattle.base.specs.Bytes.{Identifier, ByName, lookup}
-use Rattle.regions.specs.RegionStates.{VariableState, RegionState, state_of, with_changed}
+use Rattle.region_rules.specs.RegionStates.{VariableState, RegionState, state_of, with_changed}
 use Rattle.source.specs.Variable.{assign}
 
 -- two names are one or not

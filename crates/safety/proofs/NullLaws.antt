@@ -7,11 +7,11 @@ use Rattle.std.proofs.lemmas.Slice.Eq.{bytes_eq-Decides}
 use Rattle.base.specs.Bytes.{Identifier, ByName, lookup}
 use Rattle.base.specs.Element.{ElementType}
 use Rattle.classes.specs.Class.{Classes}
-use Rattle.types.specs.Sorts.{Sort, sort_in}
-use Rattle.types.specs.Sorts as sort
+use Rattle.sorts.specs.Sorts.{Sort, sort_in}
+use Rattle.sorts.specs.Sorts as sort
 use Rattle.source.specs.CallEffects.{NullResult}
 use Rattle.source.specs.CallStep.{put, put_assigned}
-use Rattle.regions.specs.RegionStates.{VariableState, Free, ReferenceAt, BufferIn, with_new, with_changed}
+use Rattle.region_rules.specs.RegionStates.{VariableState, Free, ReferenceAt, BufferIn, with_new, with_changed}
 use Rattle.source.specs.Task.{Task, Target, Declared, Assigned, VariableKind, ScalarKind, ReferenceKind, FieldKind, BufferKind}
 use Rattle.source.specs.Thread.{Thread, Shared, BuffersInUse}
 use Rattle.source.specs.ThreadStep.{with_tasks}

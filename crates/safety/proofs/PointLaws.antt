@@ -4,8 +4,8 @@ use Rattle.std.specs.Option.{option_map}
 use Rattle.std.specs.Str.{bytes_eq}
 use Rattle.base.specs.Bytes.{Identifier, lookup}
 use Rattle.jni.specs.Access.{Access}
-use Rattle.regions.specs.RegionStates.{VariableState, RegionState, BufferState, Free, Untested, Usable, ReferenceAt, BufferIn, state_of, with_changed, made_free}
-use Rattle.regions.specs.Regions.{made_usable}
+use Rattle.region_rules.specs.RegionStates.{VariableState, RegionState, BufferState, Free, Untested, Usable, ReferenceAt, BufferIn, state_of, with_changed, made_free}
+use Rattle.region_rules.specs.Regions.{made_usable}
 use Rattle.source.specs.Sight.{variable_is_null, holds_null}
 use Rattle.source.specs.Thread.{Frame}
 use Rattle.source.specs.Value.{Gives}

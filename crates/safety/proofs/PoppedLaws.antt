@@ -6,7 +6,7 @@ use Rattle.std.specs.Str.{bytes_eq}
 use Rattle.std.proofs.lemmas.Bool.Decides.{Decides-eqb, nat_tests}
 use Rattle.base.specs.Bytes.{Identifier, ByName, lookup}
 use Rattle.jni.specs.Access.{Access}
-use Rattle.regions.specs.RegionStates.{VariableState, ReferenceAt, BufferIn, state_of, killed_from, after_pop}
+use Rattle.region_rules.specs.RegionStates.{VariableState, ReferenceAt, BufferIn, state_of, killed_from, after_pop}
 use Rattle.source.specs.Object.{Reference}
 use Rattle.source.specs.Thread.{Frame}
 use Rattle.source.specs.Variable.{Variable, LocalRef, Variables, Statics}

@@ -13,8 +13,8 @@ use Rattle.source.specs.Checks.{call_trap, first_trap, is_deleted, is_missing, i
 use Rattle.source.specs.Heap.{Heap}
 use Rattle.source.specs.Value.{Trap, ExceptionPending, DeletedReference, NullReference, WrongObject, NoCapacity}
 use Rattle.source.specs.CallTable.{call_effect, go_together}
-use Rattle.regions.specs.RegionStates as states
-use Rattle.regions.specs.RegionStates.{RegionState, get_of}
+use Rattle.region_rules.specs.RegionStates as states
+use Rattle.region_rules.specs.RegionStates.{RegionState, get_of}
 use Rattle.source.specs.Task.{Task, Target, Declared, Assigned, Tested, Dropped, Operand, Invoke}
 use Rattle.source.specs.Thread.{Frame, Thread, Shared, BuffersInUse}
 use Rattle.source.specs.Effect.{Calls}

@@ -7,11 +7,11 @@ use Rattle.std.proofs.lemmas.Slice.Eq.{bytes_eq-Decides}
 use Rattle.base.specs.Bytes.{Identifier, ByName, lookup}
 use Rattle.jni.specs.Access.{Access}
 use Rattle.jni.specs.Prototype.{NewLocal}
-use Rattle.types.specs.Sorts.{Sort, sort_in}
-use Rattle.types.specs.Sorts as sort
+use Rattle.sorts.specs.Sorts.{Sort, sort_in}
+use Rattle.sorts.specs.Sorts as sort
 use Rattle.source.specs.CallEffects.{ReferenceResult, with_local}
 use Rattle.source.specs.CallStep.{put, put_assigned}
-use Rattle.regions.specs.RegionStates.{VariableState, ReferenceAt, BufferIn, with_new, with_changed}
+use Rattle.region_rules.specs.RegionStates.{VariableState, ReferenceAt, BufferIn, with_new, with_changed}
 use Rattle.source.specs.Task.{Task, Target, Declared, Assigned, Tested, Dropped, VariableKind, ScalarKind, ReferenceKind, FieldKind, BufferKind}
 use Rattle.source.specs.Thread.{Thread, Shared, Frame}
 use Rattle.source.specs.Variable.{Variable, LocalRef, Elements, Buffer, Variables, Statics, assign}

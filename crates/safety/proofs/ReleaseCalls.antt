@@ -8,9 +8,9 @@ use Rattle.classes.specs.Class.{Classes}
 use Rattle.jni.specs.Access.{Access, ElementsCopy, ArrayView, CharsCopy, CharsView, is_critical}
 use Rattle.jni.specs.JniFunction.{ReleaseBuffer, PushLocalFrame, prototype}
 use Rattle.jni.specs.Prototype.{GivesNothing, release_mode, Mode}
-use Rattle.types.specs.Sorts.{sort_in}
-use Rattle.regions.specs.RegionStates as states
-use Rattle.regions.specs.RegionStates.{VariableState, Free, Usable, BufferIn, state_of, with_changed, made_free, has_commit}
+use Rattle.sorts.specs.Sorts.{sort_in}
+use Rattle.region_rules.specs.RegionStates as states
+use Rattle.region_rules.specs.RegionStates.{VariableState, Free, Usable, BufferIn, state_of, with_changed, made_free, has_commit}
 use Rattle.source.specs.Arguments.{Actual, look_up, actuals, object_given, mode_in_actual}
 use Rattle.source.specs.CallEffects.{CallEffect, Leaves, NoResult, with_freed, freed, release_effect, copied_elements}
 use Rattle.source.specs.CallStep.{trap_of_call, checked, after_call, call_step}

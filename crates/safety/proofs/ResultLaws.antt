@@ -7,8 +7,8 @@ use Rattle.classes.specs.Class.{Classes}
 use Rattle.classes.specs.Fields.{FieldId}
 use Rattle.jni.specs.Access.{Access}
 use Rattle.jni.specs.Prototype.{ResultKind, NewLocal, NewGlobal, GivesFlag, GivesInt, GivesField, GivesNothing}
-use Rattle.types.specs.Sorts.{Sort, sort_in}
-use Rattle.types.specs.Sorts as sort
+use Rattle.sorts.specs.Sorts.{Sort, sort_in}
+use Rattle.sorts.specs.Sorts as sort
 use Rattle.source.specs.Object.{Reference}
 use Rattle.source.specs.CallEffects.{CallResult, NoResult, NullResult, ScalarResult, ReferenceResult, FieldResult}
 use Rattle.source.specs.CallStep.{put, put_assigned, static_result}
@@ -20,7 +20,7 @@ use Rattle.source.specs.Variable.{Variable, Scalar, LocalRef, FieldHandle, Eleme
 use Rattle.safety.specs.Owners.{Owners}
 use Rattle.safety.specs.Points.{Point}
 use Rattle.safety.specs.Stands.{VariableFits, Stands}
-use Rattle.regions.specs.RegionStates.{with_changed}
+use Rattle.region_rules.specs.RegionStates.{with_changed}
 use Rattle.safety.specs.Wanted.{revived, DeclaresResult, AssignsResult, ResultGoes, GoesOn, at, named}
 use Rattle.safety.proofs.SetLaws.{stands_new, stands_kept}
 use Rattle.safety.proofs.StepLaws.{Lands}

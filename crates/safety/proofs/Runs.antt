@@ -10,8 +10,8 @@ use Rattle.base.specs.Options.{some_passes}
 use Rattle.classes.specs.Class.{Classes}
 use Rattle.syntax.specs.Parts.{functions_of}
 use Rattle.syntax.specs.Tree.{Function, SourceUnit}
-use Rattle.types.specs.Sorts.{Sort, Word, Jint, Flag, Truth, Ref, Global, Buffer, Array, Scope}
-use Rattle.types.specs.Sorts as sort
+use Rattle.sorts.specs.Sorts.{Sort, Word, Jint, Flag, Truth, Ref, Global, Buffer, Array, Scope}
+use Rattle.sorts.specs.Sorts as sort
 use Rattle.source.specs.declared.journal.Entry.{Entry}
 use Rattle.source.specs.declared.journal.Entry.TheVariants.{Step}
 use Rattle.source.specs.Activation.{function_at, class_of_function, entered, entered_function, enter, entry_advance}

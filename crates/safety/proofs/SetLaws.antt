@@ -4,8 +4,8 @@ use Rattle.std.specs.Str.{bytes_eq}
 use Rattle.std.proofs.lemmas.Slice.Eq.{bytes_eq-Decides}
 use Rattle.base.specs.Bytes.{Identifier, ByName, lookup}
 use Rattle.jni.specs.Access.{Access}
-use Rattle.types.specs.Sorts.{Sort, sort_in, Scope}
-use Rattle.regions.specs.RegionStates.{VariableState, Free, Untested, Usable, ReferenceAt, BufferIn, state_of}
+use Rattle.sorts.specs.Sorts.{Sort, sort_in, Scope}
+use Rattle.region_rules.specs.RegionStates.{VariableState, Free, Untested, Usable, ReferenceAt, BufferIn, state_of}
 use Rattle.source.specs.Thread.{Frame}
 use Rattle.source.specs.Variable.{Variable, Elements, LocalRef, Buffer, NoBuffer, Variables, Statics, assign}
 use Rattle.safety.specs.Owners.{Owners}

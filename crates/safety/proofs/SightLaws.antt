@@ -3,8 +3,8 @@ use Rattle.std.proofs.Common.{◌≡◌, ℕ, Bool, true, false, List, Option, S
 use Rattle.std.specs.Prelude.{ℤ, slice_get}
 use Rattle.base.specs.Bytes.{Identifier, lookup}
 use Rattle.jni.specs.Access.{is_critical}
-use Rattle.types.specs.Sorts.{Sort, sort_in}
-use Rattle.types.specs.Sorts as sort
+use Rattle.sorts.specs.Sorts.{Sort, sort_in}
+use Rattle.sorts.specs.Sorts as sort
 use Rattle.source.specs.Heap.{Heap, numbers_of}
 use Rattle.source.specs.Sight.{seen, scalar, variable_is_null, static_is_null, holds_null, elements_of, in_range}
 use Rattle.source.specs.Thread.{Frame}

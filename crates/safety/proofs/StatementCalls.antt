@@ -8,11 +8,11 @@ use Rattle.base.specs.Options.{some_passes}
 use Rattle.syntax.specs.Parts.{argument_expressions, own_expressions, own_call}
 use Rattle.syntax.specs.Tree.{ResultType, Call, TestCall, Stmt, If, IfElse, End}
 use Rattle.jni.specs.JniFunction.{JniFunction, PushLocalFrame, function_named, prototype}
-use Rattle.types.specs.Sorts.{call_arguments_fit, arguments_fit}
-use Rattle.types.specs.SortRules as rules
-use Rattle.types.specs.SortRules.{has_wrong_count, has_wrong_mode, modes_fit, may_be_tested}
-use Rattle.regions.specs.RegionRules.{PopLastFrame, Obeys}
-use Rattle.regions.specs.RegionStates.{VariableState, ReferenceAt, BufferIn, RegionState, FunctionCall, function_called, Release, release_of, deleted_name, pops, made_free, killed, killed_from, with_some_changed, after_release, after_pop, after_call, get_of}
+use Rattle.sorts.specs.Sorts.{call_arguments_fit, arguments_fit}
+use Rattle.sorts.specs.SortRules as rules
+use Rattle.sorts.specs.SortRules.{has_wrong_count, has_wrong_mode, modes_fit, may_be_tested}
+use Rattle.region_rules.specs.RegionRules.{PopLastFrame, Obeys}
+use Rattle.region_rules.specs.RegionStates.{VariableState, ReferenceAt, BufferIn, RegionState, FunctionCall, function_called, Release, release_of, deleted_name, pops, made_free, killed, killed_from, with_some_changed, after_release, after_pop, after_call, get_of}
 use Rattle.source.specs.Task.{Target, Tested, invocation, task_of}
 use Rattle.safety.specs.Points.{Point}
 use Rattle.safety.specs.Wanted.{CallFits, CallKeeps, ResultGoes, RunsPlain, RunsPush, call_seen, is_push, at}

@@ -4,8 +4,8 @@ use Rattle.std.specs.Prelude.{ℤ, pos, slice_set}
 use Rattle.base.specs.Bytes.{Identifier, lookup}
 use Rattle.base.specs.Element.{ElementType}
 use Rattle.classes.specs.Class.{Classes}
-use Rattle.types.specs.Sorts.{Sort, sort_in}
-use Rattle.types.specs.Sorts as sort
+use Rattle.sorts.specs.Sorts.{Sort, sort_in}
+use Rattle.sorts.specs.Sorts as sort
 use Rattle.source.specs.Effect.{Effect, Becomes, Sets, SetsNull, SetsElement, MakesArray, Prints, Calls, Returns, TrapsAt, NoEffect}
 use Rattle.source.specs.Heap.{Heap}
 use Rattle.source.specs.Task.{Task}
@@ -16,7 +16,7 @@ use Rattle.source.specs.Variable.{Variable, Scalar, LocalRef, FieldHandle, Eleme
 use Rattle.safety.specs.Owners.{Owners}
 use Rattle.safety.specs.Points.{Point, IsNumberSort, value_sort, ElementsFit, is_copy, owns}
 use Rattle.safety.specs.Stands.{VariableFits, IsOf, Shows, Goes, Stands}
-use Rattle.regions.specs.RegionStates.{VariableState, Free, Untested, Usable, ReferenceAt, BufferIn, with_new}
+use Rattle.region_rules.specs.RegionStates.{VariableState, Free, Untested, Usable, ReferenceAt, BufferIn, with_new}
 use Rattle.jni.specs.Access.{is_critical}
 use Rattle.safety.specs.Wanted.{Holds, IsNew, SetsNumber, GoesOn, at, named}
 use Rattle.safety.specs.Follows.{Follows}

@@ -3,8 +3,8 @@ use Rattle.std.proofs.Common.{◌≡◌, ℕ, Bool, true, false, not, Some, sym,
 use Rattle.std.specs.Prelude.{ℤ}
 use Rattle.base.specs.Bytes.{Identifier}
 use Rattle.syntax.specs.Tree as tree
-use Rattle.types.specs.Sorts.{Sort, group, sort_in}
-use Rattle.types.specs.Sorts as sort
+use Rattle.sorts.specs.Sorts.{Sort, group, sort_in}
+use Rattle.sorts.specs.Sorts as sort
 use Rattle.source.specs.Sight.{Sight}
 use Rattle.source.specs.Term as term
 use Rattle.source.specs.Term.{Term, Done, Read, IsNull, Prefix, And, Or, Binary, Reduction, done, with_part, and_then, or_else, element_value, index_of, literal, reduce}

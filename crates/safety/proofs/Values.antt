@@ -3,8 +3,8 @@ use Rattle.std.proofs.Common.{◌≡◌, ℕ, Bool, sym, subst}
 use Rattle.std.specs.Prelude.{◌==◌, nat_lt, ℤ, pos, negsuc}
 use Rattle.std.proofs.lemmas.Bool.{cond_both}
 use Rattle.syntax.specs.Tree.{PrefixOp, LogicalNot, Complement, ToWord, ToInt, BinaryOp, LogicalOr, LogicalAnd, BitOr, BitXor, BitAnd, Equal, NotEqual, Less, LessEqual, Greater, GreaterEqual, ShiftLeft, ShiftRight, Add, Subtract, Multiply, Divide, Remainder}
-use Rattle.types.specs.Sorts.{Sort, OperatorGroup, Logic, Equality, Order, OnWords, group}
-use Rattle.types.specs.Sorts as sort
+use Rattle.sorts.specs.Sorts.{Sort, OperatorGroup, Logic, Equality, Order, OnWords, group}
+use Rattle.sorts.specs.Sorts as sort
 use Rattle.source.specs.Term.{index_of}
 use Rattle.source.specs.Value.{Value, Word, Int, Flag, Truth, Outcome, Gives, Traps, Stuck, on_words, on_ints, on_flags, binary_value, prefix_value, DivisionByZero, ShiftTooFar}
 use Rattle.safety.specs.Points.{value_sort, IsNumberSort, IsIndexSort, OperatorFits, PrefixFits}

@@ -8,11 +8,11 @@ use Rattle.base.specs.Options.{some_passes}
 use Rattle.syntax.specs.Parts.{statements_of, statements_within, declared_name, names_declared}
 use Rattle.syntax.specs.Tree as tree
 use Rattle.syntax.specs.Tree.{ResultType, Expr, Test, TestExpr, TestCall, Stmt, If, IfElse, While, Block, End, Next}
-use Rattle.types.specs.Sorts.{Sort, Truth, sort_in, sort_of, is_truth}
-use Rattle.types.specs.SortRules.{has_name, with_declared, places_within, places_of}
-use Rattle.regions.specs.RegionRules.{Obeys}
-use Rattle.regions.specs.RegionStates.{VariableState, Free, Untested, Usable, ReferenceAt, BufferIn, RegionState, state_of, made_free, with_changed}
-use Rattle.regions.specs.Regions.{made_usable, where_true, where_false, left, holds_own, Way, On, Returned, Join, ComesBack, Keeps, KeepsBlock}
+use Rattle.sorts.specs.Sorts.{Sort, Truth, sort_in, sort_of, is_truth}
+use Rattle.sorts.specs.SortRules.{has_name, with_declared, places_within, places_of}
+use Rattle.region_rules.specs.RegionRules.{Obeys}
+use Rattle.region_rules.specs.RegionStates.{VariableState, Free, Untested, Usable, ReferenceAt, BufferIn, RegionState, state_of, made_free, with_changed}
+use Rattle.region_rules.specs.Regions.{made_usable, where_true, where_false, left, holds_own, Way, On, Returned, Join, ComesBack, Keeps, KeepsBlock}
 use Rattle.source.specs.Task.{task_of}
 use Rattle.source.specs.Term.{term_of}
 use Rattle.safety.specs.Points.{Point}
@@ -24,7 +24,7 @@ use Rattle.safety.proofs.ExpressionFits.{expression_fits}
 use Rattle.safety.proofs.KeptPlaces.{IsKept, own_kept, inside_kept}
 use Rattle.safety.proofs.KnownPoints.{IsKnown, Covers, known_more, Kin, kin_same, known_changed, IsWithin, end_point, known_end, closes_end}
 use Rattle.safety.proofs.NameLaws.{front_other}
-use Rattle.regions.proofs.PlaceLists.{AreUnbroken, front_unbroken, back_unbroken}
+use Rattle.sorts.proofs.PlaceLists.{AreUnbroken, front_unbroken, back_unbroken}
 
 -- ---- taken names
 

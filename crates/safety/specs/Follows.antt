@@ -1,6 +1,6 @@
 -- What the effect of a task's step has to meet: the point after it has what is wanted of the tasks that are left.
 use Rattle.std.specs.Prelude.{◌≡◌, List, ◌++◌, IsTrue}
-use Rattle.types.specs.Sorts.{Array, sort_in}
+use Rattle.sorts.specs.Sorts.{Array, sort_in}
 use Rattle.source.specs.Arguments.{actuals}
 use Rattle.source.specs.Effect.{Effect, Becomes, Sets, SetsNull, SetsElement, MakesArray, Prints, Calls, Returns, TrapsAt, NoEffect, is_ready}
 use Rattle.source.specs.Sight.{Sight}

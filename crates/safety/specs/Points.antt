@@ -5,9 +5,9 @@ use Rattle.syntax.specs.Tree as tree
 use Rattle.syntax.specs.Tree.{PrefixOp, LogicalNot, Complement, ToWord, ToInt, Expr, Argument}
 use Rattle.jni.specs.Access.{Access}
 use Rattle.jni.specs.Prototype.{ParameterKind, FieldID, IntNumber, TextBytes, LocalVariable, StaticVariable, ArrayVariable, BufferVariable, Mode, IsCopy}
-use Rattle.types.specs.Sorts.{Sort, Word, Jint, Flag, Truth, Ref, Global, FieldId, Buffer, Array, Scope, OperatorGroup, Logic, Equality, Order, OnWords, group, sort_in}
-use Rattle.types.specs.Sorts as sort
-use Rattle.regions.specs.RegionStates.{RegionState, VariableState, ReferenceAt, BufferIn, Usable, state_of}
+use Rattle.sorts.specs.Sorts.{Sort, Word, Jint, Flag, Truth, Ref, Global, FieldId, Buffer, Array, Scope, OperatorGroup, Logic, Equality, Order, OnWords, group, sort_in}
+use Rattle.sorts.specs.Sorts as sort
+use Rattle.region_rules.specs.RegionStates.{RegionState, VariableState, ReferenceAt, BufferIn, Usable, state_of}
 use Rattle.source.specs.Variable.{Variable, LocalRef, Variables}
 use Rattle.source.specs.Task.{Operand, NumberOperand, Given}
 use Rattle.source.specs.Term as term

@@ -7,11 +7,11 @@ use Rattle.syntax.specs.Tree.{SourceUnit}
 use Rattle.classes.specs.Class.{Classes}
 use Rattle.classes.specs.Fields.{FieldId}
 use Rattle.jni.specs.Access.{Access, is_critical}
-use Rattle.types.specs.Sorts.{Sort, Word, Jint, Flag, Truth, Ref, Global, Buffer, Array, sort_in}
-use Rattle.types.specs.Sorts as sort
+use Rattle.sorts.specs.Sorts.{Sort, Word, Jint, Flag, Truth, Ref, Global, Buffer, Array, sort_in}
+use Rattle.sorts.specs.Sorts as sort
 use Rattle.source.specs.Object.{Reference}
 use Rattle.source.specs.Load.{call_loads}
-use Rattle.regions.specs.RegionStates.{VariableState, BufferState, Free, Untested, Usable, ReferenceAt, BufferIn, state_of}
+use Rattle.region_rules.specs.RegionStates.{VariableState, BufferState, Free, Untested, Usable, ReferenceAt, BufferIn, state_of}
 use Rattle.source.specs.State.{State}
 use Rattle.source.specs.Step.{is_unfinished}
 use Rattle.source.specs.Task.{Task}

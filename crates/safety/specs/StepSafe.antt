@@ -5,7 +5,7 @@ use Rattle.base.specs.Bytes.{Identifier, lookup}
 use Rattle.syntax.specs.Tree.{SourceUnit}
 use Rattle.jni.specs.JniFunction.{JniFunction, ReleaseBuffer, prototype}
 use Rattle.jni.specs.Prototype.{NewLocal}
-use Rattle.types.specs.SortRules.{IsSorted}
+use Rattle.sorts.specs.SortRules.{IsSorted}
 use Rattle.source.specs.declared.journal.Entry.TheVariants.{Step}
 use Rattle.source.specs.Journal.{Journal}
 use Rattle.source.specs.World.{Invocation, World}
@@ -14,8 +14,8 @@ use Rattle.source.specs.Checks.{frames_after}
 use Rattle.source.specs.Effect.{Calls, Returns}
 use Rattle.source.specs.Load.{Loads}
 use Rattle.source.specs.Object.{Reference}
-use Rattle.regions.specs.RegionRules.{is_critical_call}
-use Rattle.regions.specs.Regions.{HasRegions}
+use Rattle.region_rules.specs.RegionRules.{is_critical_call}
+use Rattle.region_rules.specs.Regions.{HasRegions}
 use Rattle.source.specs.Run.{replay}
 use Rattle.source.specs.State.{State, thread_at}
 use Rattle.source.specs.Step.{can_step, world_step}

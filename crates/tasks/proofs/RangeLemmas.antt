@@ -20,7 +20,7 @@ use Rattle.syntax.specs.Limits.{IsTree, numbers_in_range}
 use Rattle.syntax.specs.Parts.{argument_expressions, functions_of, statements_of, statements_within}
 use Rattle.syntax.specs.Views.{argument_tree, stmt_tree, block_tree, statements_tree, function_tree, unit_tree}
 use Rattle.syntax.proofs.Blocks.{block_is}
-use Rattle.types.specs.BuiltCalls.{calls_are_built}
+use Rattle.sorts.specs.BuiltCalls.{calls_are_built}
 use Rattle.source.specs.Activation.{function_at}
 use Rattle.source.specs.Task.{Task, operand, task_of, tasks_of}
 use Rattle.call_checks.specs.declared.operand.Operand.{Operand}

@@ -13,7 +13,7 @@ use Rattle.syntax.specs.Tree.{Argument, Call, Expr, RightSide, Test, TestExpr, T
 use Rattle.syntax.specs.Views.{expr_tree, element_tree, stmt_tree, block_tree}
 use Rattle.jni.specs.JniFunction.{is_built_function}
 use Rattle.jni.specs.Table.{function_value}
-use Rattle.types.specs.BuiltCalls.{is_built_call, calls_unbuilt}
+use Rattle.sorts.specs.BuiltCalls.{is_built_call, calls_unbuilt}
 use Rattle.source.specs.Task.{Task, SetScalar, SetElement, SetNull, MakeArray, Invoke, Print, Branch, EndIf, Loop, EndTurn, Return, ReturnValue, task_of}
 use Rattle.tasks.specs.declared.outcome.End.{End as EndInMemory}
 use Rattle.tasks.specs.declared.outcome.End.TheVariants as end

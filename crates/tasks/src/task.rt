@@ -6,7 +6,7 @@ ghost use Rattle.jni.specs.Table.{parameter_value};
 ghost use Rattle.syntax.specs.Views.{argument_tree, call_tree, stmt_tree, expr_tree, right_side_tree, test_tree, block_tree};
 ghost use Rattle.syntax.specs.Limits.{numbers_in_range};
 ghost use Rattle.syntax.specs.Parts.{argument_expressions};
-ghost use Rattle.types.specs.BuiltCalls.{is_built_call};
+ghost use Rattle.sorts.specs.BuiltCalls.{is_built_call};
 ghost use Rattle.source.specs.Task.{Declared, Loop, Print, ReturnValue, SetElement, set_task, right_side_task, if_task, task_of, call_task, operand};
 ghost use Rattle.source.specs.Term.{term_of};
 ghost use Rattle.tasks.specs.Outcomes.{else_tree, kind_view, purpose_view, target_view};

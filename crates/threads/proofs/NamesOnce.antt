@@ -8,15 +8,14 @@ use Rattle.std.proofs.lemmas.List.{map-append}
 use Rattle.base.specs.Bytes.{Identifier, ByName, lookup}
 use Rattle.syntax.specs.Parts.{functions_of, parameter_names}
 use Rattle.syntax.specs.Tree.{Void, Parameter, Function, Item, StaticItem, FunctionItem, SourceUnit}
-use Rattle.types.specs.Sorts.{Ref, Global, Scope}
-use Rattle.types.specs.SortRules.{Place, StaticForm, HeadForm, has_name, has_repeated, broken_at, parameter_sort, places_of, function_places, item_places, IsSorted}
+use Rattle.sorts.specs.Sorts.{Ref, Global, Scope}
+use Rattle.sorts.specs.SortRules.{Place, StaticForm, HeadForm, has_name, has_repeated, broken_at, parameter_sort, places_of, function_places, item_places, IsSorted}
 use Rattle.source.specs.Activation.{function_at, parameter_variables}
 use Rattle.source.specs.Object.{ObjectValue, Number, Refers}
 use Rattle.source.specs.Start.{null_statics}
 use Rattle.source.specs.Value.{Int}
 use Rattle.source.specs.Variable.{Variable, Scalar, LocalRef, Variables, StaticReference, Empty, Statics, assign}
-use Rattle.regions.proofs.OnceLemmas.{not_twice}
-use Rattle.regions.proofs.PlaceLists.{AreUnbroken, first_empty, second_empty, front_unbroken, back_unbroken, first_false, second_false}
+use Rattle.sorts.proofs.PlaceLists.{AreUnbroken, first_empty, second_empty, front_unbroken, back_unbroken, first_false, second_false, not_twice}
 use Rattle.terms.specs.Views.{assign_all}
 
 -- ---- a name that is new

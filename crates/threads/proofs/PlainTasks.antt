@@ -10,7 +10,7 @@ use Rattle.syntax.specs.Tree as tree
 use Rattle.syntax.specs.Tree.{SourceUnit, Call, Expr, Block, True, False, Commit, Abort, Null}
 use Rattle.syntax.specs.Views.{stmt_tree}
 use Rattle.classes.specs.Class.{Classes}
-use Rattle.types.specs.BuiltCalls.{is_built_call}
+use Rattle.sorts.specs.BuiltCalls.{is_built_call}
 use Rattle.jni.specs.JniFunction.{JniFunction, is_built_function, function_named}
 use Rattle.source.specs.Arguments.{Actual, actuals}
 use Rattle.source.specs.CallStep.{waits_with}

@@ -4,8 +4,8 @@ ghost use Rattle.std.specs.Prelude.{◌≡◌, ◌++◌, ◌∷◌, [], IfOk, Is
 ghost use Rattle.std.specs.Option.{option_map};
 ghost use Rattle.syntax.specs.Limits.{IsTree};
 ghost use Rattle.syntax.specs.Views.{function_tree, parameter_tree, unit_tree};
-ghost use Rattle.types.specs.BuiltCalls.{calls_are_built};
-ghost use Rattle.types.specs.SortRules.{IsSorted};
+ghost use Rattle.sorts.specs.BuiltCalls.{calls_are_built};
+ghost use Rattle.sorts.specs.SortRules.{IsSorted};
 ghost use Rattle.world.specs.Views.{object_value_view};
 ghost use Rattle.source.specs.Activation.{parameter_variables, class_of_function, named_object, entry_frame, ending_after, calls_after};
 ghost use Rattle.source.specs.Step.{is_unfinished};

@@ -24,9 +24,9 @@ use Rattle.syntax.proofs.stmt.Form.TheLaws.TheKnot as form
 use Rattle.syntax.specs.contracts.unit.Unit as unit
 use Rattle.syntax.specs.contracts.unit.Unit.TheInside as unit-inside
 use Rattle.syntax.specs.contracts.unit.Item as item
-use Rattle.types.specs.contracts.typed.Typed as typed
-use Rattle.regions.specs.contracts.checked.Checked as checked
-use Rattle.regions.specs.contracts.checked.Checked.TheInside as checked-inside
+use Rattle.sorts.specs.contracts.typed.Typed as typed
+use Rattle.region_rules.specs.contracts.checked.Checked as checked
+use Rattle.region_rules.specs.contracts.checked.Checked.TheInside as checked-inside
 use Rattle.code.specs.contracts.code.Code as code
 use Rattle.code.specs.contracts.code.Code.TheInside as code-inside
 use Rattle.code.specs.contracts.instr.Instr as instr
@@ -49,7 +49,7 @@ use Rattle.two_threads.specs.contracts.desk.Desk.TheInside as desk-inside
 use Rattle.machine.specs.contracts.machine.Machine.TheInside as machine-inside
 use Rattle.lower.specs.contracts.program.Program as program
 use Rattle.lower.specs.contracts.program.Program.TheInside as program-inside
-use Rattle.types.specs.contracts.typed.Typed.TheInside as inside
+use Rattle.sorts.specs.contracts.typed.Typed.TheInside as inside
 
 -- ---- what a machine borrows
 

@@ -8,9 +8,9 @@ use Rattle.syntax.specs.Parts.{statements_of, statements_within, names_declared,
 use Rattle.syntax.specs.Tree.{ResultType}
 use Rattle.syntax.specs.Views.{stmt_tree, statements_tree}
 use Rattle.types.specs.declared.sort.Sort.{Sort as SortInMemory}
-use Rattle.types.specs.Sorts.{Scope}
-use Rattle.types.specs.SortRules.{places_of, with_declared}
-use Rattle.types.specs.BuiltCalls.{refused_at}
+use Rattle.sorts.specs.Sorts.{Scope}
+use Rattle.sorts.specs.SortRules.{places_of, with_declared}
+use Rattle.sorts.specs.BuiltCalls.{refused_at}
 use Rattle.types.specs.Faults.{IsAbove, found, statement_place, places_inside}
 use Rattle.types.proofs.PlaceLemmas.{found-statement}
 

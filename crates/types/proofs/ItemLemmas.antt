@@ -11,9 +11,9 @@ use Rattle.syntax.specs.Parts.{parameter_names, item_name}
 use Rattle.syntax.specs.Tree.{Void, Item, StaticItem, FunctionItem}
 use Rattle.syntax.specs.Views.{parameter_type_tree, parameter_tree, function_tree, static_tree, item_tree, result_tree, block_tree}
 use Rattle.types.specs.declared.sort.Sort.{Sort as SortInMemory}
-use Rattle.types.specs.Sorts.{Sort, Ref, Scope}
-use Rattle.types.specs.SortRules.{Place, StaticForm, HeadForm, UnknownName, DeclaredTwice, has_name, has_repeated, parameter_sort, places_of, function_places, item_places}
-use Rattle.types.specs.BuiltCalls.{refuses, refused_at}
+use Rattle.sorts.specs.Sorts.{Sort, Ref, Scope}
+use Rattle.sorts.specs.SortRules.{Place, StaticForm, HeadForm, UnknownName, DeclaredTwice, has_name, has_repeated, parameter_sort, places_of, function_places, item_places}
+use Rattle.sorts.specs.BuiltCalls.{refuses, refused_at}
 use Rattle.types.specs.Faults.{broken_if, found, scope_of, entry_scope, head_faults, own_places, with_static}
 use Rattle.types.proofs.RuleLemmas.{listed}
 use Rattle.types.proofs.PlaceLemmas.{found-none, found-append, found-next}

@@ -1,7 +1,6 @@
 pub mod FindsLemmas
 pub mod RuleLemmas
 pub mod SortLemmas
-pub mod UseLemmas
 pub mod StatementLemmas
 pub mod ArgumentLemmas
 mod CalledLemmas
@@ -11,4 +10,3 @@ pub mod ItemLemmas
 pub mod UnitLemmas
 pub mod FormedLemmas
 pub mod KnownLemmas
-pub mod KnownDeclarations

@@ -14,9 +14,9 @@ use Rattle.types.specs.declared.fault.TypeFault.{TypeFault}
 use Rattle.types.specs.declared.fault.TypeFault.TheVariants.{Memory, Broken}
 use Rattle.types.specs.declared.sort.Sort.{Sort as SortInMemory}
 use Rattle.types.specs.declared.sort.Sort.TheVariants as sorts
-use Rattle.types.specs.Sorts.{Sort, Word, Jint, Flag, Truth, Ref, Global, FieldId, Buffer, Array, Scope}
-use Rattle.types.specs.SortRules.{SortRule, UnknownName, DeclaredTwice, SortMisfit, UnknownFunction, ArgumentCount, ReferenceCopied, BadMode, ReadOnlyWrite, Place, StaticForm, StatementForm, places_of, function_places, has_name, has_repeated, parameter_sort}
-use Rattle.types.specs.BuiltCalls.{refuses, refused_at}
+use Rattle.sorts.specs.Sorts.{Sort, Word, Jint, Flag, Truth, Ref, Global, FieldId, Buffer, Array, Scope}
+use Rattle.sorts.specs.SortRules.{SortRule, UnknownName, DeclaredTwice, SortMisfit, UnknownFunction, ArgumentCount, ReferenceCopied, BadMode, ReadOnlyWrite, Place, StaticForm, StatementForm, places_of, function_places, has_name, has_repeated, parameter_sort}
+use Rattle.sorts.specs.BuiltCalls.{refuses, refused_at}
 
 -- the rule of the definitions
 abbrev pub rule_of : RuleInMemory → SortRule

@@ -3,11 +3,11 @@
 ghost use Rattle.std.specs.Prelude.{◌≡◌, ℕ, [], ◌∷◌, ◌++◌, OnOk};
 ghost use Rattle.syntax.specs.Parts.{statements_of, statements_within, names_declared};
 ghost use Rattle.syntax.specs.Views.{form_tree, block_tree, result_tree};
-ghost use Rattle.types.specs.SortRules.{places_of, with_declared};
+ghost use Rattle.sorts.specs.SortRules.{places_of, with_declared};
 ghost use Rattle.types.specs.Faults.{Finds, IsAbove, sort_value, scope_of, found, places_inside};
 
 use crate::fault::TypeFault;
-use crate::known::Known;
+use sorts::Known;
 use crate::scope::take;
 use crate::sort::{Sort, variable_sort};
 use crate::statements::check_statement;

@@ -3,12 +3,12 @@
 ghost use Rattle.std.specs.Prelude.{◌≡◌, [], ◌∷◌, OnOk, map};
 ghost use Rattle.syntax.specs.Parts.{item_name};
 ghost use Rattle.syntax.specs.Views.{function_tree, item_tree};
-ghost use Rattle.types.specs.SortRules.{DeclaredTwice, has_name, function_places, item_places};
+ghost use Rattle.sorts.specs.SortRules.{DeclaredTwice, has_name, function_places, item_places};
 ghost use Rattle.types.specs.Faults.{Finds, broken_if, scope_of, sort_value, found, head_faults, own_places, with_static};
 
 use crate::blocks::check_block;
 use crate::fault::{SortRule, TypeFault, refuse_if};
-use crate::known::Known;
+use sorts::Known;
 use crate::scope::{enter, has_name, has_repeated};
 use crate::sort::Sort;
 use classes::mangling::is_mangled;

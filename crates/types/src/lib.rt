@@ -6,13 +6,11 @@ mod calls;
 mod expressions;
 mod fault;
 mod items;
-mod known;
 mod scope;
 mod sort;
 mod statements;
 mod typed;
 
 pub use fault::{Fault, SortRule, TypeFault};
-pub use known::Known;
-pub use statements::own_call;
-pub use typed::{Typed, type_unit};
+pub use sorts::Typed;
+pub use typed::type_unit;

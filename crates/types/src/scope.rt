@@ -2,12 +2,12 @@
 
 ghost use Rattle.std.specs.Prelude.{◌≡◌, [], ◌∷◌, ◌++◌, OnOk, map, bytes_eq};
 ghost use Rattle.std.specs.Option.{option_map};
-ghost use Rattle.types.specs.Sorts.{sort_in, is_unknown};
-ghost use Rattle.types.specs.SortRules.{has_name, has_repeated, parameter_sort};
+ghost use Rattle.sorts.specs.Sorts.{sort_in, is_unknown};
+ghost use Rattle.sorts.specs.SortRules.{has_name, has_repeated, parameter_sort};
 ghost use Rattle.syntax.specs.Views.{parameter_type_tree};
 ghost use Rattle.types.specs.Faults.{IsAbove, scope_of, sort_value, entry_scope};
 
-use crate::known::Known;
+use sorts::Known;
 use crate::sort::{Sort, parameter_sort};
 use std::alloc::{AllocError, Global};
 use syntax::{Function, Name, Parameter};

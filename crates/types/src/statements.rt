@@ -9,12 +9,12 @@ ghost use Rattle.syntax.specs.Tree.{Void};
 ghost use Rattle.syntax.specs.Views.{expr_tree, right_side_tree, test_tree, call_tree, form_tree, stmt_tree, result_tree};
 ghost use Rattle.jni.specs.JniFunction.{function_named};
 ghost use Rattle.jni.specs.Table.{function_value};
-ghost use Rattle.types.specs.Sorts.{sort_in, is_unknown, sort_of, has_elements, is_index, is_jint, call_arguments_fit};
-ghost use Rattle.types.specs.SortRules.{is_formed, value_sets, right_side_sets, buffer_begins, test_fits, return_fits, statement_fits, copies_reference, sort_rules, UnknownName, DeclaredTwice, SortMisfit, UnknownFunction, ArgumentCount, ReferenceCopied, BadMode, ReadOnlyWrite, breaks_sort_rule};
-ghost use Rattle.types.specs.BuiltCalls.{calls_unbuilt, refused_at};
+ghost use Rattle.sorts.specs.Sorts.{sort_in, is_unknown, sort_of, has_elements, is_index, is_jint, call_arguments_fit};
+ghost use Rattle.sorts.specs.SortRules.{is_formed, value_sets, right_side_sets, buffer_begins, test_fits, return_fits, statement_fits, copies_reference, sort_rules, UnknownName, DeclaredTwice, SortMisfit, UnknownFunction, ArgumentCount, ReferenceCopied, BadMode, ReadOnlyWrite, breaks_sort_rule};
+ghost use Rattle.sorts.specs.BuiltCalls.{calls_unbuilt, refused_at};
 ghost use Rattle.types.specs.Called.{function_in, call_of_test};
 ghost use Rattle.types.specs.Faults.{scope_of, sort_value, Finds, statement_place, refused_of};
-ghost use Rattle.types.specs.Uses.{right_uses, test_uses, uses};
+ghost use Rattle.sorts.specs.Uses.{right_uses, test_uses, uses};
 
 use crate::calls::{
     call_arguments_fit, call_fits, call_formed, call_unknown, has_wrong_count, has_wrong_mode,
@@ -22,7 +22,7 @@ use crate::calls::{
 };
 use crate::expressions::{has_unknown, is_null, name_sort, sort_of};
 use crate::fault::{SortRule, TypeFault, refuse_if};
-use crate::known::Known;
+use sorts::{Known, own_call};
 use crate::scope::{has_name, is_unknown, sort_in};
 use crate::sort::{
     Sort, has_elements, is_flag, is_index, is_jint, is_read_only, is_ref, is_truth, is_word,
@@ -30,22 +30,6 @@ use crate::sort::{
 };
 use jni::{JniFunction, function_named};
 use syntax::{Call, ElementType, Expr, Form, Name, ResultType, RightSide, Stmt, Test};
-
-/// The call that a statement makes.
-pub fn own_call(form: &Form) -> Option<&Call>
-    ensures { (line : ℕ) → option_map (λ c. call_tree c.now) result ≡ own_call (form_tree line form.now) }
-{
-    match form {
-        Form::Declare(_, _, RightSide::Call(c)) => Some(c),
-        Form::DeclareBuffer(_, _, RightSide::Call(c)) => Some(c),
-        Form::DeclareChars(_, RightSide::Call(c)) => Some(c),
-        Form::Assign(_, RightSide::Call(c)) => Some(c),
-        Form::Perform(c) => Some(c),
-        Form::If(Test::Call(c), _) => Some(c),
-        Form::IfElse(Test::Call(c), _, _) => Some(c),
-        _ => None,
-    }
-}
 
 /// The function that a statement calls, if it is known.
 fn function_called(form: &Form) -> Option<JniFunction>

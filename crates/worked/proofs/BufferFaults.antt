@@ -2,7 +2,7 @@
 use Rattle.std.specs.Prelude.{◌∷◌, true, false, [], codes, refl}
 use Rattle.base.specs.Element.{JInt}
 use Rattle.syntax.specs.Tree.{Assign, AssignElement, Binary, Commit, Declare, DeclareBuffer, Element, Equal, FromCall, FromExpr, If, JIntArray, JObject, Named, NotEqual, Null, Number, Perform, PutJint, ReferenceVariable, Return, SourceUnit, TestCall, TestExpr, Value, Variable, Void}
-use Rattle.regions.specs.RegionRules.{CallWhileCritical, HeldBuffer, UntestedBuffer, WrongBuffer, ArrayInUse}
+use Rattle.region_rules.specs.RegionRules.{CallWhileCritical, HeldBuffer, UntestedBuffer, WrongBuffer, ArrayInUse}
 use Rattle.worked.specs.Claims.{IsRefused}
 use Rattle.worked.proofs.Programs.{unit_of, native, block, static_reference, reference_parameter, call, given}
 use Rattle.worked.proofs.Computed.{opened, bad_way}

@@ -12,7 +12,7 @@ use Rattle.classes.specs.BuiltIns.{built_ins}
 use Rattle.classes.specs.Class.{Classes}
 use Rattle.classes.specs.Mangling.{unmangle}
 use Rattle.jni.specs.JniFunction.{function_named}
-use Rattle.types.specs.SortRules.{SortRule, sort_rule_number, IsSorted}
+use Rattle.sorts.specs.SortRules.{SortRule, sort_rule_number, IsSorted}
 use Rattle.source.specs.declared.journal.Entry.{Entry}
 use Rattle.source.specs.declared.journal.Entry.TheVariants.{Step}
 use Rattle.source.specs.declared.schedule.ScheduleWord.{ScheduleWord}
@@ -39,7 +39,7 @@ use Rattle.source.specs.Checks.{call_trap}
 use Rattle.regions.specs.Findings.{first_fault}
 use Rattle.source.specs.Load.{first_load_fault}
 use Rattle.source.specs.Reachable.{live_size}
-use Rattle.regions.specs.RegionRules.{RegionRule, region_rule_number}
+use Rattle.region_rules.specs.RegionRules.{RegionRule, region_rule_number}
 use Rattle.source.specs.ReportOf.{report}
 use Rattle.source.specs.Run.{Follows, Over, Collects, Waits, Steps, IsFair, Fits, FitsUnmarked, IsFairMarked, EachFrom, made_between, made, wanted, replay}
 use Rattle.report.specs.RunText.{Writes}

@@ -2,7 +2,7 @@
 use Rattle.std.specs.Prelude.{◌∷◌, true, false, [], codes, refl}
 use Rattle.base.specs.Element.{JInt}
 use Rattle.syntax.specs.Tree.{Assign, Binary, Declare, DeclareBuffer, Equal, FromCall, FromExpr, If, IfElse, JIntArray, JIntVariable, JObject, Named, Null, Number, Perform, PutJint, ReferenceVariable, Return, SourceUnit, TestCall, TestExpr, Value, Void, While}
-use Rattle.regions.specs.RegionRules.{HeldBuffer, ReturnInFrame, PopLastFrame, DeadReference, WaysDiffer, WrongLevel, NoReturn}
+use Rattle.region_rules.specs.RegionRules.{HeldBuffer, ReturnInFrame, PopLastFrame, DeadReference, WaysDiffer, WrongLevel, NoReturn}
 use Rattle.worked.specs.Claims.{IsRefused}
 use Rattle.worked.proofs.Programs.{unit_of, native, block, reference_parameter, call, given}
 use Rattle.worked.proofs.Computed.{opened, bad_way}

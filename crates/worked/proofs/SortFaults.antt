@@ -2,7 +2,7 @@
 use Rattle.std.specs.Prelude.{◌∷◌, true, false, [], codes, refl}
 use Rattle.base.specs.Element.{JInt}
 use Rattle.syntax.specs.Tree.{Add, Assign, AssignElement, Binary, Declare, DeclareBuffer, DeclareChars, Equal, FromCall, FromExpr, If, JIntArray, JIntVariable, JObject, JString, Named, Null, Number, Perform, PutJint, ReferenceVariable, Return, SourceUnit, TestExpr, UInt32, Value, Variable, Void}
-use Rattle.types.specs.SortRules.{UnknownName, DeclaredTwice, SortMisfit, UnknownFunction, ArgumentCount, ReferenceCopied, BadMode, ReadOnlyWrite}
+use Rattle.sorts.specs.SortRules.{UnknownName, DeclaredTwice, SortMisfit, UnknownFunction, ArgumentCount, ReferenceCopied, BadMode, ReadOnlyWrite}
 use Rattle.worked.specs.Claims.{IsRefused}
 use Rattle.worked.proofs.Programs.{unit_of, native, block, static_reference, reference_parameter, int_parameter, call, given}
 use Rattle.worked.proofs.Computed.{opened, badly_sorted}

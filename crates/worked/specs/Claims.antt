@@ -2,7 +2,7 @@
 use Rattle.std.specs.Prelude.{◌≡◌, ℕ, ◌+◌, List, ◌∷◌, ◌++◌, length, Option, Some, None, slice_get}
 use Rattle.syntax.specs.Limits.{IsTree}
 use Rattle.syntax.specs.Tree.{SourceUnit}
-use Rattle.types.specs.SortRules.{SortRule, sort_rule_number, IsSorted, broken}
+use Rattle.sorts.specs.SortRules.{SortRule, sort_rule_number, IsSorted, broken}
 use Rattle.source.specs.declared.journal.Entry.{Entry}
 use Rattle.source.specs.Journal.{Journal}
 use Rattle.texts.specs.JournalMeaning.{IsJournalText}
@@ -10,10 +10,10 @@ use Rattle.source.specs.Schedule.{Schedule}
 use Rattle.texts.specs.ScheduleText.{IsScheduleText}
 use Rattle.source.specs.World.{World}
 use Rattle.world.specs.WorldRules.{IsWorldText}
-use Rattle.regions.specs.FirstFaults.{IsFirstRegionFault}
+use Rattle.region_rules.specs.FirstFaults.{IsFirstRegionFault}
 use Rattle.source.specs.Load.{first_load_fault}
-use Rattle.regions.specs.RegionRules.{RegionRule, region_rule_number}
-use Rattle.regions.specs.Regions.{HasRegions}
+use Rattle.region_rules.specs.RegionRules.{RegionRule, region_rule_number}
+use Rattle.region_rules.specs.Regions.{HasRegions}
 use Rattle.source.specs.Run.{JournalFollows, UnmarkedFit, MarkedAreFair, replay}
 use Rattle.report.specs.RunText.{Writes}
 use Rattle.source.specs.State.{State}

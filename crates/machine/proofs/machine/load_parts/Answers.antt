@@ -1,5 +1,5 @@
-use Rattle.types.specs.SortRules.{IsSorted}
-use Rattle.regions.specs.Regions.{HasRegions}
+use Rattle.sorts.specs.SortRules.{IsSorted}
+use Rattle.region_rules.specs.Regions.{HasRegions}
 use Rattle.machine.proofs.SafeLoads.{all_load, all_have_calls}
 use Rattle.std.proofs.Common.{◌≡◌, ℕ, List, [], Option, length, replicate, refl, sym, ap, ◌∙◌, subst, arith}
 use Rattle.syntax.specs.Views.{unit_tree}

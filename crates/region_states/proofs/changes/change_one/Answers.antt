@@ -1,7 +1,7 @@
 use Rattle.std.proofs.Common.{List, map, sym, ap, ◌∙◌, arith}
 use Rattle.std.proofs.Math.ListN.{length-set}
 use Rattle.region_states.specs.Changes.{change_value}
-use Rattle.region_states.specs.RegionStates.{RegionState, VariableState, with_changed}
+use Rattle.region_rules.specs.RegionStates.{RegionState, VariableState, with_changed}
 use Rattle.region_states.specs.SameStates.{NamedState}
 use Rattle.region_states.specs.StatesInMemory.{variable_state, one_of}
 use Rattle.region_states.proofs.ScopeLemmas.{changed_none}

@@ -1,6 +1,6 @@
 use Rattle.std.proofs.Common.{List, map, sym, ap, ◌∙◌, arith}
 use Rattle.std.proofs.Math.ListN.{length-set}
-use Rattle.region_states.specs.RegionStates.{RegionState, VariableState, with_changed, made_free}
+use Rattle.region_rules.specs.RegionStates.{RegionState, VariableState, with_changed, made_free}
 use Rattle.region_states.specs.SameStates.{NamedState}
 use Rattle.region_states.specs.StatesInMemory.{variable_state, one_of}
 use Rattle.region_states.proofs.ScopeLemmas.{changed_none}

@@ -1,7 +1,7 @@
 use Rattle.std.proofs.Common.{◌<◌, length, ap, ◌∙◌, arith}
 use Rattle.std.proofs.Math.ListN.{length-set}
 use Rattle.region_states.specs.declared.states.VariableState.{VariableState as VariableStateInMemory}
-use Rattle.region_states.specs.RegionStates.{killed_from}
+use Rattle.region_rules.specs.RegionStates.{killed_from}
 use Rattle.region_states.specs.StatesInMemory.{variable_state}
 use Rattle.region_states.proofs.ChangeLemmas.{change_more}
 use Rattle.region_states.proofs.changes.kill_from.Goals as goal

@@ -1,5 +1,5 @@
 use Rattle.std.proofs.Common.{◌≡◌, ◌++◌, drop, take, map, length}
-use Rattle.region_states.specs.RegionStates.{killed_from}
+use Rattle.region_rules.specs.RegionStates.{killed_from}
 use Rattle.region_states.specs.StatesInMemory.{variable_state}
 use Rattle.region_states.proofs.changes.kill_from.Given as goal
 

@@ -5,7 +5,7 @@ use Rattle.base.specs.Bytes.{Identifier}
 use Rattle.syntax.specs.Views.{form_tree}
 use Rattle.region_states.specs.StateEffects.{EffectCall, made_value}
 use Rattle.region_states.specs.Judgements.{settled, after_judged}
-use Rattle.region_states.specs.RegionStates.{RegionState}
+use Rattle.region_rules.specs.RegionStates.{RegionState}
 use Rattle.region_states.specs.NewNames.{own_names, AreNew}
 use Rattle.region_states.specs.StatesInMemory.{names_of}
 use Rattle.region_states.proofs.NameLemmas.{effected_names}

@@ -1,7 +1,7 @@
 use Rattle.std.proofs.Common.{ℕ, List, length, map, sym, ap, ap₂, ◌∙◌}
 use Rattle.std.specs.Prelude.{reverse}
 use Rattle.std.specs.List.{zip}
-use Rattle.region_states.specs.RegionStates.{RegionState, VariableState, after_pop, killed_from}
+use Rattle.region_rules.specs.RegionStates.{RegionState, VariableState, after_pop, killed_from}
 use Rattle.region_states.specs.SameStates.{NamedState}
 use Rattle.region_states.specs.StatesInMemory.{variable_state, holders}
 use Rattle.std.proofs.lemmas.List.{length-map}

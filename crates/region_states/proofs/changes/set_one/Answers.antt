@@ -3,7 +3,7 @@ use Rattle.std.proofs.Math.ListN.{length-set}
 use Rattle.std.specs.Option.{option_map}
 use Rattle.region_states.specs.Changes.{get_value}
 use Rattle.region_states.specs.Judgements.{set_from}
-use Rattle.region_states.specs.RegionStates.{RegionState, VariableState, with_changed}
+use Rattle.region_rules.specs.RegionStates.{RegionState, VariableState, with_changed}
 use Rattle.region_states.specs.SameStates.{NamedState}
 use Rattle.region_states.specs.StatesInMemory.{variable_state}
 use Rattle.region_states.proofs.HolderLemmas.{holders_set, one_at, few_held}

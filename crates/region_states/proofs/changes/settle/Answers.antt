@@ -9,7 +9,7 @@ use Rattle.syntax.specs.Views.{form_tree}
 use Rattle.jni.specs.Access.{Access}
 use Rattle.region_states.specs.Judgements.{settled, set_from}
 use Rattle.region_states.specs.NewNames.{own_names, AreNew}
-use Rattle.region_states.specs.RegionStates.{with_changed}
+use Rattle.region_rules.specs.RegionStates.{with_changed}
 use Rattle.region_states.specs.StatesInMemory.{names_of}
 use Rattle.region_states.specs.StateEffects.{made_value}
 use Rattle.region_states.proofs.changes.settle.Goals as goal

@@ -1,7 +1,7 @@
 use Rattle.std.proofs.Common.{sym, ap, ◌∙◌}
 use Rattle.syntax.specs.Views.{expr_tree, test_tree}
 use Rattle.region_states.specs.Changes.{taught_true}
-use Rattle.region_states.specs.Regions.{where_true}
+use Rattle.region_rules.specs.Regions.{where_true}
 use Rattle.region_states.proofs.ChangeLemmas.{true_is}
 use Rattle.region_states.proofs.changes.take_true.Goals as goal
 

@@ -1,7 +1,7 @@
 use Rattle.std.proofs.Common.{ℕ, ◌+◌, List, [], ◌∷◌, map, length, bytes_eq, sym, ap, ap₂, ◌∙◌, arith, length-append}
 use Rattle.std.specs.List.{list_any}
 use Rattle.base.specs.Bytes.{Identifier}
-use Rattle.region_states.specs.RegionStates.{RegionState, with_new}
+use Rattle.region_rules.specs.RegionStates.{RegionState, with_new}
 use Rattle.region_states.specs.SameStates.{NamedState}
 use Rattle.region_states.specs.StatesInMemory.{variable_state, variables_value, holders}
 use Rattle.region_states.specs.declared.states.VariableState.{VariableState as VariableStateInMemory}

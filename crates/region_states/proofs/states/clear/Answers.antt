@@ -1,5 +1,5 @@
 use Rattle.std.proofs.Common.{List, ap, ap₂}
-use Rattle.region_states.specs.RegionStates.{RegionState}
+use Rattle.region_rules.specs.RegionStates.{RegionState}
 use Rattle.region_states.specs.SameStates.{NamedState}
 use Rattle.region_states.specs.StatesInMemory.{variables_value}
 use Rattle.region_states.proofs.states.clear.Goals as goal

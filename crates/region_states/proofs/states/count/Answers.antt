@@ -1,6 +1,6 @@
 use Rattle.std.proofs.Common.{List, length, sym, ap, ◌∙◌}
 use Rattle.base.specs.Bytes.{Identifier}
-use Rattle.region_states.specs.RegionStates.{RegionState}
+use Rattle.region_rules.specs.RegionStates.{RegionState}
 use Rattle.region_states.specs.StatesInMemory.{names_of}
 use Rattle.region_states.proofs.StateLemmas.{names_of_value}
 use Rattle.region_states.proofs.states.count.Goals as goal

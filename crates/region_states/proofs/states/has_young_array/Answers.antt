@@ -1,8 +1,8 @@
 use Rattle.std.proofs.Common.{List, map, sym, ap, ◌∙◌}
 use Rattle.std.specs.List.{list_any}
 use Rattle.region_states.specs.declared.states.VariableState.{VariableState as VariableStateInMemory}
-use Rattle.region_states.specs.RegionRules.{is_level}
-use Rattle.region_states.specs.RegionStates.{RegionState, VariableState, state_of}
+use Rattle.region_rules.specs.RegionRules.{is_level}
+use Rattle.region_rules.specs.RegionStates.{RegionState, VariableState, state_of}
 use Rattle.region_states.specs.SameStates.{NamedState}
 use Rattle.region_states.specs.StatesInMemory.{is_holder, variable_state}
 use Rattle.region_states.proofs.ScopeLemmas.{any_is}

@@ -2,7 +2,7 @@ use Rattle.std.proofs.Common.{List, map, sym, ap, ◌∙◌}
 use Rattle.std.specs.List.{list_any}
 use Rattle.jni.specs.Access.{is_critical}
 use Rattle.region_states.specs.declared.states.VariableState.{VariableState as VariableStateInMemory}
-use Rattle.region_states.specs.RegionStates.{RegionState}
+use Rattle.region_rules.specs.RegionStates.{RegionState}
 use Rattle.region_states.specs.StatesInMemory.{is_holder, holds_critical, variable_state}
 use Rattle.region_states.proofs.ScopeLemmas.{any_is}
 use Rattle.region_states.proofs.StateLemmas.{all_known}

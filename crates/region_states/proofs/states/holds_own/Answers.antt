@@ -3,8 +3,8 @@ use Rattle.std.specs.List.{list_any}
 use Rattle.std.proofs.lemmas.List.{drop-map}
 use Rattle.base.specs.Bytes.{Identifier}
 use Rattle.region_states.specs.declared.states.VariableState.{VariableState as VariableStateInMemory}
-use Rattle.region_states.specs.RegionRules.{is_held}
-use Rattle.region_states.specs.RegionStates.{RegionState, VariableState}
+use Rattle.region_rules.specs.RegionRules.{is_held}
+use Rattle.region_rules.specs.RegionStates.{RegionState, VariableState}
 use Rattle.region_states.specs.StatesInMemory.{variable_state}
 use Rattle.region_states.specs.StatesInMemory.{holds_other}
 use Rattle.region_states.proofs.LeaveLemmas.{others_are}

@@ -1,7 +1,7 @@
 use Rattle.std.proofs.Common.{List, Some, map, sym, ap, ◌∙◌}
 use Rattle.std.specs.List.{list_any}
 use Rattle.region_states.specs.declared.states.VariableState.{VariableState as VariableStateInMemory}
-use Rattle.region_states.specs.RegionStates.{RegionState, VariableState}
+use Rattle.region_rules.specs.RegionStates.{RegionState, VariableState}
 use Rattle.region_states.specs.StatesInMemory.{any_asked, condition_holds, variable_state}
 use Rattle.region_states.proofs.ScopeLemmas.{any_is}
 use Rattle.region_states.proofs.StateLemmas.{all_known}

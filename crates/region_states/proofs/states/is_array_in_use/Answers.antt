@@ -1,5 +1,5 @@
 use Rattle.std.proofs.Common.{map, nat_lt, sym, ap, ◌∙◌, bytes_eq}
-use Rattle.region_states.specs.RegionStates.{RegionState}
+use Rattle.region_rules.specs.RegionStates.{RegionState}
 use Rattle.region_states.specs.StatesInMemory.{is_holder, holds_of, variable_state}
 use Rattle.region_states.proofs.HolderLemmas.{some_holders}
 use Rattle.region_states.proofs.ScopeLemmas.{any_is}

@@ -1,7 +1,7 @@
 use Rattle.std.proofs.Common.{map, sym, ap, ◌∙◌}
 use Rattle.std.specs.Option.{option_and_then}
 use Rattle.std.specs.List.{slice_get}
-use Rattle.region_states.specs.RegionStates.{RegionState, state_of}
+use Rattle.region_rules.specs.RegionStates.{RegionState, state_of}
 use Rattle.region_states.specs.StatesInMemory.{variable_state}
 use Rattle.region_states.proofs.ScopeLemmas.{lookup_is}
 use Rattle.region_states.proofs.StateLemmas.{all_known, known_at, within}

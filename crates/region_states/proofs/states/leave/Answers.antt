@@ -5,8 +5,8 @@ use Rattle.base.specs.Bytes.{Identifier}
 use Rattle.std.specs.Prelude.{reverse}
 use Rattle.std.specs.List.{zip}
 use Rattle.region_states.specs.declared.states.VariableState.{VariableState as VariableStateInMemory}
-use Rattle.region_states.specs.RegionStates.{RegionState, VariableState}
-use Rattle.region_states.specs.Regions.{left}
+use Rattle.region_rules.specs.RegionStates.{RegionState, VariableState}
+use Rattle.region_rules.specs.Regions.{left}
 use Rattle.region_states.specs.SameStates.{NamedState}
 use Rattle.region_states.specs.StatesInMemory.{variable_state, variables_value, names_of}
 use Rattle.region_states.proofs.LeaveLemmas.{left_is}

@@ -1,7 +1,7 @@
 use Rattle.std.proofs.Common.{List, length, map, sym, ap, ap₂, ◌∙◌, arith}
 use Rattle.base.specs.Bytes.{Identifier}
 use Rattle.region_states.specs.declared.states.VariableState.{VariableState as VariableStateInMemory}
-use Rattle.region_states.specs.RegionStates.{RegionState}
+use Rattle.region_rules.specs.RegionStates.{RegionState}
 use Rattle.region_states.specs.StatesInMemory.{variable_state, variables_value, holders}
 use Rattle.region_states.proofs.StateLemmas.{names_at}
 use Rattle.region_states.proofs.states.save.Goals as goal

@@ -1,8 +1,8 @@
 use Rattle.std.proofs.Common.{ap, ap₂, sym, Ok, ◌∙◌}
 use Rattle.regions.specs.declared.joins.Way.{Way as WayInMemory}
-use Rattle.region_states.specs.RegionRules.{WaysDiffer}
-use Rattle.region_states.specs.RegionStates.{RegionState}
-use Rattle.region_states.specs.Regions.{On}
+use Rattle.region_rules.specs.RegionRules.{WaysDiffer}
+use Rattle.region_rules.specs.RegionStates.{RegionState}
+use Rattle.region_rules.specs.Regions.{On}
 use Rattle.regions.specs.Walks.{way_value}
 use Rattle.regions.specs.Ways.{join_ways, way_if}
 use Rattle.region_states.proofs.Same.{state_decides}

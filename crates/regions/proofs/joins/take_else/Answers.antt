@@ -3,8 +3,8 @@ use Rattle.std.specs.Prelude.{IfOk}
 use Rattle.syntax.specs.Views.{test_tree}
 use Rattle.regions.specs.declared.fault.CheckFault.{CheckFault}
 use Rattle.regions.specs.declared.joins.Way.{Way as WayInMemory}
-use Rattle.region_states.specs.RegionStates.{RegionState}
-use Rattle.region_states.specs.Regions.{where_false}
+use Rattle.region_rules.specs.RegionStates.{RegionState}
+use Rattle.region_rules.specs.Regions.{where_false}
 use Rattle.region_states.specs.StatesInMemory.{names_of}
 use Rattle.regions.specs.Walks.{Goes}
 use Rattle.region_states.proofs.NameLemmas.{where_false_names}

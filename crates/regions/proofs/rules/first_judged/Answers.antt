@@ -3,7 +3,7 @@ use Rattle.std.specs.Option.{option_map}
 use Rattle.syntax.specs.Views.{form_tree}
 use Rattle.region_states.specs.StateEffects.{made_value}
 use Rattle.region_states.specs.Judgements.{judged}
-use Rattle.region_states.specs.RegionRules.{RegionRule, CallWhileCritical, ReturnWithBuffer, HeldBuffer, UntestedBuffer, WrongBuffer, ReturnInFrame, PopLastFrame, DeadReference, ArrayInUse, WrongLevel}
+use Rattle.region_rules.specs.RegionRules.{RegionRule, CallWhileCritical, ReturnWithBuffer, HeldBuffer, UntestedBuffer, WrongBuffer, ReturnInFrame, PopLastFrame, DeadReference, ArrayInUse, WrongLevel}
 use Rattle.region_states.proofs.JudgementLemmas.{skip, hit}
 use Rattle.regions.proofs.rules.first_judged.Goals as goal
 

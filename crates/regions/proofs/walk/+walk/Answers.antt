@@ -10,8 +10,8 @@ use Rattle.syntax.proofs.Blocks.{block_is}
 use Rattle.regions.specs.declared.joins.Way.{Way as WayInMemory}
 use Rattle.regions.specs.Findings.{rule_of}
 use Rattle.region_states.specs.NewNames.{own_names, DeclareNew}
-use Rattle.region_states.specs.RegionStates.{RegionState}
-use Rattle.region_states.specs.Regions.{On, where_true, where_false}
+use Rattle.region_rules.specs.RegionStates.{RegionState}
+use Rattle.region_rules.specs.Regions.{On, where_true, where_false}
 use Rattle.region_states.specs.StatesInMemory.{names_of}
 use Rattle.regions.specs.Walks.{WayOrFault, way_value, go_on}
 use Rattle.regions.specs.Ways.{join_ways, way_of_block}

@@ -3,7 +3,7 @@ use Rattle.syntax.specs.declared.stmt.Stmt.{size-Stmt}
 use Rattle.syntax.specs.declared.stmt.Form.{size-Form}
 use Rattle.syntax.specs.declared.stmt.Block.{out-Block, size-Block}
 use Rattle.syntax.specs.Views.{block_tree, statements_tree}
-use Rattle.region_states.specs.RegionStates.{RegionState}
+use Rattle.region_rules.specs.RegionStates.{RegionState}
 use Rattle.region_states.specs.StatesInMemory.{names_of, Grows}
 use Rattle.region_states.specs.NewNames.{DeclareNew}
 use Rattle.regions.specs.Walks.{way_value, go_on}

@@ -2,9 +2,9 @@ use Rattle.std.proofs.Common.{ℕ, Result, Ok, Some, sym, ap, ◌∙◌}
 use Rattle.syntax.specs.Views.{block_tree, function_tree}
 use Rattle.regions.specs.declared.joins.Way.{Way as WayInMemory}
 use Rattle.regions.specs.Findings.{end_line_of, fault_at_end}
-use Rattle.region_states.specs.RegionRules.{NoReturn}
-use Rattle.region_states.specs.RegionStates.{RegionState, state_at_entry}
-use Rattle.region_states.specs.Regions.{Way}
+use Rattle.region_rules.specs.RegionRules.{NoReturn}
+use Rattle.region_rules.specs.RegionStates.{RegionState, state_at_entry}
+use Rattle.region_rules.specs.Regions.{Way}
 use Rattle.region_states.specs.StatesInMemory.{names_of}
 use Rattle.regions.specs.Walks.{way_value}
 use Rattle.regions.specs.Ways.{Fault, way_of_block}

@@ -1,8 +1,8 @@
 use Rattle.std.proofs.Common.{ap, sym, Ok, ◌∙◌}
 use Rattle.syntax.specs.Tree.{End}
 use Rattle.regions.specs.declared.joins.Way.{Way as WayInMemory}
-use Rattle.region_states.specs.RegionStates.{RegionState}
-use Rattle.region_states.specs.Regions.{On}
+use Rattle.region_rules.specs.RegionStates.{RegionState}
+use Rattle.region_rules.specs.Regions.{On}
 use Rattle.regions.specs.Walks.{way_value, go_on}
 use Rattle.regions.proofs.WayLemmas.{Goes-along, end_held, end_left}
 use Rattle.regions.proofs.walk.end.Goals as goal

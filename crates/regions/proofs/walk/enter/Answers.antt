@@ -3,7 +3,7 @@ use Rattle.std.specs.Prelude.{reverse}
 use Rattle.std.specs.List.{list_any}
 use Rattle.base.specs.Bytes.{Identifier}
 use Rattle.syntax.specs.Views.{parameter_type_tree}
-use Rattle.region_states.specs.RegionStates.{ReferenceAt, parameter_state}
+use Rattle.region_rules.specs.RegionStates.{ReferenceAt, parameter_state}
 use Rattle.region_states.specs.SameStates.{NamedState}
 use Rattle.regions.proofs.EntryLemmas.{variables_of, first_new, parameter_new, others_distinct}
 use Rattle.regions.proofs.walk.enter.Goals as goal

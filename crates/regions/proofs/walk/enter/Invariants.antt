@@ -1,7 +1,7 @@
 use Rattle.std.proofs.Common.{◌≡◌, ◌≤◌, length, drop, map}
 use Rattle.std.specs.Prelude.{filter_map}
 use Rattle.syntax.specs.Views.{parameter_tree}
-use Rattle.region_states.specs.RegionStates.{parameter_state}
+use Rattle.region_rules.specs.RegionStates.{parameter_state}
 use Rattle.regions.proofs.walk.enter.Given as goal
 
 abbrev pub invariant-loop-left : goal.invariant-loop-left

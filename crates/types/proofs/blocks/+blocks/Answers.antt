@@ -8,8 +8,8 @@ use Rattle.syntax.specs.Tree.{Test, Block, IfElse}
 use Rattle.syntax.specs.Views.{form_tree, stmt_tree, block_tree, statements_tree, result_tree, test_tree}
 use Rattle.syntax.proofs.Blocks.{block_is}
 use Rattle.types.specs.declared.fault.TypeFault.{TypeFault}
-use Rattle.types.specs.SortRules.{places_of}
-use Rattle.types.specs.BuiltCalls.{refused_at}
+use Rattle.sorts.specs.SortRules.{places_of}
+use Rattle.sorts.specs.BuiltCalls.{refused_at}
 use Rattle.types.specs.Faults.{Faults, Finds, Refuses, scope_of, found, statement_place}
 use Rattle.types.proofs.FindsLemmas.{Refuses-first}
 use Rattle.types.proofs.PlaceLemmas.{found-none, past}

@@ -3,7 +3,7 @@ use Rattle.syntax.specs.Views.{block_tree, result_tree}
 use Rattle.types.specs.declared.fault.TypeFault.{TypeFault}
 use Rattle.types.specs.declared.sort.Sort.{Sort as SortInMemory}
 use Rattle.base.specs.Bytes.{ByName}
-use Rattle.types.specs.SortRules.{places_of}
+use Rattle.sorts.specs.SortRules.{places_of}
 use Rattle.types.specs.Faults.{Faults, Finds, Refuses, scope_of, found, head_faults}
 use Rattle.std.proofs.lemmas.Result.{err_from_is_err_and}
 use Rattle.types.proofs.FindsLemmas.{Finds-later, Refuses-first}

@@ -1,6 +1,6 @@
 use Rattle.std.proofs.Common.{subst, ap, ◌∙◌, [], map}
 use Rattle.syntax.specs.Views.{item_tree}
-use Rattle.types.specs.SortRules.{item_places}
+use Rattle.sorts.specs.SortRules.{item_places}
 use Rattle.types.specs.Faults.{Finds, found}
 use Rattle.types.proofs.PlaceLemmas.{found-is}
 use Rattle.types.proofs.typed.check_unit.Goals as goal

@@ -1,0 +1,2 @@
+pub mod Returns
+pub mod KeptRules

@@ -1,0 +1,3 @@
+pub mod KnownDeclarations
+pub mod UseLemmas
+pub mod PlaceLists
