@@ -7,10 +7,10 @@ ghost use Rattle.sorts.specs.SortRules.{places_of, with_declared};
 ghost use Rattle.types.specs.Faults.{Finds, IsAbove, sort_value, scope_of, found, places_inside};
 
 use crate::fault::TypeFault;
-use sorts::Known;
 use crate::scope::take;
 use crate::sort::{Sort, variable_sort};
 use crate::statements::check_statement;
+use sorts::Known;
 use std::alloc::Global;
 use syntax::{Block, ElementType, Form, Name, ResultType};
 

@@ -14,12 +14,12 @@ ghost use Rattle.types.specs.Faults.{scope_of, sort_value};
 ghost use Rattle.sorts.specs.Uses.{argument_uses, call_uses};
 
 use crate::expressions::{has_unknown, is_formed, is_null, name_sort, sort_of};
-use sorts::Known;
 use crate::scope::{is_unknown, sort_in};
 use crate::sort::{
     Sort, is_array_of, is_buffer_for, is_field, is_flag, is_global, is_jint, is_ref,
 };
 use jni::{JniFunction, ParameterKind, ResultKind};
+use sorts::Known;
 use syntax::{Argument, Call, Constant, Expr, Name};
 
 /// Whether an expression is NULL or the bare name of a reference.

@@ -10,11 +10,11 @@ ghost use Rattle.sorts.specs.SortRules.{is_formed};
 ghost use Rattle.types.specs.Faults.{sort_value, scope_of};
 ghost use Rattle.sorts.specs.Uses.{expr_uses};
 
-use sorts::Known;
 use crate::scope::{is_unknown, sort_in};
 use crate::sort::{
     Sort, has_elements, is_castable, is_flag, is_index, is_jint, is_nullable, is_truth, is_word,
 };
+use sorts::Known;
 use syntax::{BinaryOp, Constant, Expr, PrefixOp};
 
 /// The flags; NULL and the modes have no sort.

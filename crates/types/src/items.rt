@@ -8,10 +8,10 @@ ghost use Rattle.types.specs.Faults.{Finds, broken_if, scope_of, sort_value, fou
 
 use crate::blocks::check_block;
 use crate::fault::{SortRule, TypeFault, refuse_if};
-use sorts::Known;
 use crate::scope::{enter, has_name, has_repeated};
 use crate::sort::Sort;
 use classes::mangling::is_mangled;
+use sorts::Known;
 use std::alloc::{AllocError, Global};
 use syntax::{Function, Item, Name, Static};
 

@@ -7,8 +7,8 @@ ghost use Rattle.sorts.specs.SortRules.{has_name, has_repeated, parameter_sort};
 ghost use Rattle.syntax.specs.Views.{parameter_type_tree};
 ghost use Rattle.types.specs.Faults.{IsAbove, scope_of, sort_value, entry_scope};
 
-use sorts::Known;
 use crate::sort::{Sort, parameter_sort};
+use sorts::Known;
 use std::alloc::{AllocError, Global};
 use syntax::{Function, Name, Parameter};
 

@@ -22,13 +22,13 @@ use crate::calls::{
 };
 use crate::expressions::{has_unknown, is_null, name_sort, sort_of};
 use crate::fault::{SortRule, TypeFault, refuse_if};
-use sorts::{Known, own_call};
 use crate::scope::{has_name, is_unknown, sort_in};
 use crate::sort::{
     Sort, has_elements, is_flag, is_index, is_jint, is_read_only, is_ref, is_truth, is_word,
     variable_sort,
 };
 use jni::{JniFunction, function_named};
+use sorts::{Known, own_call};
 use syntax::{Call, ElementType, Expr, Form, Name, ResultType, RightSide, Stmt, Test};
 
 /// The function that a statement calls, if it is known.
