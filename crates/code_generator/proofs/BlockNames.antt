@@ -3,7 +3,7 @@ use Rattle.std.proofs.Common.{◌≡◌, ℕ, ◌-◌, length, drop, [], ◌∷�
 use Rattle.std.proofs.Math.Seq.{drop-append_seam}
 use Rattle.syntax.specs.Tree as tree
 use Rattle.syntax.specs.Tree.{Stmt, Block, End, Next}
-use Rattle.code_generator.specs.Layout.{Known, Layout, closed, layout_after, block_layout}
+use Rattle.lowered.specs.Layout.{Known, Layout, closed, layout_after, block_layout}
 
 -- some names before others
 abbrev pub Adds : Known → Known → Type 0

@@ -3,7 +3,7 @@ use Rattle.std.proofs.Common.{◌≡◌, ℕ, ◌+◌, List, [], ◌∷◌, ◌+
 use Rattle.std.specs.Prelude.{slice_set}
 use Rattle.code.specs.declared.instr.Instr.{Instr}
 use Rattle.code.specs.declared.instr.Instr.TheVariants as instr
-use Rattle.code_generator.specs.Coding.{skip_code, logical_code, first_code, ways_code, loop_code}
+use Rattle.lowered.specs.Coding.{skip_code, logical_code, first_code, ways_code, loop_code}
 
 -- what holds of a success, holds in other words
 pub on_ok : {A E : Type 0} (r : Result A E) (P Q : Type 0) → (P → Q) → OnOk r P → OnOk r Q

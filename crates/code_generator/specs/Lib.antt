@@ -1,4 +1,2 @@
-pub mod Layout
-pub mod Coding
 pub mod Names
 pub mod Plain

@@ -6,7 +6,7 @@ use Rattle.sorts.specs.Sorts.{Sort, Word, Jint, Flag, Ref, Global, FieldId, Buff
 use Rattle.code_generator.specs.declared.names.Sort.{Sort as SortInMemory}
 use Rattle.code_generator.specs.declared.names.Sort.TheVariants as sorts
 use Rattle.code_generator.specs.declared.names.Slot.{Slot as SlotInMemory}
-use Rattle.code_generator.specs.Layout.{Slot, Known}
+use Rattle.lowered.specs.Layout.{Slot, Known}
 
 -- the sort of the definitions
 abbrev pub sort_view : SortInMemory → Sort

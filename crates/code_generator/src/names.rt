@@ -5,15 +5,15 @@ ghost use Rattle.std.specs.Option.{option_map};
 ghost use Rattle.base.specs.Bytes.{lookup};
 ghost use Rattle.syntax.specs.Views.{static_tree, function_tree, parameter_tree, parameter_type_tree};
 ghost use Rattle.sorts.specs.SortRules.{parameter_sort};
-ghost use Rattle.code_generator.specs.Layout.{new_slot, with_static, parameter_slots, numbers_of, references_of, slots_after, with_name, entry_layout};
+ghost use Rattle.lowered.specs.Layout.{new_slot, with_static, parameter_slots, numbers_of, references_of, slots_after, with_name, entry_layout};
 ghost use Rattle.code_generator.specs.Names.{sort_view, slot_view};
 
 use crate::emitting::counted;
 use code::slots::SlotCounts;
+use sorts::Known;
 use std::alloc::{AllocError, Global};
 use std::marker::Model;
 use syntax::{ElementType, Function, Name, Parameter, ParameterType, Static};
-use sorts::Known;
 
 /// What a name is.
 #[derive(Clone, Copy)]
@@ -47,7 +47,7 @@ pub struct Names<'a> {
 }
 
 impl<'a> Model for Names<'a> {
-    ghost use Rattle.code_generator.specs.Layout.{Layout};
+    ghost use Rattle.lowered.specs.Layout.{Layout};
     ghost use Rattle.code_generator.specs.Names.{known_view};
 
     ghost Value = { Layout };

@@ -8,8 +8,8 @@ ghost use Rattle.jni.specs.Table.{function_value, parameter_value};
 ghost use Rattle.sorts.specs.SortRules.{variable_sort};
 ghost use Rattle.source.specs.Arguments.{mode_of};
 ghost use Rattle.source.specs.Term.{term_of};
-ghost use Rattle.code_generator.specs.Layout.{closed, layout_after, block_layout, with_name, new_slot};
-ghost use Rattle.code_generator.specs.Coding.{mode_code, operand_code, argument_code, arguments_code, arguments_texts, variable_operand, result_target, named_call_code, right_code, assign_code, write_code, of_slot, return_code, returned_code, test_code, first_code, loop_code, expr_code, stmt_code, block_code};
+ghost use Rattle.lowered.specs.Layout.{closed, layout_after, block_layout, with_name, new_slot};
+ghost use Rattle.lowered.specs.Coding.{mode_code, operand_code, argument_code, arguments_code, arguments_texts, variable_operand, result_target, named_call_code, right_code, assign_code, write_code, of_slot, return_code, returned_code, test_code, first_code, loop_code, expr_code, stmt_code, block_code};
 ghost use Rattle.code_generator.specs.Names.{sort_view, slot_view};
 ghost use Rattle.code_generator.specs.Plain.{is_declaring, is_plain};
 

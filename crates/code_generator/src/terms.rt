@@ -8,7 +8,7 @@ ghost use Rattle.syntax.specs.Tree.{Binary, Equal, NotEqual};
 ghost use Rattle.syntax.specs.Views.{constant_tree, prefix_tree, binary_tree, element_tree, expr_tree};
 ghost use Rattle.source.specs.Term as term;
 ghost use Rattle.source.specs.Term.{term_of};
-ghost use Rattle.code_generator.specs.Coding.{nullable_of, element_of, element_code, null_code, of_slot, load_code, constant_code, prefix_code, operator_code, is_signed, skip_code, logical_code, term_code, expr_code};
+ghost use Rattle.lowered.specs.Coding.{nullable_of, element_of, element_code, null_code, of_slot, load_code, constant_code, prefix_code, operator_code, is_signed, skip_code, logical_code, term_code, expr_code};
 ghost use Rattle.code_generator.specs.Names.{sort_view};
 
 use crate::emitting::{counted, emit, replace};

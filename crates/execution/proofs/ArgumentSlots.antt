@@ -10,7 +10,7 @@ use Rattle.std.proofs.lemmas.Bool.Decides.{nat_tests}
 use Rattle.world.specs.declared.object.ObjectValue.{ObjectValue as Argument}
 use Rattle.source.specs.Object.{ObjectValue, Number, Refers}
 use Rattle.world.specs.Views.{object_value_view}
-use Rattle.lower.specs.Slots.{argument_reference}
+use Rattle.lowered.specs.Slots.{argument_reference}
 use Rattle.std.specs.Option.{option_map}
 use Rattle.std.proofs.lemmas.Option.{slice_get-map}
 use Rattle.texts.proofs.WordLaws.{both_true}

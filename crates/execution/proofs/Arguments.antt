@@ -16,9 +16,9 @@ use Rattle.source.specs.Thread.{Frame}
 use Rattle.code.specs.declared.instr.Operand.{Operand}
 use Rattle.code.specs.declared.instr.Operand.TheVariants as operand
 use Rattle.code.specs.Depth.{Listing, words_taken, with_fewer}
-use Rattle.lower.specs.Slots.{Visible}
-use Rattle.lower.specs.Does.{IsOperand, word_given, words_given}
-use Rattle.lower.specs.Lowered.{Lowered}
+use Rattle.lowered.specs.Slots.{Visible}
+use Rattle.lowered.specs.Does.{IsOperand, word_given, words_given}
+use Rattle.lowered.specs.Lowered.{Lowered}
 use Rattle.jni_calls.specs.declared.activation.Activation.{Activation}
 use Rattle.jni_calls.specs.FieldIds.{FieldAgrees, FieldsAgree}
 use Rattle.jni_calls.specs.StoreAgrees.{StaticsAgree}

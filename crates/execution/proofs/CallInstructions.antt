@@ -28,10 +28,10 @@ use Rattle.code.specs.declared.instr.Operand.{Operand}
 use Rattle.code.specs.declared.instr.Operand.TheVariants as operand
 use Rattle.code.specs.declared.instr.Target.{Target as Destination}
 use Rattle.code.specs.declared.instr.Target.TheVariants as destination
-use Rattle.lower.specs.Does.{CallsFunction, IsOperand, OperandFits, TakesResult}
-use Rattle.lower.specs.Lowered.{Lowered}
-use Rattle.lower.specs.Fits.{HaveOwnSlots}
-use Rattle.lower.specs.Slots.{Visible, Shows, visible_to}
+use Rattle.lowered.specs.Does.{CallsFunction, IsOperand, OperandFits, TakesResult}
+use Rattle.lowered.specs.Lowered.{Lowered}
+use Rattle.lowered.specs.Fits.{HaveOwnSlots}
+use Rattle.lowered.specs.Slots.{Visible, Shows, visible_to}
 use Rattle.sorts.specs.Sorts.{Ref}
 use Rattle.jni_calls.specs.declared.answer.Answer.{Answer}
 use Rattle.jni_calls.specs.declared.answer.Answer.TheVariants as answers
@@ -65,7 +65,7 @@ use Rattle.jni_calls.proofs.KeyLaws.{OwnKey, fewer_owned, keys_count, keys_left,
 use Rattle.execution.proofs.KeysLeft.{may_end, none_left_out, others_end_none, others_get}
 use Rattle.jni_calls.proofs.LocalFrames.{as_many_frames}
 use Rattle.execution.proofs.OwnedKeys.{DeletesKey, deletes_key, operands_owned}
-use Rattle.lower.proofs.OwnerLaws.{owner_lost_with_slot, owners_mapped}
+use Rattle.lowered.proofs.OwnerLaws.{owner_lost_with_slot, owners_mapped}
 use Rattle.safety.specs.Owners.{Owners, other_than, left_by as left_by_call}
 use Rattle.tables.specs.Locals.{LocalTable, AreStacked}
 use Rattle.jni_calls.specs.Locals.{locals_after}

@@ -21,11 +21,11 @@ use Rattle.source.specs.Arguments.{Actual}
 use Rattle.source.specs.Effect.{Effect, Becomes, Sets, SetsNull, SetsElement, MakesArray, Prints, Calls, Returns, TrapsAt, NoEffect, effect_of}
 use Rattle.source.specs.Task.{Task, Target}
 use Rattle.source.specs.Value.{Value, Trap}
-use Rattle.code_generator.specs.Layout.{Known, with_static}
-use Rattle.lower.specs.Slots.{Visible, Slots, Shows, IsSet, IsMade, IsElementSet}
-use Rattle.lower.specs.Stands.{StandsFor}
-use Rattle.lower.specs.Does.{DoesEffect, GoesOn, Writes, StoresNull, PrintsTop, CallsFunction, LeavesCall, Stops, Works, IsReturn}
-use Rattle.lower.specs.Lowered.{Lowered, IsLowered, IsCodeOf, AreCodesOf}
+use Rattle.lowered.specs.Layout.{Known, with_static}
+use Rattle.lowered.specs.Slots.{Visible, Slots, Shows, IsSet, IsMade, IsElementSet}
+use Rattle.lowered.specs.Stands.{StandsFor}
+use Rattle.lowered.specs.Does.{DoesEffect, GoesOn, Writes, StoresNull, PrintsTop, CallsFunction, LeavesCall, Stops, Works, IsReturn}
+use Rattle.lowered.specs.Lowered.{Lowered, IsLowered, IsCodeOf, AreCodesOf}
 use Rattle.jni_calls.specs.declared.activation.Activation.{Activation}
 use Rattle.classes.specs.Class.{Classes}
 use Rattle.classes.specs.Fields.{FieldId}

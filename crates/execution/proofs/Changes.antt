@@ -16,7 +16,7 @@ use Rattle.source.specs.Value.{Value, Gives, Stuck, outcome_then, convert}
 use Rattle.source.specs.Variable.{Variable, Scalar, LocalRef, FieldHandle, Elements, LocalArray, Empty, Variables, assign}
 use Rattle.source.specs.Task.{VariableKind, ScalarKind, ReferenceKind, FieldKind}
 use Rattle.safety.specs.Owners.{Owners}
-use Rattle.lower.specs.Slots.{visible_to, type_of_array, kind_of_variable, OthersStay, IsSet, IsNulled, IsReferred, IsFieldSet, IsMade, IsElementSet}
+use Rattle.lowered.specs.Slots.{visible_to, type_of_array, kind_of_variable, OthersStay, IsSet, IsNulled, IsReferred, IsFieldSet, IsMade, IsElementSet}
 use Rattle.jni_calls.proofs.SetPlaces.{get_set_same, get_set_other}
 
 -- ---- lists by name

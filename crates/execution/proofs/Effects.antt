@@ -14,7 +14,7 @@ use Rattle.code.specs.declared.instr.Instr.TheVariants as instr
 use Rattle.code.specs.Call.{Call}
 use Rattle.code.specs.declared.instr.NullableVariable.{NullableVariable}
 use Rattle.code.specs.declared.instr.NullableVariable.TheVariants as nullable
-use Rattle.code_generator.specs.Layout.{Known}
+use Rattle.lowered.specs.Layout.{Known}
 use Rattle.code.specs.declared.instr.Plain.{Plain}
 use Rattle.code.specs.declared.instr.Plain.TheVariants as plain
 use Rattle.code.specs.Effect.{truth_word, plain_of, IsPlain}
@@ -29,12 +29,12 @@ use Rattle.source.specs.ThreadStep.{with_tasks, after_effect, set_element}
 use Rattle.source.specs.Value.{Trap, convert}
 use Rattle.source.specs.Variable.{Variable, Scalar, LocalArray, assign}
 use Rattle.safety.specs.Owners.{Owners}
-use Rattle.lower.specs.Slots as lower
-use Rattle.lower.specs.Slots.{Visible, Slots, visible_to, Shows, IsSet, IsMade, IsElementSet}
-use Rattle.lower.specs.Stands.{StandsFor}
+use Rattle.lowered.specs.Slots as lower
+use Rattle.lowered.specs.Slots.{Visible, Slots, visible_to, Shows, IsSet, IsMade, IsElementSet}
+use Rattle.lowered.specs.Stands.{StandsFor}
 use Rattle.std.specs.Global.{Vec}
-use Rattle.lower.specs.Does.{IsStoredIn, kind_of_target, GoesOn, Writes, StoresNull, PrintsTop, CallsFunction, Stops, Works, AtEnd, IsReturn}
-use Rattle.lower.specs.Lowered.{Lowered}
+use Rattle.lowered.specs.Does.{IsStoredIn, kind_of_target, GoesOn, Writes, StoresNull, PrintsTop, CallsFunction, Stops, Works, AtEnd, IsReturn}
+use Rattle.lowered.specs.Lowered.{Lowered}
 use Rattle.execution.specs.declared.execute.Event.{Event}
 use Rattle.execution.specs.declared.execute.Event.TheVariants as event
 use Rattle.jni_calls.specs.declared.activation.Activation.{Activation}

@@ -29,10 +29,10 @@ use Rattle.source.specs.Value.{Int}
 use Rattle.source.specs.Variable.{StaticReference, Variable, Scalar, LocalRef, Variables}
 use Rattle.source.specs.ThreadStep.{step_within}
 use Rattle.safety.specs.Owners.{Owners, after_tasks, holders, level_held}
-use Rattle.code_generator.specs.Layout.{Slot, Known, with_static, entry_layout}
-use Rattle.lower.specs.Slots.{visible_to, AreOfLowest, EntrySlots, HasRoom, AreShared, argument_word, argument_reference, static_index}
-use Rattle.lower.specs.Stands.{StandsFor}
-use Rattle.lower.specs.Lowered.{Lowered, IsLowered, IsCodeOf, AreCodesOf}
+use Rattle.lowered.specs.Layout.{Slot, Known, with_static, entry_layout}
+use Rattle.lowered.specs.Slots.{visible_to, AreOfLowest, EntrySlots, HasRoom, AreShared, argument_word, argument_reference, static_index}
+use Rattle.lowered.specs.Stands.{StandsFor}
+use Rattle.lowered.specs.Lowered.{Lowered, IsLowered, IsCodeOf, AreCodesOf}
 use Rattle.execution.specs.declared.execute.Event.TheVariants as event
 use Rattle.execution.specs.declared.thread.Thread.{Thread}
 use Rattle.execution.specs.declared.thread.PendingCall.{PendingCall}

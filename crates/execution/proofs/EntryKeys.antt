@@ -6,7 +6,7 @@ use Rattle.std.proofs.lemmas.Bool.{le-leb}
 use Rattle.heap.specs.Heap.{Space}
 use Rattle.source.specs.Activation.{entry_frame, named_object}
 use Rattle.source.specs.Object.{ObjectValue, Number, Refers, Reference}
-use Rattle.lower.specs.Slots.{argument_reference}
+use Rattle.lowered.specs.Slots.{argument_reference}
 use Rattle.tables.specs.Locals.{level_of}
 use Rattle.tables.specs.References.{address_at, references_in}
 use Rattle.execution.specs.Entry.{entry_locals, keys_from}

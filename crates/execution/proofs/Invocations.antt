@@ -34,11 +34,11 @@ use Rattle.code.specs.Depth.{Listing, depth_at, with_fewer, with_result, words_t
 use Rattle.code.specs.declared.instr.Instr.TheVariants as instr
 use Rattle.code.specs.declared.instr.Target.{Target as Destination}
 use Rattle.code.specs.declared.instr.Target.TheVariants as destination
-use Rattle.code_generator.specs.Layout.{Known}
-use Rattle.lower.specs.Does.{GoesInto, TakesStatic, TakesTest, TakesField, TakesNumber, TakesReference, TakesResult}
-use Rattle.lower.specs.Lowered.{Lowered}
-use Rattle.lower.specs.Slots.{Visible, Shows, Slots, ValueHasSort, kind_of_variable, static_index, type_of_array, visible_to, word_of}
-use Rattle.lower.specs.Stands.{StandsFor, number_sort}
+use Rattle.lowered.specs.Layout.{Known}
+use Rattle.lowered.specs.Does.{GoesInto, TakesStatic, TakesTest, TakesField, TakesNumber, TakesReference, TakesResult}
+use Rattle.lowered.specs.Lowered.{Lowered}
+use Rattle.lowered.specs.Slots.{Visible, Shows, Slots, ValueHasSort, kind_of_variable, static_index, type_of_array, visible_to, word_of}
+use Rattle.lowered.specs.Stands.{StandsFor, number_sort}
 use Rattle.jni_calls.specs.declared.answer.Given.{Given}
 use Rattle.jni_calls.specs.declared.answer.Given.TheVariants as given
 use Rattle.jni_calls.specs.declared.activation.Activation.{Activation}
@@ -55,8 +55,8 @@ use Rattle.jni_calls.specs.CarriedOut.{IsFresh, ResultAgrees}
 use Rattle.jni_calls.specs.Statics.{held as held_of}
 use Rattle.jni_calls.specs.declared.statics.StaticReference.{StaticReference as InMemory}
 use Rattle.jni_calls.specs.declared.store.Store.{Store}
-use Rattle.lower.proofs.StaticLaws.{is_held}
-use Rattle.lower.proofs.OwnerLaws.{fewer_owners}
+use Rattle.lowered.proofs.StaticLaws.{is_held}
+use Rattle.lowered.proofs.OwnerLaws.{fewer_owners}
 use Rattle.jni_calls.proofs.HeldStatics.{keys_put}
 use Rattle.jni_calls.proofs.StaticStores.{with_same, with_static}
 use Rattle.jni_calls.specs.HeapAgrees.{ReferenceAgrees}

@@ -17,11 +17,11 @@ use Rattle.source.specs.ThreadStep.{with_tasks}
 use Rattle.source.specs.Value.{Gives, Stuck}
 use Rattle.source.specs.Variable.{Variable, Scalar, LocalRef, FieldHandle, Elements, LocalArray, NoBuffer, StaticReference, Empty, Variables, assign, viewed}
 use Rattle.safety.specs.Owners.{Owners}
-use Rattle.lower.specs.Slots as lower
-use Rattle.lower.specs.Slots.{Slots, Visible, visible_to, kind_of_variable, nulled_statics, type_of_array, IsNulled}
-use Rattle.lower.specs.Stands.{target_name}
-use Rattle.lower.specs.Does.{CanBeNull, kind_of_target}
-use Rattle.code_generator.specs.Layout.{Known}
+use Rattle.lowered.specs.Slots as lower
+use Rattle.lowered.specs.Slots.{Slots, Visible, visible_to, kind_of_variable, nulled_statics, type_of_array, IsNulled}
+use Rattle.lowered.specs.Stands.{target_name}
+use Rattle.lowered.specs.Does.{CanBeNull, kind_of_target}
+use Rattle.lowered.specs.Layout.{Known}
 use Rattle.code.specs.Depth.{Listing}
 use Rattle.classes.specs.Class.{Classes}
 use Rattle.classes.specs.Fields.{FieldId}

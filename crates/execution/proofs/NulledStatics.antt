@@ -9,12 +9,12 @@ use Rattle.source.specs.World.{World}
 use Rattle.code.specs.declared.instr.NullableVariable.{NullableVariable}
 use Rattle.code.specs.declared.instr.NullableVariable.TheVariants as nullable
 use Rattle.code.specs.Depth.{Listing}
-use Rattle.code_generator.specs.Layout.{Known}
-use Rattle.lower.specs.Does.{IsStoredIn}
-use Rattle.lower.specs.Lowered.{Lowered}
-use Rattle.lower.specs.Slots as lower
+use Rattle.lowered.specs.Layout.{Known}
+use Rattle.lowered.specs.Does.{IsStoredIn}
+use Rattle.lowered.specs.Lowered.{Lowered}
+use Rattle.lowered.specs.Slots as lower
 use Rattle.safety.specs.Owners.{Owners}
-use Rattle.lower.specs.Slots.{Slots, visible_to}
+use Rattle.lowered.specs.Slots.{Slots, visible_to}
 use Rattle.jni_calls.specs.declared.statics.StaticReference.{StaticReference as InMemory}
 use Rattle.jni_calls.specs.declared.statics.StaticReference.TheVariants as static
 use Rattle.jni_calls.specs.declared.store.Store.{Store}

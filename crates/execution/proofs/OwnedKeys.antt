@@ -27,9 +27,9 @@ use Rattle.source.specs.Variable.{Variable, LocalRef, StaticReference, Empty, Li
 use Rattle.code.specs.Depth.{Listing}
 use Rattle.code.specs.declared.instr.Operand.{Operand as InMemory}
 use Rattle.code.specs.declared.instr.Operand.TheVariants as operand
-use Rattle.lower.specs.Does.{IsOperand, OperandFits}
-use Rattle.lower.specs.Lowered.{Lowered}
-use Rattle.lower.specs.Slots.{visible_to}
+use Rattle.lowered.specs.Does.{IsOperand, OperandFits}
+use Rattle.lowered.specs.Lowered.{Lowered}
+use Rattle.lowered.specs.Slots.{visible_to}
 use Rattle.jni_calls.specs.declared.activation.Activation.{Activation}
 use Rattle.execution.proofs.Arguments.{HasOwner}
 use Rattle.execution.proofs.Calls.{slots_of, Ready}

@@ -12,10 +12,10 @@ use Rattle.source.specs.Variable.{StaticReference, Empty, Live, Deleted}
 use Rattle.code.specs.declared.instr.Operand.{Operand}
 use Rattle.code.specs.declared.instr.Operand.TheVariants as operand
 use Rattle.code.specs.Depth.{Listing}
-use Rattle.lower.specs.Does.{IsOperand}
-use Rattle.lower.specs.Lowered.{Lowered}
+use Rattle.lowered.specs.Does.{IsOperand}
+use Rattle.lowered.specs.Lowered.{Lowered}
 use Rattle.safety.specs.Owners.{Owners}
-use Rattle.lower.specs.Slots.{visible_to}
+use Rattle.lowered.specs.Slots.{visible_to}
 use Rattle.jni_calls.specs.declared.activation.Activation.{Activation}
 use Rattle.jni_calls.specs.Answers.{HoldsObject}
 use Rattle.jni_calls.specs.Given.{operand_of}

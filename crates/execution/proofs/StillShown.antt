@@ -7,12 +7,12 @@ use Rattle.base.specs.Bytes.{Identifier, lookup}
 use Rattle.sorts.specs.Sorts as sort
 use Rattle.sorts.specs.Sorts.{Sort}
 use Rattle.code.specs.Depth.{Listing}
-use Rattle.code_generator.specs.Layout.{Slot, Known}
+use Rattle.lowered.specs.Layout.{Slot, Known}
 use Rattle.source.specs.Sight.{holds_null, held_reference, in_range, elements_of}
 use Rattle.source.specs.Value.{outcome_then}
 use Rattle.source.specs.Variable.{Variable, Statics, assign}
-use Rattle.lower.specs.Slots.{Slots, Shows, ShowsSlot, static_index, visible_to}
-use Rattle.lower.proofs.StaticLaws.{shows_still}
+use Rattle.lowered.specs.Slots.{Slots, Shows, ShowsSlot, static_index, visible_to}
+use Rattle.lowered.proofs.StaticLaws.{shows_still}
 use Rattle.execution.proofs.Changes.{array_of}
 use Rattle.safety.specs.Owners.{Owners}
 use Rattle.jni_calls.specs.StoreAgrees.{MayChange}

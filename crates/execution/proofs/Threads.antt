@@ -18,8 +18,8 @@ use Rattle.source.specs.Thread as source
 use Rattle.source.specs.Thread.{BuffersInUse, Shared, Monitor, sight_of, without_owner}
 use Rattle.source.specs.Variable.{Variables}
 use Rattle.source.specs.ThreadStep.{thread_step, step_within, after_effect, next_effect, waits}
-use Rattle.lower.specs.Slots.{Visible, visible_to}
-use Rattle.lower.specs.Lowered.{Lowered, IsLowered}
+use Rattle.lowered.specs.Slots.{Visible, visible_to}
+use Rattle.lowered.specs.Lowered.{Lowered, IsLowered}
 use Rattle.execution.specs.declared.thread.Ending.{Ending}
 use Rattle.execution.specs.declared.thread.Ending.TheVariants.{Unfinished}
 use Rattle.execution.specs.declared.execute.Event.{Event}

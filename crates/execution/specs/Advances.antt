@@ -7,7 +7,7 @@ use Rattle.safety.specs.Owners.{Owners, after_advance}
 use Rattle.source.specs.Thread as source
 use Rattle.source.specs.Thread.{BuffersInUse, Shared}
 use Rattle.source.specs.ThreadStep.{thread_step}
-use Rattle.lower.specs.Lowered.{Lowered}
+use Rattle.lowered.specs.Lowered.{Lowered}
 use Rattle.execution.specs.declared.thread.Ending.{Ending}
 use Rattle.execution.specs.declared.thread.Ending.TheVariants.{Ended, Uncaught}
 use Rattle.execution.specs.declared.execute.Event.{Event}

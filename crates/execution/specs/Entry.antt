@@ -5,8 +5,8 @@ use Rattle.source.specs.Object.{ObjectValue, Number, Refers}
 use Rattle.world.specs.CallArguments.{is_argument}
 use Rattle.world.specs.Views.{object_value_view}
 use Rattle.code.specs.Depth.{Listing}
-use Rattle.lower.specs.Lowered.{Lowered}
-use Rattle.lower.specs.Slots.{argument_word, HasRoom}
+use Rattle.lowered.specs.Lowered.{Lowered}
+use Rattle.lowered.specs.Slots.{argument_word, HasRoom}
 use Rattle.jni_calls.specs.declared.activation.Activation.{Activation}
 use Rattle.tables.specs.Locals.{LocalTable}
 use Rattle.tables.specs.References.{references_in}

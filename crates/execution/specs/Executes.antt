@@ -20,10 +20,10 @@ use Rattle.source.specs.Thread as source
 use Rattle.source.specs.Thread.{BuffersInUse, Shared, Advance, viewed_by}
 use Rattle.source.specs.Variable.{LocalRef, Variables}
 use Rattle.source.specs.ThreadStep.{next_effect, after_effect, after_refused_effect}
-use Rattle.code_generator.specs.Layout.{Known}
-use Rattle.lower.specs.Slots.{Visible, visible_to, Shows}
-use Rattle.lower.specs.Stands.{StandsFor}
-use Rattle.lower.specs.Lowered.{Lowered}
+use Rattle.lowered.specs.Layout.{Known}
+use Rattle.lowered.specs.Slots.{Visible, visible_to, Shows}
+use Rattle.lowered.specs.Stands.{StandsFor}
+use Rattle.lowered.specs.Lowered.{Lowered}
 use Rattle.execution.specs.declared.execute.Event.{Event}
 use Rattle.execution.specs.declared.execute.Event.TheVariants.{Quiet, Printed, Trapped}
 use Rattle.jni_calls.specs.declared.activation.Activation.{Activation}

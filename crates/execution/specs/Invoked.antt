@@ -8,8 +8,8 @@ use Rattle.source.specs.Task.{Task}
 use Rattle.source.specs.Thread.{Shared, Thread, viewed_by}
 use Rattle.source.specs.World.{World}
 use Rattle.safety.specs.Owners.{Owners}
-use Rattle.lower.specs.Lowered.{Lowered, IsLowered}
-use Rattle.lower.specs.Slots.{visible_to}
+use Rattle.lowered.specs.Lowered.{Lowered, IsLowered}
+use Rattle.lowered.specs.Slots.{visible_to}
 use Rattle.execution.specs.declared.invoke.Invoked.{Invoked}
 use Rattle.execution.specs.declared.invoke.Invoked.TheVariants as invoked
 use Rattle.execution.specs.declared.execute.Event.TheVariants.{Quiet, Trapped}

@@ -5,7 +5,7 @@ use Rattle.code.specs.Effect.{plain_of}
 use Rattle.code.specs.declared.instr.Instr.{Instr}
 use Rattle.code.specs.declared.instr.Plain.{Plain}
 use Rattle.code.specs.declared.instr.Plain.TheVariants as plain
-use Rattle.lower.specs.Does.{trap_of}
+use Rattle.lowered.specs.Does.{trap_of}
 use Rattle.jni_calls.specs.declared.activation.Activation.{Activation}
 use Rattle.jni_calls.specs.declared.trap.Trap.{Trap as TrapInMemory}
 use Rattle.jni_calls.specs.Traps.{trap_view}

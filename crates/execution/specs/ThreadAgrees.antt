@@ -13,8 +13,8 @@ use Rattle.source.specs.Activation.{function_at, class_of_function}
 use Rattle.safety.specs.Owners.{Owners, AllOwners}
 use Rattle.source.specs.Thread as source
 use Rattle.source.specs.Thread.{Shared, viewed_by}
-use Rattle.lower.specs.Slots.{ArgumentsFit, visible_to}
-use Rattle.lower.specs.Lowered.{Lowered}
+use Rattle.lowered.specs.Slots.{ArgumentsFit, visible_to}
+use Rattle.lowered.specs.Lowered.{Lowered}
 use Rattle.execution.specs.declared.thread.Ending.{Ending}
 use Rattle.execution.specs.declared.thread.Ending.TheVariants.{Unfinished, Ended, Uncaught}
 use Rattle.execution.specs.declared.thread.Thread.{Thread}

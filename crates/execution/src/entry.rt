@@ -4,7 +4,7 @@ ghost use Rattle.std.specs.Prelude.{◌≡◌, ℕ, ◌-◌, ◌<◌, ◌≤◌,
 ghost use Rattle.std.specs.List.{list_all};
 ghost use Rattle.world.specs.Views.{object_value_view};
 ghost use Rattle.world.specs.CallArguments.{is_argument};
-ghost use Rattle.lower.specs.Slots.{argument_word, HasRoom};
+ghost use Rattle.lowered.specs.Slots.{argument_word, HasRoom};
 ghost use Rattle.tables.specs.Locals.{pushed};
 ghost use Rattle.tables.specs.References.{references_in};
 ghost use Rattle.execution.specs.Entry.{argument_address, entry_locals, keys_from, IsNumbersOf, IsReferencesOf, BeginsIn};

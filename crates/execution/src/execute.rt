@@ -8,7 +8,7 @@ ghost use Rattle.source.specs.Effect.{effect_of};
 ghost use Rattle.source.specs.Task.{Task};
 ghost use Rattle.source.specs.Thread.{BuffersInUse, Shared, Thread as SourceThread, sight_of};
 ghost use Rattle.safety.specs.Owners.{Owners};
-ghost use Rattle.lower.specs.Lowered.{IsLowered};
+ghost use Rattle.lowered.specs.Lowered.{IsLowered};
 ghost use Rattle.jni_calls.specs.Asked.{references_of};
 ghost use Rattle.execution.specs.Executes.{IsExecuting, Executes};
 ghost use Rattle.execution.specs.Invoked.{executed_as};
@@ -25,7 +25,7 @@ use jni_calls::references::References;
 use jni_calls::statics::StaticReference;
 use jni_calls::store::Store;
 use jni_calls::trap::{Trap, trap_of};
-use lower::Program;
+use lowered::Program;
 use std::alloc::AllocError;
 use world::World;
 

@@ -6,7 +6,7 @@ ghost use Rattle.source.specs.Effect.{effect_of};
 ghost use Rattle.source.specs.Task.{Task};
 ghost use Rattle.source.specs.Thread.{BuffersInUse, Shared, Thread as SourceThread, sight_of};
 ghost use Rattle.safety.specs.Owners.{Owners};
-ghost use Rattle.lower.specs.Lowered.{Lowered};
+ghost use Rattle.lowered.specs.Lowered.{Lowered};
 ghost use Rattle.execution.specs.Executes.{Executes};
 ghost use Rattle.execution.specs.Invoked.{AtCall, executed_as};
 

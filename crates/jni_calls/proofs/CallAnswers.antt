@@ -30,20 +30,20 @@ use Rattle.source.specs.Thread.{Shared, Thread, BuffersInUse}
 use Rattle.source.specs.World.{World, fresh_object, loaded_objects}
 use Rattle.world.proofs.LoadedWorlds.{class_within as found_within}
 use Rattle.world.specs.SoundWorlds.{IsSound}
-use Rattle.lower.specs.Does.{OperandFits}
-use Rattle.lower.specs.Fits.{IsReferenceKind}
-use Rattle.lower.specs.Lowered.{Lowered}
+use Rattle.lowered.specs.Does.{OperandFits}
+use Rattle.lowered.specs.Fits.{IsReferenceKind}
+use Rattle.lowered.specs.Lowered.{Lowered}
 use Rattle.base.specs.Element.{ElementType}
 use Rattle.source.specs.Value.{Int, convert}
-use Rattle.lower.specs.Slots.{word_of}
+use Rattle.lowered.specs.Slots.{word_of}
 use Rattle.jni_calls.proofs.KeyLaws.{OwnKey}
 use Rattle.base.specs.Bytes.{lookup}
 use Rattle.source.specs.Variable.{Variable}
 use Rattle.jni_calls.proofs.FieldValues.{word_there, reference_there, writes}
-use Rattle.code_generator.specs.Coding.{element_of}
+use Rattle.lowered.specs.Coding.{element_of}
 use Rattle.heap.specs.declared.value.Value.TheVariants as cell
 use Rattle.heap.specs.declared.value.Value.{Value}
-use Rattle.lower.proofs.ElementWords.{convert_fits, element_words}
+use Rattle.lowered.proofs.ElementWords.{convert_fits, element_words}
 use Rattle.jni_calls.specs.StoreAgrees.{StoreAgrees}
 use Rattle.jni_calls.proofs.Handles.{class_of_field, class_within}
 use Rattle.jni_calls.specs.declared.answer.Answer.{Answer}

@@ -25,7 +25,7 @@ use Rattle.source.specs.Task.{Target}
 use Rattle.source.specs.Thread.{Frame, Shared, Thread}
 use Rattle.source.specs.Value.{NullReference, ExceptionPending, WrongObject, DeletedReference, NoCapacity}
 use Rattle.source.specs.Variable.{StaticReference, Empty, Live, Deleted, as_static}
-use Rattle.lower.specs.Does.{ActualFits}
+use Rattle.lowered.specs.Does.{ActualFits}
 use Rattle.jni_calls.specs.FieldIds.{FieldAgrees}
 use Rattle.jni_calls.specs.StoreAgrees.{HeldAgrees}
 use Rattle.jni_calls.specs.Statics.{References, held_address, holds_deleted, holds_null, static_at}

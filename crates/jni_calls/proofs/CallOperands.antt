@@ -16,11 +16,11 @@ use Rattle.jni.specs.Prototype.{ParameterKind, StaticVariable, ClassObject, Fiel
 use Rattle.source.specs.Arguments.{Actual, reference_given, name_or_zero, text_given, text_in_actual, NumberActual, number_given, number_in_actual}
 use Rattle.source.specs.Heap.{Heap, values_of}
 use Rattle.source.specs.Object.{Reference}
-use Rattle.lower.specs.Does.{OperandFits, texts_given, words_given}
-use Rattle.lower.specs.Does as does
-use Rattle.lower.specs.Fits.{IsReferenceKind}
+use Rattle.lowered.specs.Does.{OperandFits, texts_given, words_given}
+use Rattle.lowered.specs.Does as does
+use Rattle.lowered.specs.Fits.{IsReferenceKind}
 use Rattle.source.specs.Value.{Int}
-use Rattle.lower.specs.Slots.{word_of}
+use Rattle.lowered.specs.Slots.{word_of}
 use Rattle.jni_calls.specs.Statics.{References, held_address, holds_deleted, holds_null, static_at}
 use Rattle.jni_calls.specs.declared.references.Held.{Held}
 use Rattle.jni_calls.specs.declared.references.Held.TheVariants as held

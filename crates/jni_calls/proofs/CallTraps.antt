@@ -21,7 +21,7 @@ use Rattle.source.specs.Thread.{Shared, Thread}
 use Rattle.source.specs.Value.{NullReference, ExceptionPending, WrongObject, DeletedReference, NoCapacity}
 use Rattle.source.specs.Variable.{StaticReference, Empty, Live, Deleted}
 use Rattle.source.specs.World.{World}
-use Rattle.lower.specs.Lowered.{Lowered}
+use Rattle.lowered.specs.Lowered.{Lowered}
 use Rattle.jni_calls.specs.declared.store.Store.{Store}
 use Rattle.jni_calls.specs.declared.activation.Activation.{Activation}
 use Rattle.jni_calls.specs.FieldIds.{FieldAgrees}

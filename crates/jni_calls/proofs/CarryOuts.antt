@@ -4,7 +4,7 @@ use Rattle.std.specs.Global.{Vec}
 use Rattle.std.specs.Option.{option_to_list}
 use Rattle.base.specs.Bytes.{Identifier}
 use Rattle.heap.specs.Heap.{name_at}
-use Rattle.lower.specs.Slots.{static_index}
+use Rattle.lowered.specs.Slots.{static_index}
 use Rattle.source.specs.CallEffects.{without_one}
 use Rattle.source.specs.Object.{Reference}
 use Rattle.source.specs.Variable.{Empty, Live, Deleted, assign}
@@ -30,7 +30,7 @@ use Rattle.source.specs.Thread.{Shared, Thread}
 use Rattle.source.specs.Value.{Int}
 use Rattle.source.specs.World.{World, fresh_object, loaded_objects}
 use Rattle.world.proofs.LoadedWorlds.{loaded_error}
-use Rattle.lower.specs.Lowered.{Lowered}
+use Rattle.lowered.specs.Lowered.{Lowered}
 use Rattle.jni_calls.specs.declared.answer.Answer.{Answer}
 use Rattle.jni_calls.specs.declared.answer.Answer.TheVariants as answer
 use Rattle.jni_calls.specs.declared.answer.Given.{Given}

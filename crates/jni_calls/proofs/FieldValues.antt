@@ -15,8 +15,8 @@ use Rattle.source.specs.Reachable.{IsName}
 use Rattle.source.specs.Thread.{Shared, Thread}
 use Rattle.source.specs.Value.{Int}
 use Rattle.source.specs.World.{World}
-use Rattle.lower.specs.Lowered.{Lowered}
-use Rattle.lower.specs.Slots.{word_of}
+use Rattle.lowered.specs.Lowered.{Lowered}
+use Rattle.lowered.specs.Slots.{word_of}
 use Rattle.jni_calls.specs.declared.store.Store.{Store}
 use Rattle.jni_calls.specs.StoreAgrees.{StoreAgrees}
 use Rattle.jni_calls.specs.Answers.{IsAnswer}

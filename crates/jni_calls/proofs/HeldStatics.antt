@@ -9,7 +9,7 @@ use Rattle.heap.specs.Heap.{Space}
 use Rattle.syntax.specs.Tree.{Static}
 use Rattle.source.specs.Start.{null_static}
 use Rattle.source.specs.Variable.{StaticReference, Empty, Live, Deleted, Statics, assign}
-use Rattle.lower.specs.Slots.{is_empty, static_index}
+use Rattle.lowered.specs.Slots.{is_empty, static_index}
 use Rattle.tables.specs.References.{address_at}
 use Rattle.jni_calls.specs.declared.references.Held.{Held}
 use Rattle.jni_calls.specs.declared.references.Held.TheVariants as held

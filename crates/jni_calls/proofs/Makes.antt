@@ -13,7 +13,7 @@ use Rattle.source.specs.Reachable.{IsName}
 use Rattle.source.specs.Thread.{Shared}
 use Rattle.source.specs.World.{World, fresh_object, initial, loaded_objects}
 use Rattle.world.proofs.LoadedWorlds.{few_objects}
-use Rattle.lower.specs.Lowered.{Lowered}
+use Rattle.lowered.specs.Lowered.{Lowered}
 use Rattle.jni_calls.specs.declared.store.Store.{Store}
 use Rattle.jni_calls.specs.HeapAgrees.{SlotsAgree}
 use Rattle.jni_calls.specs.StoreAgrees.{Keeps, StaticsAgree, StoreAgrees}

@@ -20,8 +20,8 @@ use Rattle.source.specs.Object.{sizes}
 use Rattle.source.specs.Thread.{Shared}
 use Rattle.source.specs.Variable.{Live, Deleted, Statics, StaticReference, assign}
 use Rattle.source.specs.World.{World}
-use Rattle.lower.specs.Lowered.{Lowered}
-use Rattle.lower.specs.Slots.{static_index}
+use Rattle.lowered.specs.Lowered.{Lowered}
+use Rattle.lowered.specs.Slots.{static_index}
 use Rattle.jni_calls.specs.declared.references.Held.{Held}
 use Rattle.jni_calls.specs.declared.statics.StaticReference.{StaticReference as InMemory}
 use Rattle.jni_calls.specs.declared.statics.StaticReference.TheVariants as static

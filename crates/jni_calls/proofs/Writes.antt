@@ -17,7 +17,7 @@ use Rattle.source.specs.Object.{Object, ObjectValue, Number, Refers}
 use Rattle.source.specs.Reachable.{from_one, IsName}
 use Rattle.source.specs.Thread.{Shared}
 use Rattle.source.specs.World.{World, loaded_objects}
-use Rattle.lower.specs.Lowered.{Lowered}
+use Rattle.lowered.specs.Lowered.{Lowered}
 use Rattle.jni_calls.specs.declared.store.Store.{Store}
 use Rattle.jni_calls.specs.StoreAgrees.{StoreAgrees, Keeps}
 use Rattle.jni_calls.specs.Statics.{all_held}

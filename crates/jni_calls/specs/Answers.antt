@@ -16,7 +16,7 @@ use Rattle.source.specs.Value.{Int, Flag}
 use Rattle.source.specs.Variable.{Live}
 use Rattle.source.specs.World.{fresh_object}
 use Rattle.tables.specs.Locals.{LocalTable}
-use Rattle.lower.specs.Slots.{word_of, static_index}
+use Rattle.lowered.specs.Slots.{word_of, static_index}
 use Rattle.jni_calls.specs.declared.answer.Given.{Given}
 use Rattle.jni_calls.specs.declared.answer.Given.TheVariants as given
 use Rattle.jni_calls.specs.declared.answer.Answer.{Answer}

@@ -6,8 +6,8 @@ use Rattle.jni.specs.JniFunction.{JniFunction, prototype, is_built_function}
 use Rattle.source.specs.Arguments.{Actual}
 use Rattle.source.specs.Thread.{Shared, Thread}
 use Rattle.source.specs.World.{World}
-use Rattle.lower.specs.Does.{OperandFits, ActualFits, words_given, texts_given}
-use Rattle.lower.specs.Lowered.{Lowered}
+use Rattle.lowered.specs.Does.{OperandFits, ActualFits, words_given, texts_given}
+use Rattle.lowered.specs.Lowered.{Lowered}
 use Rattle.jni_calls.specs.declared.store.Store.{Store}
 use Rattle.jni_calls.specs.declared.activation.Activation.{Activation}
 use Rattle.jni_calls.specs.StoreAgrees.{StoreAgrees}

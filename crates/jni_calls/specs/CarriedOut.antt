@@ -10,7 +10,7 @@ use Rattle.source.specs.Object.{Reference}
 use Rattle.source.specs.Thread as source
 use Rattle.source.specs.Thread.{Shared, Thread}
 use Rattle.source.specs.World.{World, fresh_object}
-use Rattle.lower.specs.Lowered.{Lowered}
+use Rattle.lowered.specs.Lowered.{Lowered}
 use Rattle.jni_calls.specs.declared.answer.Given.{Given}
 use Rattle.jni_calls.specs.declared.answer.Given.TheVariants as given
 use Rattle.jni_calls.specs.declared.store.Store.{Store}

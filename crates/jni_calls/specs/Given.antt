@@ -9,7 +9,7 @@ use Rattle.class_table.specs.FieldViews.{field_of}
 use Rattle.class_table.specs.declared.class.FieldHandle.{FieldHandle}
 use Rattle.code.specs.declared.instr.Operand.{Operand}
 use Rattle.code.specs.declared.instr.Operand.TheVariants as operand
-use Rattle.code_generator.specs.Coding.{mode_code}
+use Rattle.lowered.specs.Coding.{mode_code}
 use Rattle.heap.specs.Heap.{Space, IsAddress, class_at, name_at}
 use Rattle.source.specs.Arguments.{Actual, ReferenceActual, FieldActual, NumberActual, TextActual, VariableActual, ModeActual, NothingActual, ReleaseMode}
 use Rattle.source.specs.Object.{Reference}

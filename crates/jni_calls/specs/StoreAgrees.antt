@@ -11,7 +11,7 @@ use Rattle.source.specs.Reachable.{IsName}
 use Rattle.source.specs.Thread as source
 use Rattle.source.specs.Thread.{Shared}
 use Rattle.source.specs.Variable.{StaticReference, Empty, Live, Deleted, Statics, assign}
-use Rattle.lower.specs.Lowered.{Lowered}
+use Rattle.lowered.specs.Lowered.{Lowered}
 use Rattle.jni_calls.specs.declared.store.Store.{Store}
 use Rattle.jni_calls.specs.Classed.{AreClassed}
 use Rattle.jni_calls.specs.HeapAgrees.{HeapAgrees, IsTable, SlotsAgree}

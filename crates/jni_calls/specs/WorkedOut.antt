@@ -11,7 +11,7 @@ use Rattle.code.specs.Call.{Call}
 use Rattle.code.specs.Effect.{element_word, truth_word}
 use Rattle.code.specs.declared.instr.Operand.{Operand}
 use Rattle.code.specs.declared.instr.Operand.TheVariants as operand
-use Rattle.code_generator.specs.Coding.{element_of}
+use Rattle.lowered.specs.Coding.{element_of}
 use Rattle.heap.specs.Heap.{Space, values_at}
 use Rattle.heap.specs.declared.value.Value.{Value}
 use Rattle.heap.specs.declared.value.Value.TheVariants as value

@@ -7,7 +7,7 @@ ghost use Rattle.classes.specs.Fields.{layout, own_statics};
 ghost use Rattle.classes.specs.Grown.{IsGrown};
 ghost use Rattle.code.specs.Call.{call_view};
 ghost use Rattle.code.specs.Effect.{element_word, truth_word};
-ghost use Rattle.code_generator.specs.Coding.{element_of};
+ghost use Rattle.lowered.specs.Coding.{element_of};
 ghost use Rattle.heap.specs.Heap.{IsAddress};
 ghost use Rattle.jni.specs.JniFunction.{is_built_function};
 ghost use Rattle.jni.specs.Table.{function_value};

@@ -4,7 +4,7 @@ ghost use Rattle.std.specs.Prelude.{◌≡◌, ◌-◌, ◌<◌, ◌≤◌, ◌^
 ghost use Rattle.jni.specs.Table.{result_value};
 ghost use Rattle.source.specs.CallEffects.{CallEffect};
 ghost use Rattle.source.specs.Thread.{Shared, Thread as SourceThread};
-ghost use Rattle.lower.specs.Lowered.{Lowered};
+ghost use Rattle.lowered.specs.Lowered.{Lowered};
 ghost use Rattle.tables.specs.declared.locals.TheConstants.{MOST_LOCALS};
 ghost use Rattle.tables.specs.Locals.{capacities, ensured, popped};
 ghost use Rattle.jni_calls.specs.Answers.{IsAnswer};

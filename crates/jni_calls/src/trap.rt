@@ -2,7 +2,7 @@
 
 ghost use Rattle.std.specs.Prelude.{◌≡◌};
 ghost use Rattle.source.specs.Value.{trap_number};
-ghost use Rattle.lower.specs.Does.{trap_of};
+ghost use Rattle.lowered.specs.Does.{trap_of};
 ghost use Rattle.jni_calls.specs.Traps.{trap_view};
 
 use code::instr::PlainTrap;

@@ -29,8 +29,8 @@ use Rattle.world.specs.WorldRules.{is_in_range}
 use Rattle.world.proofs.LoadedWorlds.{class_within, passes_at}
 use Rattle.source.specs.Activation.{class_of_function, function_at}
 use Rattle.source.specs.Load.{call_loads, is_callable, fits_parameter, fit_parameters}
-use Rattle.lower.specs.Lowered.{Lowered}
-use Rattle.lower.specs.Slots.{ArgumentFits, ArgumentsFit}
+use Rattle.lowered.specs.Lowered.{Lowered}
+use Rattle.lowered.specs.Slots.{ArgumentFits, ArgumentsFit}
 use Rattle.execution.specs.declared.thread.PendingCall.{PendingCall}
 use Rattle.execution.specs.ThreadAgrees.{CallAgrees, CallsAgree}
 use Rattle.loading.proofs.Lists.{drop_next}

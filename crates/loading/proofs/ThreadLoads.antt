@@ -12,7 +12,7 @@ use Rattle.source.specs.Start.{waiting_thread}
 use Rattle.source.specs.Thread as source
 use Rattle.source.specs.Thread.{Shared}
 use Rattle.safety.specs.Owners.{Owners, AllOwners}
-use Rattle.lower.specs.Lowered.{Lowered}
+use Rattle.lowered.specs.Lowered.{Lowered}
 use Rattle.loading.specs.declared.fault.LoadFault.{LoadFault}
 use Rattle.loading.specs.declared.fault.LoadFault.TheVariants.{DoesNotFit, Memory}
 use Rattle.execution.specs.declared.thread.Thread.{Thread}

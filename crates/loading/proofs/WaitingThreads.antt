@@ -5,7 +5,7 @@ use Rattle.heap.specs.Heap.{Space}
 use Rattle.source.specs.World.{Invocation}
 use Rattle.source.specs.Start.{waiting_thread}
 use Rattle.source.specs.Thread.{Shared}
-use Rattle.lower.specs.Lowered.{Lowered}
+use Rattle.lowered.specs.Lowered.{Lowered}
 use Rattle.execution.specs.declared.thread.Ending.TheVariants.{Unfinished}
 use Rattle.execution.specs.declared.thread.Thread.{Thread}
 use Rattle.safety.specs.Owners.{Owners}

@@ -8,7 +8,7 @@ use Rattle.classes.specs.Class.{Classes}
 use Rattle.source.specs.World.{Invocation, World}
 use Rattle.source.specs.Activation.{function_at}
 use Rattle.source.specs.Load.{call_loads, first_load_fault}
-use Rattle.lower.specs.Lowered.{Lowered}
+use Rattle.lowered.specs.Lowered.{Lowered}
 use Rattle.loading.specs.declared.fault.LoadFault.{LoadFault}
 use Rattle.loading.specs.declared.fault.LoadFault.TheVariants.{DoesNotFit, Memory}
 use Rattle.execution.specs.declared.thread.PendingCall.{PendingCall}

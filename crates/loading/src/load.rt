@@ -24,7 +24,7 @@ use crate::fault::LoadFault;
 use classes::mangling::unmangle;
 use execution::thread::{Ending, PendingCall, Thread};
 use functions::{Functions, NumberedFunction};
-use lower::Program;
+use lowered::Program;
 use std::alloc::{AllocError, Global};
 use std::collections::VecDeque;
 use syntax::{Parameter, ParameterType};

@@ -13,12 +13,12 @@ use Rattle.sorts.specs.BuiltCalls.{calls_unbuilt, calls_are_built}
 use Rattle.code.specs.declared.instr.Instr.TheVariants as instr
 use Rattle.region_rules.specs.RegionStates.{RegionState, state_at_entry}
 use Rattle.region_rules.specs.Regions.{Returned, AcceptedFunction, HasRegions}
-use Rattle.code_generator.specs.Layout.{Slot, Known, with_static, parameter_slot, parameter_slots, numbers_after, references_after, entry_layout}
-use Rattle.code_generator.specs.Coding.{block_code, function_code}
-use Rattle.lower.specs.Fits.{AreStatics, FunctionFits}
-use Rattle.lower.specs.Length.{function_steps}
-use Rattle.lower.specs.Stands.{block_returns}
-use Rattle.lower.proofs.SlotLaws.{first_or_after}
+use Rattle.lowered.specs.Layout.{Slot, Known, with_static, parameter_slot, parameter_slots, numbers_after, references_after, entry_layout}
+use Rattle.lowered.specs.Coding.{block_code, function_code}
+use Rattle.lowered.specs.Fits.{AreStatics, FunctionFits}
+use Rattle.lowered.specs.Length.{function_steps}
+use Rattle.lowered.specs.Stands.{block_returns}
+use Rattle.lowered.proofs.SlotLaws.{first_or_after}
 use Rattle.lower.proofs.EntryLayouts.{no_statics, one_static_more}
 use Rattle.lower.proofs.SortFacts.{scope_of, HasNoTruth}
 use Rattle.lower.proofs.PlaceFacts.{and_left, and_right, or_right, static_kept, AreKept, first_kept, front_kept, back_kept, rest_kept}

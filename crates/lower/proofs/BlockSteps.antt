@@ -21,17 +21,17 @@ use Rattle.source.specs.Task.{Task, SetScalar, SetElement, SetNull, MakeArray, I
 use Rattle.source.specs.Term as term
 use Rattle.source.specs.Term.{Term, Done, Read, term_of}
 use Rattle.source.specs.Value.{Value, Word, Int, Flag, Truth, Gives}
-use Rattle.code_generator.specs.Layout.{Known, Layout}
-use Rattle.code_generator.specs.Coding.{element_of, term_code, ways_code, turn_code, block_code}
-use Rattle.lower.specs.Slots.{word_of, Visible, Slots, Shows}
-use Rattle.lower.specs.Fits.{IsIndexSort, TermHasSort}
-use Rattle.lower.specs.Stands.{held, HasAt, AreAmong, NumberStands, SetElementStands, BlockStands, LoopStands, TasksStand, StandsFor, ReferenceReturned, task_returns}
-use Rattle.lower.specs.Does.{DoesEffect}
-use Rattle.lower.proofs.SlotLaws.{fewer_shown, shows_element_set}
+use Rattle.lowered.specs.Layout.{Known, Layout}
+use Rattle.lowered.specs.Coding.{element_of, term_code, ways_code, turn_code, block_code}
+use Rattle.lowered.specs.Slots.{word_of, Visible, Slots, Shows}
+use Rattle.lowered.specs.Fits.{IsIndexSort, TermHasSort}
+use Rattle.lowered.specs.Stands.{held, HasAt, AreAmong, NumberStands, SetElementStands, BlockStands, LoopStands, TasksStand, StandsFor, ReferenceReturned, task_returns}
+use Rattle.lowered.specs.Does.{DoesEffect}
+use Rattle.lowered.proofs.SlotLaws.{fewer_shown, shows_element_set}
 use Rattle.lower.proofs.CodePlaces.{has_front, has_back}
 use Rattle.lower.proofs.TermSteps.{negative_past, shows_number, untouched_held, begun_left, left_first}
 use Rattle.lower.proofs.Bodies.{number_begins, begins}
-use Rattle.lower.proofs.ElementWords.{element_words, convert_fits}
+use Rattle.lowered.proofs.ElementWords.{element_words, convert_fits}
 use Rattle.lower.proofs.WaysReturn.{then_returns, else_returns, any_after}
 use Rattle.lower.proofs.Steps.{step_inside, put_step, set_step, null_step, made_step}
 use Rattle.lower.proofs.CallSteps.{call_step}

@@ -13,9 +13,9 @@ use Rattle.sorts.specs.SortRules.{variable_sort, with_declared, places_within, p
 use Rattle.region_rules.specs.RegionStates.{RegionState, state_of}
 use Rattle.region_rules.specs.RegionRules.{is_free}
 use Rattle.region_rules.specs.Regions.{where_true, where_false, Way, On, Returned, IsEnd, Keeps, KeepsBlock}
-use Rattle.code_generator.specs.Layout.{Slot, Known, Layout, new_slot, closed, layout_after, block_layout}
-use Rattle.lower.specs.Fits.{StmtFits, BlockFits}
-use Rattle.lower.proofs.SlotLaws.{first_or_after}
+use Rattle.lowered.specs.Layout.{Slot, Known, Layout, new_slot, closed, layout_after, block_layout}
+use Rattle.lowered.specs.Fits.{StmtFits, BlockFits}
+use Rattle.lowered.proofs.SlotLaws.{first_or_after}
 use Rattle.lower.proofs.SortFacts.{scope_of, HasNoTruth}
 use Rattle.lower.proofs.PlaceFacts.{and_left, and_right, or_left, IsKept, AreKept, own_kept, inside_kept, block_kept, ways_kept}
 use Rattle.lower.proofs.NameFacts.{AreTaken, taken_more, taken_after, known_taken, stmt_others}

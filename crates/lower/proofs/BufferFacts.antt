@@ -20,7 +20,7 @@ use Rattle.sorts.specs.SortRules.{variable_sort, has_name}
 use Rattle.region_rules.specs.RegionRules.{breaks_region_rule, is_free, Obeys, RegionRule, CallWhileCritical, ReturnWithBuffer, HeldBuffer, UntestedBuffer, WrongBuffer, ReturnInFrame, PopLastFrame, DeadReference, ArrayInUse, WrongLevel, is_mismatched}
 use Rattle.region_rules.specs.RegionStates.{Free, BufferState, VariableState, ReferenceAt, BufferIn, RegionState, FunctionCall, call_of, function_called, made_free, killed, killed_from, with_changed, with_some_changed, after_release, after_pop, after_call, Release, release_of, deleted_name, pops, get_of, buffer_from, buffer_set_to, set_to, with_set, state_after, state_of}
 use Rattle.region_rules.specs.Regions.{made_usable, where_true, where_false, has_variable, left, Way, On, Returned, Join, Keeps, KeepsBlock}
-use Rattle.code_generator.specs.Layout.{Slot, Known, Layout, new_slot, layout_after}
+use Rattle.lowered.specs.Layout.{Slot, Known, Layout, new_slot, layout_after}
 use Rattle.lower.proofs.BuiltCalls.{built_call, gets_nothing}
 use Rattle.lower.proofs.PlaceFacts.{or_left, or_right, and_left, and_right, not_false, not_true}
 use Rattle.lower.proofs.SortFacts.{IsNoBuffer, ElementsFit}

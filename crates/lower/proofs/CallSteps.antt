@@ -27,13 +27,13 @@ use Rattle.source.specs.Variable.{Empty}
 use Rattle.source.specs.Task.{Task, Invoke, Target, Declared, Assigned, Dropped, VariableKind, ScalarKind, ReferenceKind, FieldKind, Operand, NumberOperand, Given, Tested}
 use Rattle.source.specs.Term.{Term, Done, reduce}
 use Rattle.source.specs.Value.{Word, Int, Flag, Truth, Gives, Outcome, Traps, Stuck, outcome_map}
-use Rattle.code_generator.specs.Layout.{Slot, Known}
-use Rattle.code_generator.specs.Coding.{term_code}
-use Rattle.lower.specs.Slots.{word_of, IsNumberSort, Visible, Slots, Shows}
-use Rattle.lower.specs.Fits.{IsReferenceKind, TakesNull, TakesLocal, TakesGlobal, TermHasSort}
-use Rattle.lower.specs.Stands.{held, IsBegun, HasAt, operand_text, operands_texts, ResultStands, ResultGoes, StaticStands, TestStands, number_sort, OperandStands, TargetStands, InvokeStands, TasksStand, task_returns, operands_rest, operand_held, operands_held, AreUntouched, AreBegun}
-use Rattle.lower.specs.Does.{IsOperand, TakesNumber, TakesReference, TakesField, TakesStatic, TakesTest, GoesInto, TakesResult, DoesEffect, word_given, words_given, text_given, texts_given, OperandFits, IsVariableKind, ActualFits}
-use Rattle.lower.proofs.SlotLaws.{fewer_shown, number_below, shows_set, shows_referred, shows_field_set, static_changes}
+use Rattle.lowered.specs.Layout.{Slot, Known}
+use Rattle.lowered.specs.Coding.{term_code}
+use Rattle.lowered.specs.Slots.{word_of, IsNumberSort, Visible, Slots, Shows}
+use Rattle.lowered.specs.Fits.{IsReferenceKind, TakesNull, TakesLocal, TakesGlobal, TermHasSort}
+use Rattle.lowered.specs.Stands.{held, IsBegun, HasAt, operand_text, operands_texts, ResultStands, ResultGoes, StaticStands, TestStands, number_sort, OperandStands, TargetStands, InvokeStands, TasksStand, task_returns, operands_rest, operand_held, operands_held, AreUntouched, AreBegun}
+use Rattle.lowered.specs.Does.{IsOperand, TakesNumber, TakesReference, TakesField, TakesStatic, TakesTest, GoesInto, TakesResult, DoesEffect, word_given, words_given, text_given, texts_given, OperandFits, IsVariableKind, ActualFits}
+use Rattle.lowered.proofs.SlotLaws.{fewer_shown, number_below, shows_set, shows_referred, shows_field_set, static_changes}
 use Rattle.lower.proofs.TermSteps.{IsOpen, untouched_held, untouched_begun, shows_number}
 
 -- ---- the number that is worked out

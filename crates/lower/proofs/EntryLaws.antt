@@ -17,9 +17,10 @@ use Rattle.source.specs.Value.{Int, Gives}
 use Rattle.source.specs.Variable.{Variable, Scalar, LocalRef, StaticReference, Empty, Live, Deleted}
 use Rattle.code.specs.Depth.{Listing}
 use Rattle.code.proofs.Arrays.{get_replicate}
-use Rattle.code_generator.specs.Layout.{Slot, Known, parameter_slot, parameter_slots, numbers_after, references_after, numbers_of, references_of, entry_names, entry_layout}
-use Rattle.lower.specs.Slots.{visible_to, type_of_array, kind_of_variable, is_empty, Slots, ShowsSlot, Shows, ArgumentFits, ArgumentsFit, argument_word, argument_reference, EntrySlots, AreShared, AreOfLowest}
-use Rattle.lower.specs.Fits.{AreStatics}
+use Rattle.lowered.specs.Layout.{Slot, Known, parameter_slot, parameter_slots, numbers_after, references_after, numbers_of, references_of, entry_names, entry_layout}
+use Rattle.lowered.specs.Slots.{visible_to, type_of_array, kind_of_variable, is_empty, Slots, ShowsSlot, Shows, ArgumentFits, ArgumentsFit, argument_word, argument_reference, EntrySlots, AreShared, AreOfLowest}
+use Rattle.lowered.specs.Fits.{AreStatics}
+use Rattle.lowered.proofs.StaticLaws.{null_of}
 use Rattle.lower.proofs.CodePlaces.{get-append_seam}
 
 -- the slots have these words and references from these places on
@@ -119,12 +120,6 @@ in_both x ((y, slot) ∷ a) b o is s h =
       | true ↦ λ e k. inl (sym e ∙ k)
       | false ↦ λ e k. in_both x a b o e s k
     ] is h
-
--- whether a static is NULL
-pub null_of : (h : StaticReference) → static_is_null (Some h) ≡ Gives (is_empty h)
-null_of Empty = refl
-null_of (Live n) = refl
-null_of Deleted = refl
 
 module _ (statics : Known) (f : Function) (code : Listing) (known : AreStatics statics) (own : Identifier → Option ℕ) (shared : Shared) (thread : Thread) (calls : List Invocation) (class : ℕ) (arguments : List ObjectValue) (slots : Slots) (fit : ArgumentsFit f.parameters arguments) (entry : EntrySlots code class arguments slots) (there : AreShared statics shared) (lowest : AreOfLowest own) where
   -- a reference that is there at the entry is a variable's own, of level 1

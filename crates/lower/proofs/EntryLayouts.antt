@@ -4,9 +4,9 @@ use Rattle.base.specs.Bytes.{Identifier, lookup}
 use Rattle.syntax.specs.Tree.{ParameterType, IntParameter, ReferenceParameter, Parameter, Function, Static}
 use Rattle.sorts.specs.Sorts.{Sort, Jint, Ref, Global, FieldId}
 use Rattle.code.specs.declared.slots.SlotCounts.{SlotCounts}
-use Rattle.code_generator.specs.Layout.{Slot, Known, with_static, parameter_slot, parameter_slots, numbers_after, references_after, numbers_of, references_of, entry_names, entry_layout}
-use Rattle.lower.specs.Fits.{IndexWithin, AreApart, IsOwn, IsLaidOut, AreStatics}
-use Rattle.lower.proofs.SlotLaws.{first_or_after}
+use Rattle.lowered.specs.Layout.{Slot, Known, with_static, parameter_slot, parameter_slots, numbers_after, references_after, numbers_of, references_of, entry_names, entry_layout}
+use Rattle.lowered.specs.Fits.{IndexWithin, AreApart, IsOwn, IsLaidOut, AreStatics}
+use Rattle.lowered.proofs.SlotLaws.{first_or_after}
 use Rattle.lower.proofs.EntryLaws.{in_both}
 
 -- ---- statics

@@ -8,13 +8,13 @@ use Rattle.code.specs.declared.instr.Instr.TheVariants as instr
 use Rattle.code.specs.Depth.{Listing, IsValid}
 use Rattle.code.proofs.Pieces.{piece_moves, piece_jumps}
 use Rattle.source.specs.Task.{tasks_of}
-use Rattle.code_generator.specs.Layout.{Known, entry_layout, block_layout, function_slots}
-use Rattle.code_generator.specs.Coding.{block_code, function_code}
-use Rattle.lower.specs.Length.{function_steps, step_limit}
-use Rattle.lower.specs.Slots.{ArgumentsFit, HasRoom}
-use Rattle.lower.specs.Fits.{HasRoomFor, AreStatics, FunctionFits}
-use Rattle.lower.specs.Stands.{TasksStand, StandsFor, block_returns}
-use Rattle.lower.specs.Lowered.{IsCodeOf}
+use Rattle.lowered.specs.Layout.{Known, entry_layout, block_layout, function_slots}
+use Rattle.lowered.specs.Coding.{block_code, function_code}
+use Rattle.lowered.specs.Length.{function_steps, step_limit}
+use Rattle.lowered.specs.Slots.{ArgumentsFit, HasRoom}
+use Rattle.lowered.specs.Fits.{HasRoomFor, AreStatics, FunctionFits}
+use Rattle.lowered.specs.Stands.{TasksStand, StandsFor, block_returns}
+use Rattle.lowered.specs.Lowered.{IsCodeOf}
 use Rattle.lower.proofs.CodePlaces.{has_front, has_all}
 use Rattle.lower.proofs.Layouts.{block_grows}
 use Rattle.lower.proofs.Bodies.{begins}

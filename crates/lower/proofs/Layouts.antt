@@ -8,10 +8,10 @@ use Rattle.sorts.specs.Sorts.{Sort, Word, Jint, Flag, Truth, Ref, Global, FieldI
 use Rattle.sorts.specs.SortRules.{variable_sort}
 use Rattle.code.specs.declared.slots.SlotCounts.{SlotCounts}
 use Rattle.code.specs.Depth.{Listing}
-use Rattle.code_generator.specs.Layout.{Slot, Known, Layout, next_index, slots_after, new_slot, with_name, closed, layout_after, block_layout}
-use Rattle.lower.specs.Fits.{IndexWithin, IsPlaceOf, AreApart, IsOwn, IsLaidOut, HasRoomFor, StmtFits}
-use Rattle.lower.specs.Stands.{AreAmong, IsSlotOf}
-use Rattle.lower.proofs.SlotLaws.{first_or_after, new_among, all_among}
+use Rattle.lowered.specs.Layout.{Slot, Known, Layout, next_index, slots_after, new_slot, with_name, closed, layout_after, block_layout}
+use Rattle.lowered.specs.Fits.{IndexWithin, IsPlaceOf, AreApart, IsOwn, IsLaidOut, HasRoomFor, StmtFits}
+use Rattle.lowered.specs.Stands.{AreAmong, IsSlotOf}
+use Rattle.lowered.proofs.SlotLaws.{first_or_after, new_among, all_among}
 
 -- ---- slots grow
 

@@ -1,10 +1,5 @@
 pub mod CodePlaces
-pub mod StaticPlaces
-pub mod SlotLaws
-pub mod OwnerLaws
-pub mod StaticLaws
 pub mod TermSteps
-pub mod ElementWords
 pub mod Layouts
 pub mod Bodies
 pub mod WaysReturn

@@ -11,7 +11,7 @@ use Rattle.syntax.specs.Tree as tree
 use Rattle.syntax.specs.Tree.{ResultType, Stmt, Block, End, Next}
 use Rattle.sorts.specs.Sorts.{Scope, Buffer, Array}
 use Rattle.sorts.specs.SortRules.{variable_sort, has_name, places_within, places_of, with_declared}
-use Rattle.code_generator.specs.Layout.{Slot, Known, Layout, new_slot, layout_after}
+use Rattle.lowered.specs.Layout.{Slot, Known, Layout, new_slot, layout_after}
 use Rattle.lower.proofs.PlaceFacts.{or_left, or_right, AreKept, own_kept, block_kept, ways_kept, inside_kept}
 
 -- a name that isn't taken isn't known

@@ -11,9 +11,9 @@ use Rattle.syntax.specs.Tree.{Constant, True, False, Null, PrefixOp, LogicalNot,
 use Rattle.sorts.specs.Sorts.{Sort, Word, Jint, Flag, Truth, Ref, Global, FieldId, Buffer, Array, Scope, OperatorGroup, Logic, Equality, Order, OnWords, group, binary_sort, prefix_sort, is_castable, is_index, has_elements, is_nullable, constant_sort, null_test_sort, sort_in, sort_of}
 use Rattle.source.specs.Term as term
 use Rattle.source.specs.Term.{Term, binary_term, term_of}
-use Rattle.code_generator.specs.Layout.{Slot, Known}
-use Rattle.lower.specs.Slots.{IsNumberSort}
-use Rattle.lower.specs.Fits.{IsVariable, IsIndexSort, IsNullable, OperatorFits, TermHasSort, IsUntouched, term_height, NumberFits}
+use Rattle.lowered.specs.Layout.{Slot, Known}
+use Rattle.lowered.specs.Slots.{IsNumberSort}
+use Rattle.lowered.specs.Fits.{IsVariable, IsIndexSort, IsNullable, OperatorFits, TermHasSort, IsUntouched, term_height, NumberFits}
 
 -- the sorts of the known names
 abbrev pub scope_of : Known → Scope

@@ -16,8 +16,8 @@ use Rattle.sorts.specs.SortRules.{result_fits, is_push, call_fits, may_be_tested
 use Rattle.source.specs.Term as term
 use Rattle.source.specs.Term.{Term, Read, term_of}
 use Rattle.region_rules.specs.RegionStates.{RegionState}
-use Rattle.code_generator.specs.Layout.{Slot, Known}
-use Rattle.lower.specs.Fits.{IsVariable, IsArray, IsIndexSort, NumberFits, TakesLocal, TakesGlobal, NameFits, ReferenceFits, FieldFits, ArrayFits, BufferFits, ArgumentFits, CallFits, ResultFits, CallGives, ValueFits, RightFits, TestFits, ReturnFits}
+use Rattle.lowered.specs.Layout.{Slot, Known}
+use Rattle.lowered.specs.Fits.{IsVariable, IsArray, IsIndexSort, NumberFits, TakesLocal, TakesGlobal, NameFits, ReferenceFits, FieldFits, ArrayFits, BufferFits, ArgumentFits, CallFits, ResultFits, CallGives, ValueFits, RightFits, TestFits, ReturnFits}
 use Rattle.lower.proofs.SortFacts.{scope_of, slot_of_name, HasNoTruth, IsNoBuffer, IsFine, elements, indexed, index_is_value, number_fits}
 use Rattle.lower.proofs.PlaceFacts.{and_left, and_right, not_false}
 use Rattle.lower.proofs.BuiltCalls.{BuiltCall, built_call, is_taken, result_taken, is_tested}

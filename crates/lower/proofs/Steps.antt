@@ -23,13 +23,13 @@ use Rattle.source.specs.Sight.{Sight}
 use Rattle.source.specs.Task.{Task, SetScalar, SetNull, MakeArray, Print, Target, Declared, Assigned, VariableKind, ScalarKind, ReferenceKind, FieldKind, BufferKind}
 use Rattle.source.specs.Term.{Term, Done, reduce}
 use Rattle.source.specs.Value.{Value, Word, Int, Flag, Truth, Gives}
-use Rattle.code_generator.specs.Layout.{Slot, Known}
-use Rattle.code_generator.specs.Coding.{nullable_of, term_code}
-use Rattle.lower.specs.Slots.{word_of, is_empty, Visible, Slots, ShowsSlot, Shows}
-use Rattle.lower.specs.Fits.{TermHasSort}
-use Rattle.lower.specs.Stands.{held, IsBegun, HasAt, IsUnderWay, kind_of_sort, GoesTo, target_name, TasksStand, StandsFor, task_returns}
-use Rattle.lower.specs.Does.{AtEnd, Works, CanBeNull, kind_of_target, IsStoredIn, DoesEffect}
-use Rattle.lower.proofs.SlotLaws.{fewer_shown, number_below, shows_set, KindFits, shows_nulled, shows_made}
+use Rattle.lowered.specs.Layout.{Slot, Known}
+use Rattle.lowered.specs.Coding.{nullable_of, term_code}
+use Rattle.lowered.specs.Slots.{word_of, is_empty, Visible, Slots, ShowsSlot, Shows}
+use Rattle.lowered.specs.Fits.{TermHasSort}
+use Rattle.lowered.specs.Stands.{held, IsBegun, HasAt, IsUnderWay, kind_of_sort, GoesTo, target_name, TasksStand, StandsFor, task_returns}
+use Rattle.lowered.specs.Does.{AtEnd, Works, CanBeNull, kind_of_target, IsStoredIn, DoesEffect}
+use Rattle.lowered.proofs.SlotLaws.{fewer_shown, number_below, shows_set, KindFits, shows_nulled, shows_made}
 use Rattle.lower.proofs.CodePlaces.{has_back}
 use Rattle.lower.proofs.TermSteps.{IsOpen, LeadsOver, TermGoes, TermTraps, steps_term}
 

@@ -14,7 +14,7 @@ use Rattle.syntax.specs.Tree as tree
 use Rattle.syntax.specs.Tree.{PrefixOp, LogicalNot, Complement, ToWord, ToInt, BinaryOp, LogicalOr, LogicalAnd, BitOr, BitXor, BitAnd, Equal, NotEqual, Less, LessEqual, Greater, GreaterEqual, ShiftLeft, ShiftRight, Add, Subtract, Multiply, Divide, Remainder}
 use Rattle.base.specs.Bytes.{Identifier, lookup}
 use Rattle.source.specs.Variable.{StaticReference}
-use Rattle.lower.proofs.StaticPlaces.{there_at}
+use Rattle.lowered.proofs.StaticPlaces.{there_at}
 use Rattle.base.specs.Element.{ElementType, JInt}
 use Rattle.sorts.specs.Sorts.{Sort, Jint, Ref, Global, FieldId, Buffer, Array, OperatorGroup, Logic, Equality, Order, OnWords, group, is_jint}
 use Rattle.sorts.specs.Sorts as sort
@@ -32,12 +32,12 @@ use Rattle.code.specs.Effect.{plain_of, truth_word, operate}
 use Rattle.source.specs.Value.{Value, Word, Int, Flag, Truth, Gives, Traps, outcome_map, convert}
 use Rattle.source.specs.Term as term
 use Rattle.source.specs.Term.{Term, Done, Read, IsNull, Prefix, And, Or, Binary, Reduction, done, with_part, reduce}
-use Rattle.code_generator.specs.Layout.{Slot, Known}
-use Rattle.code_generator.specs.Coding.{nullable_of, test_of, null_code, element_code, of_slot, load_code, prefix_code, operator_code, is_signed, skip_code, term_code}
-use Rattle.lower.specs.Slots.{word_of, ValueHasSort, IsNumberSort, Visible, Slots, is_empty, ShowsNumber, ShowsArray, ShowsSlot, holds_null}
-use Rattle.lower.specs.Fits.{IsIndexSort, IsNullable, OperatorFits, TermHasSort, IsUntouched}
-use Rattle.lower.specs.Stands.{held, IsBegun}
-use Rattle.lower.specs.Does.{trap_of, Works}
+use Rattle.lowered.specs.Layout.{Slot, Known}
+use Rattle.lowered.specs.Coding.{nullable_of, test_of, null_code, element_code, of_slot, load_code, prefix_code, operator_code, is_signed, skip_code, term_code}
+use Rattle.lowered.specs.Slots.{word_of, ValueHasSort, IsNumberSort, Visible, Slots, is_empty, ShowsNumber, ShowsArray, ShowsSlot, holds_null}
+use Rattle.lowered.specs.Fits.{IsIndexSort, IsNullable, OperatorFits, TermHasSort, IsUntouched}
+use Rattle.lowered.specs.Stands.{held, IsBegun}
+use Rattle.lowered.specs.Does.{trap_of, Works}
 
 -- some part has no value yet
 abbrev pub IsOpen : Term → Type 0

@@ -22,9 +22,9 @@ use Rattle.code.specs.Depth.{depth_after, words_taken, with_result}
 use Rattle.code.proofs.Pieces.{IsPiece, piece_none, piece_append, piece_one, piece_and, piece_or, piece_if, piece_end, piece_loop}
 use Rattle.source.specs.Term as term
 use Rattle.source.specs.Term.{Term, Done, Read, IsNull, Prefix, And, Or, Binary, term_of}
-use Rattle.code_generator.specs.Layout.{Slot, Known, Layout, new_slot, closed, layout_after, block_layout}
-use Rattle.code_generator.specs.Coding.{nullable_of, test_of, null_code, element_of, element_code, write_code, of_slot, load_code, prefix_code, operator_code, is_signed, skip_code, term_code, expr_code, named_call_code, value_code, right_code, assign_code, returned_code, return_code, test_code, ways_code, if_code, stmt_code, block_code, argument_code, arguments_code, operand_code, operand_of, address_operand, variable_operand, arguments_texts, result_target}
-use Rattle.lower.specs.Fits.{IsNullable, TermHasSort, IsUntouched, term_height, NumberFits, ValueFits, RightFits, TestFits, ReturnFits, StmtFits, BlockFits, CallFits, ArgumentFits}
+use Rattle.lowered.specs.Layout.{Slot, Known, Layout, new_slot, closed, layout_after, block_layout}
+use Rattle.lowered.specs.Coding.{nullable_of, test_of, null_code, element_of, element_code, write_code, of_slot, load_code, prefix_code, operator_code, is_signed, skip_code, term_code, expr_code, named_call_code, value_code, right_code, assign_code, returned_code, return_code, test_code, ways_code, if_code, stmt_code, block_code, argument_code, arguments_code, operand_code, operand_of, address_operand, variable_operand, arguments_texts, result_target}
+use Rattle.lowered.specs.Fits.{IsNullable, TermHasSort, IsUntouched, term_height, NumberFits, ValueFits, RightFits, TestFits, ReturnFits, StmtFits, BlockFits, CallFits, ArgumentFits}
 use Rattle.lower.proofs.Bodies.{value_is}
 
 -- ---- instructions

@@ -2,12 +2,12 @@
 use Rattle.std.specs.Prelude.{◌≡◌, ◌+◌, List, [], ◌∷◌, ◌++◌, length, IsTrue}
 use Rattle.syntax.specs.Tree.{Item, StaticItem, FunctionItem}
 use Rattle.code.specs.Depth.{Listing}
-use Rattle.code_generator.specs.Layout.{Known, with_static}
-use Rattle.code_generator.specs.Coding.{function_code}
-use Rattle.lower.specs.Fits.{AreStatics, FunctionFits}
-use Rattle.lower.specs.Stands.{block_returns}
-use Rattle.lower.specs.Length.{function_steps}
-use Rattle.lower.specs.Lowered.{IsCodeOf}
+use Rattle.lowered.specs.Layout.{Known, with_static}
+use Rattle.lowered.specs.Coding.{function_code}
+use Rattle.lowered.specs.Fits.{AreStatics, FunctionFits}
+use Rattle.lowered.specs.Stands.{block_returns}
+use Rattle.lowered.specs.Length.{function_steps}
+use Rattle.lowered.specs.Lowered.{IsCodeOf}
 
 -- an item that can be lowered after these statics
 abbrev pub ItemFits : (statics : Known) → Item → Type 0

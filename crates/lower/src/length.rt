@@ -9,7 +9,7 @@ ghost use Rattle.syntax.specs.Views.{expr_tree, binary_tree, argument_tree, call
 ghost use Rattle.jni.specs.JniFunction.{function_named};
 ghost use Rattle.jni.specs.Table.{parameter_value};
 ghost use Rattle.code_generator.specs.Plain.{is_plain};
-ghost use Rattle.lower.specs.Length.{step_limit, expr_steps, argument_steps, call_steps, value_steps, right_steps, test_steps, return_steps, stmt_steps, block_steps, function_steps, is_long};
+ghost use Rattle.lowered.specs.Length.{step_limit, expr_steps, argument_steps, call_steps, value_steps, right_steps, test_steps, return_steps, stmt_steps, block_steps, function_steps, is_long};
 
 use crate::lowering::MOST_STEPS;
 use jni::{ParameterKind, function_named};

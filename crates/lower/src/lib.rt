@@ -4,9 +4,8 @@
 mod fault;
 mod length;
 mod lowering;
-mod program;
 
 pub use fault::LowerFault;
 pub use length::has_long_function;
+pub use lowered::Program;
 pub use lowering::lower;
-pub use program::Program;

@@ -5,8 +5,8 @@ use Rattle.heap.specs.Heap.{Space}
 use Rattle.source.specs.Task.{Task}
 use Rattle.source.specs.Thread as source
 use Rattle.source.specs.Thread.{Shared}
-use Rattle.lower.specs.Lowered.{Lowered}
-use Rattle.lower.specs.Slots.{visible_to}
+use Rattle.lowered.specs.Lowered.{Lowered}
+use Rattle.lowered.specs.Slots.{visible_to}
 use Rattle.jni_calls.specs.declared.activation.Activation.{Activation}
 use Rattle.safety.specs.Owners.{Owners, AllOwners}
 use Rattle.execution.specs.declared.thread.Thread.{Thread}

@@ -30,8 +30,8 @@ use Rattle.source.specs.Step.{is_waiting, is_blocked, is_unfinished}
 use Rattle.source.specs.Thread as source
 use Rattle.source.specs.Thread.{Shared, Monitor, viewed_by}
 use Rattle.heap.specs.Heap.{Space, left_of}
-use Rattle.lower.specs.Lowered.{Lowered, IsLowered}
-use Rattle.lower.specs.Slots.{Visible, visible_to}
+use Rattle.lowered.specs.Lowered.{Lowered, IsLowered}
+use Rattle.lowered.specs.Slots.{Visible, visible_to}
 use Rattle.reached.specs.Rows.{AreReported}
 use Rattle.execution.specs.declared.thread.Ending.{Ending}
 use Rattle.execution.specs.declared.thread.Ending.TheVariants as ending

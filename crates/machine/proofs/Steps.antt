@@ -22,7 +22,7 @@ use Rattle.source.proofs.StepLaws.{Steps, steps, step-thread}
 use Rattle.heap.specs.Heap.{end_of}
 use Rattle.heap.proofs.Layouts.{ends_within}
 use Rattle.world.proofs.LoadedWorlds.{few_objects}
-use Rattle.lower.specs.Lowered.{Lowered}
+use Rattle.lowered.specs.Lowered.{Lowered}
 use Rattle.execution.specs.declared.thread.Ending.{Ending}
 use Rattle.execution.specs.declared.thread.Ending.TheVariants.{Unfinished, Ended, Uncaught}
 use Rattle.execution.specs.declared.execute.Event.{Event}

@@ -23,7 +23,7 @@ use Rattle.source.specs.Step.{can_step, is_blocked, is_unfinished}
 use Rattle.source.specs.Thread.{Thread as SourceThread}
 use Rattle.safety.specs.Owners.{owners_after}
 use Rattle.safety.specs.StepSafe.{IsSafe}
-use Rattle.lower.specs.Lowered.{Lowered, IsLowered}
+use Rattle.lowered.specs.Lowered.{Lowered, IsLowered}
 use Rattle.execution.specs.declared.thread.Thread.{Thread}
 use Rattle.execution.specs.declared.thread.Ending.{Ending}
 use Rattle.execution.specs.declared.thread.Ending.TheVariants.{Unfinished, Ended, Uncaught}

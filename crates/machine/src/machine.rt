@@ -28,7 +28,7 @@ use jni_calls::store::Store;
 use loading::fault::LoadFault;
 use loading::load::load_threads;
 use loading::objects::load_store;
-use lower::Program;
+use lowered::Program;
 use reached::reached_rows;
 use safety::accepted_is_safe;
 use std::alloc::{AllocError, Global};

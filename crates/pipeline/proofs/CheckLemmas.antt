@@ -3,7 +3,7 @@ use Rattle.std.proofs.Common.{◌≡◌, ℕ, List, Err, refl, subst}
 use Rattle.syntax.specs.Tree.{SourceUnit}
 use Rattle.lower.specs.declared.fault.LowerFault.{LowerFault}
 use Rattle.lower.specs.declared.fault.LowerFault.TheVariants as lowering
-use Rattle.lower.specs.Length.{IsTooLong}
+use Rattle.lowered.specs.Length.{IsTooLong}
 use Rattle.commands.specs.declared.place.Place.TheVariants as place
 use Rattle.commands.specs.declared.place.Text.TheVariants as which
 use Rattle.pipeline.specs.declared.fault.RunError.{RunError}

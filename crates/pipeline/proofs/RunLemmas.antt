@@ -24,7 +24,7 @@ use Rattle.report.specs.RunText.{Writes}
 use Rattle.source.specs.Start.{start}
 use Rattle.lower.specs.declared.fault.LowerFault.{LowerFault}
 use Rattle.lower.specs.declared.fault.LowerFault.TheVariants as lowering
-use Rattle.lower.specs.Length.{IsTooLong}
+use Rattle.lowered.specs.Length.{IsTooLong}
 use Rattle.loading.specs.declared.fault.LoadFault.{LoadFault}
 use Rattle.loading.specs.declared.fault.LoadFault.TheVariants as loading
 use Rattle.machine.specs.declared.fault.ReportFault.{ReportFault}

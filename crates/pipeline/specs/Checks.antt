@@ -1,7 +1,7 @@
 -- Which program texts a check passes, and which number and place another earns.
 use Rattle.std.specs.Prelude.{◌≡◌, ℕ, List, Result, Ok, Err}
 use Rattle.syntax.specs.Tree.{SourceUnit}
-use Rattle.lower.specs.Length.{IsTooLong}
+use Rattle.lowered.specs.Length.{IsTooLong}
 use Rattle.commands.specs.declared.place.Place.{Place}
 use Rattle.commands.specs.declared.place.Place.TheVariants.{Line}
 use Rattle.pipeline.specs.declared.fault.RunError.{RunError}

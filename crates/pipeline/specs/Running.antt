@@ -3,7 +3,7 @@ use Rattle.std.specs.Prelude.{◌≡◌, ℕ, List, length, None, Ok}
 use Rattle.syntax.specs.declared.unit.Item.{Item}
 use Rattle.syntax.specs.Tree.{SourceUnit}
 use Rattle.syntax.specs.Views.{unit_tree}
-use Rattle.lower.specs.Length.{IsTooLong}
+use Rattle.lowered.specs.Length.{IsTooLong}
 use Rattle.texts.specs.ReadingSchedules.{schedule_of}
 use Rattle.texts.specs.ScheduleText.{IsScheduleText}
 use Rattle.world.specs.WorldRules.{IsWorldText}

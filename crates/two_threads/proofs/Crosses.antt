@@ -47,8 +47,8 @@ use Rattle.machine.specs.contracts.machine.Machine as machine
 use Rattle.two_threads.specs.contracts.desk.Desk as desk
 use Rattle.two_threads.specs.contracts.desk.Desk.TheInside as desk-inside
 use Rattle.machine.specs.contracts.machine.Machine.TheInside as machine-inside
-use Rattle.lower.specs.contracts.program.Program as program
-use Rattle.lower.specs.contracts.program.Program.TheInside as program-inside
+use Rattle.lowered.specs.contracts.program.Program as program
+use Rattle.lowered.specs.contracts.program.Program.TheInside as program-inside
 use Rattle.sorts.specs.contracts.typed.Typed.TheInside as inside
 
 -- ---- what a machine borrows

@@ -8,8 +8,8 @@ use Rattle.syntax.specs.Views.{form_tree, block_tree, statements_tree}
 use Rattle.syntax.proofs.Blocks.{block_is}
 use Rattle.code.specs.declared.instr.Instr.{Instr}
 use Rattle.code.specs.declared.instr.Instr.TheVariants as instr
-use Rattle.code_generator.specs.Layout.{block_layout}
-use Rattle.code_generator.specs.Coding.{first_code, ways_code, loop_code, stmt_code, block_code}
+use Rattle.lowered.specs.Layout.{block_layout}
+use Rattle.lowered.specs.Coding.{first_code, ways_code, loop_code, stmt_code, block_code}
 use Rattle.code_generator.proofs.BlockNames.{block_closed}
 use Rattle.code_generator.proofs.Jumps.{on_ok, first_made, ways_made, loop_made}
 use Rattle.code_generator.proofs.statements.+statements.Goals as goal

@@ -1,8 +1,8 @@
 use Rattle.std.proofs.Common.{◌≡◌, ◌++◌, drop}
 use Rattle.syntax.specs.declared.stmt.Block.{out-Block}
 use Rattle.syntax.specs.Views.{block_tree, statements_tree}
-use Rattle.code_generator.specs.Layout.{block_layout}
-use Rattle.code_generator.specs.Coding.{block_code}
+use Rattle.lowered.specs.Layout.{block_layout}
+use Rattle.lowered.specs.Coding.{block_code}
 use Rattle.code_generator.proofs.statements.+statements.Given as goal
 
 abbrev pub invariant-emit_block-loop-stmt : goal.invariant-emit_block-loop-stmt

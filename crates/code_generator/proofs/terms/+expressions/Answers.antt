@@ -3,7 +3,7 @@ use Rattle.std.specs.Prelude.{slice_set, vec_len}
 use Rattle.syntax.specs.declared.expr.BinaryOp.{BinaryOp}
 use Rattle.syntax.specs.declared.expr.Expr.{Expr as ExprInMemory, Binary, size-Expr, the_lemmas}
 use Rattle.code.specs.declared.instr.Instr.{Instr}
-use Rattle.code_generator.specs.Coding.{skip_code, logical_code}
+use Rattle.lowered.specs.Coding.{skip_code, logical_code}
 use Rattle.code_generator.proofs.Jumps.{on_ok, side_made}
 use Rattle.code_generator.proofs.terms.+expressions.Goals as goal
 

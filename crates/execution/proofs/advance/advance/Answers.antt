@@ -8,8 +8,8 @@ use Rattle.source.specs.Thread as source
 use Rattle.source.specs.Thread.{Shared, sight_of}
 use Rattle.source.specs.World.{World, loaded_objects}
 use Rattle.safety.specs.Owners.{Owners}
-use Rattle.lower.specs.Lowered.{Lowered}
-use Rattle.lower.specs.Slots.{visible_to}
+use Rattle.lowered.specs.Lowered.{Lowered}
+use Rattle.lowered.specs.Slots.{visible_to}
 use Rattle.jni_calls.specs.declared.store.Store.{Store}
 use Rattle.jni_calls.specs.declared.activation.Activation.{Activation}
 use Rattle.execution.specs.declared.thread.Thread.{Thread}

@@ -4,7 +4,7 @@ use Rattle.std.specs.List.{HoldsAt}
 use Rattle.std.specs.Option.{MatchOption, option_copied}
 use Rattle.world.specs.Views.{object_value_view}
 use Rattle.code.specs.Depth.{Listing}
-use Rattle.lower.specs.Slots.{HasRoom}
+use Rattle.lowered.specs.Slots.{HasRoom}
 use Rattle.execution.specs.declared.thread.PendingCall.{PendingCall}
 use Rattle.execution.proofs.Calls.{is_there}
 use Rattle.execution.proofs.advance.enter.Goals as goal

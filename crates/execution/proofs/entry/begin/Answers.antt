@@ -3,7 +3,7 @@ use Rattle.std.specs.Prelude.{vec_len}
 use Rattle.std.proofs.lemmas.List.{take_all, length-map}
 use Rattle.code.specs.declared.slots.SlotCounts.{SlotCounts}
 use Rattle.world.specs.Views.{object_value_view}
-use Rattle.lower.specs.Slots.{argument_reference}
+use Rattle.lowered.specs.Slots.{argument_reference}
 use Rattle.execution.specs.Entry.{entry_locals, keys_from}
 use Rattle.execution.proofs.ArgumentSlots.{addresses_count}
 use Rattle.execution.proofs.EntryTables.{given_few}

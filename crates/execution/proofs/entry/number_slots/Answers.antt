@@ -3,7 +3,7 @@ use Rattle.std.specs.Int.{w32, cast_unsigned}
 use Rattle.world.specs.declared.object.ObjectValue.TheVariants.{Number, Reference}
 use Rattle.world.specs.Views.{object_value_view}
 use Rattle.world.specs.CallArguments.{is_argument}
-use Rattle.lower.specs.Slots.{argument_word}
+use Rattle.lowered.specs.Slots.{argument_word}
 use Rattle.execution.proofs.ArgumentSlots.{read_at, given_more, given_at, passed_word}
 use Rattle.execution.proofs.entry.number_slots.Goals.{in-Number+in_ok-push-in-Number, in-Reference}
 use Rattle.execution.proofs.entry.number_slots.Goals as goal

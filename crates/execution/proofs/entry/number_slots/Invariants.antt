@@ -1,7 +1,7 @@
 use Rattle.std.proofs.Common.{◌≡◌, map, take}
 use Rattle.std.specs.Prelude.{filter_map}
 use Rattle.world.specs.Views.{object_value_view}
-use Rattle.lower.specs.Slots.{argument_word}
+use Rattle.lowered.specs.Slots.{argument_word}
 use Rattle.execution.proofs.entry.number_slots.Given as goal
 
 abbrev pub invariant-loop-argument : goal.invariant-loop-argument

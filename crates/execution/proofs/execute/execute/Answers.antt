@@ -16,10 +16,10 @@ use Rattle.code.specs.Depth.{Listing, LeadsInside}
 use Rattle.source.specs.Effect.{effect_of}
 use Rattle.source.specs.Task.{Task}
 use Rattle.source.specs.Thread.{sight_of}
-use Rattle.lower.specs.Slots.{Visible, visible_to}
-use Rattle.lower.specs.Does.{IsReturn}
+use Rattle.lowered.specs.Slots.{Visible, visible_to}
+use Rattle.lowered.specs.Does.{IsReturn}
 use Rattle.safety.specs.Owners.{Owners}
-use Rattle.lower.specs.Lowered.{Lowered, IsLowered}
+use Rattle.lowered.specs.Lowered.{Lowered, IsLowered}
 use Rattle.jni_calls.specs.declared.activation.Activation.{Activation}
 use Rattle.execution.specs.declared.execute.Event.TheVariants.{Printed}
 use Rattle.execution.specs.declared.execute.Executed.{Executed}

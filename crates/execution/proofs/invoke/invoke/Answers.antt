@@ -18,7 +18,7 @@ use Rattle.source.specs.World.{World}
 use Rattle.world.specs.SoundWorlds.{IsSound}
 use Rattle.code.specs.Call.{call_view}
 use Rattle.code.specs.declared.instr.Call.{Call}
-use Rattle.lower.specs.Lowered.{Lowered}
+use Rattle.lowered.specs.Lowered.{Lowered}
 use Rattle.jni_calls.specs.declared.answer.Answer.{Answer}
 use Rattle.jni_calls.specs.declared.trap.Trap.{Trap}
 use Rattle.jni_calls.specs.declared.store.Store.{Store}

@@ -9,7 +9,7 @@ use Rattle.source.specs.Thread.{Shared, Thread}
 use Rattle.source.specs.World.{World}
 use Rattle.world.proofs.LoadedWorlds.{few_loaded}
 use Rattle.world.specs.SoundWorlds.{IsSound}
-use Rattle.lower.specs.Lowered.{Lowered}
+use Rattle.lowered.specs.Lowered.{Lowered}
 use Rattle.jni_calls.specs.declared.answer.Answer.{Answer}
 use Rattle.jni_calls.specs.declared.answer.Given.{Given}
 use Rattle.jni_calls.specs.declared.answer.Given.TheVariants as given

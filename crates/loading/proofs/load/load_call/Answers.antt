@@ -10,7 +10,7 @@ use Rattle.world.specs.Views.{object_value_view}
 use Rattle.source.specs.World.{loaded_objects}
 use Rattle.source.proofs.ShownRows.{length-loaded}
 use Rattle.source.specs.Load.{fit_parameters}
-use Rattle.lower.specs.Lowered.{Lowered}
+use Rattle.lowered.specs.Lowered.{Lowered}
 use Rattle.loading.specs.Loading.{IsNumberOf}
 use Rattle.loading.proofs.LoadLemmas.{call_found, no_fit}
 use Rattle.loading.proofs.load.load_call.Goals as goal

@@ -4,7 +4,7 @@ use Rattle.syntax.specs.Views.{statements_tree, result_tree}
 use Rattle.syntax.specs.declared.stmt.Stmt.{Stmt as StmtInMemory}
 use Rattle.syntax.specs.declared.stmt.Block.{out-Block}
 use Rattle.syntax.proofs.Blocks.{block_is}
-use Rattle.lower.specs.Length.{block_steps}
+use Rattle.lowered.specs.Length.{block_steps}
 use Rattle.lower.proofs.length.+statements.Goals as goal
 
 pub after_block-loop-stmt-init : goal.after_block-loop-stmt-init

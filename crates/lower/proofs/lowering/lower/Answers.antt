@@ -1,7 +1,7 @@
 use Rattle.std.proofs.Common.{◌+◌, List, [], map, drop, subst}
 use Rattle.syntax.specs.declared.unit.Item.{Item as ItemInMemory}
 use Rattle.syntax.specs.Views.{item_tree, unit_tree}
-use Rattle.lower.specs.Lowered.{AreCodesOf}
+use Rattle.lowered.specs.Lowered.{AreCodesOf}
 use Rattle.lower.proofs.AcceptedFacts.{accepted_fits}
 use Rattle.lower.proofs.ItemSteps.{AreLeft, none_done, item_fits, item_done, all_done, next_item, last_item}
 use Rattle.lower.proofs.lowering.lower.Goals as goal

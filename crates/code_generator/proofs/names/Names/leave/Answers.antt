@@ -2,7 +2,7 @@ use Rattle.std.proofs.Common.{◌≡◌, ℕ, ◌-◌, drop, length, sym, ap, �
 use Rattle.std.proofs.lemmas.List.{length-map, drop-map}
 use Rattle.base.specs.Bytes.{Identifier, ByName}
 use Rattle.code_generator.specs.declared.names.Slot.{Slot as SlotInMemory}
-use Rattle.code_generator.specs.Layout.{Slot, Known, Layout}
+use Rattle.lowered.specs.Layout.{Slot, Known, Layout}
 use Rattle.code_generator.specs.Names.{slot_view, known_view}
 use Rattle.code_generator.proofs.names.Names.leave.Goals as goal
 

@@ -2,7 +2,7 @@ use Rattle.std.proofs.Common.{ap, ◌∙◌}
 use Rattle.std.specs.Option.{option_map}
 use Rattle.base.specs.Bytes.{lookup}
 use Rattle.sorts.proofs.KnownDeclarations.{lookup-seen}
-use Rattle.code_generator.specs.Layout.{Layout}
+use Rattle.lowered.specs.Layout.{Layout}
 use Rattle.code_generator.specs.Names.{slot_view}
 use Rattle.code_generator.proofs.names.Names.slot_of.Goals as goal
 

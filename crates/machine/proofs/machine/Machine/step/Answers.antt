@@ -10,7 +10,7 @@ use Rattle.execution.specs.declared.thread.Thread.{Thread}
 use Rattle.machine.specs.Run.{has_ended as ended, Run, InState, CouldStep, replay_of, entry_of, refused_entry_of, printed_after, can_turn, stepped, refused}
 use Rattle.source.specs.Thread.{BuffersInUse, Shared, Thread as SourceThread}
 use Rattle.source.specs.World.{World, loaded_objects}
-use Rattle.lower.specs.Lowered.{Lowered}
+use Rattle.lowered.specs.Lowered.{Lowered}
 use Rattle.jni_calls.specs.declared.store.Store.{Store}
 use Rattle.execution.specs.declared.advance.Advanced.{Advanced}
 use Rattle.execution.specs.declared.execute.Event.TheVariants.{Quiet}

@@ -6,17 +6,23 @@ use Rattle.std.specs.Str.{bytes_eq}
 use Rattle.std.proofs.lemmas.Slice.Eq.{bytes_eq-Decides}
 use Rattle.std.proofs.lemmas.Bool.Decides.{not_from_Decides}
 use Rattle.base.specs.Bytes.{Identifier, lookup}
-use Rattle.source.specs.Sight.{scalar, held_reference, holds_null}
+use Rattle.source.specs.Sight.{scalar, held_reference, holds_null, static_is_null}
 use Rattle.source.specs.Thread.{Shared, Thread}
-use Rattle.source.specs.Variable.{Variable, Scalar, LocalRef, FieldHandle, Elements, LocalArray, StaticReference, Statics, assign}
+use Rattle.source.specs.Value.{Gives}
+use Rattle.source.specs.Variable.{Variable, Scalar, LocalRef, FieldHandle, Elements, LocalArray, StaticReference, Empty, Live, Deleted, Statics, assign}
 use Rattle.code.specs.Depth.{Listing}
-use Rattle.code_generator.specs.Layout.{Slot, Known}
-use Rattle.lower.specs.Slots.{visible_to, type_of_array, kind_of_variable, HasNoVariable, IsAsBefore, IsHeld, static_index, Slots, ShowsSlot, Shows}
-use Rattle.lower.proofs.EntryLaws.{null_of}
-use Rattle.lower.proofs.SlotLaws.{slot_stays, static_changes}
-use Rattle.lower.proofs.StaticPlaces.{assigned_stays, assigned_place, assigned_held, there_at, same_name}
+use Rattle.lowered.specs.Layout.{Slot, Known}
+use Rattle.lowered.specs.Slots.{visible_to, type_of_array, kind_of_variable, HasNoVariable, IsAsBefore, IsHeld, is_empty, static_index, Slots, ShowsSlot, Shows}
+use Rattle.lowered.proofs.SlotLaws.{slot_stays, static_changes}
+use Rattle.lowered.proofs.StaticPlaces.{assigned_stays, assigned_place, assigned_held, there_at, same_name}
 
 -- ---- what a thread sees
+
+-- whether a static is NULL
+pub null_of : (h : StaticReference) → static_is_null (Some h) ≡ Gives (is_empty h)
+null_of Empty = refl
+null_of (Live n) = refl
+null_of Deleted = refl
 
 -- a variable hides a static of its name
 hidden_null : (o : Option Variable) (v : Variable) (a b : Option StaticReference) → o ≡ Some v → holds_null o a ≡ holds_null o b

@@ -21,12 +21,12 @@ use Rattle.code.specs.declared.instr.NullableVariable.TheVariants as nullable
 use Rattle.code.specs.Depth.{Listing}
 use Rattle.code.specs.Effect.{cleared}
 use Rattle.code.proofs.Arrays.{cleared_element, cleared_before, cleared_after}
-use Rattle.code_generator.specs.Layout.{Slot, Known}
-use Rattle.code_generator.specs.Coding.{nullable_of}
-use Rattle.lower.specs.Slots.{word_of, ValueHasSort, IsNumberSort, Visible, IsAsBefore, OthersStay, IsSet, IsNulled, IsReferred, IsFieldSet, IsMade, IsElementSet, IsHeld, HasNoVariable, is_empty, nulled_statics, static_index, Slots, ShowsNumber, ShowsElement, ShowsStatic, ShowsSlot, Shows, with_null}
-use Rattle.lower.specs.Fits.{IsPlaceOf, IsOwn, IndexWithin}
-use Rattle.lower.specs.Stands.{AreAmong, IsSlotOf}
-use Rattle.lower.proofs.StaticPlaces.{StaticStays, statics_stay, assigned_stays, assigned_place, assigned_held, same_name}
+use Rattle.lowered.specs.Layout.{Slot, Known}
+use Rattle.lowered.specs.Coding.{nullable_of}
+use Rattle.lowered.specs.Slots.{word_of, ValueHasSort, IsNumberSort, Visible, IsAsBefore, OthersStay, IsSet, IsNulled, IsReferred, IsFieldSet, IsMade, IsElementSet, IsHeld, HasNoVariable, is_empty, nulled_statics, static_index, Slots, ShowsNumber, ShowsElement, ShowsStatic, ShowsSlot, Shows, with_null}
+use Rattle.lowered.specs.Fits.{IsPlaceOf, IsOwn, IndexWithin}
+use Rattle.lowered.specs.Stands.{AreAmong, IsSlotOf}
+use Rattle.lowered.proofs.StaticPlaces.{StaticStays, statics_stay, assigned_stays, assigned_place, assigned_held, same_name}
 
 -- ---- a slot is written
 

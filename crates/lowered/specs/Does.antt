@@ -34,11 +34,11 @@ use Rattle.code.specs.declared.instr.PlainTrap.{PlainTrap}
 use Rattle.code.specs.declared.instr.PlainTrap.TheVariants as trap
 use Rattle.code.specs.Depth.{Listing}
 use Rattle.code.specs.Effect.{truth_word, plain_of}
-use Rattle.code_generator.specs.Coding.{mode_code}
-use Rattle.code_generator.specs.Layout.{Known}
-use Rattle.lower.specs.Slots.{word_of, ValueHasSort, Visible, Slots, Shows, IsSet, IsNulled, IsReferred, IsFieldSet, IsMade, IsElementSet, IsHeld, ShowsStatic, holds_null, with_null}
-use Rattle.lower.specs.Stands.{target_name, number_sort, StandsFor}
-use Rattle.lower.specs.Fits.{IsReferenceKind, TakesNull, TakesLocal, TakesGlobal, IsArray, HaveOwnSlots}
+use Rattle.lowered.specs.Coding.{mode_code}
+use Rattle.lowered.specs.Layout.{Known}
+use Rattle.lowered.specs.Slots.{word_of, ValueHasSort, Visible, Slots, Shows, IsSet, IsNulled, IsReferred, IsFieldSet, IsMade, IsElementSet, IsHeld, ShowsStatic, holds_null, with_null}
+use Rattle.lowered.specs.Stands.{target_name, number_sort, StandsFor}
+use Rattle.lowered.specs.Fits.{IsReferenceKind, TakesNull, TakesLocal, TakesGlobal, IsArray, HaveOwnSlots}
 
 -- the instructions that leave a function
 abbrev pub IsReturn : Instr → Type 0

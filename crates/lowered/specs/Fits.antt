@@ -13,8 +13,8 @@ use Rattle.sorts.specs.SortRules.{variable_sort, is_mode}
 use Rattle.code.specs.declared.slots.SlotCounts.{SlotCounts}
 use Rattle.source.specs.Term as term
 use Rattle.source.specs.Term.{Term, Done, Read, And, Or, IsNull, Prefix, Binary, term_of}
-use Rattle.code_generator.specs.Layout.{Slot, Known, Layout, width, closed, layout_after, block_layout, entry_layout}
-use Rattle.lower.specs.Slots.{ValueHasSort, IsNumberSort}
+use Rattle.lowered.specs.Layout.{Slot, Known, Layout, width, closed, layout_after, block_layout, entry_layout}
+use Rattle.lowered.specs.Slots.{ValueHasSort, IsNumberSort}
 
 -- ---- terms
 

@@ -30,7 +30,7 @@ use Rattle.source.specs.Arguments.{ReleaseMode, CopyBackAndFree, CopyBack, FreeU
 use Rattle.source.specs.Term as term
 use Rattle.source.specs.Term.{Term, Done, Read, And, Or, IsNull, Prefix, Binary, term_of}
 use Rattle.source.specs.Value.{Int}
-use Rattle.code_generator.specs.Layout.{Slot, Known, Layout, new_slot, entry_layout, closed, layout_after, block_layout}
+use Rattle.lowered.specs.Layout.{Slot, Known, Layout, new_slot, entry_layout, closed, layout_after, block_layout}
 
 -- ---- variables
 

@@ -11,11 +11,11 @@ use Rattle.source.specs.Effect.{effect_of}
 use Rattle.source.specs.Task.{Task, tasks_of}
 use Rattle.source.specs.Thread.{Shared, Thread}
 use Rattle.code.specs.Depth.{Listing, IsValid}
-use Rattle.code_generator.specs.Layout.{Known, with_static, entry_layout}
-use Rattle.lower.specs.Length.{function_steps, step_limit}
-use Rattle.lower.specs.Slots.{Visible, visible_to, Slots, Shows, ArgumentsFit, EntrySlots, HasRoom, AreShared, AreOfLowest}
-use Rattle.lower.specs.Stands.{StandsFor}
-use Rattle.lower.specs.Does.{DoesEffect}
+use Rattle.lowered.specs.Layout.{Known, with_static, entry_layout}
+use Rattle.lowered.specs.Length.{function_steps, step_limit}
+use Rattle.lowered.specs.Slots.{Visible, visible_to, Slots, Shows, ArgumentsFit, EntrySlots, HasRoom, AreShared, AreOfLowest}
+use Rattle.lowered.specs.Stands.{StandsFor}
+use Rattle.lowered.specs.Does.{DoesEffect}
 
 -- a program's items and the code of its functions
 pub record Lowered : Type 0 where

@@ -29,10 +29,10 @@ use Rattle.code.specs.declared.instr.Instr.TheVariants as instr
 use Rattle.code.specs.declared.slots.SlotCounts.{SlotCounts}
 use Rattle.code.specs.Depth.{Listing}
 use Rattle.code.specs.Effect.{truth_word}
-use Rattle.code_generator.specs.Layout.{Slot, Known, Layout, block_layout}
-use Rattle.code_generator.specs.Coding.{mode_code, nullable_of, element_of, term_code, expr_code, ways_code, turn_code, block_code}
-use Rattle.lower.specs.Fits.{TakesNull, TakesLocal, TakesGlobal, IsArray, IsIndexSort, TermHasSort, IsUntouched, NumberFits, IndexWithin, IsOwn, HaveOwnSlots, IsLaidOut, HasRoomFor, BlockFits}
-use Rattle.lower.specs.Slots.{word_of, IsNumberSort}
+use Rattle.lowered.specs.Layout.{Slot, Known, Layout, block_layout}
+use Rattle.lowered.specs.Coding.{mode_code, nullable_of, element_of, term_code, expr_code, ways_code, turn_code, block_code}
+use Rattle.lowered.specs.Fits.{TakesNull, TakesLocal, TakesGlobal, IsArray, IsIndexSort, TermHasSort, IsUntouched, NumberFits, IndexWithin, IsOwn, HaveOwnSlots, IsLaidOut, HasRoomFor, BlockFits}
+use Rattle.lowered.specs.Slots.{word_of, IsNumberSort}
 
 -- ---- terms
 

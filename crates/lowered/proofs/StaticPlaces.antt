@@ -7,7 +7,7 @@ use Rattle.std.proofs.lemmas.Slice.Eq.{bytes_eq-Decides}
 use Rattle.std.proofs.lemmas.Bool.Decides.{not_from_Decides}
 use Rattle.base.specs.Bytes.{Identifier, lookup}
 use Rattle.source.specs.Variable.{StaticReference, Statics, assign}
-use Rattle.lower.specs.Slots.{static_index}
+use Rattle.lowered.specs.Slots.{static_index}
 
 -- two names that are equal, and two that aren't
 pub same_name : (x y : Identifier) → bytes_eq x y ≡ true → x ≡ y

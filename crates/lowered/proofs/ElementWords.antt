@@ -7,7 +7,7 @@ use Rattle.std.proofs.Math.Facts.{Fits-of_lt, Fits-of_z, Fits-lt-pow, of_z-to_z,
 use Rattle.base.specs.Element.{ElementType, JInt, JShort, JByte, JChar}
 use Rattle.code.specs.Effect.{element_word}
 use Rattle.source.specs.Value.{convert}
-use Rattle.code_generator.specs.Coding.{element_of}
+use Rattle.lowered.specs.Coding.{element_of}
 
 in_range : (n : ℕ) → n < 2 ^ 32 → n % 2 ^ 32 ≡ n
 in_range n h = omega arith

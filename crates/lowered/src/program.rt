@@ -15,7 +15,7 @@ pub struct Program<'a> {
 impl<'a> Model for Program<'a> {
     ghost use Rattle.std.specs.Coded.{codes as all_codes};
     ghost use Rattle.syntax.specs.contracts.unit.Item as item;
-    ghost use Rattle.lower.specs.Lowered.{Lowered, IsLowered};
+    ghost use Rattle.lowered.specs.Lowered.{Lowered, IsLowered};
 
     ghost Value = { Lowered };
 
@@ -33,9 +33,10 @@ impl<'a> Program<'a> {
     ghost use Rattle.syntax.specs.Views.{unit_tree};
     ghost use Rattle.sorts.specs.SortRules.{IsSorted};
     ghost use Rattle.region_rules.specs.Regions.{HasRegions};
-    ghost use Rattle.lower.specs.Lowered.{IsLowered};
+    ghost use Rattle.lowered.specs.Lowered.{IsLowered};
 
-    pub(crate) fn of(checked: &'a Checked, codes: Vec<Code>) -> Self
+    /// A program whose code is known to stand for its unit. `lower` makes it.
+    pub fn of(checked: &'a Checked, codes: Vec<Code>) -> Self
         requires { IsLowered (record { unit = checked.now; codes = codes.items }) }
         ensures unit { result.unit ≡ checked.now }
         ensures codes { result.codes ≡ codes.items }

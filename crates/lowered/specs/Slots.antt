@@ -19,7 +19,7 @@ use Rattle.code.specs.declared.instr.NullableVariable.{NullableVariable}
 use Rattle.code.specs.declared.instr.NullableVariable.TheVariants as nullable
 use Rattle.code.specs.Depth.{Listing}
 use Rattle.code.specs.Effect.{truth_word}
-use Rattle.code_generator.specs.Layout.{Slot, Known}
+use Rattle.lowered.specs.Layout.{Slot, Known}
 
 -- ---- values as words
 

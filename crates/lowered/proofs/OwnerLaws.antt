@@ -12,10 +12,10 @@ use Rattle.base.specs.Bytes.{Identifier, lookup}
 use Rattle.sorts.specs.Sorts.{Sort, Jint, Ref, Global, FieldId, Buffer, Array}
 use Rattle.sorts.specs.Sorts as sort
 use Rattle.code.specs.Depth.{Listing}
-use Rattle.code_generator.specs.Layout.{Slot, Known}
-use Rattle.lower.specs.Fits.{IsOwn}
-use Rattle.lower.specs.Slots.{Visible, Slots, ShowsNumber, ShowsSlot, Shows}
-use Rattle.lower.proofs.SlotLaws.{get-set_other}
+use Rattle.lowered.specs.Layout.{Slot, Known}
+use Rattle.lowered.specs.Fits.{IsOwn}
+use Rattle.lowered.specs.Slots.{Visible, Slots, ShowsNumber, ShowsSlot, Shows}
+use Rattle.lowered.proofs.SlotLaws.{get-set_other}
 
 -- ---- any change
 

@@ -1,0 +1,5 @@
+pub mod StaticPlaces
+pub mod SlotLaws
+pub mod OwnerLaws
+pub mod StaticLaws
+pub mod ElementWords

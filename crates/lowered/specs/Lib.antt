@@ -1,0 +1,13 @@
+-- where names are, and which instructions a statement becomes
+pub mod Layout
+pub mod Coding
+-- how many steps a function has, on its tree
+pub mod Length
+-- what the slots show
+pub mod Slots
+-- what is known of an accepted function
+pub mod Fits
+-- which tasks a place of the code stands for, and what its instruction does
+pub mod Stands
+pub mod Does
+pub mod Lowered

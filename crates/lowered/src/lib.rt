@@ -1,0 +1,6 @@
+//! Lowered programs: which instructions a statement becomes, and which tasks of the source each place of the code stands for.
+#![tactic(auto)]
+
+mod program;
+
+pub use program::Program;
