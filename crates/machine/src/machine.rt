@@ -303,7 +303,7 @@ fn write_down(journal: &mut Vec<Entry>, k: u8, refused: bool)
     requires { vec_len journal.old < vec_capacity journal.old }
     ensures { journal.new.items ≡ journal.old.items ++ Step k refused ∷ [] }
 {
-    journal.push(Entry::Step { thread: k, refused }).unwrap();
+    journal.push_reserved(Entry::Step { thread: k, refused });
 }
 
 /// Writes down what a step lets others see.
@@ -314,7 +314,7 @@ fn note(printed: &mut Vec<Printed>, stop: &mut Option<Stop>, k: u8, event: Event
 {
     match event {
         Event::Quiet => {}
-        Event::Printed(number) => printed.push(Printed { thread: k, number }).unwrap(),
+        Event::Printed(number) => printed.push_reserved(Printed { thread: k, number }),
         Event::Trapped(trap, line) => {
             *stop = Some(Stop {
                 thread: k,
