@@ -1,6 +1,6 @@
 //! Code that stays in the operand stack's range, in its slots, and inside itself.
 
-ghost use Rattle.std.specs.Prelude.{◌≡◌, ◌+◌, ◌<◌, ◌^◌, OnSome, IfOk, IfSome, IfNone, slice_get, length};
+ghost use Rattle.std.specs.Prelude.{◌≡◌, ◌+◌, ◌<◌, ◌^◌, Some, OnSome, IfOk, IfSome, IfNone, slice_get, length};
 ghost use Rattle.std.specs.Option.{option_copied};
 ghost use Rattle.code.specs.Depth.{IsValid};
 ghost use Rattle.code.specs.Running.{RunsAt};
@@ -79,5 +79,17 @@ impl Code {
         ensures valid { IsValid self.now }
     {
         self.instrs.get(place)
+    }
+
+    /// The instruction at a place that the code has, counted from 0.
+    pub fn instr_at(&self, place: usize) -> &Instr
+        requires { place < length self.now.instrs }
+        ensures instr { slice_get self.now.instrs place ≡ Some result.now }
+        ensures runs { RunsAt self.now place result.now }
+        ensures limit { place + 1 < 2 ^ 64 }
+        ensures few { length self.now.instrs < 2 ^ 64 }
+        ensures valid { IsValid self.now }
+    {
+        &self.instrs[place]
     }
 }

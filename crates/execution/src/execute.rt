@@ -65,8 +65,8 @@ pub fn execute(
     ensures pending { OnErr result (pending.new ≡ pending.old) }
     ensures call { OnErr result (call.new ≡ call.old) }
 {
-    let code = program.code(call.function).unwrap();
-    let instr = code.get(call.place).unwrap();
+    let code = program.code_at(call.function);
+    let instr = code.instr_at(call.place);
     match instr {
         Instr::TestNull { variable, equal } => {
             test_null(store, call, *variable, *equal);

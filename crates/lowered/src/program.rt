@@ -27,7 +27,7 @@ impl<'a> Model for Program<'a> {
 }
 
 impl<'a> Program<'a> {
-    ghost use Rattle.std.specs.Prelude.{◌≡◌, slice_get, length};
+    ghost use Rattle.std.specs.Prelude.{◌≡◌, ◌<◌, Some, slice_get, length};
     ghost use Rattle.std.specs.Option.{option_copied};
     ghost use Rattle.syntax.specs.Limits.{IsTree};
     ghost use Rattle.syntax.specs.Views.{unit_tree};
@@ -61,5 +61,14 @@ impl<'a> Program<'a> {
         ensures lowered { IsLowered self.now }
     {
         self.codes.get(function)
+    }
+
+    /// The code of a function that the unit has.
+    pub fn code_at(&self, function: usize) -> &Code
+        requires { function < length self.now.codes }
+        ensures code { slice_get self.now.codes function ≡ Some result.now }
+        ensures lowered { IsLowered self.now }
+    {
+        &self.codes[function]
     }
 }
