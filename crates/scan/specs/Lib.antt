@@ -4,3 +4,4 @@ pub mod WordTable
 pub mod Spelling
 pub mod Faults
 pub mod Reading
+pub mod Fronts

@@ -245,6 +245,7 @@ fn late_word(letter: usize, bytes: &[u8]) -> Option<Word>
 }
 
 /// The reserved word of these bytes, if they are one.
+#[inline(never)]
 pub(crate) fn word_of(bytes: &[u8]) -> Option<Word>
     ensures { result ≡ word_of bytes.now }
 {

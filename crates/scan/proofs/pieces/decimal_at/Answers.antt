@@ -1,25 +1,13 @@
-use Rattle.std.proofs.Common.{◌≡◌, ◌<◌, get_or, sym, ap, ◌∙◌, ◌+◌, ◌*◌, arith}
+use Rattle.std.proofs.Common.{sym, ◌∙◌}
 use Rattle.std.proofs.lemmas.Bool.{not-true}
-use Rattle.scan.proofs.Decimals.{front_more, plain_read, unsigned_read}
+use Rattle.scan.proofs.Decimals.{plain_read, unsigned_read}
+use Rattle.scan.proofs.FirstBytes.{digits_piece}
 use Rattle.scan.proofs.pieces.decimal_at.Goals as goal
-use Rattle.scan.proofs.pieces.decimal_at.Goals.{else-len-gt1-via-then-len-gt1+else-text-eq48, else-len-gt1-via-else-len-gt1}
-
-pub loop-len-preserved : goal.loop-len-preserved
-loop-len-preserved c =
-    front_more c.args.text.now c.loop-len.len c.loop-len.value _ c.loop-len.invariant (omega arith) (sym c.if-is_digit.ensures) (ap (λ d. c.loop-len.value * 10 + d) (c.from.ensures ∙ c.digit_value.ensures)) (omega arith)
 
 pub returns-then-ends_word : goal.returns-then-ends_word
 returns-then-ends_word c =
-    let lead : 1 < c.loop-len.len → get_or c.args.text.now 0 0 ≡ 48 → ⊥ = λ lt nought. elim c.else-len-gt1.branch [
-      | else-len-gt1-via-then-len-gt1+else-text-eq48 w ↦ w.if-text-eq48.false nought
-      | else-len-gt1-via-else-len-gt1 w ↦ absurd (omega arith)
-    ] in
-    unsigned_read c.args.text.now c.loop-len.len c.loop-len.value c.loop-len.invariant (omega arith) lead c.if-text-len-eq117.true (not-true _ (sym c.if-ends_word.ensures))
+    digits_piece c.args.text.now c.in_ok-value.len c.in_ok-value.ensures.formed ∙ unsigned_read c.args.text.now c.in_ok-value.len c.in_ok-value.value c.if-len-text.true c.in_ok-value.ensures.formed c.in_ok-value.ensures.value c.in_ok-value.ensures.small c.if-text-len-eq117.true (not-true _ (sym c.if-ends_word.ensures))
 
 pub returns-then-ends_word-2 : goal.returns-then-ends_word-2
 returns-then-ends_word-2 c =
-    let lead : 1 < c.loop-len.len → get_or c.args.text.now 0 0 ≡ 48 → ⊥ = λ lt nought. elim c.else-len-gt1.branch [
-      | else-len-gt1-via-then-len-gt1+else-text-eq48 w ↦ w.if-text-eq48.false nought
-      | else-len-gt1-via-else-len-gt1 w ↦ absurd (omega arith)
-    ] in
-    plain_read c.args.text.now c.loop-len.len c.loop-len.value c.loop-len.invariant (omega arith) lead (not-true _ (sym c.if-ends_word-2.ensures))
+    digits_piece c.args.text.now c.in_ok-value.len c.in_ok-value.ensures.formed ∙ plain_read c.args.text.now c.in_ok-value.len c.in_ok-value.value c.in_ok-value.ensures.within c.in_ok-value.ensures.formed c.in_ok-value.ensures.value c.in_ok-value.ensures.small (not-true _ (sym c.if-ends_word-2.ensures))

@@ -1,6 +1,6 @@
 use Rattle.std.proofs.Common.{length, ◌-◌}
 use Rattle.scan.proofs.Decimals.{IsFront}
-use Rattle.scan.proofs.pieces.decimal_at.Given as goal
+use Rattle.scan.proofs.pieces.decimal_digits_at.Given as goal
 
 abbrev pub invariant-loop-len : goal.invariant-loop-len
 invariant-loop-len l = IsFront l.text l.len l.value
