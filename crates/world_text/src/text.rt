@@ -4,7 +4,7 @@ ghost use Rattle.std.specs.Prelude.{◌≡◌, ◌∷◌, ◌+◌, ◌<◌, ◌�
 ghost use Rattle.classes.specs.BuiltIns.{built_ins};
 ghost use Rattle.texts.specs.Reading.{Gives};
 ghost use Rattle.texts.specs.Split.{parts_left};
-ghost use Rattle.world_text.specs.Gathered.{gather, gathered_read, gathered_world, finished_read, OnGathered};
+ghost use Rattle.world_text.specs.Gathered.{gather, gathered_read, gathered_world, whole_read, all_read, world_left, OnGathered};
 ghost use Rattle.world_text.specs.GatheredViews.{gathered_of};
 ghost use Rattle.world_text.specs.LinesLeft.{lines_left};
 ghost use Rattle.world_text.specs.LineViews.{line_view};
@@ -177,13 +177,7 @@ pub fn read_world(alloc: Global, text: &[u8]) -> Result<World, ReadError>
         return Err(ReadError::Fault(TextFault { rule, line: 1 }));
     };
     let cells = read_heap(alloc, number, heap)?;
-    let mut builder = begun(alloc, cells)?;
-    let mut last = number;
-    while let Some(line) = next_line(&mut lines, &mut number) {
-        last = number;
-        take_line(alloc, &mut builder, number, line)?;
-    }
-    finished(builder, last)
+    read_lines(alloc, cells, &mut lines, number)
 }
 
 /// The world that the lines make.
@@ -201,14 +195,51 @@ fn taken_apart(builder: WorldBuilder) -> World
     World::new(cells, classes, objects, threads)
 }
 
-/// The world that the lines make, the last of which had this number.
-fn finished(builder: WorldBuilder, last: usize) -> Result<World, ReadError>
-    requires { IsSound (gathered_world (gathered_of builder)) }
-    ensures { Gives (λ w. w) result (finished_read (gathered_of builder) last) }
+/// Checks that there is a thread, after the last line, which had this number.
+fn check_threads(builder: &WorldBuilder, last: usize) -> Result<(), ReadError>
+    ensures { OnGathered result (gathered_of builder.now) (whole_read (gathered_of builder.now) last) }
 {
     if builder.threads.is_empty() {
         let rule = Rule::Limit;
         return Err(ReadError::Fault(TextFault { rule, line: last }));
+    }
+    Ok(())
+}
+
+/// Takes the lines that are left after that of this number.
+fn take_lines(
+    alloc: Global,
+    builder: &mut WorldBuilder,
+    lines: &mut Split,
+    first: usize,
+) -> Result<(), ReadError>
+    requires { first + length (parts_left lines.old) < 2 ^ 64 }
+    ensures { OnGathered result (gathered_of builder.new) (all_read (gathered_of builder.old) first (lines_left first lines.old)) }
+{
+    let mut number = first;
+    let mut last = first;
+    while let Some(line) = next_line(lines, &mut number) {
+        last = number;
+        take_line(alloc, builder, number, line)?;
+    }
+    check_threads(builder, last)
+}
+
+/// The world of this many cells that the lines mean that are left after that of this number.
+fn read_lines(
+    alloc: Global,
+    cells: u32,
+    lines: &mut Split,
+    number: usize,
+) -> Result<World, ReadError>
+    requires size { (512 ≤ cells) × (cells ≤ 1048576) }
+    requires few { number + length (parts_left lines.old) < 2 ^ 64 }
+    ensures { Gives (λ w. w) result (world_left cells number (lines_left number lines.old)) }
+{
+    let mut builder = begun(alloc, cells)?;
+    if let Err(error) = take_lines(alloc, &mut builder, lines, number) {
+        drop(builder);
+        return Err(error);
     }
     Ok(taken_apart(builder))
 }
