@@ -60,7 +60,9 @@ impl<'a> Statics<'a> {
     pub fn set(&mut self, name: &'a [u8], held: StaticReference) -> Result<(), AllocError>
         ensures { IfOk result (λ _. self.new ≡ assign name.now (held_view held) self.old) }
     {
-        self.held.insert(name, held)?;
+        if self.held.insert(name, held).is_err() {
+            return Err(AllocError);
+        }
         Ok(())
     }
 }
