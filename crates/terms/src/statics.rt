@@ -87,9 +87,6 @@ pub fn null_statics<'a>(alloc: Global, items: &'a [Item]) -> Result<Statics<'a>,
     let mut statics = Statics {
         held: IndexMap::new(alloc),
     };
-    if add_nulls(&mut statics, items).is_err() {
-        drop(statics);
-        return Err(AllocError);
-    }
+    add_nulls(&mut statics, items)?;
     Ok(statics)
 }

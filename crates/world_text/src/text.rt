@@ -237,9 +237,6 @@ fn read_lines(
     ensures { Gives (λ w. w) result (world_left cells number (lines_left number lines.old)) }
 {
     let mut builder = begun(alloc, cells)?;
-    if let Err(error) = take_lines(alloc, &mut builder, lines, number) {
-        drop(builder);
-        return Err(error);
-    }
+    take_lines(alloc, &mut builder, lines, number)?;
     Ok(taken_apart(builder))
 }
