@@ -183,16 +183,14 @@ fn has_values(term: &Term<'_>) -> bool
     }
 }
 
-/// Replaces the leftmost part that can be reduced by its value, or by the right side of `&&` or `||`.
-/// It walks to that part, through at most as many terms as the tree is high.
-pub fn reduce(statics: &Statics<'_>, variables: &Variables<'_>, term: &mut Term<'_>) -> Reduction
-    requires { NumbersInRange term.old }
+/// Reduces the leftmost part of a term that has no value yet.
+#[cycle(reduce)]
+fn reduce_part(statics: &Statics<'_>, variables: &Variables<'_>, term: &mut Term<'_>) -> Reduction
+    requires numbers { NumbersInRange term.old }
+    requires part { HasValues term.old → ⊥ }
     ensures step { Reduces (variables_view variables.now) (statics.now) term.old result term.new }
     ensures numbers { NumbersInRange term.new }
 {
-    if has_values(term) {
-        return settle(statics, variables, term);
-    }
     match term {
         Term::Element(_, i) => reduce(statics, variables, i),
         Term::Prefix(_, a) => reduce(statics, variables, a),
@@ -201,5 +199,20 @@ pub fn reduce(statics: &Statics<'_>, variables: &Variables<'_>, term: &mut Term<
         Term::Binary(_, a, _) if !is_value(a) => reduce(statics, variables, a),
         Term::Binary(_, _, b) => reduce(statics, variables, b),
         _ => unreachable!(),
+    }
+}
+
+/// Replaces the leftmost part that can be reduced by its value, or by the right side of `&&` or `||`.
+/// It walks to that part, through at most as many terms as the tree is high.
+#[cycle(reduce)]
+pub fn reduce(statics: &Statics<'_>, variables: &Variables<'_>, term: &mut Term<'_>) -> Reduction
+    requires { NumbersInRange term.old }
+    ensures step { Reduces (variables_view variables.now) (statics.now) term.old result term.new }
+    ensures numbers { NumbersInRange term.new }
+{
+    if has_values(term) {
+        settle(statics, variables, term)
+    } else {
+        reduce_part(statics, variables, term)
     }
 }

@@ -10,6 +10,7 @@ ghost use Rattle.terms.specs.Views.{term_view, NumbersInRange, ComparesNull};
 
 use crate::value::Value;
 use std::alloc::{AllocError, Global};
+use std::mem;
 use syntax::{BinaryOp, Constant, Expr, Name, PrefixOp};
 
 /// An expression of which some parts have their values; parentheses are dropped.
@@ -34,7 +35,7 @@ pub enum Term<'a> {
 pub fn put_term<'a>(place: &mut Term<'a>, term: Term<'a>)
     ensures { place.new ≡ term.entry }
 {
-    *place = term;
+    drop(mem::replace(place, term));
 }
 
 /// The name that a comparison with NULL tests, and whether for NULL.
