@@ -2,13 +2,14 @@
 
 ghost use Rattle.std.specs.Prelude.{◌≡◌, ◌∷◌, ◌+◌, ◌<◌, ◌≤◌, ◌^◌, [], IfOk, MatchOption, map, length};
 ghost use Rattle.classes.specs.BuiltIns.{built_ins};
+ghost use Rattle.texts.specs.Numbers.{natural_of};
 ghost use Rattle.texts.specs.Reading.{Gives};
 ghost use Rattle.texts.specs.Split.{parts_left};
 ghost use Rattle.world_text.specs.Gathered.{gather, gathered_read, gathered_world, whole_read, all_read, world_left, OnGathered};
 ghost use Rattle.world_text.specs.GatheredViews.{gathered_of};
 ghost use Rattle.world_text.specs.LinesLeft.{lines_left};
 ghost use Rattle.world_text.specs.LineViews.{line_view};
-ghost use Rattle.world_text.specs.ReadingLines.{cells_named, heap_by_words, heap_of_line, line_of};
+ghost use Rattle.world_text.specs.ReadingLines.{below_zero, cells_named, heap_by_words, heap_of_line, line_of};
 ghost use Rattle.world_text.specs.ReadingWorlds.{heap_read, ruled, world_of_text};
 ghost use Rattle.world.specs.SoundWorlds.{IsSound};
 ghost use Rattle.world.specs.WorldMeaning.{cells_of};
@@ -23,15 +24,22 @@ use std::alloc::{AllocError, Global};
 use texts::{ReadError, Rule, Split, TextFault, natural};
 use world::World;
 
+/// The number below 0 that the digits spell, as a number of cells; none where it isn't below 0.
+fn below_zero(digits: &[u8]) -> Option<u64>
+    ensures { result ≡ below_zero (natural_of digits.now) }
+{
+    match natural(digits) {
+        None | Some(0) => None,
+        Some(_) => Some(0),
+    }
+}
+
 /// The number of cells that a word spells; a negative one is as far below each limit as 0 is.
 fn read_cells(word: &[u8]) -> Option<u64>
     ensures { result ≡ cells_named word.now }
 {
     match word {
-        [b'-', digits @ ..] => match natural(digits) {
-            None | Some(0) => None,
-            Some(_) => Some(0),
-        },
+        [b'-', digits @ ..] => below_zero(digits),
         _ => natural(word),
     }
 }

@@ -1,5 +1,6 @@
-use Rattle.std.proofs.Common.{◌≡◌, ℕ, List, Option, OnOk, unwrap_or, subst, ap, ◌∙◌, map}
+use Rattle.std.proofs.Common.{◌≡◌, ℕ, List, Option, OnOk, unwrap_or, length, subst, ap, ◌∙◌, map, arith}
 use Rattle.std.specs.List.{list_all}
+use Rattle.std.proofs.Math.ListN.{length-map}
 use Rattle.base.specs.Element.{JInt}
 use Rattle.world_text.specs.declared.value.Value.{Value}
 use Rattle.world_text.specs.Gathered.{value_at, with_object}
@@ -9,6 +10,11 @@ use Rattle.world.specs.WorldLines.{ObjectsLine}
 use Rattle.world.specs.WorldRules.{value_in_range}
 use Rattle.world_text.proofs.KeptRules.{keeps, all_in_jint}
 use Rattle.world_text.proofs.builder.WorldBuilder.take_objects.Goals as goal
+
+pub put_values-requires-clause-room : goal.put_values-requires-clause-room
+put_values-requires-clause-room c =
+    let k = keeps (gathered_of c.args.self.now) (ObjectsLine c.args.object.now.name.now c.args.object.now.class.now (map value_view c.args.object.now.values.items)) c.requires in
+    omega (arith, k.room, length-map c.args.object.now.values.items value_view, ap length c.deref.ensures.value)
 
 pub put_values-requires-clause-numbers : goal.put_values-requires-clause-numbers
 put_values-requires-clause-numbers c =
