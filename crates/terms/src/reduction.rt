@@ -163,6 +163,7 @@ fn settle(statics: &Statics<'_>, variables: &Variables<'_>, term: &mut Term<'_>)
 }
 
 /// Whether a term has its value.
+#[inline]
 fn is_value(term: &Term<'_>) -> bool
     ensures { IsTrue result ↔ IsValue term.now }
 {
@@ -170,6 +171,7 @@ fn is_value(term: &Term<'_>) -> bool
 }
 
 /// Whether the parts that take steps have their values.
+#[inline]
 fn has_values(term: &Term<'_>) -> bool
     ensures { IsTrue result ↔ HasValues term.now }
 {
@@ -184,6 +186,7 @@ fn has_values(term: &Term<'_>) -> bool
 }
 
 /// Reduces the leftmost part of a term that has no value yet.
+#[inline]
 #[cycle(reduce)]
 fn reduce_part(statics: &Statics<'_>, variables: &Variables<'_>, term: &mut Term<'_>) -> Reduction
     requires numbers { NumbersInRange term.old }
