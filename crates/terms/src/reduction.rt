@@ -1,8 +1,8 @@
 //! Steps of terms.
 
 ghost use Rattle.std.specs.Prelude.{◌≡◌, ◌↔◌, IsTrue};
-ghost use Rattle.source.specs.Heap.{Heap};
 ghost use Rattle.syntax.specs.Views.{binary_tree};
+ghost use Rattle.source.specs.Heap.{Heap};
 ghost use Rattle.source.specs.Sight.{Sight, seen};
 ghost use Rattle.source.specs.Term.{Term as TermOfTree, Binary, and_then, or_else, done, reduce};
 ghost use Rattle.terms.specs.Views.{value_view, evaluated_view, term_view, variables_view, NumbersInRange, decided, right_side, IsLeaf, IsValue, HasValues, IsReplaced, Reduces};
