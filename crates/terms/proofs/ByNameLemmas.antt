@@ -1,5 +1,5 @@
 -- Values by name that lie in a hash map: a value is looked up and assigned at the place of its name.
-use Rattle.std.proofs.Common.{◌≡◌, ℕ, Bool, true, false, cond, List, [], ◌∷◌, map, position, Option, Some, None, is_some, refl, sym, ap, ◌∙◌, Bor}
+use Rattle.std.proofs.Common.{◌≡◌, ℕ, Bool, true, false, cond, List, [], ◌∷◌, map, position, Option, Some, None, Result, Ok, Err, OnOk, is_some, is_err, refl, sym, ap, ◌∙◌, Bor}
 use Rattle.std.specs.Option.{option_map, option_copied}
 use Rattle.std.specs.Str.{bytes_eq}
 use Rattle.std.specs.Map as maps
@@ -13,6 +13,11 @@ use Rattle.terms.specs.Views.{by_name}
 -- keys are equal where their names are
 abbrev pub same_key : Bor Identifier → Bor Identifier → Bool
 same_key k l = bytes_eq k.now l.now
+
+-- what holds of an answer that is no error
+pub on_ok : {X Y : Type 0} (r : Result X Y) (P : Type 0) → OnOk r P → is_err r ≡ false → P
+on_ok (Ok x) P p h = p
+on_ok (Err y) P p h = absurd (cc)
 
 nothing : {V : Type 0} (o : Option V) → is_some o ≡ false → o ≡ None
 nothing None none = refl

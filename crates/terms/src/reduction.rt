@@ -1,10 +1,11 @@
 //! Steps of terms.
 
-ghost use Rattle.std.specs.Prelude.{◌≡◌};
+ghost use Rattle.std.specs.Prelude.{◌≡◌, ◌↔◌, IsTrue};
+ghost use Rattle.syntax.specs.Views.{binary_tree};
 ghost use Rattle.source.specs.Heap.{Heap};
-ghost use Rattle.source.specs.Sight.{seen};
-ghost use Rattle.source.specs.Term.{Term as TermOfTree, and_then, or_else, done, reduce};
-ghost use Rattle.terms.specs.Views.{value_view, evaluated_view, term_view, variables_view, NumbersInRange, decided, right_side, IsLeaf, HasValues, IsReplaced, Reduces};
+ghost use Rattle.source.specs.Sight.{Sight, seen};
+ghost use Rattle.source.specs.Term.{Term as TermOfTree, Binary, and_then, or_else, done, reduce};
+ghost use Rattle.terms.specs.Views.{value_view, evaluated_view, term_view, variables_view, NumbersInRange, decided, right_side, IsLeaf, IsValue, HasValues, IsReplaced, Reduces};
 
 use crate::sight::{element_in, null_value, number_in};
 use crate::statics::Statics;
@@ -13,6 +14,7 @@ use crate::trap::Trap;
 use crate::value::{Evaluated, Value, binary_value, constant, literal, prefix_value};
 use crate::variable::Variables;
 use std::mem;
+use syntax::BinaryOp;
 
 /// What a step of a term did.
 #[derive(Clone, Copy)]
@@ -60,7 +62,7 @@ fn replace(term: &mut Term<'_>, value: Evaluated) -> Reduction
 {
     match value {
         Evaluated::Gives(value) => {
-            *term = Term::Done(value);
+            put_term(term, Term::Done(value));
             Reduction::Reduced
         }
         Evaluated::Traps(trap) => Reduction::Trapped(trap),
@@ -81,6 +83,19 @@ fn leaf_value(statics: &Statics<'_>, variables: &Variables<'_>, term: &Term<'_>)
         Term::Done(_) | Term::Element(_, _) | Term::Prefix(_, _) => Evaluated::Stuck,
         Term::And(_, _) | Term::Or(_, _) | Term::Binary(_, _, _) => Evaluated::Stuck,
     }
+}
+
+/// The value of an operator between two terms that have theirs; none where one has none.
+fn operator_value(op: BinaryOp, left: &Term<'_>, right: &Term<'_>) -> Option<Evaluated>
+    ensures { IsValue left.now → IsValue right.now → (sight : Sight) → reduce sight (Binary (binary_tree op) (term_view left.now) (term_view right.now)) ≡ decided result (Binary (binary_tree op) (term_view left.now) (term_view right.now)) }
+{
+    let Term::Done(v) = *left else {
+        return None;
+    };
+    let Term::Done(w) = *right else {
+        return None;
+    };
+    Some(binary_value(op, v, w))
 }
 
 /// The value of a term whose parts have theirs; none where its right side decides.
@@ -105,13 +120,7 @@ fn value_of(statics: &Statics<'_>, variables: &Variables<'_>, term: &Term<'_>) -
             Term::Done(v) => or_else(v),
             _ => None,
         },
-        Term::Binary(op, a, b) => match **a {
-            Term::Done(v) => match **b {
-                Term::Done(w) => Some(binary_value(*op, v, w)),
-                _ => None,
-            },
-            _ => None,
-        },
+        Term::Binary(op, a, b) => operator_value(*op, a, b),
         Term::Done(_) | Term::Number { .. } | Term::Named(_) => Some(leaf_value(
             statics, variables, term,
         )),
@@ -153,41 +162,60 @@ fn settle(statics: &Statics<'_>, variables: &Variables<'_>, term: &mut Term<'_>)
     }
 }
 
+/// Whether a term has its value.
+#[inline]
+fn is_value(term: &Term<'_>) -> bool
+    ensures { IsTrue result ↔ IsValue term.now }
+{
+    matches!(term, Term::Done(_))
+}
+
+/// Whether the parts that take steps have their values.
+#[inline]
+fn has_values(term: &Term<'_>) -> bool
+    ensures { IsTrue result ↔ HasValues term.now }
+{
+    match term {
+        Term::Element(_, i) => is_value(i),
+        Term::Prefix(_, a) => is_value(a),
+        Term::And(a, _) => is_value(a),
+        Term::Or(a, _) => is_value(a),
+        Term::Binary(_, a, b) => is_value(a) && is_value(b),
+        _ => true,
+    }
+}
+
+/// Reduces the leftmost part of a term that has no value yet.
+#[inline]
+#[cycle(reduce)]
+fn reduce_part(statics: &Statics<'_>, variables: &Variables<'_>, term: &mut Term<'_>) -> Reduction
+    requires numbers { NumbersInRange term.old }
+    requires part { HasValues term.old → ⊥ }
+    ensures step { Reduces (variables_view variables.now) (statics.now) term.old result term.new }
+    ensures numbers { NumbersInRange term.new }
+{
+    match term {
+        Term::Element(_, i) => reduce(statics, variables, i),
+        Term::Prefix(_, a) => reduce(statics, variables, a),
+        Term::And(a, _) => reduce(statics, variables, a),
+        Term::Or(a, _) => reduce(statics, variables, a),
+        Term::Binary(_, a, _) if !is_value(a) => reduce(statics, variables, a),
+        Term::Binary(_, _, b) => reduce(statics, variables, b),
+        _ => unreachable!(),
+    }
+}
+
 /// Replaces the leftmost part that can be reduced by its value, or by the right side of `&&` or `||`.
 /// It walks to that part, through at most as many terms as the tree is high.
+#[cycle(reduce)]
 pub fn reduce(statics: &Statics<'_>, variables: &Variables<'_>, term: &mut Term<'_>) -> Reduction
     requires { NumbersInRange term.old }
     ensures step { Reduces (variables_view variables.now) (statics.now) term.old result term.new }
     ensures numbers { NumbersInRange term.new }
 {
-    match term {
-        Term::Element(_, i) => match &mut **i {
-            Term::Done(_) => settle(statics, variables, term),
-            i => reduce(statics, variables, i),
-        },
-        Term::Prefix(_, a) => match &mut **a {
-            Term::Done(_) => settle(statics, variables, term),
-            a => reduce(statics, variables, a),
-        },
-        Term::And(a, _) => match &mut **a {
-            Term::Done(_) => settle(statics, variables, term),
-            a => reduce(statics, variables, a),
-        },
-        Term::Or(a, _) => match &mut **a {
-            Term::Done(_) => settle(statics, variables, term),
-            a => reduce(statics, variables, a),
-        },
-        Term::Binary(_, a, _) => match &mut **a {
-            Term::Done(_) => match term {
-                Term::Binary(_, _, b) => match &mut **b {
-                    Term::Done(_) => settle(statics, variables, term),
-                    b => reduce(statics, variables, b),
-                },
-                _ => unreachable!(),
-            },
-            a => reduce(statics, variables, a),
-        },
-        Term::Done(_) | Term::Number { .. } | Term::Named(_) => settle(statics, variables, term),
-        Term::Read(_) | Term::IsNull(_, _) => settle(statics, variables, term),
+    if has_values(term) {
+        settle(statics, variables, term)
+    } else {
+        reduce_part(statics, variables, term)
     }
 }

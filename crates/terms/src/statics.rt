@@ -1,6 +1,6 @@
 //! The statics of a unit: references that outlive calls.
 
-ghost use Rattle.std.specs.Prelude.{◌≡◌, [], IfOk, Some};
+ghost use Rattle.std.specs.Prelude.{◌≡◌, [], IfOk, OnOk, Some};
 ghost use Rattle.std.specs.Option.{option_map};
 ghost use Rattle.base.specs.Bytes.{lookup};
 ghost use Rattle.syntax.specs.Views.{unit_tree};
@@ -60,9 +60,24 @@ impl<'a> Statics<'a> {
     pub fn set(&mut self, name: &'a [u8], held: StaticReference) -> Result<(), AllocError>
         ensures { IfOk result (λ _. self.new ≡ assign name.now (held_view held) self.old) }
     {
-        self.held.insert(name, held)?;
+        if self.held.insert(name, held).is_err() {
+            return Err(AllocError);
+        }
         Ok(())
     }
+}
+
+/// Adds the statics of a unit, all NULL.
+fn add_nulls<'a>(statics: &mut Statics<'a>, items: &'a [Item]) -> Result<(), AllocError>
+    ensures { OnOk result (statics.new ≡ assign_all (null_statics (unit_tree items.entry.now)) statics.old) }
+{
+    for item in items {
+        match item {
+            Item::Static(s) => statics.set(s.name.as_bytes(), StaticReference::Empty)?,
+            Item::Function(_) => {}
+        }
+    }
+    Ok(())
 }
 
 /// The statics of a unit, all NULL: in an accepted unit no two have one name.
@@ -72,11 +87,6 @@ pub fn null_statics<'a>(alloc: Global, items: &'a [Item]) -> Result<Statics<'a>,
     let mut statics = Statics {
         held: IndexMap::new(alloc),
     };
-    for item in items {
-        match item {
-            Item::Static(s) => statics.set(s.name.as_bytes(), StaticReference::Empty)?,
-            Item::Function(_) => {}
-        }
-    }
+    add_nulls(&mut statics, items)?;
     Ok(statics)
 }

@@ -4,12 +4,13 @@ ghost use Rattle.std.specs.Prelude.{◌≡◌, IfOk, IfSome, IfNone, IsTrue, Non
 ghost use Rattle.syntax.specs.Limits.{numbers_in_range};
 ghost use Rattle.syntax.specs.Parts.{null_tested};
 ghost use Rattle.syntax.specs.Tree.{Binary};
-ghost use Rattle.syntax.specs.Views.{expr_tree, prefix_tree, binary_tree};
-ghost use Rattle.source.specs.Term.{Element, Prefix, term_of, binary_term};
+ghost use Rattle.syntax.specs.Views.{expr_tree, binary_tree};
+ghost use Rattle.source.specs.Term.{term_of, binary_term};
 ghost use Rattle.terms.specs.Views.{term_view, NumbersInRange, ComparesNull};
 
 use crate::value::Value;
 use std::alloc::{AllocError, Global};
+use std::mem;
 use syntax::{BinaryOp, Constant, Expr, Name, PrefixOp};
 
 /// An expression of which some parts have their values; parentheses are dropped.
@@ -34,7 +35,7 @@ pub enum Term<'a> {
 pub fn put_term<'a>(place: &mut Term<'a>, term: Term<'a>)
     ensures { place.new ≡ term.entry }
 {
-    *place = term;
+    drop(mem::replace(place, term));
 }
 
 /// The name that a comparison with NULL tests, and whether for NULL.
@@ -57,26 +58,6 @@ fn null_test<'a>(op: BinaryOp, a: &'a Expr, b: &Expr) -> Option<(bool, &'a Name)
     Some((wanted, name))
 }
 
-/// The term of an element, from that of its index.
-fn element_term<'a>(alloc: Global, name: &'a Name, index: Term<'a>) -> Result<Term<'a>, AllocError>
-    requires { NumbersInRange index }
-    ensures view { IfOk result (λ t. term_view t ≡ Element name.entry.now (term_view index.entry)) }
-    ensures numbers { IfOk result NumbersInRange }
-{
-    let index = Box::new(alloc, index)?;
-    Ok(Term::Element(name, index))
-}
-
-/// The term of a prefix operator before a term.
-fn prefix_term<'a>(alloc: Global, op: PrefixOp, operand: Term<'a>) -> Result<Term<'a>, AllocError>
-    requires { NumbersInRange operand }
-    ensures view { IfOk result (λ t. term_view t ≡ Prefix (prefix_tree op) (term_view operand.entry)) }
-    ensures numbers { IfOk result NumbersInRange }
-{
-    let operand = Box::new(alloc, operand)?;
-    Ok(Term::Prefix(op, operand))
-}
-
 /// The term of an operator between two terms.
 #[tactic(auto, using(crate::proofs::TermLemmas::operator_rules))]
 fn operator_term<'a>(op: BinaryOp, left: Box<Term<'a>>, right: Box<Term<'a>>) -> Term<'a>
@@ -92,21 +73,16 @@ fn operator_term<'a>(op: BinaryOp, left: Box<Term<'a>>, right: Box<Term<'a>>) ->
     }
 }
 
-/// The term of an operator between two terms, on the heap.
-fn binary_term<'a>(
-    alloc: Global,
-    op: BinaryOp,
-    a: Term<'a>,
-    b: Term<'a>,
-) -> Result<Term<'a>, AllocError>
-    requires a { NumbersInRange a }
-    requires b { NumbersInRange b }
-    ensures view { IfOk result (λ t. term_view t ≡ binary_term (binary_tree op) None (term_view a.entry) (term_view b.entry)) }
-    ensures numbers { IfOk result NumbersInRange }
+/// The term that an expression begins as, on the heap.
+#[cycle(term_of)]
+fn boxed_term_of(alloc: Global, e: &Expr) -> Result<Box<Term<'_>>, AllocError>
+    requires { IsTrue (numbers_in_range (expr_tree e.now)) }
+    ensures view { IfOk result (λ t. term_view t.value ≡ term_of (expr_tree e.now)) }
+    ensures numbers { IfOk result (λ t. NumbersInRange t.value) }
 {
-    let left = Box::new(alloc, a)?;
-    let right = Box::new(alloc, b)?;
-    Ok(operator_term(op, left, right))
+    let term = term_of(alloc, e)?;
+    let term = Box::new(alloc, term)?;
+    Ok(term)
 }
 
 /// The term of an operator between two expressions.
@@ -124,9 +100,9 @@ fn operation_of<'a>(
     match null_test(op, &operands.0, &operands.1) {
         Some((wanted, name)) => Ok(Term::IsNull(wanted, name)),
         None => {
-            let left = term_of(alloc, &operands.0)?;
-            let right = term_of(alloc, &operands.1)?;
-            binary_term(alloc, op, left, right)
+            let left = boxed_term_of(alloc, &operands.0)?;
+            let right = boxed_term_of(alloc, &operands.1)?;
+            Ok(operator_term(op, left, right))
         }
     }
 }
@@ -146,12 +122,12 @@ pub fn term_of(alloc: Global, e: &Expr) -> Result<Term<'_>, AllocError>
         Expr::Named(c) => Ok(Term::Named(*c)),
         Expr::Variable(name) => Ok(Term::Read(name)),
         Expr::Element(name, i) => {
-            let index = term_of(alloc, i)?;
-            element_term(alloc, name, index)
+            let index = boxed_term_of(alloc, i)?;
+            Ok(Term::Element(name, index))
         }
         Expr::Prefix(op, a) => {
-            let operand = term_of(alloc, a)?;
-            prefix_term(alloc, *op, operand)
+            let operand = boxed_term_of(alloc, a)?;
+            Ok(Term::Prefix(*op, operand))
         }
         Expr::Binary(op, operands) => operation_of(alloc, *op, operands),
         Expr::Paren(a) => term_of(alloc, a),

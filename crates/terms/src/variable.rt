@@ -72,7 +72,9 @@ impl<'a> Variables<'a> {
     pub fn set(&mut self, name: &'a Name, content: Content<'a>) -> Result<(), AllocError>
         ensures { IfOk result (λ _. variables_view self.new ≡ assign name.now (content_view content.entry) (variables_view self.old)) }
     {
-        self.contents.insert(name.as_bytes(), content)?;
+        if self.contents.insert(name.as_bytes(), content).is_err() {
+            return Err(AllocError);
+        }
         Ok(())
     }
 

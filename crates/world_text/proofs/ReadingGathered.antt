@@ -1,5 +1,5 @@
 -- Reading line by line, with what is gathered in the place of the lines before.
-use Rattle.std.proofs.Common.{◌≡◌, ℕ, ◌≤◌, Bool, true, false, cond, List, [], ◌∷◌, ◌++◌, Option, Some, None, Result, Ok, Err, refl, sym, ap, ◌∙◌, subst, arith}
+use Rattle.std.proofs.Common.{◌≡◌, ℕ, ◌≤◌, Bool, true, false, cond, List, [], ◌∷◌, ◌++◌, length, Option, Some, None, Result, Ok, Err, refl, sym, ap, ◌∙◌, subst, arith}
 use Rattle.std.specs.Prelude.{not, ◌==◌, filter, IfOk}
 use Rattle.std.specs.List.{enumerate_from}
 use Rattle.base.specs.Bytes.{is_some_byte}
@@ -15,7 +15,7 @@ use Rattle.texts.specs.declared.fault.Rule.{Rule}
 use Rattle.texts.specs.declared.fault.Rule.TheVariants as held
 use Rattle.texts.specs.declared.fault.TextFault.{TextFault}
 use Rattle.texts.specs.Rule.{rule_of}
-use Rattle.world_text.specs.Gathered.{Gathered, gather, gathered_read, gathered_world, finished_read, least_rule, with_line}
+use Rattle.world_text.specs.Gathered.{Gathered, gather, gathered_read, gathered_world, whole_read, all_read, world_left, least_rule, with_line}
 use Rattle.world_text.specs.LinesLeft.{lines_left}
 use Rattle.world.specs.declared.world.World.{World as InMemory}
 use Rattle.world_text.specs.ReadingLines.{heap_of_line, line_of}
@@ -77,7 +77,7 @@ module _ (cells part : ℕ) (L : Lines) (s : AreGathered cells part L) (n : ℕ)
 -- ---- several lines
 
 -- what is gathered so far, and the lines that are left
-pub record IsReading (g : Gathered) (last : ℕ) (rest : List (ℕ × List ℕ)) (read : Result World TextFault) : Type 0 where
+record IsReading (g : Gathered) (last : ℕ) (rest : List (ℕ × List ℕ)) (read : Result World TextFault) : Type 0 where
   pub cells : ℕ
   pub part : ℕ
   pub lines : Lines
@@ -90,24 +90,14 @@ none_gathered : (cells : ℕ) → 512 ≤ cells → AreGathered cells 0 []
 none_gathered cells low = record { sound = none_sound cells low; ordered = none_ordered; single = omega arith; few_calls = refl; started = refl }
 
 -- after the line of the heap
-pub starts : (g : Gathered) (number cells : ℕ) (bytes : List ℕ) (rest : List (ℕ × List ℕ)) (text : List ℕ) → (512 ≤ cells) × (cells ≤ 1048576) → g ≡ gather cells 0 [] → text_lines text ≡ (number, bytes) ∷ rest
-    → heap_read number (heap_of_line bytes) ≡ Ok cells → IsReading g number rest (world_of_text text)
-unfolding numbered_read
-starts g number cells bytes rest text size is first heap = record {
-  cells = cells;
-  part = 0;
-  lines = [];
-  high = size.1;
-  is = is;
-  state = none_gathered cells size.0;
-  further = sym (ap numbered_read first ∙ ap (λ (r : Result ℕ TextFault). r >>= λ n. lines_read n [] rest >>= λ lines. world_read n (last_number number rest) lines) heap);
-}
+starts : (g : Gathered) (number cells : ℕ) (rest : List (ℕ × List ℕ)) → (512 ≤ cells) × (cells ≤ 1048576) → g ≡ gather cells 0 [] → IsReading g number rest (world_left cells number rest)
+starts g number cells rest size is = record { cells = cells; part = 0; lines = []; high = size.1; is = is; state = none_gathered cells size.0; further = refl }
 
--- the line of the heap is refused
-pub heap_refused : (number : ℕ) (bytes : List ℕ) (rest : List (ℕ × List ℕ)) (text : List ℕ) (f : TextFault) → text_lines text ≡ (number, bytes) ∷ rest → heap_read number (heap_of_line bytes) ≡ Err f → world_of_text text ≡ Err f
+-- the line of the heap is read
+by_heap : (number : ℕ) (bytes : List ℕ) (rest : List (ℕ × List ℕ)) (text : List ℕ) (heap : Result ℕ TextFault) → text_lines text ≡ (number, bytes) ∷ rest → heap_read number (heap_of_line bytes) ≡ heap
+    → world_of_text text ≡ (heap >>= λ cells. world_left cells number rest)
 unfolding numbered_read
-heap_refused number bytes rest text f first heap =
-    ap numbered_read first ∙ ap (λ (r : Result ℕ TextFault). r >>= λ n. lines_read n [] rest >>= λ lines. world_read n (last_number number rest) lines) heap
+by_heap number bytes rest text heap first e = ap numbered_read first ∙ ap (λ (r : Result ℕ TextFault). r >>= λ cells. world_left cells number rest) e
 
 -- no line is there
 pub no_heap : (text : List ℕ) → text_lines text ≡ [] → world_of_text text ≡ refused held.Form 1
@@ -127,13 +117,13 @@ module _ (g : Gathered) (last number : ℕ) (bytes : List ℕ) (rest : List (ℕ
   line_kept line e = ap (λ rule. ruled number rule (r.lines ++ (number, line) ∷ [])) e
 
   -- the next line is refused
-  pub refuses : (f : TextFault) → gathered_read g number (line_of bytes) ≡ Err f → read ≡ Err f
+  refuses : (f : TextFault) → gathered_read g number (line_of bytes) ≡ Err f → read ≡ Err f
   refuses f h =
       let fault = fault_told r.cells r.part r.lines r.state number (line_of bytes) f (sym told ∙ h) in
       sym by_line ∙ ap (λ (o : Result Lines TextFault). o >>= (λ lines. lines_read r.cells lines rest) >>= λ all. world_read r.cells (last_number number rest) all) fault
 
   -- the next line is taken
-  pub takes : (next : Gathered) → gathered_read g number (line_of bytes) ≡ Ok next → IsReading next number rest read
+  takes : (next : Gathered) → gathered_read g number (line_of bytes) ≡ Ok next → IsReading next number rest read
   takes next h =
       let t = taken r.cells r.part r.lines r.state number (line_of bytes) next (sym told ∙ h) in
       record {
@@ -148,8 +138,12 @@ module _ (g : Gathered) (last number : ℕ) (bytes : List ℕ) (rest : List (ℕ
             ∙ by_line;
       }
 
+-- the world that is gathered, where a thread is among it; else the last line is told
+abbrev finished_read : Gathered → (last : ℕ) → Result World TextFault
+finished_read g last = cond (length g.threads == 0) (refused held.Limit last) (Ok (gathered_world g))
+
 -- no line is left
-pub ends : (g : Gathered) (last : ℕ) (read : Result World TextFault) → IsReading g last [] read → finished_read g last ≡ read
+ends : (g : Gathered) (last : ℕ) (read : Result World TextFault) → IsReading g last [] read → finished_read g last ≡ read
 unfolding lines_read world_read
 ends g last read r =
     ap (λ x. finished_read x last) r.is
@@ -162,8 +156,62 @@ ends g last read r =
     by_test true = refl
     by_test false = refl
 
-pub sound_end : (g : Gathered) (last : ℕ) (rest : List (ℕ × List ℕ)) (read : Result World TextFault) → IsReading g last rest read → IsSound (gathered_world g)
+sound_end : (g : Gathered) (last : ℕ) (rest : List (ℕ × List ℕ)) (read : Result World TextFault) → IsReading g last rest read → IsSound (gathered_world g)
 sound_end g last rest read r = subst (λ x. IsSound (gathered_world x)) (sym r.is) (sound_world r.cells r.lines r.high r.state.sound)
+
+-- ---- all lines that are left
+
+-- what all of them make, and the world that they mean
+abbrev Same : Result Gathered TextFault → Result World TextFault → Type 0
+Same (Ok g) read = (read ≡ Ok (gathered_world g)) × IsSound (gathered_world g)
+Same (Err f) read = read ≡ Err f
+
+same_all : (rest : List (ℕ × List ℕ)) (g : Gathered) (last : ℕ) (read : Result World TextFault) → IsReading g last rest read → Same (all_read g last rest) read
+unfolding all_read
+same_all [] g last read r = by_test (length g.threads == 0) (ends g last read r)
+  where
+    by_test : (b : Bool) → cond b (refused held.Limit last) (Ok (gathered_world g)) ≡ read → Same (cond b (refused held.Limit last) (Ok g)) read
+    by_test true e = sym e
+    by_test false e = (sym e, sound_end g last [] read r)
+same_all ((number, bytes) ∷ rest) g last read r = by_line (gathered_read g number (line_of bytes)) refl (λ next. same_all rest next number read)
+  where
+    by_line : (o : Result Gathered TextFault) → gathered_read g number (line_of bytes) ≡ o → ((next : Gathered) → IsReading next number rest read → Same (all_read next number rest) read) → Same (o >>= λ next. all_read next number rest) read
+    by_line (Ok next) e further = further next (takes g last number bytes rest read r next e)
+    by_line (Err f) e further = refuses g last number bytes rest read r f e
+
+-- what is gathered before them, after the line of the heap
+same_left : (g : Gathered) (number cells : ℕ) (rest : List (ℕ × List ℕ)) → (512 ≤ cells) × (cells ≤ 1048576) → g ≡ gather cells 0 [] → Same (all_read g number rest) (world_left cells number rest)
+same_left g number cells rest size is = same_all rest g number (world_left cells number rest) (starts g number cells rest size is)
+
+module _ (g : Gathered) (number cells : ℕ) (rest : List (ℕ × List ℕ)) (size : (512 ≤ cells) × (cells ≤ 1048576)) (is : g ≡ gather cells 0 []) where
+  -- they make a world
+  pub make_world : (whole : Gathered) → all_read g number rest ≡ Ok whole → (world_left cells number rest ≡ Ok (gathered_world whole)) × IsSound (gathered_world whole)
+  make_world whole e = subst (λ (o : Result Gathered TextFault). Same o (world_left cells number rest)) e (same_left g number cells rest size is)
+
+  -- one of them stops the reading
+  pub stop_reading : (e : ReadError) → Fails e (all_read g number rest) → Fails e (world_left cells number rest)
+  stop_reading errors.Memory h = tt
+  stop_reading (errors.Fault f) h = subst (λ (o : Result Gathered TextFault). Same o (world_left cells number rest)) h (same_left g number cells rest size is)
+
+-- ---- one line after the other
+
+module _ (g : Gathered) (last : ℕ) (left : List (ℕ × List ℕ)) (all : Result Gathered TextFault) (so_far : all_read g last left ≡ all) where
+  -- no line is left
+  pub none_left : left ≡ [] → whole_read g last ≡ all
+  unfolding all_read
+  none_left none = sym (ap (all_read g last) none) ∙ so_far
+
+  module _ (number : ℕ) (bytes : List ℕ) (rest : List (ℕ × List ℕ)) (first : left ≡ (number, bytes) ∷ rest) where
+    -- the next line is taken
+    pub line_taken : (next : Gathered) → gathered_read g number (line_of bytes) ≡ Ok next → all_read next number rest ≡ all
+    unfolding all_read
+    line_taken next e = sym (ap (all_read g last) first ∙ ap (λ (o : Result Gathered TextFault). o >>= λ next. all_read next number rest) e) ∙ so_far
+
+    -- the next line is not read
+    pub line_stops : (e : ReadError) → Fails e (gathered_read g number (line_of bytes)) → Fails e all
+    unfolding all_read
+    line_stops errors.Memory h = tt
+    line_stops (errors.Fault f) h = sym (sym (ap (all_read g last) first ∙ ap (λ (o : Result Gathered TextFault). o >>= λ next. all_read next number rest) h) ∙ so_far)
 
 -- ---- the whole text
 
@@ -179,9 +227,8 @@ world_means text (Err e) h = tt
 -- the line of the heap is not read
 pub heap_stops : (number : ℕ) (bytes : List ℕ) (rest : List (ℕ × List ℕ)) (text : List ℕ) (e : ReadError) → text_lines text ≡ (number, bytes) ∷ rest → Fails e (heap_read number (heap_of_line bytes)) → Fails e (world_of_text text)
 heap_stops number bytes rest text errors.Memory first h = tt
-heap_stops number bytes rest text (errors.Fault f) first h = heap_refused number bytes rest text f first h
+heap_stops number bytes rest text (errors.Fault f) first h = by_heap number bytes rest text (Err f) first h
 
--- another line is not read
-pub line_stops : (g : Gathered) (last number : ℕ) (bytes : List ℕ) (left rest : List (ℕ × List ℕ)) (read : Result World TextFault) (e : ReadError) → left ≡ (number, bytes) ∷ rest → IsReading g last left read → Fails e (gathered_read g number (line_of bytes)) → Fails e read
-line_stops g last number bytes left rest read errors.Memory first r h = tt
-line_stops g last number bytes left rest read (errors.Fault f) first r h = refuses g last number bytes rest read (subst (λ ls. IsReading g last ls read) first r) f h
+-- the line of the heap is read
+pub heap_taken : (number : ℕ) (bytes : List ℕ) (rest : List (ℕ × List ℕ)) (text : List ℕ) (cells : ℕ) → text_lines text ≡ (number, bytes) ∷ rest → heap_read number (heap_of_line bytes) ≡ Ok cells → world_of_text text ≡ world_left cells number rest
+heap_taken number bytes rest text cells first h = by_heap number bytes rest text (Ok cells) first h

@@ -24,6 +24,14 @@ map_more g f xs i d out z h e k =
     ∙ ap (map g) (sym (map-append f (take i xs) (get_or xs i d ∷ [])))
     ∙ ap (λ ys. map g (map f ys)) (sym (take_more xs i d h))
 
+-- one more of a list that goes through one map
+pub mapped_more : {X Z : Type 0} (g : X → Z) (xs : List X) (i : ℕ) (d : X) (out : List Z) (z : Z) → i < length xs → out ≡ map g (take i xs) → z ≡ g (get_or xs i d) → out ++ z ∷ [] ≡ map g (take (i + 1) xs)
+mapped_more g xs i d out z h e k =
+    ap (λ zs. zs ++ z ∷ []) e
+    ∙ ap (λ y. map g (take i xs) ++ y ∷ []) k
+    ∙ sym (map-append g (take i xs) (get_or xs i d ∷ []))
+    ∙ ap (map g) (sym (take_more xs i d h))
+
 -- one more call of the last thread
 pub last_put : {V : Type 0} (items : V → List Invocation) (threads : List V) (calls put : V) (call : Invocation) (i : ℕ) → i + 1 ≡ length threads → calls ≡ get_or threads i calls → items put ≡ items calls ++ call ∷ [] → map items (set threads i put) ≡ with_last call (map items threads)
 last_put items [] calls put call i e last is = absurd (omega (arith, e))

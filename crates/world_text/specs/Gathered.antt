@@ -14,8 +14,9 @@ use Rattle.source.specs.World.{Invocation, World}
 use Rattle.texts.specs.declared.fault.ReadError.{ReadError}
 use Rattle.texts.specs.declared.fault.Rule.TheVariants as held
 use Rattle.texts.specs.declared.fault.TextFault.{TextFault}
-use Rattle.texts.specs.Reading.{refused, Fails}
-use Rattle.world_text.specs.ReadingWorlds.{ruled}
+use Rattle.texts.specs.Reading.{◌>>=◌, refused, Fails}
+use Rattle.world_text.specs.ReadingLines.{line_of}
+use Rattle.world_text.specs.ReadingWorlds.{ruled, lines_read, last_number, world_read}
 use Rattle.texts.specs.LineRules.{LineRule, OfClass, LineForm, WrongName, OutOfLimit, HeapFull}
 use Rattle.world.specs.WorldLines.{WorldValue, NumberValue, NullValue, NamedObject, NamedClass, WorldLine, ClassLine, FieldLine, StaticLine, ObjectLine, ObjectsLine, ArrayLine, StringLine, ThreadLine, CallLine, Lines}
 use Rattle.world.specs.WorldMeaning.{class_number, field_of, table_of, objects_defined, object_of, with_last, threads_of, cells_of}
@@ -222,6 +223,15 @@ OnGathered (Err e) new read = Fails e read
 abbrev pub gathered_world : Gathered → World
 gathered_world g = record { cells = g.cells; classes = g.classes; objects = g.objects; threads = g.threads }
 
--- the same, where there is a thread; else the last line is told
-abbrev pub finished_read : Gathered → (last : ℕ) → Result World TextFault
-finished_read g last = if length g.threads == 0 then refused held.Limit last else Ok (gathered_world g)
+-- what is there, where a thread is among it; else the last line is told
+abbrev pub whole_read : Gathered → (last : ℕ) → Result Gathered TextFault
+whole_read g last = if length g.threads == 0 then refused held.Limit last else Ok g
+
+-- what is there after these lines, the line before which is of this number, or the fault
+unfoldable pub all_read : Gathered → (last : ℕ) → List (ℕ × List ℕ) → Result Gathered TextFault
+all_read g last [] = whole_read g last
+all_read g last ((number, bytes) ∷ more) = gathered_read g number (line_of bytes) >>= λ next. all_read next number more
+
+-- the world that these lines mean after that of the heap, which is of this number
+abbrev pub world_left : (cells number : ℕ) → List (ℕ × List ℕ) → Result World TextFault
+world_left cells number more = lines_read cells [] more >>= λ lines. world_read cells (last_number number more) lines

@@ -23,13 +23,20 @@ use crate::value::Value;
 use std::alloc::{AllocError, Global};
 use world::{Call, Object, ObjectValue};
 
+/// The unit that a byte is.
+fn unit(byte: u8) -> ObjectValue
+    ensures { object_value_view result ≡ Number (pos byte) }
+{
+    ObjectValue::Number(i32::from(byte))
+}
+
 /// The units of a string.
 pub fn units(alloc: Global, text: &[u8]) -> Result<Vec<ObjectValue>, AllocError>
     ensures { IfOk result (λ v. map object_value_view v.items ≡ map (λ b. Number (pos b)) text.now) }
 {
     let mut units = Vec::new(alloc);
     for byte in text {
-        units.push(ObjectValue::Number(i32::from(*byte)))?;
+        units.push(unit(*byte))?;
     }
     Ok(units)
 }

@@ -271,7 +271,8 @@ pub fn split_words<'a>(alloc: Global, line: &'a [u8]) -> Result<Vec<&'a [u8]>, A
     ensures { IfOk result (λ words. map (λ w. w.now) words.items ≡ parts_of 32 line.now) }
 {
     let mut words = Vec::new(alloc);
-    for word in Split::new(line, b' ') {
+    let mut parts = Split::new(line, b' ');
+    while let Some(word) = parts.next() {
         words.push(word)?;
     }
     Ok(words)
@@ -294,13 +295,17 @@ fn are_some(words: &[&[u8]]) -> bool
     words.iter().all(|word| is_some(*word))
 }
 
-/// The line that bytes are.
+/// The line that bytes are, by their words.
 #[tactic(auto, unfolding(crate::specs::ReadingLines::line_of))]
-pub fn read_line<'a>(alloc: Global, bytes: &'a [u8]) -> Result<Option<Line<'a>>, AllocError>
+fn line_by_words<'a>(
+    alloc: Global,
+    bytes: &'a [u8],
+    words: &[&'a [u8]],
+) -> Result<Option<Line<'a>>, AllocError>
+    requires { map (λ w. w.now) words.now ≡ parts_of 32 bytes.now }
     ensures { IfOk result (λ line. option_map line_view line ≡ line_of bytes.now) }
 {
-    let words = split_words(alloc, bytes)?;
-    let [word, words @ ..] = words.as_slice() else {
+    let [word, words @ ..] = words else {
         return Ok(None);
     };
     if *word == b"string".as_slice() {
@@ -310,4 +315,12 @@ pub fn read_line<'a>(alloc: Global, bytes: &'a [u8]) -> Result<Option<Line<'a>>,
     } else {
         Ok(None)
     }
+}
+
+/// The line that bytes are.
+pub fn read_line<'a>(alloc: Global, bytes: &'a [u8]) -> Result<Option<Line<'a>>, AllocError>
+    ensures { IfOk result (λ line. option_map line_view line ≡ line_of bytes.now) }
+{
+    let words = split_words(alloc, bytes)?;
+    line_by_words(alloc, bytes, &words)
 }

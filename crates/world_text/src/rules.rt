@@ -7,6 +7,7 @@ ghost use Rattle.base.specs.Bytes.{is_from_to, lookup};
 ghost use Rattle.base.specs.Options.{some_passes};
 ghost use Rattle.classes.specs.Additions.{class_breaks};
 ghost use Rattle.classes.specs.Class.{class_named, class_kind, is_plain};
+ghost use Rattle.classes.specs.Mangling.{is_simple_name};
 ghost use Rattle.class_table.specs.Refusals.{rule_view, first_broken};
 ghost use Rattle.class_table.specs.Views.{element_view, field_type_view};
 ghost use Rattle.texts.specs.LineRules.{OfClass};
@@ -14,11 +15,12 @@ ghost use Rattle.texts.specs.Rule.{rule_of};
 ghost use Rattle.world_text.specs.Gathered.{comes_in_order, broken_class_rule, written_values, name_given, is_formed, is_known, refers_to, is_number, can_hold, each_can_hold, is_place_in_range, is_named, has_place, cells_added, least_rule};
 ghost use Rattle.world_text.specs.GatheredViews.{gathered_of};
 ghost use Rattle.world_text.specs.LineViews.{value_view, line_view};
+ghost use Rattle.world.specs.WorldLines.{ObjectLine};
 ghost use Rattle.world.specs.WorldMeaning.{class_number};
 ghost use Rattle.world.specs.WorldRules.{part_of, is_call_line, is_formed_value, is_object_class, is_world_class, is_well_formed, is_class_allowed, layout_types, types_of_line, is_in_range, value_in_range, each_in_range};
 
 use crate::builder::WorldBuilder;
-use crate::line::Line;
+use crate::line::{Line, ObjectWords};
 use crate::names::ObjectNames;
 use crate::value::Value;
 use crate::words::{is_class_name, is_simple_name};
@@ -168,6 +170,18 @@ fn has_values(classes: &ClassTable, class: &[u8], count: usize) -> bool
     !is_object_class(classes, class) || count == classes.layout_len(class_number(classes, class))
 }
 
+fn is_object_formed(classes: &ClassTable, object: &ObjectWords) -> bool
+    ensures { result ≡ is_well_formed classes.now (ObjectLine object.now.name.now object.now.class.now (map value_view object.now.values.items)) }
+{
+    is_simple_name(object.name) && has_values(classes, object.class, object.values.len())
+}
+
+fn is_string_formed(name: &[u8], text: &[u8]) -> bool
+    ensures { result ≡ (is_simple_name name.now && list_all (is_from_to 32 126) text.now) }
+{
+    is_simple_name(name) && is_text(text)
+}
+
 fn is_well_formed(classes: &ClassTable, line: &Line) -> bool
     ensures { result ≡ is_well_formed classes.now (line_view line.now) }
 {
@@ -175,12 +189,10 @@ fn is_well_formed(classes: &ClassTable, line: &Line) -> bool
         Line::Class(name, _) => is_class_name(*name),
         Line::Field(field) => is_simple_name(field.name),
         Line::Static(field) => is_simple_name(field.name),
-        Line::Object(object) => {
-            is_simple_name(object.name) && has_values(classes, object.class, object.values.len())
-        }
+        Line::Object(object) => is_object_formed(classes, object),
         Line::Objects(object) => is_simple_name(object.name),
         Line::Array(array) => is_simple_name(array.name),
-        Line::String(name, text) => is_simple_name(*name) && is_text(*text),
+        Line::String(name, text) => is_string_formed(*name, *text),
         Line::Thread(_) | Line::Call(_) => true,
     }
 }

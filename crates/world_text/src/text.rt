@@ -2,13 +2,14 @@
 
 ghost use Rattle.std.specs.Prelude.{◌≡◌, ◌∷◌, ◌+◌, ◌<◌, ◌≤◌, ◌^◌, [], IfOk, MatchOption, map, length};
 ghost use Rattle.classes.specs.BuiltIns.{built_ins};
+ghost use Rattle.texts.specs.Numbers.{natural_of};
 ghost use Rattle.texts.specs.Reading.{Gives};
 ghost use Rattle.texts.specs.Split.{parts_left};
-ghost use Rattle.world_text.specs.Gathered.{gather, gathered_read, gathered_world, finished_read, OnGathered};
+ghost use Rattle.world_text.specs.Gathered.{gather, gathered_read, gathered_world, whole_read, all_read, world_left, OnGathered};
 ghost use Rattle.world_text.specs.GatheredViews.{gathered_of};
 ghost use Rattle.world_text.specs.LinesLeft.{lines_left};
 ghost use Rattle.world_text.specs.LineViews.{line_view};
-ghost use Rattle.world_text.specs.ReadingLines.{cells_named, heap_by_words, heap_of_line, line_of};
+ghost use Rattle.world_text.specs.ReadingLines.{below_zero, cells_named, heap_by_words, heap_of_line, line_of};
 ghost use Rattle.world_text.specs.ReadingWorlds.{heap_read, ruled, world_of_text};
 ghost use Rattle.world.specs.SoundWorlds.{IsSound};
 ghost use Rattle.world.specs.WorldMeaning.{cells_of};
@@ -23,15 +24,22 @@ use std::alloc::{AllocError, Global};
 use texts::{ReadError, Rule, Split, TextFault, natural};
 use world::World;
 
+/// The number below 0 that the digits spell, as a number of cells; none where it isn't below 0.
+fn below_zero(digits: &[u8]) -> Option<u64>
+    ensures { result ≡ below_zero (natural_of digits.now) }
+{
+    match natural(digits) {
+        None | Some(0) => None,
+        Some(_) => Some(0),
+    }
+}
+
 /// The number of cells that a word spells; a negative one is as far below each limit as 0 is.
 fn read_cells(word: &[u8]) -> Option<u64>
     ensures { result ≡ cells_named word.now }
 {
     match word {
-        [b'-', digits @ ..] => match natural(digits) {
-            None | Some(0) => None,
-            Some(_) => Some(0),
-        },
+        [b'-', digits @ ..] => below_zero(digits),
         _ => natural(word),
     }
 }
@@ -177,13 +185,7 @@ pub fn read_world(alloc: Global, text: &[u8]) -> Result<World, ReadError>
         return Err(ReadError::Fault(TextFault { rule, line: 1 }));
     };
     let cells = read_heap(alloc, number, heap)?;
-    let mut builder = begun(alloc, cells)?;
-    let mut last = number;
-    while let Some(line) = next_line(&mut lines, &mut number) {
-        last = number;
-        take_line(alloc, &mut builder, number, line)?;
-    }
-    finished(builder, last)
+    read_lines(alloc, cells, &mut lines, number)
 }
 
 /// The world that the lines make.
@@ -201,14 +203,48 @@ fn taken_apart(builder: WorldBuilder) -> World
     World::new(cells, classes, objects, threads)
 }
 
-/// The world that the lines make, the last of which had this number.
-fn finished(builder: WorldBuilder, last: usize) -> Result<World, ReadError>
-    requires { IsSound (gathered_world (gathered_of builder)) }
-    ensures { Gives (λ w. w) result (finished_read (gathered_of builder) last) }
+/// Checks that there is a thread, after the last line, which had this number.
+fn check_threads(builder: &WorldBuilder, last: usize) -> Result<(), ReadError>
+    ensures { OnGathered result (gathered_of builder.now) (whole_read (gathered_of builder.now) last) }
 {
     if builder.threads.is_empty() {
         let rule = Rule::Limit;
         return Err(ReadError::Fault(TextFault { rule, line: last }));
     }
+    Ok(())
+}
+
+/// Takes the lines that are left after that of this number.
+fn take_lines(
+    alloc: Global,
+    builder: &mut WorldBuilder,
+    lines: &mut Split,
+    first: usize,
+) -> Result<(), ReadError>
+    requires { first + length (parts_left lines.old) < 2 ^ 64 }
+    ensures { OnGathered result (gathered_of builder.new) (all_read (gathered_of builder.old) first (lines_left first lines.old)) }
+{
+    let mut number = first;
+    let mut last = first;
+    while let Some(line) = next_line(lines, &mut number) {
+        last = number;
+        take_line(alloc, builder, number, line)?;
+    }
+    check_threads(builder, last)
+}
+
+/// The world of this many cells that the lines mean that are left after that of this number.
+fn read_lines(
+    alloc: Global,
+    cells: u32,
+    lines: &mut Split,
+    number: usize,
+) -> Result<World, ReadError>
+    requires size { (512 ≤ cells) × (cells ≤ 1048576) }
+    requires few { number + length (parts_left lines.old) < 2 ^ 64 }
+    ensures { Gives (λ w. w) result (world_left cells number (lines_left number lines.old)) }
+{
+    let mut builder = begun(alloc, cells)?;
+    take_lines(alloc, &mut builder, lines, number)?;
     Ok(taken_apart(builder))
 }

@@ -4,6 +4,7 @@ ghost use Rattle.std.specs.Prelude.{◌≡◌};
 ghost use Rattle.std.specs.List.{list_all};
 ghost use Rattle.base.specs.Bytes.{is_letter, is_name_part};
 ghost use Rattle.classes.specs.Mangling.{is_simple_name, is_class_name};
+ghost use Rattle.texts.specs.Split.{parts_left};
 
 use texts::Split;
 
@@ -37,14 +38,22 @@ pub fn is_simple_name(bytes: &[u8]) -> bool
     }
 }
 
-/// Whether the bytes are simple names with slashes between them.
-pub fn is_class_name(bytes: &[u8]) -> bool
-    ensures { result ≡ is_class_name bytes.now }
+/// Whether the parts that are left are simple names.
+fn are_simple_names(parts: &mut Split) -> bool
+    ensures { result ≡ list_all is_simple_name (parts_left parts.old) }
 {
-    for part in Split::new(bytes, b'/') {
+    while let Some(part) = parts.next() {
         if !is_simple_name(part) {
             return false;
         }
     }
     true
+}
+
+/// Whether the bytes are simple names with slashes between them.
+pub fn is_class_name(bytes: &[u8]) -> bool
+    ensures { result ≡ is_class_name bytes.now }
+{
+    let mut parts = Split::new(bytes, b'/');
+    are_simple_names(&mut parts)
 }
