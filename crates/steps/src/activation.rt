@@ -1,11 +1,12 @@
 //! Activations: calls in progress.
 
-ghost use Rattle.std.specs.Prelude.{◌≡◌, IfOk, None, []};
+ghost use Rattle.std.specs.Prelude.{◌≡◌, IfOk, IsSome, None, []};
 ghost use Rattle.classes.specs.Class.{Classes};
 ghost use Rattle.classes.specs.Grown.{IsGrown};
 ghost use Rattle.source.specs.Thread.{Shared as SharedOfThreads};
-ghost use Rattle.steps.specs.Activations.{tasks_left, IsInRange, AreSet, Advances, KeepsScene};
+ghost use Rattle.steps.specs.Activations.{tasks_left, IsInRange, AreSet, IsApplied, HasBegun, StepsTask, Advances, KeepsScene};
 ghost use Rattle.call_checks.specs.Shares.{shared_view};
+ghost use Rattle.tasks.specs.Tasks.{StatementInRange, OutcomeInRange};
 
 use crate::put::set_variables;
 use crate::step::step;
@@ -16,7 +17,7 @@ use std::alloc::{AllocError, Global};
 use std::mem;
 use syntax::Stmt;
 use tasks::{Choice, End, Outcome, Task, loop_task, task_of};
-use terms::{Term, Value, Variables};
+use terms::{Statics, Term, Value, Variables};
 
 /// What is still to do around a block: what comes at the block's end, and the statements after it.
 #[derive(Clone, Copy)]
@@ -28,7 +29,6 @@ pub struct Outer<'a> {
 /// A call in progress: the task that is begun, the statements after it in its block, what is to do around the block,
 /// the outermost first, the variables, in the order in which they came to be, the frames of local references, and the pending
 /// exception.
-#[derive(Drop)]
 pub struct Activation<'a> {
     pub task: Option<Task<'a>>,
     pub rest: &'a [Stmt],
@@ -38,11 +38,44 @@ pub struct Activation<'a> {
     pub pending: Option<usize>,
 }
 
+// Written out, and not derived, so that a crate above drops one by a call and doesn't prove it anew.
+impl Drop for Activation<'_> {
+    fn drop(self) {
+        let Activation {
+            task,
+            rest: _,
+            outer,
+            variables,
+            frames,
+            pending: _,
+        } = self;
+        drop(task);
+        drop(outer);
+        drop(variables);
+        drop(frames);
+    }
+}
+
 /// Puts a task in the place of the one that is begun.
 fn put_task<'a>(place: &mut Option<Task<'a>>, task: Option<Task<'a>>)
     ensures { place.new ≡ task.entry }
 {
     drop(mem::replace(place, task));
+}
+
+/// Begins a statement in the place of the task that is begun.
+#[inline]
+fn begin_statement<'a>(
+    alloc: Global,
+    place: &mut Option<Task<'a>>,
+    statement: &'a Stmt,
+) -> Result<(), AllocError>
+    requires { StatementInRange statement.now }
+    ensures { IfOk result (λ _. HasBegun statement.entry.now place.new) }
+{
+    let task = task_of(alloc, statement)?;
+    put_task(place, Some(task));
+    Ok(())
 }
 
 /// Begins the block's next statement, where none is begun.
@@ -59,8 +92,7 @@ fn begin<'a>(alloc: Global, activation: &mut Activation<'a>) -> Result<(), Alloc
     let Some((first, after)) = activation.rest.split_first() else {
         return Ok(());
     };
-    let task = task_of(alloc, first)?;
-    put_task(&mut activation.task, Some(task));
+    begin_statement(alloc, &mut activation.task, first)?;
     activation.rest = after;
     Ok(())
 }
@@ -127,6 +159,54 @@ fn set_tasks<'a>(activation: &mut Activation<'a>, outcome: Outcome<'a>) -> Resul
     Ok(())
 }
 
+/// Does what a step did to the variables, the statics and the tasks; false where it isn't possible.
+#[inline]
+fn apply<'a>(
+    alloc: Global,
+    statics: &mut Statics<'a>,
+    activation: &mut Activation<'a>,
+    outcome: Outcome<'a>,
+) -> Result<bool, AllocError>
+    ensures { IfOk result (λ possible. IsApplied statics.old activation.old outcome.entry possible statics.new activation.new) }
+{
+    let frames = activation.frames.len();
+    if !set_variables(alloc, statics, frames, &mut activation.variables, outcome)? {
+        return Ok(false);
+    }
+    set_tasks(activation, outcome)?;
+    Ok(true)
+}
+
+/// Lets the task that is begun take its next step.
+#[inline(always)]
+fn step_task<'a>(
+    alloc: Global,
+    classes: &'a ClassTable,
+    shared: &mut Shared<'a>,
+    refused: bool,
+    activation: &mut Activation<'a>,
+) -> Result<Outcome<'a>, AllocError>
+    requires range { IsInRange activation.old }
+    requires begun { IsSome activation.old.task }
+    requires grown { IsGrown classes.now }
+    ensures step { IfOk result (λ o. StepsTask classes.now refused (shared_view shared.old) activation.old o (shared_view shared.new) activation.new) }
+    ensures range { IfOk result OutcomeInRange }
+{
+    let Some(task) = &mut activation.task else {
+        unreachable!()
+    };
+    step(
+        alloc,
+        classes,
+        shared,
+        &activation.variables,
+        &mut activation.frames,
+        &mut activation.pending,
+        refused,
+        task,
+    )
+}
+
 /// Lets an activation take its next step, or the same with its object refused.
 pub fn advance<'a>(
     alloc: Global,
@@ -141,30 +221,12 @@ pub fn advance<'a>(
     ensures range { IfOk result (λ _. IsInRange activation.new) }
 {
     begin(alloc, activation)?;
-    let Some(task) = &mut activation.task else {
+    if activation.task.is_none() {
         return leave_block(alloc, refused, activation);
-    };
-    let outcome = step(
-        alloc,
-        classes,
-        shared,
-        &activation.variables,
-        &mut activation.frames,
-        &mut activation.pending,
-        refused,
-        task,
-    )?;
-    let frames = activation.frames.len();
-    let done = set_variables(
-        alloc,
-        &mut shared.statics,
-        frames,
-        &mut activation.variables,
-        outcome,
-    )?;
-    if !done {
+    }
+    let outcome = step_task(alloc, classes, shared, refused, activation)?;
+    if !apply(alloc, &mut shared.statics, activation, outcome)? {
         return Ok(Outcome::Impossible);
     }
-    set_tasks(activation, outcome)?;
     Ok(outcome)
 }

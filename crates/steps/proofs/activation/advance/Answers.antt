@@ -1,12 +1,13 @@
-use Rattle.std.proofs.Common.{ℕ, Bool, true, false, subst}
-use Rattle.tasks.specs.Outcomes.{variable_step, LeavesIf}
+use Rattle.std.proofs.Common.{Bool, true, false, Some, sym, subst}
 use Rattle.call_checks.specs.Shares.{shared_view}
+use Rattle.steps.specs.declared.activation.Activation.{Activation}
+use Rattle.steps.specs.Activations.{IsApplied, IsInRange}
 use Rattle.steps.proofs.ActivationLemmas.{begun_before, fails, advances, range_after}
 use Rattle.object_store.proofs.Results.{if_ok}
 use Rattle.steps.proofs.activation.advance.Goals as goal
 
-pub returns-in_default-clause-step : goal.returns-in_default-clause-step
-returns-in_default-clause-step c =
+pub returns-then-is_none-clause-step : goal.returns-then-is_none-clause-step
+returns-then-is_none-clause-step c =
     let classes = c.args.classes.now in
     let shared = shared_view c.args.shared.now in
     if_ok c.leave_block.result
@@ -14,29 +15,42 @@ returns-in_default-clause-step c =
     (does classes shared))
     c.leave_block.ensures.step
 
-pub returns-then-not-done-clause-step : goal.returns-then-not-done-clause-step
-returns-then-not-done-clause-step c =
-    let classes = c.args.classes.now in
-    let shared = shared_view c.args.shared.now in
-    let after = shared_view c.step.new.shared in
+pub returns-then-not-branch-clause-step : goal.returns-then-not-branch-clause-step
+returns-then-not-branch-clause-step c =
     let begun = c.begin.new.activation in
-    let does = c.in_ok-outcome.ensures.step in
-    let none = subst (λ (n : ℕ). LeavesIf n after.statics begun.variables (variable_step c.in_ok-outcome.outcome) false c.set_variables.new.statics c.set_variables.new.variables) c.len-frames.ensures (subst (λ (b : Bool). LeavesIf c.len-frames.result after.statics begun.variables (variable_step c.in_ok-outcome.outcome) b c.set_variables.new.statics c.set_variables.new.variables) c.if-not-done.true c.in_ok-done.ensures) in
-    fails classes c.args.refused shared after c.set_variables.new.statics c.args.activation.now begun c.in-Some.task c.step.new.task c.set_variables.new.variables c.step.new.frames c.step.new.pending begun c.in_ok-begin.ensures.tasks c.in_ok-begin.ensures.kept c.in-Some.is
-    c.in_ok-outcome.outcome does none
+    let after = shared_view c.step_task.new.shared in
+    let stepped = c.step_task.new.activation in
+    let step = c.in_ok-outcome.ensures.step in
+    let never = subst (λ (a : Activation). IsApplied after.statics a c.in_ok-outcome.outcome false c.apply.new.statics c.apply.new.activation) step.is
+    (subst (λ (b : Bool). IsApplied after.statics stepped c.in_ok-outcome.outcome b c.apply.new.statics c.apply.new.activation) c.if-not-branch.true c.in_ok-apply.ensures) in
+    fails c.args.classes.now c.args.refused (shared_view c.args.shared.now) after c.apply.new.statics c.args.activation.now begun step.task step.after c.apply.new.activation.variables stepped.frames stepped.pending begun
+    c.in_ok-begin.ensures.tasks c.in_ok-begin.ensures.kept step.begun c.in_ok-outcome.outcome step.does never.0
+
+pub returns-then-not-branch-clause-range : goal.returns-then-not-branch-clause-range
+returns-then-not-branch-clause-range c =
+    let step = c.in_ok-outcome.ensures.step in
+    let known = c.in_ok-begin.ensures.range in
+    let never = subst (λ (b : Bool). IsApplied c.step_task.new.shared.statics c.step_task.new.activation c.in_ok-outcome.outcome b c.apply.new.statics c.apply.new.activation) c.if-not-branch.true c.in_ok-apply.ensures in
+    let stood = subst IsInRange (sym step.is) (record { begun = step.range; rest = known.rest; outer = known.outer }) in
+    subst IsInRange (sym never.1) (record { begun = stood.begun; rest = stood.rest; outer = stood.outer })
 
 pub returns-clause-step : goal.returns-clause-step
 returns-clause-step c =
-    let classes = c.args.classes.now in
-    let shared = shared_view c.args.shared.now in
-    let after = shared_view c.step.new.shared in
     let begun = c.begin.new.activation in
-    let does = c.in_ok-outcome.ensures.step in
-    let leaves = subst (λ (n : ℕ). LeavesIf n after.statics begun.variables (variable_step c.in_ok-outcome.outcome) true c.set_variables.new.statics c.set_variables.new.variables) c.len-frames.ensures (subst (λ (b : Bool). LeavesIf c.len-frames.result after.statics begun.variables (variable_step c.in_ok-outcome.outcome) b c.set_variables.new.statics c.set_variables.new.variables) c.if-not-done.false c.in_ok-done.ensures) in
-    advances classes c.args.refused shared after c.set_variables.new.statics c.args.activation.now begun c.in-Some.task c.step.new.task c.set_variables.new.variables c.step.new.frames c.step.new.pending c.set_tasks.new.activation c.in_ok-begin.ensures.tasks c.in_ok-begin.ensures.kept c.in-Some.is
-    c.in_ok-outcome.outcome does leaves c.in_ok-set_tasks.ensures
+    let after = shared_view c.step_task.new.shared in
+    let stepped = c.step_task.new.activation in
+    let step = c.in_ok-outcome.ensures.step in
+    let done = subst (λ (a : Activation). IsApplied after.statics a c.in_ok-outcome.outcome true c.apply.new.statics c.apply.new.activation) step.is
+    (subst (λ (b : Bool). IsApplied after.statics stepped c.in_ok-outcome.outcome b c.apply.new.statics c.apply.new.activation) c.if-not-branch.false c.in_ok-apply.ensures) in
+    advances c.args.classes.now c.args.refused (shared_view c.args.shared.now) after c.apply.new.statics c.args.activation.now begun step.task step.after done.variables stepped.frames stepped.pending c.apply.new.activation
+    c.in_ok-begin.ensures.tasks c.in_ok-begin.ensures.kept step.begun c.in_ok-outcome.outcome step.does done.leaves done.set
 
 pub returns-clause-range : goal.returns-clause-range
 returns-clause-range c =
-    range_after c.begin.new.activation c.set_tasks.new.activation c.step.new.task c.set_variables.new.variables c.step.new.frames c.step.new.pending c.in_ok-begin.ensures.range c.in_ok-outcome.ensures.task c.in_ok-outcome.outcome
-    c.in_ok-outcome.ensures.range c.in_ok-set_tasks.ensures
+    let begun = c.begin.new.activation in
+    let after = shared_view c.step_task.new.shared in
+    let stepped = c.step_task.new.activation in
+    let step = c.in_ok-outcome.ensures.step in
+    let done = subst (λ (a : Activation). IsApplied after.statics a c.in_ok-outcome.outcome true c.apply.new.statics c.apply.new.activation) step.is
+    (subst (λ (b : Bool). IsApplied after.statics stepped c.in_ok-outcome.outcome b c.apply.new.statics c.apply.new.activation) c.if-not-branch.false c.in_ok-apply.ensures) in
+    range_after begun c.apply.new.activation step.after done.variables stepped.frames stepped.pending c.in_ok-begin.ensures.range step.range c.in_ok-outcome.outcome c.in_ok-outcome.ensures.range done.set
