@@ -1,12 +1,15 @@
 -- A thread in memory steps as the thread that it stands for.
-use Rattle.std.proofs.Common.{◌≡◌, ℕ, Bool, true, false, List, [], ◌∷◌, Option, Some, None, refl, sym, ap, ◌∙◌, IsTrue, subst}
+use Rattle.std.proofs.Common.{◌≡◌, ℕ, Bool, true, false, List, [], ◌∷◌, Option, Some, None, refl, sym, ap, ◌∙◌, IsTrue, subst, append-nil}
 use Rattle.std.specs.List.{list_all}
 use Rattle.std.specs.Option.{option_map}
 use Rattle.source.specs.World.{Invocation}
 use Rattle.source.specs.Load.{call_loads}
 use Rattle.std.proofs.lemmas.Bool.{and_parts}
 use Rattle.std.specs.Borrow.{Bor}
+use Rattle.syntax.specs.declared.stmt.Block.{Block as BlockInMemory, out-Block}
+use Rattle.syntax.specs.declared.stmt.Stmt.{Stmt}
 use Rattle.syntax.specs.Tree.{Function, SourceUnit}
+use Rattle.syntax.specs.Views.{block_tree}
 use Rattle.source.specs.Task.{tasks_of}
 use Rattle.classes.specs.Class.{Classes}
 use Rattle.source.specs.Thread.{Monitor, Thread, Shared, BuffersInUse, Event, Quiet, PrintedNumber, Trapped, Advances as AdvancesTo, NoAdvance, Ending, Unfinished, Ended, Uncaught}
@@ -14,9 +17,13 @@ use Rattle.source.specs.Object.{Reference}
 use Rattle.source.specs.Activation.{named_object, entry_frame, ending_after, monitors_after, calls_after, return_step, enter, entered, entry_advance, entered_function, class_of_function, function_at, parameter_variables}
 use Rattle.source.specs.ThreadStep.{thread_step, step_within}
 use Rattle.steps.specs.declared.activation.Activation.{Activation}
+use Rattle.steps.specs.declared.activation.Outer.{Outer}
+use Rattle.tasks.specs.declared.task.Task.{Task as TaskInMemory}
 use Rattle.threads.specs.declared.thread.Thread.{Thread as ThreadInMemory}
 use Rattle.tasks.specs.declared.outcome.Outcome.TheVariants as outcome
-use Rattle.steps.specs.Activations.{tasks_left, thread_in, scene_of, advance_by, Advances}
+use Rattle.steps.specs.Activations.{tasks_from, tasks_after, tasks_left, thread_in, scene_of, advance_by, Advances}
+use Rattle.tasks.specs.Tasks.{tasks_of_statements}
+use Rattle.steps.proofs.TaskLemmas.{block_tasks}
 use Rattle.call_checks.specs.Shares.{shared_view}
 use Rattle.call_checks.specs.declared.shared.Shared.{Shared as SharedInMemory}
 use Rattle.steps.specs.Steps.{Sees}
@@ -31,6 +38,16 @@ no_monitors : (e : Ending) (k : ℕ) → monitors_after e k [] ≡ []
 no_monitors Unfinished k = refl
 no_monitors Ended k = refl
 no_monitors (Uncaught c) k = refl
+
+-- the tasks of a call in progress at its beginning
+pub begun_tasks : (body : BlockInMemory) (a : Activation) → a.task ≡ None → a.rest.now ≡ (out-Block body).statements.items → a.outer.items ≡ [] → tasks_left a ≡ tasks_of (block_tree body)
+begun_tasks body a none rest outer =
+    let statements = (out-Block body).statements.items in
+    ap (λ (o : Option TaskInMemory). tasks_from o (tasks_after a.rest.now a.outer.items)) none
+    ∙ ap (λ (left : List Stmt). tasks_after left a.outer.items) rest
+    ∙ ap (λ (os : List Outer). tasks_after statements os) outer
+    ∙ append-nil (tasks_of_statements statements)
+    ∙ block_tasks body
 
 module _ (unit : SourceUnit) (classes : Classes) (lent : BuffersInUse) (k : ℕ) where
   -- a thread after its call that stands so, with these calls to come before
