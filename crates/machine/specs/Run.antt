@@ -27,6 +27,8 @@ use Rattle.lowered.specs.Lowered.{Lowered, IsLowered}
 use Rattle.execution.specs.declared.thread.Thread.{Thread}
 use Rattle.execution.specs.declared.thread.Ending.{Ending}
 use Rattle.execution.specs.declared.thread.Ending.TheVariants.{Unfinished, Ended, Uncaught}
+use Rattle.execution.specs.declared.advance.Advanced.{Advanced}
+use Rattle.execution.specs.declared.advance.Advanced.TheVariants as advanced
 use Rattle.execution.specs.declared.execute.Event.{Event}
 use Rattle.execution.specs.declared.execute.Event.TheVariants as event
 use Rattle.machine.specs.declared.fault.ReportFault.{ReportFault}
@@ -78,6 +80,16 @@ printed_after printed k event.Quiet = printed
 printed_after printed k (event.Printed z) = printed ++ record { thread = k; number = z } ∷ []
 printed_after printed k (event.Trapped trap line) = printed
 
+-- what a step lets others see; a refused allocation nothing
+abbrev pub event_of : Advanced → Event
+event_of (advanced.Did e) = e
+event_of advanced.Refused = event.Quiet
+
+-- whether its allocation was refused
+abbrev pub is_refused : Advanced → Bool
+is_refused (advanced.Did e) = false
+is_refused advanced.Refused = true
+
 -- ---- turns
 
 -- a fact of the state that the journal leads to
@@ -125,6 +137,11 @@ refused r k left = record r { journal = r.journal ++ refused_entry_of k ∷ []; 
 -- thread k can step, and the journal has room for the step
 abbrev pub CouldStep : Run → ℕ → Type 0
 CouldStep r k = (length r.journal < 1000000) × InState r (λ s. can_turn r s k ≡ true)
+
+-- the turn that was this step
+abbrev pub turn_after : Advanced → Answer
+turn_after (advanced.Did e) = turn.Stepped
+turn_after advanced.Refused = turn.Short
 
 -- what a turn of thread k was
 abbrev pub TurnHolds : Run → ℕ → Run → Answer → Type 0
