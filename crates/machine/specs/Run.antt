@@ -17,6 +17,12 @@ use Rattle.source.specs.World.{World, loaded_objects}
 use Rattle.report.specs.RunText as run_text
 use Rattle.source.specs.Report.{ShownRow}
 use Rattle.source.specs.ReportOf.{shown, shown_row}
+use Rattle.source.specs.Heap.{Heap}
+use Rattle.source.specs.JournalText.{journal_line}
+use Rattle.report.specs.declared.thread_status.ThreadStatus.{ThreadStatus}
+use Rattle.report.specs.ReportText.{report_text}
+use Rattle.report.specs.Shown.{report_with}
+use Rattle.reached.specs.Rows.{AreReported}
 use Rattle.source.specs.Run.{replay, Follows, UnmarkedFit}
 use Rattle.source.specs.State.{State, thread_at}
 use Rattle.source.specs.Step.{can_step, is_blocked, is_unfinished}
@@ -222,3 +228,15 @@ abbrev pub ReportsRun : {T : Type 0} → Run → Written → Written → Result 
 ReportsRun {T = T} r old new (Ok x) = WritesRun {T = T} {E = ReportFault} r old new (Ok x)
 ReportsRun r old new (Err reporting.Memory) = new ≡ old
 ReportsRun {T = T} r old new (Err reporting.Sink) = WritesRun {T = T} {E = ReportFault} r old new (Err reporting.Sink)
+
+-- the rows of what the names lead to were written with these numbers, these standings and this journal, or a beginning of it
+pub record WritesRows {T E : Type 0} (classes : Classes) (objects : Heap) (loaded : ℕ) (names : List ℕ) (numbers : List Printed) (told : List ThreadStatus) (entries : List Entry) (old new : Written) (result : Result T E) : Type 0 where
+  pub rows : List ShownRow
+  pub are : AreReported classes objects loaded names rows
+  pub written : sink.Writes old new result (report_text (report_with numbers told rows) ++ journal_line entries)
+
+-- the same, or nothing where memory was refused
+abbrev pub ReportsRows : {T : Type 0} → Classes → Heap → (loaded : ℕ) → (names : List ℕ) → List Printed → List ThreadStatus → List Entry → Written → Written → Result T ReportFault → Type 0
+ReportsRows {T = T} classes objects loaded names numbers told entries old new (Ok x) = WritesRows {T = T} {E = ReportFault} classes objects loaded names numbers told entries old new (Ok x)
+ReportsRows classes objects loaded names numbers told entries old new (Err reporting.Memory) = new ≡ old
+ReportsRows {T = T} classes objects loaded names numbers told entries old new (Err reporting.Sink) = WritesRows {T = T} {E = ReportFault} classes objects loaded names numbers told entries old new (Err reporting.Sink)

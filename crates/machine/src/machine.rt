@@ -11,12 +11,12 @@ ghost use Rattle.source.specs.Object.{sizes};
 ghost use Rattle.source.specs.World.{loaded_objects};
 ghost use Rattle.loading.specs.Loading.{IsLoadFault};
 ghost use Rattle.source.specs.declared.journal.Entry.TheVariants.{Step};
-ghost use Rattle.machine.specs.Run.{replay_of, Corresponds, IsUnstarted, CouldStep, TurnHolds, RunsAlong, RunsInto, PrintedBy, IsFinished, has_ended, ReportsRun, GivesNoStep, GivesStep, StoppedBy, event_of, is_refused, printed_after, turn_after};
+ghost use Rattle.machine.specs.Run.{replay_of, Corresponds, IsUnstarted, CouldStep, TurnHolds, RunsAlong, RunsInto, PrintedBy, IsFinished, has_ended, ReportsRun, ReportsRows, GivesNoStep, GivesStep, StoppedBy, event_of, is_refused, printed_after, turn_after};
 ghost use Rattle.machine.specs.Stops.{stop_after, standing_of, standing_by_ending};
 
 use crate::fault::{ReportFault, RunFault};
 use crate::roots::root_names;
-use crate::rows::named_blocks;
+use crate::rows::{NamedBlocks, named_blocks};
 use crate::stop::Stop;
 use crate::turn::Turn;
 use arrayvec::ArrayVec;
@@ -259,17 +259,41 @@ impl<'a> Machine<'a> {
         let heap = &self.store.heap;
         let objects = named_blocks(alloc, heap, self.store.births)?;
         let names = root_names(alloc, heap, &self.store.globals, &self.threads)?;
-        let rows = reached_rows(alloc, classes, &objects, self.store.loaded.len(), &names)?;
-        match write_run(
-            sink,
+        write_rows(
+            alloc,
+            classes,
+            &objects,
+            self.store.loaded.len(),
+            &names,
             self.printed.as_slice(),
             standings.as_slice(),
-            &rows,
             self.journal.as_slice(),
-        ) {
-            Ok(()) => Ok(()),
-            Err(_) => Err(ReportFault::Sink),
-        }
+            sink,
+        )
+    }
+}
+
+/// Writes the report of these numbers, these standings and the objects that the names lead to, beside the `loaded` that were made
+/// at load, and the line of the journal.
+fn write_rows<S: Sink>(
+    alloc: Global,
+    classes: &ClassTable,
+    objects: &NamedBlocks<'_>,
+    loaded: usize,
+    names: &[usize],
+    printed: &[Printed],
+    standings: &[ThreadStatus<'_>],
+    journal: &[Entry],
+    sink: &mut S,
+) -> Result<(), ReportFault>
+    requires { CanFail (S.written sink.old) }
+    ensures rows { ReportsRows classes.now objects.now loaded names.now printed.now standings.now journal.now (S.written sink.old) (S.written sink.new) result }
+    ensures none_waits { OnOk result ((S.written sink.new).waiting ≡ 0) }
+{
+    let rows = reached_rows(alloc, classes, objects, loaded, names)?;
+    match write_run(sink, printed, standings, &rows, journal) {
+        Ok(()) => Ok(()),
+        Err(_) => Err(ReportFault::Sink),
     }
 }
 

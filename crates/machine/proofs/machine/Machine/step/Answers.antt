@@ -1,5 +1,5 @@
 use Rattle.std.proofs.Common.{◌≡◌, ℕ, suc, ◌-◌, ◌<◌, ◌≤◌, true, false, Option, Some, None, [], ◌∷◌, ◌++◌, List, length, get_or, refl, sym, ap, ◌∙◌, subst, arith}
-use Rattle.std.specs.Prelude.{slice_get, is_some, Result, Ok, Err, OnErr}
+use Rattle.std.specs.Prelude.{slice_get, is_some, Result, Ok, Err, OnErr, IsSome}
 use Rattle.std.proofs.lemmas.Option.{slice_get_read}
 use Rattle.source.specs.declared.journal.Entry.{Entry}
 use Rattle.source.specs.declared.journal.Entry.TheVariants.{Step}
@@ -9,17 +9,7 @@ use Rattle.execution.specs.declared.thread.Ending.TheVariants.{Unfinished, Ended
 use Rattle.machine.specs.declared.stop.Stop.{Stop}
 use Rattle.execution.specs.declared.thread.Thread.{Thread}
 use Rattle.machine.specs.Run.{has_ended as ended, Run, InState, CouldStep, replay_of, printed_after, can_turn, event_of, is_refused}
-use Rattle.source.specs.Thread.{BuffersInUse, Shared, Thread as SourceThread}
-use Rattle.source.specs.World.{World, loaded_objects}
-use Rattle.lowered.specs.Lowered.{Lowered}
 use Rattle.jni_calls.specs.declared.store.Store.{Store}
-use Rattle.execution.specs.declared.advance.Advanced.{Advanced}
-use Rattle.execution.specs.declared.execute.Event.TheVariants.{Quiet}
-use Rattle.safety.specs.Owners.{Owners}
-use Rattle.execution.specs.Executes.{IsSteady}
-use Rattle.jni_calls.specs.StoreAgrees.{StoreAgrees}
-use Rattle.execution.specs.ThreadAgrees.{ThreadAgrees}
-use Rattle.execution.specs.Advances.{AdvancesBy}
 use Rattle.machine.proofs.Steps.{steady, the_thread, can_turn_here, has_ended, steps_by, turn_holds}
 use Rattle.machine.proofs.machine.Machine.step.Goals as goal
 use Rattle.machine.proofs.machine.Machine.step.Goals.{After-has_ended}
@@ -92,7 +82,29 @@ returns-then-len-ge-MOST_ENTRIES-clause-turn c =
       can_step (goal.at.returns-then-len-ge-MOST_ENTRIES-clause-turn c).After-has_ended (is_live _ (sym c.has_ended.ensures ∙ c.if-has_ended.false)),
     )
 
+-- the run is defined at the start
+runs : (c : After-has_ended) → IsSome (replay_of c.args.self.now)
+runs c = rw (replays c) refl
+
+pub returns-then-has_ended-clause-runs : goal.returns-then-has_ended-clause-runs
+returns-then-has_ended-clause-runs c = runs (goal.at.returns-then-has_ended-clause-runs c).After-has_ended
+
+pub returns-then-len-ge-MOST_ENTRIES-clause-runs : goal.returns-then-len-ge-MOST_ENTRIES-clause-runs
+returns-then-len-ge-MOST_ENTRIES-clause-runs c = runs (goal.at.returns-then-len-ge-MOST_ENTRIES-clause-runs c).After-has_ended
+
 -- ---- where the journal has room
+
+pub invariant_of-self : goal.invariant_of-self
+invariant_of-self c = rw c.reserve.ensures.items c.self.invariant
+
+pub returns-in_err-reserve-clause-runs : goal.returns-in_err-reserve-clause-runs
+returns-in_err-reserve-clause-runs c = rw (invariant_of-self c).replays refl
+
+pub invariant_of-self-in_err-reserve-2 : goal.invariant_of-self-in_err-reserve-2
+invariant_of-self-in_err-reserve-2 c = rw (c.reserve.ensures.items, c.reserve-2.ensures.items) c.self.invariant
+
+pub returns-in_err-reserve-2-clause-runs : goal.returns-in_err-reserve-2-clause-runs
+returns-in_err-reserve-2-clause-runs c = rw (invariant_of-self-in_err-reserve-2 c).replays refl
 
 could_step : (c : After-has_ended) → length c.self.inside.journal.items < 1000000 → c.index.result.now.ending ≡ Unfinished → CouldStep c.args.self.now c.args.k
 could_step c room live = (subst (λ (r : Run). length r.journal < 1000000) c.self.view_is room, can_step c live)
@@ -135,9 +147,9 @@ advance-requires-clause-agrees c =
 one_more : (old before after : List Entry) (e : Entry) → after ≡ before ++ e ∷ [] → before ≡ old → after ≡ old ++ e ∷ []
 one_more old before after e written kept = written ∙ ap (λ (j : List Entry). j ++ e ∷ []) kept
 
-pub invariant_of-self : goal.invariant_of-self
-invariant_of-self c =
-    let a = (goal.at.invariant_of-self c).After-has_ended in
+pub invariant_of-self-2 : goal.invariant_of-self-2
+invariant_of-self-2 c =
+    let a = (goal.at.invariant_of-self-2 c).After-has_ended in
     let i = c.self.inside in
     let x = c.in_ok-advanced.advanced in
     let seen = there a c.index.result.now c.index.ensures in
@@ -157,4 +169,4 @@ returns-clause-turn c =
     (could_step (goal.at.returns-clause-turn c).After-has_ended (omega (arith, c.len.ensures, c.if-len-ge-MOST_ENTRIES.false)) (is_live _ (sym c.has_ended.ensures ∙ c.if-has_ended.false))))
 
 pub returns-clause-runs : goal.returns-clause-runs
-returns-clause-runs c = rw (invariant_of-self c).replays refl
+returns-clause-runs c = rw (invariant_of-self-2 c).replays refl
