@@ -1,12 +1,15 @@
 -- The tasks of a call in progress, and what a step of it does.
 use Rattle.std.specs.Prelude.{◌≡◌, ℕ, Bool, true, false, List, [], ◌∷◌, ◌++◌, length, Option, Some, None}
 use Rattle.std.specs.Borrow.{Bor}
+use Rattle.syntax.specs.declared.expr.Expr.{Expr as ExprInMemory}
+use Rattle.syntax.specs.declared.stmt.Block.{Block as BlockInMemory}
 use Rattle.syntax.specs.declared.stmt.Stmt.{Stmt as StmtInMemory}
 use Rattle.syntax.specs.Tree.{SourceUnit}
-use Rattle.syntax.specs.Views.{stmt_tree}
+use Rattle.syntax.specs.Views.{expr_tree, block_tree, stmt_tree}
 use Rattle.classes.specs.Class.{Classes}
 use Rattle.source.specs.Activation.{return_step}
-use Rattle.source.specs.Task.{Task, task_of}
+use Rattle.source.specs.Task.{Task, Loop, task_of}
+use Rattle.source.specs.Term.{term_of}
 use Rattle.source.specs.Thread.{Thread, Shared, BuffersInUse, Quiet, PrintedNumber, Trapped, Advance, NoAdvance}
 use Rattle.source.specs.Thread as thread
 use Rattle.source.specs.ThreadStep.{step_within}
@@ -91,6 +94,13 @@ pub record HasBegun (s : StmtInMemory) (o : Option TaskInMemory) : Type 0 where
   pub task : TaskInMemory
   pub is : o ≡ Some task
   pub begins : task_view task ≡ task_of (stmt_tree s)
+  pub range : TaskInRange task
+
+-- a task is a loop's, at its test
+pub record HasTurned (line : ℕ) (test : ExprInMemory) (body : BlockInMemory) (o : Option TaskInMemory) : Type 0 where
+  pub task : TaskInMemory
+  pub is : o ≡ Some task
+  pub begins : task_view task ≡ Loop line (expr_tree test) (term_of (expr_tree test)) (block_tree body)
   pub range : TaskInRange task
 
 -- the task that is begun, after a step

@@ -1,12 +1,15 @@
 //! Activations: calls in progress.
 
-ghost use Rattle.std.specs.Prelude.{◌≡◌, IfOk, IsSome, None, []};
+ghost use Rattle.std.specs.Prelude.{◌≡◌, IfOk, IsSome, Some, None, []};
 ghost use Rattle.classes.specs.Class.{Classes};
 ghost use Rattle.classes.specs.Grown.{IsGrown};
 ghost use Rattle.source.specs.Thread.{Shared as SharedOfThreads};
-ghost use Rattle.steps.specs.Activations.{tasks_left, IsInRange, AreSet, IsApplied, HasBegun, StepsTask, Advances, KeepsScene};
+ghost use Rattle.steps.specs.Activations.{tasks_left, IsInRange, AreSet, IsApplied, HasBegun, HasTurned, StepsTask, Advances, KeepsScene};
 ghost use Rattle.call_checks.specs.Shares.{shared_view};
-ghost use Rattle.tasks.specs.Tasks.{StatementInRange, OutcomeInRange};
+ghost use Rattle.syntax.specs.Views.{expr_tree, block_tree};
+ghost use Rattle.tasks.specs.Tasks.{branch_task, BlockInRange, ExprInRange, StatementInRange, OutcomeInRange};
+ghost use Rattle.terms.specs.declared.term.Term.TheVariants as term;
+ghost use Rattle.terms.specs.declared.value.Value.TheVariants as value;
 
 use crate::put::set_variables;
 use crate::step::step;
@@ -15,7 +18,7 @@ use class_table::table::ClassTable;
 use object_store::Frames;
 use std::alloc::{AllocError, Global};
 use std::mem;
-use syntax::Stmt;
+use syntax::{Block, Expr, Stmt};
 use tasks::{Choice, End, Outcome, Task, loop_task, task_of};
 use terms::{Statics, Term, Value, Variables};
 
@@ -97,6 +100,45 @@ fn begin<'a>(alloc: Global, activation: &mut Activation<'a>) -> Result<(), Alloc
     Ok(())
 }
 
+/// Begins a loop's next turn in the place of the task that is begun: its test comes first.
+#[inline]
+fn begin_turn<'a>(
+    alloc: Global,
+    place: &mut Option<Task<'a>>,
+    line: usize,
+    test: &'a Expr,
+    body: &'a Block,
+) -> Result<(), AllocError>
+    requires test { ExprInRange (expr_tree test.now) }
+    requires body { BlockInRange (block_tree body.now) }
+    ensures { IfOk result (λ _. HasTurned line test.entry.now body.entry.now place.new) }
+{
+    let task = loop_task(alloc, line, test, body)?;
+    put_task(place, Some(task));
+    Ok(())
+}
+
+/// Begins the way that a call's answer decides in the place of the task that is begun.
+#[inline]
+fn begin_branch<'a>(
+    place: &mut Option<Task<'a>>,
+    line: usize,
+    zero: bool,
+    block: &'a Block,
+    otherwise: Option<&'a Block>,
+)
+    ensures { place.new ≡ Some (branch_task line (term.Done (value.Truth zero)) block.entry otherwise.entry) }
+{
+    let test = Term::Done(Value::Truth(zero));
+    let choice = Choice {
+        line,
+        test,
+        block,
+        otherwise,
+    };
+    put_task(place, Some(Task::Branch(choice)));
+}
+
 /// Goes on after a block whose statements are all done: after an `if`, or with its loop's test.
 fn leave_block<'a>(
     alloc: Global,
@@ -119,8 +161,7 @@ fn leave_block<'a>(
     match outer.end {
         End::If => Ok(Outcome::Ends),
         End::Turn(line, test, body) => {
-            let task = loop_task(alloc, line, test, body)?;
-            put_task(&mut activation.task, Some(task));
+            begin_turn(alloc, &mut activation.task, line, test, body)?;
             Ok(Outcome::Stays)
         }
     }
@@ -135,8 +176,8 @@ fn set_tasks<'a>(activation: &mut Activation<'a>, outcome: Outcome<'a>) -> Resul
         Outcome::Enters(statements, end) => {
             let rest = activation.rest;
             activation.outer.push(Outer { end, rest })?;
-            put_task(&mut activation.task, None);
             activation.rest = statements;
+            put_task(&mut activation.task, None);
         }
         Outcome::Printed(_) | Outcome::Sets(_, _) | Outcome::SetsNull(_) => {
             put_task(&mut activation.task, None);
@@ -145,14 +186,7 @@ fn set_tasks<'a>(activation: &mut Activation<'a>, outcome: Outcome<'a>) -> Resul
             put_task(&mut activation.task, None);
         }
         Outcome::Tests(line, zero, block, otherwise) => {
-            let test = Term::Done(Value::Truth(zero));
-            let choice = Choice {
-                line,
-                test,
-                block,
-                otherwise,
-            };
-            put_task(&mut activation.task, Some(Task::Branch(choice)));
+            begin_branch(&mut activation.task, line, zero, block, otherwise);
         }
         Outcome::Makes(_, _, _) | Outcome::Ends => put_task(&mut activation.task, None),
     }
