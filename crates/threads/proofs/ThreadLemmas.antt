@@ -21,7 +21,7 @@ use Rattle.steps.specs.declared.activation.Outer.{Outer}
 use Rattle.tasks.specs.declared.task.Task.{Task as TaskInMemory}
 use Rattle.threads.specs.declared.thread.Thread.{Thread as ThreadInMemory}
 use Rattle.tasks.specs.declared.outcome.Outcome.TheVariants as outcome
-use Rattle.steps.specs.Activations.{tasks_from, tasks_after, tasks_left, thread_in, scene_of, advance_by, Advances}
+use Rattle.steps.specs.Activations.{IsInRange, tasks_from, tasks_after, tasks_left, thread_in, scene_of, advance_by, Advances}
 use Rattle.tasks.specs.Tasks.{tasks_of_statements}
 use Rattle.steps.proofs.TaskLemmas.{block_tasks}
 use Rattle.call_checks.specs.Shares.{shared_view}
@@ -31,7 +31,9 @@ use Rattle.terms.specs.Views.{variables_view, trap_view}
 use Rattle.source.specs.Variable.{LocalRef}
 use Rattle.std.specs.Prelude.{filter_map, zip}
 use Rattle.tasks.specs.declared.outcome.Outcome.{Outcome}
-use Rattle.threads.specs.Threads.{ThreadStands, WorkStands, Leaves, StepIs, step_of, tasks_in, ending_view}
+use Rattle.threads.specs.declared.thread.Step.{Step}
+use Rattle.source.specs.Heap.{Heap}
+use Rattle.threads.specs.Threads.{ThreadStands, WorkInRange, WorkStands, EndsStep, Leaves, StepIs, step_of, tasks_in, ending_view}
 
 -- a thread that has ended owns nothing where nobody does
 no_monitors : (e : Ending) (k : ℕ) → monitors_after e k [] ≡ []
@@ -48,6 +50,16 @@ begun_tasks body a none rest outer =
     ∙ ap (λ (os : List Outer). tasks_after statements os) outer
     ∙ append-nil (tasks_of_statements statements)
     ∙ block_tasks body
+
+-- a call that didn't return goes on
+pub goes_on : (store : Heap) (pending : Option ℕ) (t : ThreadInMemory) (o : Outcome) (took : Step) → (o ≡ outcome.Returned → ⊥) → took ≡ step_of o → EndsStep store pending t o took t
+goes_on store pending t outcome.Returned took none is = absurd (none refl)
+goes_on store pending t o took none is = (is, refl)
+
+-- what is known of it stays known
+pub ended_range : (store : Heap) (t : ThreadInMemory) (new : Activation) (o : Outcome) (took : Step) (left : ThreadInMemory) → EndsStep store new.pending (record t { activation = Some new }) o took left → IsInRange new → WorkInRange left.activation
+ended_range store t new outcome.Returned took left e known = subst WorkInRange (sym e.1.activation) tt
+ended_range store t new o took left e known = subst (λ (u : ThreadInMemory). WorkInRange u.activation) (sym e.1) known
 
 module _ (unit : SourceUnit) (classes : Classes) (lent : BuffersInUse) (k : ℕ) where
   -- a thread after its call that stands so, with these calls to come before
@@ -121,6 +133,14 @@ module _ (unit : SourceUnit) (classes : Classes) (lent : BuffersInUse) (k : ℕ)
             ending = refl;
           };
         }
+
+    -- what a step of the call did is the thread's step
+    pub ended_step : (o : Outcome) (took : Step) (left : ThreadInMemory) → EndsStep after.store new.pending (record t { activation = Some new }) o took left → Advances classes refused shared a o (shared_view after) new
+        → StepIs unit classes (shared_view after) left took (thread_step unit classes lent k shared s refused)
+    ended_step outcome.Returned took left e does = rw e.0 (returns left does e.1.activation e.1.ending e.1.calls)
+    ended_step o took left e does =
+        let taken = thread_step unit classes lent k shared s refused in
+        subst (λ (w : Step). StepIs unit classes (shared_view after) left w taken) (sym e.0) (subst (λ (u : ThreadInMemory). StepIs unit classes (shared_view after) u (step_of o) taken) (sym e.1) (goes o (λ r. absurd (cc)) does))
 
   -- the entry into the next call
   pub enters : (shared : Shared) (t : ThreadInMemory) (call : Invocation) (rest : List Invocation) (f : Function) (class : ℕ) (a : Activation) (s : Thread)

@@ -7,7 +7,8 @@ use Rattle.syntax.specs.Tree.{SourceUnit}
 use Rattle.syntax.specs.Views.{function_tree}
 use Rattle.classes.specs.Class.{Classes}
 use Rattle.source.specs.Object.{ObjectValue, Number, Refers}
-use Rattle.source.specs.Activation.{parameter_variables, named_object, entry_frame}
+use Rattle.source.specs.Activation.{parameter_variables, named_object, entry_frame, ending_after, calls_after}
+use Rattle.source.specs.Heap.{Heap}
 use Rattle.source.specs.Load.{call_loads}
 use Rattle.source.specs.Task.{Task}
 use Rattle.source.specs.Thread.{Ending, Unfinished, Ended, Uncaught, Thread, Shared, BuffersInUse, Event, Quiet, PrintedNumber, Trapped, Advance, Advances, NoAdvance}
@@ -68,6 +69,17 @@ step_of (outcome.Printed z) = step.Printed z
 step_of (outcome.Trapped trap line) = step.Trapped trap line
 step_of outcome.Impossible = step.Impossible
 step_of took = step.Quiet
+
+-- its call in progress was left, with this exception pending
+pub record HasLeft (store : Heap) (pending : Option ℕ) (old new : ThreadInMemory) : Type 0 where
+  pub activation : new.activation ≡ None
+  pub ending : ending_view new.ending ≡ ending_after store pending old.calls.now
+  pub calls : new.calls.now ≡ calls_after (ending_view new.ending) old.calls.now
+
+-- what others see of what a call in progress did, which was left if it returned
+abbrev pub EndsStep : Heap → Option ℕ → ThreadInMemory → Outcome → Step → ThreadInMemory → Type 0
+EndsStep store pending old outcome.Returned took new = (took ≡ step.Quiet) × HasLeft store pending old new
+EndsStep store pending old o took new = (took ≡ step_of o) × (new ≡ old)
 
 -- a thread in memory stands for one of the language
 pub record ThreadStands (unit : SourceUnit) (classes : Classes) (t : ThreadInMemory) (s : Thread) : Type 0 where

@@ -11,7 +11,7 @@ ghost use Rattle.source.specs.Activation.{parameter_variables, class_of_function
 ghost use Rattle.source.specs.Step.{is_unfinished};
 ghost use Rattle.source.specs.Thread.{Shared as SharedOfThreads};
 ghost use Rattle.source.specs.Variable.{LocalRef};
-ghost use Rattle.threads.specs.Threads.{argument_content, ending_view, IsBegun, TakesStep, WorkInRange, step_of};
+ghost use Rattle.threads.specs.Threads.{argument_content, ending_view, IsBegun, EndsStep, TakesStep, WorkInRange, step_of};
 ghost use Rattle.call_checks.specs.Shares.{shared_view};
 ghost use Rattle.terms.specs.Views.{assign_all, content_view, variables_view};
 
@@ -285,6 +285,25 @@ fn leave(store: &Store, thread: &mut Thread<'_>, pending: Option<usize>)
     }
 }
 
+/// Leaves the call in progress if it returned, with this exception pending. Tells what others see of what it did.
+#[inline]
+fn end_step(
+    store: &Store,
+    thread: &mut Thread<'_>,
+    pending: Option<usize>,
+    outcome: Outcome<'_>,
+) -> Step
+    ensures { EndsStep store.now pending thread.old outcome.entry result thread.new }
+{
+    match outcome {
+        Outcome::Returned => {
+            leave(store, thread, pending);
+            Step::Quiet
+        }
+        outcome => step_of(outcome),
+    }
+}
+
 /// Lets a thread that has not ended take its next step, or the same with its object refused.
 pub(crate) fn take_step<'a>(
     alloc: Global,
@@ -304,12 +323,7 @@ pub(crate) fn take_step<'a>(
     let Some(activation) = &mut thread.activation else {
         return enter(alloc, functions, world, refused, thread);
     };
-    match advance(alloc, world.classes(), shared, refused, activation)? {
-        Outcome::Returned => {
-            let pending = activation.pending;
-            leave(&shared.store, thread, pending);
-            Ok(Step::Quiet)
-        }
-        outcome => Ok(step_of(outcome)),
-    }
+    let outcome = advance(alloc, world.classes(), shared, refused, activation)?;
+    let pending = activation.pending;
+    Ok(end_step(&shared.store, thread, pending, outcome))
 }
