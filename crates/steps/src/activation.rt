@@ -241,6 +241,28 @@ fn step_task<'a>(
     )
 }
 
+/// Lets an activation whose task is begun take its next step, or the same with its object refused.
+#[inline(always)]
+fn go_on<'a>(
+    alloc: Global,
+    classes: &'a ClassTable,
+    shared: &mut Shared<'a>,
+    refused: bool,
+    activation: &mut Activation<'a>,
+) -> Result<Outcome<'a>, AllocError>
+    requires range { IsInRange activation.old }
+    requires begun { IsSome activation.old.task }
+    requires grown { IsGrown classes.now }
+    ensures step { IfOk result (λ o. Advances classes.now refused (shared_view shared.old) activation.old o (shared_view shared.new) activation.new) }
+    ensures range { IfOk result (λ _. IsInRange activation.new) }
+{
+    let outcome = step_task(alloc, classes, shared, refused, activation)?;
+    if !apply(alloc, &mut shared.statics, activation, outcome)? {
+        return Ok(Outcome::Impossible);
+    }
+    Ok(outcome)
+}
+
 /// Lets an activation take its next step, or the same with its object refused.
 pub fn advance<'a>(
     alloc: Global,
@@ -258,9 +280,5 @@ pub fn advance<'a>(
     if activation.task.is_none() {
         return leave_block(alloc, refused, activation);
     }
-    let outcome = step_task(alloc, classes, shared, refused, activation)?;
-    if !apply(alloc, &mut shared.statics, activation, outcome)? {
-        return Ok(Outcome::Impossible);
-    }
-    Ok(outcome)
+    go_on(alloc, classes, shared, refused, activation)
 }
