@@ -1,5 +1,5 @@
 -- The report of the state that a machine's journal leads to.
-use Rattle.std.proofs.Common.{append-nil, append_assoc, ◌≡◌, ℕ, zero, suc, ◌+◌, Bool, false, cond, List, [], ◌∷◌, ◌++◌, length, map, Option, Some, None, Result, refl, sym, ap, ◌∙◌, subst}
+use Rattle.std.proofs.Common.{append-nil, append_assoc, ◌≡◌, ℕ, zero, suc, ◌+◌, Bool, false, cond, List, [], ◌∷◌, ◌++◌, length, map, Option, Some, None, Result, Ok, Err, refl, sym, ap, ◌∙◌, subst}
 use Rattle.std.specs.Prelude.{slice_get, flat_map, ◌==◌, is_some, not, ◌||◌, ◌&&◌}
 use Rattle.std.specs.List.{list_all, enumerate_from, AllZip}
 use Rattle.std.specs.Option.{option_map}
@@ -48,7 +48,9 @@ use Rattle.jni_calls.specs.Traps.{trap_view}
 use Rattle.machine.specs.Run as run
 use Rattle.source.specs.Run.{UnmarkedFit}
 use Rattle.jni_calls.specs.declared.store.Store.{Store}
-use Rattle.machine.specs.Run.{Run, Corresponds, WritesRun, IsFinished}
+use Rattle.machine.specs.declared.fault.ReportFault.{ReportFault}
+use Rattle.machine.specs.declared.fault.ReportFault.TheVariants as reporting
+use Rattle.machine.specs.Run.{Run, Corresponds, WritesRun, ReportsRun, ReportsRows, IsFinished}
 use Rattle.machine.proofs.Standings.{standings}
 use Rattle.execution.proofs.Threads.{unblocked}
 use Rattle.machine.specs.Roots.{AreAddresses, name_of, thread_names, ThreadsAreStacked, ThreadsAreThere}
@@ -238,3 +240,16 @@ writes_run p world store ts printed stop journal c now view old new result numbe
       fits = subst (λ (r : Run). UnmarkedFit (unit_tree r.unit) r.world r.journal) view c.fits;
       written = h;
     }
+
+-- the same of the rows of what the names lead to
+pub reports_run : {T : Type 0} (p : Lowered) (world : World) (store : Store) (ts : List Thread) (printed : List Printed) (stop : Option Stop) (journal : List Entry) (c : Corresponds p world store ts printed stop journal) (now : Run)
+    → ◌≡◌ {A = Run} (record { unit = p.unit; world = world; journal = journal; left = left_of store.heap }) now
+    → (classes : Classes) (objects : Heap) (loaded : ℕ) (names : List ℕ) (numbers : List Printed) (told : List ThreadStatus) (entries : List Entry) (old new : Written) (result : Result T ReportFault)
+    → classes ≡ world.classes → objects ≡ c.state.shared.heap → loaded ≡ length store.loaded.items → names ≡ map (name_of store.heap) (references_in store.globals) ++ flat_map (thread_names store.heap) ts → ThreadsAreStacked ts
+    → numbers ≡ printed → map standing_view told ≡ standings world.classes stop 1 ts → entries ≡ journal
+    → ReportsRows classes objects loaded names numbers told entries old new result → ReportsRun now old new result
+reports_run p world store ts printed stop journal c now view classes objects loaded names numbers told entries old new (Ok x) k h l m stacked n s e r =
+    writes_run p world store ts printed stop journal c now view old new (Ok x) numbers told r.rows entries n s (rows_are p world store ts printed stop journal c classes objects loaded names r.rows k h l m stacked r.are) e r.written
+reports_run p world store ts printed stop journal c now view classes objects loaded names numbers told entries old new (Err reporting.Memory) k h l m stacked n s e r = r
+reports_run p world store ts printed stop journal c now view classes objects loaded names numbers told entries old new (Err reporting.Sink) k h l m stacked n s e r =
+    writes_run p world store ts printed stop journal c now view old new (Err reporting.Sink) numbers told r.rows entries n s (rows_are p world store ts printed stop journal c classes objects loaded names r.rows k h l m stacked r.are) e r.written

@@ -3,6 +3,7 @@ use Rattle.std.proofs.Common.{◌≡◌, ℕ, suc, ◌*◌, ◌≤◌, Bool, tru
 use Rattle.std.specs.Prelude.{slice_get, slice_set}
 use Rattle.std.specs.Option.{option_map}
 use Rattle.std.proofs.Math.ListN.{length-set}
+use Rattle.syntax.specs.declared.unit.Item.{Item}
 use Rattle.syntax.specs.Views.{unit_tree}
 use Rattle.classes.specs.Class.{Classes}
 use Rattle.source.specs.declared.journal.Entry.{Entry}
@@ -34,8 +35,10 @@ use Rattle.jni_calls.specs.declared.store.Store.{Store}
 use Rattle.execution.specs.Executes.{IsSteady, event_view}
 use Rattle.jni_calls.specs.StoreAgrees.{StoreAgrees}
 use Rattle.execution.specs.ThreadAgrees.{ThreadAgrees, ThreadsAgree, ending_view}
-use Rattle.execution.specs.Advances.{Advances}
-use Rattle.machine.specs.Run.{Corresponds, printed_after, entry_of, HasEnded}
+use Rattle.execution.specs.Advances.{Advances, AdvancesBy}
+use Rattle.execution.specs.declared.advance.Advanced.{Advanced}
+use Rattle.execution.specs.declared.advance.Advanced.TheVariants as advanced
+use Rattle.machine.specs.Run.{Run, Corresponds, CouldStep, TurnHolds, entry_of, event_of, is_refused, printed_after, turn_after, HasEnded}
 use Rattle.machine.proofs.KeptThreads.{threads_stay}
 use Rattle.machine.proofs.OwnerSteps.{Found, changed, found, owner_elsewhere, owner_here, owners_stepped}
 use Rattle.execution.proofs.Threads.{unblocked}
@@ -181,3 +184,22 @@ module _ (p : Lowered) (world : World) (store : Store) (ts : List Thread) (print
         count = length-set ts i after ∙ c.count;
         few = subst (λ n. n ≤ 8) (sym (length-set ts i after)) c.few;
       }
+
+  -- the same by what is told of the step
+  pub steps_by : (store' : Store) (after : Thread) (x : Advanced) → stop ≡ None → t.ending ≡ Unfinished
+      → ((lent : BuffersInUse) (k : ℕ) (own : Owners) (shared : Shared) (s : source.Thread) → StoreAgrees p world store shared → ThreadAgrees p classes store.heap count_made own shared t s → IsSteady own shared s → AdvancesBy p world store.heap store' lent k own shared s after x)
+      → Corresponds p world store' (slice_set ts i after) (printed_after printed k (event_of x)) (stop_after stop k (event_of x)) (journal ++ Step k (is_refused x) ∷ [])
+  steps_by store' after (advanced.Did e) goes live advances = steps_on store' after false e goes live advances
+  steps_by store' after advanced.Refused goes live advances = steps_on store' after true event.Quiet goes live advances
+
+-- the turn was the step that the run has more
+pub turn_holds : (old : Run) (unit : List Item) (world : World) (before after : List Entry) (had left : ℕ) (k : ℕ) (x : Advanced) → record { unit = unit; world = world; journal = before; left = had } ≡ old → after ≡ before ++ Step k (is_refused x) ∷ []
+    → CouldStep old k → TurnHolds old k (record { unit = unit; world = world; journal = after; left = left }) (turn_after x)
+turn_holds old unit world before after had left k (advanced.Did e) is more could = (
+  ap (λ (j : List Entry). let r : Run = record { unit = unit; world = world; journal = j; left = left } in r) more ∙ ap (λ (r : Run). let s : Run = record r { journal = r.journal ++ Step k false ∷ []; left = left } in s) is,
+  could,
+)
+turn_holds old unit world before after had left k advanced.Refused is more could = (
+  ap (λ (j : List Entry). let r : Run = record { unit = unit; world = world; journal = j; left = left } in r) more ∙ ap (λ (r : Run). let s : Run = record r { journal = r.journal ++ Step k true ∷ []; left = left } in s) is,
+  could,
+)

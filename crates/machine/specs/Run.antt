@@ -17,6 +17,12 @@ use Rattle.source.specs.World.{World, loaded_objects}
 use Rattle.report.specs.RunText as run_text
 use Rattle.source.specs.Report.{ShownRow}
 use Rattle.source.specs.ReportOf.{shown, shown_row}
+use Rattle.source.specs.Heap.{Heap}
+use Rattle.source.specs.JournalText.{journal_line}
+use Rattle.report.specs.declared.thread_status.ThreadStatus.{ThreadStatus}
+use Rattle.report.specs.ReportText.{report_text}
+use Rattle.report.specs.Shown.{report_with}
+use Rattle.reached.specs.Rows.{AreReported}
 use Rattle.source.specs.Run.{replay, Follows, UnmarkedFit}
 use Rattle.source.specs.State.{State, thread_at}
 use Rattle.source.specs.Step.{can_step, is_blocked, is_unfinished}
@@ -27,6 +33,8 @@ use Rattle.lowered.specs.Lowered.{Lowered, IsLowered}
 use Rattle.execution.specs.declared.thread.Thread.{Thread}
 use Rattle.execution.specs.declared.thread.Ending.{Ending}
 use Rattle.execution.specs.declared.thread.Ending.TheVariants.{Unfinished, Ended, Uncaught}
+use Rattle.execution.specs.declared.advance.Advanced.{Advanced}
+use Rattle.execution.specs.declared.advance.Advanced.TheVariants as advanced
 use Rattle.execution.specs.declared.execute.Event.{Event}
 use Rattle.execution.specs.declared.execute.Event.TheVariants as event
 use Rattle.machine.specs.declared.fault.ReportFault.{ReportFault}
@@ -78,6 +86,16 @@ printed_after printed k event.Quiet = printed
 printed_after printed k (event.Printed z) = printed ++ record { thread = k; number = z } ∷ []
 printed_after printed k (event.Trapped trap line) = printed
 
+-- what a step lets others see; a refused allocation nothing
+abbrev pub event_of : Advanced → Event
+event_of (advanced.Did e) = e
+event_of advanced.Refused = event.Quiet
+
+-- whether its allocation was refused
+abbrev pub is_refused : Advanced → Bool
+is_refused (advanced.Did e) = false
+is_refused advanced.Refused = true
+
 -- ---- turns
 
 -- a fact of the state that the journal leads to
@@ -125,6 +143,11 @@ refused r k left = record r { journal = r.journal ++ refused_entry_of k ∷ []; 
 -- thread k can step, and the journal has room for the step
 abbrev pub CouldStep : Run → ℕ → Type 0
 CouldStep r k = (length r.journal < 1000000) × InState r (λ s. can_turn r s k ≡ true)
+
+-- the turn that was this step
+abbrev pub turn_after : Advanced → Answer
+turn_after (advanced.Did e) = turn.Stepped
+turn_after advanced.Refused = turn.Short
 
 -- what a turn of thread k was
 abbrev pub TurnHolds : Run → ℕ → Run → Answer → Type 0
@@ -205,3 +228,15 @@ abbrev pub ReportsRun : {T : Type 0} → Run → Written → Written → Result 
 ReportsRun {T = T} r old new (Ok x) = WritesRun {T = T} {E = ReportFault} r old new (Ok x)
 ReportsRun r old new (Err reporting.Memory) = new ≡ old
 ReportsRun {T = T} r old new (Err reporting.Sink) = WritesRun {T = T} {E = ReportFault} r old new (Err reporting.Sink)
+
+-- the rows of what the names lead to were written with these numbers, these standings and this journal, or a beginning of it
+pub record WritesRows {T E : Type 0} (classes : Classes) (objects : Heap) (loaded : ℕ) (names : List ℕ) (numbers : List Printed) (told : List ThreadStatus) (entries : List Entry) (old new : Written) (result : Result T E) : Type 0 where
+  pub rows : List ShownRow
+  pub are : AreReported classes objects loaded names rows
+  pub written : sink.Writes old new result (report_text (report_with numbers told rows) ++ journal_line entries)
+
+-- the same, or nothing where memory was refused
+abbrev pub ReportsRows : {T : Type 0} → Classes → Heap → (loaded : ℕ) → (names : List ℕ) → List Printed → List ThreadStatus → List Entry → Written → Written → Result T ReportFault → Type 0
+ReportsRows {T = T} classes objects loaded names numbers told entries old new (Ok x) = WritesRows {T = T} {E = ReportFault} classes objects loaded names numbers told entries old new (Ok x)
+ReportsRows classes objects loaded names numbers told entries old new (Err reporting.Memory) = new ≡ old
+ReportsRows {T = T} classes objects loaded names numbers told entries old new (Err reporting.Sink) = WritesRows {T = T} {E = ReportFault} classes objects loaded names numbers told entries old new (Err reporting.Sink)

@@ -7,7 +7,7 @@ use std::alloc::AllocError;
 use thiserror::Error;
 
 /// Why a schedule was not run to its end. The steps taken stay.
-#[derive(Clone, Copy, Debug, PartialEq, Eq, Error)]
+#[derive(Clone, Copy, Debug, Error)]
 pub enum RunFault {
     /// Fault 92: the journal has 1,000,000 entries.
     #[error("the journal is full")]
@@ -18,7 +18,7 @@ pub enum RunFault {
 }
 
 /// Why a report was not written to its end.
-#[derive(Clone, Copy, Debug, PartialEq, Eq, Error)]
+#[derive(Clone, Copy, Debug, Error)]
 pub enum ReportFault {
     /// Fault 9: host memory was refused. Nothing was written.
     #[error("out of memory")]

@@ -11,12 +11,12 @@ ghost use Rattle.source.specs.Object.{sizes};
 ghost use Rattle.source.specs.World.{loaded_objects};
 ghost use Rattle.loading.specs.Loading.{IsLoadFault};
 ghost use Rattle.source.specs.declared.journal.Entry.TheVariants.{Step};
-ghost use Rattle.machine.specs.Run.{replay_of, Corresponds, IsUnstarted, CouldStep, TurnHolds, RunsAlong, RunsInto, PrintedBy, IsFinished, has_ended, ReportsRun, GivesNoStep, GivesStep, StoppedBy, printed_after};
+ghost use Rattle.machine.specs.Run.{replay_of, Corresponds, IsUnstarted, CouldStep, TurnHolds, RunsAlong, RunsInto, PrintedBy, IsFinished, has_ended, ReportsRun, ReportsRows, GivesNoStep, GivesStep, StoppedBy, event_of, is_refused, printed_after, turn_after};
 ghost use Rattle.machine.specs.Stops.{stop_after, standing_of, standing_by_ending};
 
 use crate::fault::{ReportFault, RunFault};
 use crate::roots::root_names;
-use crate::rows::named_blocks;
+use crate::rows::{NamedBlocks, named_blocks};
 use crate::stop::Stop;
 use crate::turn::Turn;
 use arrayvec::ArrayVec;
@@ -143,17 +143,13 @@ impl<'a> Machine<'a> {
             &mut self.store,
             &mut self.threads[index],
         )?;
-        match advanced {
-            Advanced::Did(event) => {
-                note(&mut self.printed, &mut self.stop, k, event);
-                write_down(&mut self.journal, k, false);
-                Ok(Turn::Stepped)
-            }
-            Advanced::Refused => {
-                write_down(&mut self.journal, k, true);
-                Ok(Turn::Short)
-            }
-        }
+        Ok(write_step(
+            &mut self.printed,
+            &mut self.stop,
+            &mut self.journal,
+            k,
+            advanced,
+        ))
     }
 
     /// The thread of a schedule's word, where it is a turn of a thread that the world has.
@@ -263,17 +259,41 @@ impl<'a> Machine<'a> {
         let heap = &self.store.heap;
         let objects = named_blocks(alloc, heap, self.store.births)?;
         let names = root_names(alloc, heap, &self.store.globals, &self.threads)?;
-        let rows = reached_rows(alloc, classes, &objects, self.store.loaded.len(), &names)?;
-        match write_run(
-            sink,
+        write_rows(
+            alloc,
+            classes,
+            &objects,
+            self.store.loaded.len(),
+            &names,
             self.printed.as_slice(),
             standings.as_slice(),
-            &rows,
             self.journal.as_slice(),
-        ) {
-            Ok(()) => Ok(()),
-            Err(_) => Err(ReportFault::Sink),
-        }
+            sink,
+        )
+    }
+}
+
+/// Writes the report of these numbers, these standings and the objects that the names lead to, beside the `loaded` that were made
+/// at load, and the line of the journal.
+fn write_rows<S: Sink>(
+    alloc: Global,
+    classes: &ClassTable,
+    objects: &NamedBlocks<'_>,
+    loaded: usize,
+    names: &[usize],
+    printed: &[Printed],
+    standings: &[ThreadStatus<'_>],
+    journal: &[Entry],
+    sink: &mut S,
+) -> Result<(), ReportFault>
+    requires { CanFail (S.written sink.old) }
+    ensures rows { ReportsRows classes.now objects.now loaded names.now printed.now standings.now journal.now (S.written sink.old) (S.written sink.new) result }
+    ensures none_waits { OnOk result ((S.written sink.new).waiting ≡ 0) }
+{
+    let rows = reached_rows(alloc, classes, objects, loaded, names)?;
+    match write_run(sink, printed, standings, &rows, journal) {
+        Ok(()) => Ok(()),
+        Err(_) => Err(ReportFault::Sink),
     }
 }
 
@@ -295,6 +315,35 @@ fn load_parts(
     match load_threads(alloc, program, world) {
         Ok(threads) => Ok((store, threads)),
         Err(fault) => Err(fault),
+    }
+}
+
+/// Writes down what thread `k` did, and tells the turn.
+#[inline(always)]
+fn write_step(
+    printed: &mut Vec<Printed>,
+    stop: &mut Option<Stop>,
+    journal: &mut Vec<Entry>,
+    k: u8,
+    advanced: Advanced,
+) -> Turn
+    requires printed { vec_len printed.old < vec_capacity printed.old }
+    requires journal { vec_len journal.old < vec_capacity journal.old }
+    ensures printed { printed.new.items ≡ printed_after printed.old.items k (event_of advanced) }
+    ensures stop { stop.new ≡ stop_after stop.old k (event_of advanced) }
+    ensures journal { journal.new.items ≡ journal.old.items ++ Step k (is_refused advanced) ∷ [] }
+    ensures turn { result ≡ turn_after advanced }
+{
+    match advanced {
+        Advanced::Did(event) => {
+            note(printed, stop, k, event);
+            write_down(journal, k, false);
+            Turn::Stepped
+        }
+        Advanced::Refused => {
+            write_down(journal, k, true);
+            Turn::Short
+        }
     }
 }
 

@@ -3,7 +3,7 @@
 use jni_calls::trap::Trap;
 
 /// The trap that stopped the machine, with its thread, counted from 1, and the line of its statement.
-#[derive(Clone, Copy, Debug, PartialEq, Eq)]
+#[derive(Clone, Copy)]
 pub struct Stop {
     pub thread: u8,
     pub trap: Trap,

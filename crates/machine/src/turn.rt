@@ -1,7 +1,7 @@
 //! What a turn gave.
 
 /// The answer of a turn: the first of these that applies. Only a step adds an entry to the journal.
-#[derive(Clone, Copy, Debug, PartialEq, Eq)]
+#[derive(Clone, Copy)]
 pub enum Turn {
     /// A trap has stopped the machine.
     Stopped,

@@ -1,5 +1,5 @@
 -- What replaying a journal answers.
-use Rattle.std.specs.Prelude.{◌≡◌, ℕ, ◌+◌, List, ◌∷◌, ◌++◌, length, Option, Some, None, IsSome}
+use Rattle.std.specs.Prelude.{◌≡◌, ℕ, ◌+◌, List, [], ◌∷◌, ◌++◌, length, Option, Some, None, IsSome}
 use Rattle.std.specs.Option.{option_map}
 use Rattle.syntax.specs.Tree.{SourceUnit}
 use Rattle.source.specs.declared.journal.Entry.{Entry}
@@ -83,6 +83,10 @@ pub record Replayed (unit : SourceUnit) (w : World) (journal : Journal) (m : Sta
   pub stands : Stands unit w m end
   pub range : AreInRange m.threads.items
 
+-- in each world in which this is the state before the first entry, the journal leads to that one
+abbrev pub LeadsTo : SourceUnit → StateInMemory → Journal → StateInMemory → Type 0
+LeadsTo unit old journal new = (w : World) → Replayed unit w [] old → Replayed unit w journal new
+
 -- the same of each unit and world whose replay leads to this state
 abbrev pub EachRun : StateInMemory → Journal → (SourceUnit → World → Type 0) → Type 0
 EachRun m journal P = (unit : SourceUnit) (w : World) → Replayed unit w journal m → P unit w
@@ -100,3 +104,7 @@ IsRefused unit w journal (DoesNotFit line) = first_load_fault unit w ≡ Some li
 IsRefused unit w journal (Impossible i) = (first_load_fault unit w ≡ None) × IsFirstImpossible unit w journal i
 IsRefused unit w journal Memory = Unit {0}
 IsRefused unit w journal Writer = ⊥
+
+-- the same in each world in which this is the state before the first entry
+abbrev pub IsRefusedFrom : SourceUnit → StateInMemory → Journal → ReplayFault → Type 0
+IsRefusedFrom unit old journal fault = (w : World) → Replayed unit w [] old → IsRefused unit w journal fault

@@ -8,8 +8,8 @@ ghost use Rattle.sorts.specs.SortRules.{IsSorted};
 ghost use Rattle.report.specs.Sink.{CanFail};
 ghost use Rattle.report.specs.ThreadStatus.{standing_view};
 ghost use Rattle.threads.specs.Rows.{thread_names};
-ghost use Rattle.threads.specs.States.{standings_in};
-ghost use Rattle.replay.specs.Replays.{EachRun, Replayed, IsRefused, WritesRun, IsStoppedBy, IsReplayable, IsFromOutside, EndsBy, shown_stop};
+ghost use Rattle.threads.specs.States.{AreInRange, standings_in};
+ghost use Rattle.replay.specs.Replays.{EachRun, Replayed, LeadsTo, IsRefused, IsRefusedFrom, WritesRun, IsStoppedBy, IsReplayable, IsFromOutside, EndsBy, shown_stop};
 
 use crate::fault::ReplayFault;
 use crate::load::start;
@@ -22,6 +22,29 @@ use std::alloc::Global;
 use terms::trap_number;
 use threads::{NamedObjects, State, Stop, root_names, standings_of, take_entry};
 use world::{Entry, Sink, ThreadStatus, World, write_run};
+
+/// Takes the entries of a journal.
+#[inline]
+fn follow<'a>(
+    alloc: Global,
+    functions: &Functions<'a>,
+    state: &mut State<'a>,
+    journal: &[Entry],
+) -> Result<(), ReplayFault>
+    requires tree { IsTree (unit_tree functions.now) }
+    requires sorted { IsSorted (unit_tree functions.now) }
+    requires calls { IsTrue (calls_are_built (unit_tree functions.now)) }
+    requires range { AreInRange state.old.threads.items }
+    ensures end { OnOk result (LeadsTo (unit_tree functions.now) state.old journal.now state.new) }
+    ensures refused { IfErr result (IsRefusedFrom (unit_tree functions.now) state.old journal.now) }
+{
+    for (done, entry) in journal.iter().enumerate() {
+        if !take_entry(alloc, functions, state, *entry)? {
+            return Err(ReplayFault::Impossible(done + 1));
+        }
+    }
+    Ok(())
+}
 
 /// The state that the journal leads to.
 fn run<'a>(
@@ -40,12 +63,10 @@ fn run<'a>(
         Ok(state) => state,
         Err(fault) => return Err(fault),
     };
-    for (done, entry) in journal.iter().enumerate() {
-        if !take_entry(alloc, functions, &mut state, *entry)? {
-            return Err(ReplayFault::Impossible(done + 1));
-        }
+    match follow(alloc, functions, &mut state, journal) {
+        Ok(()) => Ok(state),
+        Err(fault) => Err(fault),
     }
-    Ok(state)
 }
 
 /// Writes the report of the state that a journal led to, with these standings and the rows of what these names refer to, and the

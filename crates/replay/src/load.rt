@@ -109,12 +109,13 @@ fn first_fault(
     Ok(None)
 }
 
-/// The threads before their first calls.
-fn waiting_threads<'a>(alloc: Global, world: &'a World) -> Result<Vec<Thread<'a>>, AllocError>
-    ensures waiting { IfOk result (λ threads. AreWaiting threads.items world.now.threads) }
-    ensures range { IfOk result (λ threads. AreInRange threads.items) }
+/// Puts the threads before their first calls into an empty list.
+#[inline]
+fn add_waiting<'a>(threads: &mut Vec<Thread<'a>>, world: &'a World) -> Result<(), AllocError>
+    requires { threads.old.items ≡ [] }
+    ensures waiting { IfOk result (λ _. AreWaiting threads.new.items world.entry.now.threads) }
+    ensures range { IfOk result (λ _. AreInRange threads.new.items) }
 {
-    let mut threads = Vec::new(alloc);
     for calls in world.threads() {
         threads.push(Thread {
             calls,
@@ -122,6 +123,16 @@ fn waiting_threads<'a>(alloc: Global, world: &'a World) -> Result<Vec<Thread<'a>
             ending: Ending::Unfinished,
         })?;
     }
+    Ok(())
+}
+
+/// The threads before their first calls.
+fn waiting_threads<'a>(alloc: Global, world: &'a World) -> Result<Vec<Thread<'a>>, AllocError>
+    ensures waiting { IfOk result (λ threads. AreWaiting threads.items world.now.threads) }
+    ensures range { IfOk result (λ threads. AreInRange threads.items) }
+{
+    let mut threads = Vec::new(alloc);
+    add_waiting(&mut threads, world)?;
     Ok(threads)
 }
 

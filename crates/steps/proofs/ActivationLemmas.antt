@@ -24,7 +24,7 @@ use Rattle.tasks.specs.declared.task.Task.{Task as TaskInMemory}
 use Rattle.source.specs.Variable.{Statics}
 use Rattle.terms.specs.declared.term.Term.TheVariants as term
 use Rattle.terms.specs.declared.value.Value.TheVariants as value
-use Rattle.steps.specs.Activations.{tasks_from, tasks_around, tasks_after, tasks_left, thread_in, scene_of, advance_by, Advances, KeepsScene, AreSet, BegunInRange, OuterInRange, IsInRange}
+use Rattle.steps.specs.Activations.{tasks_from, tasks_around, tasks_after, tasks_left, thread_in, scene_of, advance_by, Advances, HasBegun, KeepsScene, AreSet, BegunInRange, OuterInRange, IsInRange}
 use Rattle.tasks.specs.Outcomes.{variable_step, Holds, LeavesVariables, LeavesIf}
 use Rattle.steps.specs.Steps.{Scene, Sees, Does, in_frames, left_by, scene_with}
 use Rattle.tasks.specs.Tasks.{branch_task, task_view, end_view, tasks_of_statements, EndInRange, StatementsInRange, TaskInRange, OutcomeInRange}
@@ -78,6 +78,23 @@ seen_begun classes s old begun kept t sees = record {
   frames = sees.frames ∙ sym kept.frames;
   pending = sees.pending ∙ sym kept.pending;
 }
+
+-- a statement that is begun is the task that it was to begin as
+pub begun_first : (old new : Activation) (first : Stmt) (after : List Stmt) → old.task ≡ None → old.rest.now ≡ first ∷ after → HasBegun first new.task → new.rest.now ≡ after → new.outer.items ≡ old.outer.items → tasks_left new ≡ tasks_left old
+begun_first old new first after none rest begun left outer =
+    left_is new (Some begun.task) after old.outer.items begun.is left outer
+    ∙ ap (λ (u : Task). u ∷ tasks_after after old.outer.items) begun.begins
+    ∙ sym (left_is old None (first ∷ after) old.outer.items none rest refl)
+
+-- and is in range as it was
+pub begun_range : (old new : Activation) (first : Stmt) (after : List Stmt) → old.rest.now ≡ first ∷ after → IsInRange old → HasBegun first new.task → new.rest.now ≡ after → new.outer.items ≡ old.outer.items → IsInRange new
+begun_range old new first after rest known begun left outer =
+    let parts = subst StatementsInRange rest known.rest in
+    record {
+      begun = subst BegunInRange (sym begun.is) begun.range;
+      rest = subst StatementsInRange (sym left) parts.1;
+      outer = subst OuterInRange (sym outer) known.outer;
+    }
 
 -- it takes the same step then
 pub begun_before : (classes : Classes) (refused : Bool) (s : Shared) (old begun : Activation) (took : Outcome) (after : Shared) (new : Activation) → tasks_left begun ≡ tasks_left old → KeepsScene old begun

@@ -26,13 +26,13 @@ use Rattle.terms.specs.declared.reduction.Reduction.TheVariants as reduction
 use Rattle.terms.specs.declared.term.Term.{Term}
 use Rattle.terms.specs.declared.term.Term.TheVariants as term
 use Rattle.terms.specs.declared.value.Value.{Value}
-use Rattle.steps.specs.Calls.{MakesCall, ReducesFirst, ReducesOne}
+use Rattle.steps.specs.Calls.{MakesCall, MakesInvocation, ReducesFirst, ReducesOne}
 use Rattle.tasks.specs.Outcomes.{purpose_view}
 use Rattle.call_checks.specs.Shares.{sight_in}
 use Rattle.steps.specs.Steps.{Scene, Sees, Does, HasEffect, reduced, scene_with}
 use Rattle.call_checks.specs.Actuals.{operand_view}
 use Rattle.tasks.specs.Tasks.{task_view}
-use Rattle.terms.specs.Views.{Contents, term_view, Reduces}
+use Rattle.terms.specs.Views.{Contents, term_view, variables_view, Reduces}
 use Rattle.steps.proofs.TaskLemmas.{sees_so}
 
 -- ---- the first number that isn't worked out
@@ -176,3 +176,11 @@ module _ (classes : Classes) (s : Shared) (variables : Contents) (frames : List 
     call_does true took makes = λ other lent k t rest sees has.
         ap (after_refused_effect classes lent k s t rest) (calls t sees)
         ∙ makes lent k t rest (task.Invoke i') sees (has ∙ ap (λ (u : source.Task). let o : Option (List source.Task) = Some (u ∷ rest) in o) (sym same))
+
+  -- an invocation that is made is the step of the task that its numbers were worked out of
+  pub invocation_does : (i i' : Invocation) (scene' : Scene) → i'.line ≡ i.line → i'.purpose ≡ i.purpose → i'.function ≡ i.function → i'.operands.items ≡ i.operands.items → is_ready (map operand_view i.operands.items) ≡ true
+      → (refused : Bool) (took : Outcome) → MakesInvocation refused scene i' took scene' → Does refused scene (task.Invoke i) took scene' (task.Invoke i')
+  invocation_does i i' scene' line purpose function operands ready refused took makes =
+      let before = map operand_view i.operands.items in
+      let same = same_call (variables_view variables) s.statics i i' line purpose function before (ap (map operand_view) operands) in
+      call_does i i' scene' same ready (actuals (sight_in s variables) (function_value i.function) before) refl refused took (rw (line, purpose, function, operands) at makes)

@@ -1,24 +1,30 @@
 -- The tasks of a call in progress, and what a step of it does.
-use Rattle.std.specs.Prelude.{◌≡◌, ℕ, Bool, List, [], ◌∷◌, ◌++◌, Option, Some, None}
+use Rattle.std.specs.Prelude.{◌≡◌, ℕ, Bool, true, false, List, [], ◌∷◌, ◌++◌, length, Option, Some, None}
 use Rattle.std.specs.Borrow.{Bor}
+use Rattle.syntax.specs.declared.expr.Expr.{Expr as ExprInMemory}
+use Rattle.syntax.specs.declared.stmt.Block.{Block as BlockInMemory}
 use Rattle.syntax.specs.declared.stmt.Stmt.{Stmt as StmtInMemory}
 use Rattle.syntax.specs.Tree.{SourceUnit}
+use Rattle.syntax.specs.Views.{expr_tree, block_tree, stmt_tree}
 use Rattle.classes.specs.Class.{Classes}
 use Rattle.source.specs.Activation.{return_step}
-use Rattle.source.specs.Task.{Task}
+use Rattle.source.specs.Task.{Task, Loop, task_of}
+use Rattle.source.specs.Term.{term_of}
 use Rattle.source.specs.Thread.{Thread, Shared, BuffersInUse, Quiet, PrintedNumber, Trapped, Advance, NoAdvance}
 use Rattle.source.specs.Thread as thread
 use Rattle.source.specs.ThreadStep.{step_within}
+use Rattle.source.specs.Variable.{Statics}
 use Rattle.steps.specs.declared.activation.Activation.{Activation}
 use Rattle.steps.specs.declared.activation.Outer.{Outer}
 use Rattle.tasks.specs.declared.outcome.Outcome.{Outcome}
 use Rattle.tasks.specs.declared.outcome.Outcome.TheVariants as outcome
 use Rattle.tasks.specs.declared.task.Task.{Task as TaskInMemory}
-use Rattle.steps.specs.Steps.{Scene, scene_with, Sees}
+use Rattle.steps.specs.Steps.{Scene, scene_with, Sees, Does}
+use Rattle.tasks.specs.Outcomes.{variable_step, LeavesVariables, LeavesIf}
 use Rattle.tasks.specs.Tasks.{branch_task, task_view, end_view, tasks_of_statements, StatementsInRange, TaskInRange, EndInRange}
 use Rattle.terms.specs.declared.term.Term.TheVariants as term
 use Rattle.terms.specs.declared.value.Value.TheVariants as value
-use Rattle.terms.specs.Views.{variables_view, trap_view}
+use Rattle.terms.specs.Views.{Contents, variables_view, trap_view}
 
 -- the task that is begun, if there is one, and those after it
 abbrev pub tasks_from : Option TaskInMemory → List Task → List Task
@@ -83,6 +89,20 @@ pub record KeepsScene (old new : Activation) : Type 0 where
   pub frames : new.frames ≡ old.frames
   pub pending : new.pending ≡ old.pending
 
+-- a task is the one that a statement begins as
+pub record HasBegun (s : StmtInMemory) (o : Option TaskInMemory) : Type 0 where
+  pub task : TaskInMemory
+  pub is : o ≡ Some task
+  pub begins : task_view task ≡ task_of (stmt_tree s)
+  pub range : TaskInRange task
+
+-- a task is a loop's, at its test
+pub record HasTurned (line : ℕ) (test : ExprInMemory) (body : BlockInMemory) (o : Option TaskInMemory) : Type 0 where
+  pub task : TaskInMemory
+  pub is : o ≡ Some task
+  pub begins : task_view task ≡ Loop line (expr_tree test) (term_of (expr_tree test)) (block_tree body)
+  pub range : TaskInRange task
+
 -- the task that is begun, after a step
 abbrev pub task_after : Option TaskInMemory → Outcome → Option TaskInMemory
 task_after task outcome.Stays = task
@@ -108,3 +128,23 @@ pub record AreSet (old : Activation) (took : Outcome) (new : Activation) : Type 
   pub rest : new.rest ≡ rest_after old.rest took
   pub outer : new.outer.items ≡ outer_after old.rest old.outer.items took
   pub kept : KeepsScene old new
+
+-- the task that is begun did this, and became what is begun after it
+pub record StepsTask (classes : Classes) (refused : Bool) (s : Shared) (old : Activation) (took : Outcome) (s' : Shared) (new : Activation) : Type 0 where
+  pub task : TaskInMemory
+  pub begun : old.task ≡ Some task
+  pub after : TaskInMemory
+  pub is : new ≡ record old { task = Some after; frames = new.frames; pending = new.pending }
+  pub does : Does refused (scene_of classes s old) task took (scene_with classes s' old.variables new.frames new.pending) after
+  pub range : TaskInRange after
+
+-- what a step did was done to the variables and the statics, and to the tasks of a call in progress
+pub record IsDone (ss : Statics) (old : Activation) (took : Outcome) (ss' : Statics) (new : Activation) : Type 0 where
+  pub variables : Contents
+  pub leaves : LeavesVariables (length old.frames) ss old.variables (variable_step took) ss' variables
+  pub set : AreSet (record old { variables = variables }) took new
+
+-- the same if it is possible
+abbrev pub IsApplied : Statics → Activation → Outcome → (possible : Bool) → Statics → Activation → Type 0
+IsApplied ss old took true ss' new = IsDone ss old took ss' new
+IsApplied ss old took false ss' new = LeavesIf (length old.frames) ss old.variables (variable_step took) false ss' new.variables × (new ≡ record old { variables = new.variables })

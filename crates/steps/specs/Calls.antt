@@ -1,7 +1,8 @@
 -- What a call in memory does.
 use Rattle.std.specs.Prelude.{◌≡◌, ℕ, Bool, true, false, List, ◌∷◌, map, Option, Some, None}
 use Rattle.jni.specs.JniFunction.{JniFunction}
-use Rattle.source.specs.Arguments.{Actual}
+use Rattle.jni.specs.Table.{function_value}
+use Rattle.source.specs.Arguments.{Actual, actuals}
 use Rattle.source.specs.CallStep.{call_step}
 use Rattle.source.specs.Effect.{is_given, is_ready, reduce_first}
 use Rattle.source.specs.Heap.{Heap}
@@ -12,6 +13,7 @@ use Rattle.source.specs.Value.{Gives, Traps, Stuck}
 use Rattle.source.specs.Variable.{Statics, Variables}
 use Rattle.tasks.specs.declared.outcome.Outcome.{Outcome}
 use Rattle.tasks.specs.declared.outcome.Purpose.{Purpose as PurposeInMemory}
+use Rattle.tasks.specs.declared.task.Invocation.{Invocation}
 use Rattle.call_checks.specs.declared.operand.Operand.{Operand}
 use Rattle.tasks.specs.declared.task.Task.{Task as TaskInMemory}
 use Rattle.terms.specs.declared.reduction.Reduction.{Reduction as ReductionInMemory}
@@ -19,6 +21,7 @@ use Rattle.terms.specs.declared.reduction.Reduction.TheVariants as reduction
 use Rattle.tasks.specs.Outcomes.{purpose_view}
 use Rattle.steps.specs.Steps.{Scene, Sees, in_frames, left_by}
 use Rattle.call_checks.specs.Actuals.{operand_view}
+use Rattle.call_checks.specs.Shares.{sight_in}
 use Rattle.tasks.specs.Tasks.{task_view}
 use Rattle.terms.specs.Views.{trap_view}
 
@@ -43,3 +46,8 @@ abbrev pub MakesCall : (refused : Bool) → Scene → (line : ℕ) → PurposeIn
 MakesCall refused before line purpose f args took after =
     (lent : BuffersInUse) (k : ℕ) (t : Thread) (rest : List Task) (new : TaskInMemory) → Sees before t → t.tasks ≡ Some (task_view new ∷ rest)
     → call_step before.classes lent k before.shared t line (purpose_view line purpose) f args rest refused ≡ left_by k after.shared (in_frames t after.frames after.pending) rest took new
+
+-- the same for an invocation, whose arguments are looked up before it
+abbrev pub MakesInvocation : (refused : Bool) → Scene → Invocation → Outcome → Scene → Type 0
+MakesInvocation refused before i took after =
+    MakesCall refused before i.line i.purpose (function_value i.function) (actuals (sight_in before.shared before.variables) (function_value i.function) (map operand_view i.operands.items)) took after

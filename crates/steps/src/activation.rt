@@ -1,11 +1,15 @@
 //! Activations: calls in progress.
 
-ghost use Rattle.std.specs.Prelude.{◌≡◌, IfOk, None, []};
+ghost use Rattle.std.specs.Prelude.{◌≡◌, IfOk, IsSome, Some, None, []};
 ghost use Rattle.classes.specs.Class.{Classes};
 ghost use Rattle.classes.specs.Grown.{IsGrown};
 ghost use Rattle.source.specs.Thread.{Shared as SharedOfThreads};
-ghost use Rattle.steps.specs.Activations.{tasks_left, IsInRange, AreSet, Advances, KeepsScene};
+ghost use Rattle.steps.specs.Activations.{tasks_left, IsInRange, AreSet, IsApplied, HasBegun, HasTurned, StepsTask, Advances, KeepsScene};
 ghost use Rattle.call_checks.specs.Shares.{shared_view};
+ghost use Rattle.syntax.specs.Views.{expr_tree, block_tree};
+ghost use Rattle.tasks.specs.Tasks.{branch_task, BlockInRange, ExprInRange, StatementInRange, OutcomeInRange};
+ghost use Rattle.terms.specs.declared.term.Term.TheVariants as term;
+ghost use Rattle.terms.specs.declared.value.Value.TheVariants as value;
 
 use crate::put::set_variables;
 use crate::step::step;
@@ -14,9 +18,9 @@ use class_table::table::ClassTable;
 use object_store::Frames;
 use std::alloc::{AllocError, Global};
 use std::mem;
-use syntax::Stmt;
+use syntax::{Block, Expr, Stmt};
 use tasks::{Choice, End, Outcome, Task, loop_task, task_of};
-use terms::{Term, Value, Variables};
+use terms::{Statics, Term, Value, Variables};
 
 /// What is still to do around a block: what comes at the block's end, and the statements after it.
 #[derive(Clone, Copy)]
@@ -28,7 +32,6 @@ pub struct Outer<'a> {
 /// A call in progress: the task that is begun, the statements after it in its block, what is to do around the block,
 /// the outermost first, the variables, in the order in which they came to be, the frames of local references, and the pending
 /// exception.
-#[derive(Drop)]
 pub struct Activation<'a> {
     pub task: Option<Task<'a>>,
     pub rest: &'a [Stmt],
@@ -38,11 +41,44 @@ pub struct Activation<'a> {
     pub pending: Option<usize>,
 }
 
+// Written out, and not derived, so that a crate above drops one by a call and doesn't prove it anew.
+impl Drop for Activation<'_> {
+    fn drop(self) {
+        let Activation {
+            task,
+            rest: _,
+            outer,
+            variables,
+            frames,
+            pending: _,
+        } = self;
+        drop(task);
+        drop(outer);
+        drop(variables);
+        drop(frames);
+    }
+}
+
 /// Puts a task in the place of the one that is begun.
 fn put_task<'a>(place: &mut Option<Task<'a>>, task: Option<Task<'a>>)
     ensures { place.new ≡ task.entry }
 {
     drop(mem::replace(place, task));
+}
+
+/// Begins a statement in the place of the task that is begun.
+#[inline]
+fn begin_statement<'a>(
+    alloc: Global,
+    place: &mut Option<Task<'a>>,
+    statement: &'a Stmt,
+) -> Result<(), AllocError>
+    requires { StatementInRange statement.now }
+    ensures { IfOk result (λ _. HasBegun statement.entry.now place.new) }
+{
+    let task = task_of(alloc, statement)?;
+    put_task(place, Some(task));
+    Ok(())
 }
 
 /// Begins the block's next statement, where none is begun.
@@ -59,10 +95,48 @@ fn begin<'a>(alloc: Global, activation: &mut Activation<'a>) -> Result<(), Alloc
     let Some((first, after)) = activation.rest.split_first() else {
         return Ok(());
     };
-    let task = task_of(alloc, first)?;
-    put_task(&mut activation.task, Some(task));
+    begin_statement(alloc, &mut activation.task, first)?;
     activation.rest = after;
     Ok(())
+}
+
+/// Begins a loop's next turn in the place of the task that is begun: its test comes first.
+#[inline]
+fn begin_turn<'a>(
+    alloc: Global,
+    place: &mut Option<Task<'a>>,
+    line: usize,
+    test: &'a Expr,
+    body: &'a Block,
+) -> Result<(), AllocError>
+    requires test { ExprInRange (expr_tree test.now) }
+    requires body { BlockInRange (block_tree body.now) }
+    ensures { IfOk result (λ _. HasTurned line test.entry.now body.entry.now place.new) }
+{
+    let task = loop_task(alloc, line, test, body)?;
+    put_task(place, Some(task));
+    Ok(())
+}
+
+/// Begins the way that a call's answer decides in the place of the task that is begun.
+#[inline]
+fn begin_branch<'a>(
+    place: &mut Option<Task<'a>>,
+    line: usize,
+    zero: bool,
+    block: &'a Block,
+    otherwise: Option<&'a Block>,
+)
+    ensures { place.new ≡ Some (branch_task line (term.Done (value.Truth zero)) block.entry otherwise.entry) }
+{
+    let test = Term::Done(Value::Truth(zero));
+    let choice = Choice {
+        line,
+        test,
+        block,
+        otherwise,
+    };
+    put_task(place, Some(Task::Branch(choice)));
 }
 
 /// Goes on after a block whose statements are all done: after an `if`, or with its loop's test.
@@ -87,8 +161,7 @@ fn leave_block<'a>(
     match outer.end {
         End::If => Ok(Outcome::Ends),
         End::Turn(line, test, body) => {
-            let task = loop_task(alloc, line, test, body)?;
-            put_task(&mut activation.task, Some(task));
+            begin_turn(alloc, &mut activation.task, line, test, body)?;
             Ok(Outcome::Stays)
         }
     }
@@ -103,8 +176,8 @@ fn set_tasks<'a>(activation: &mut Activation<'a>, outcome: Outcome<'a>) -> Resul
         Outcome::Enters(statements, end) => {
             let rest = activation.rest;
             activation.outer.push(Outer { end, rest })?;
-            put_task(&mut activation.task, None);
             activation.rest = statements;
+            put_task(&mut activation.task, None);
         }
         Outcome::Printed(_) | Outcome::Sets(_, _) | Outcome::SetsNull(_) => {
             put_task(&mut activation.task, None);
@@ -113,18 +186,81 @@ fn set_tasks<'a>(activation: &mut Activation<'a>, outcome: Outcome<'a>) -> Resul
             put_task(&mut activation.task, None);
         }
         Outcome::Tests(line, zero, block, otherwise) => {
-            let test = Term::Done(Value::Truth(zero));
-            let choice = Choice {
-                line,
-                test,
-                block,
-                otherwise,
-            };
-            put_task(&mut activation.task, Some(Task::Branch(choice)));
+            begin_branch(&mut activation.task, line, zero, block, otherwise);
         }
         Outcome::Makes(_, _, _) | Outcome::Ends => put_task(&mut activation.task, None),
     }
     Ok(())
+}
+
+/// Does what a step did to the variables, the statics and the tasks; false where it isn't possible.
+#[inline]
+fn apply<'a>(
+    alloc: Global,
+    statics: &mut Statics<'a>,
+    activation: &mut Activation<'a>,
+    outcome: Outcome<'a>,
+) -> Result<bool, AllocError>
+    ensures { IfOk result (λ possible. IsApplied statics.old activation.old outcome.entry possible statics.new activation.new) }
+{
+    let frames = activation.frames.len();
+    if !set_variables(alloc, statics, frames, &mut activation.variables, outcome)? {
+        return Ok(false);
+    }
+    set_tasks(activation, outcome)?;
+    Ok(true)
+}
+
+/// Lets the task that is begun take its next step.
+#[inline(always)]
+fn step_task<'a>(
+    alloc: Global,
+    classes: &'a ClassTable,
+    shared: &mut Shared<'a>,
+    refused: bool,
+    activation: &mut Activation<'a>,
+) -> Result<Outcome<'a>, AllocError>
+    requires range { IsInRange activation.old }
+    requires begun { IsSome activation.old.task }
+    requires grown { IsGrown classes.now }
+    ensures step { IfOk result (λ o. StepsTask classes.now refused (shared_view shared.old) activation.old o (shared_view shared.new) activation.new) }
+    ensures range { IfOk result OutcomeInRange }
+{
+    let Some(task) = &mut activation.task else {
+        unreachable!()
+    };
+    step(
+        alloc,
+        classes,
+        shared,
+        &activation.variables,
+        &mut activation.frames,
+        &mut activation.pending,
+        refused,
+        task,
+    )
+}
+
+/// Lets an activation whose task is begun take its next step, or the same with its object refused.
+#[inline(always)]
+fn go_on<'a>(
+    alloc: Global,
+    classes: &'a ClassTable,
+    shared: &mut Shared<'a>,
+    refused: bool,
+    activation: &mut Activation<'a>,
+) -> Result<Outcome<'a>, AllocError>
+    requires range { IsInRange activation.old }
+    requires begun { IsSome activation.old.task }
+    requires grown { IsGrown classes.now }
+    ensures step { IfOk result (λ o. Advances classes.now refused (shared_view shared.old) activation.old o (shared_view shared.new) activation.new) }
+    ensures range { IfOk result (λ _. IsInRange activation.new) }
+{
+    let outcome = step_task(alloc, classes, shared, refused, activation)?;
+    if !apply(alloc, &mut shared.statics, activation, outcome)? {
+        return Ok(Outcome::Impossible);
+    }
+    Ok(outcome)
 }
 
 /// Lets an activation take its next step, or the same with its object refused.
@@ -141,30 +277,8 @@ pub fn advance<'a>(
     ensures range { IfOk result (λ _. IsInRange activation.new) }
 {
     begin(alloc, activation)?;
-    let Some(task) = &mut activation.task else {
+    if activation.task.is_none() {
         return leave_block(alloc, refused, activation);
-    };
-    let outcome = step(
-        alloc,
-        classes,
-        shared,
-        &activation.variables,
-        &mut activation.frames,
-        &mut activation.pending,
-        refused,
-        task,
-    )?;
-    let frames = activation.frames.len();
-    let done = set_variables(
-        alloc,
-        &mut shared.statics,
-        frames,
-        &mut activation.variables,
-        outcome,
-    )?;
-    if !done {
-        return Ok(Outcome::Impossible);
     }
-    set_tasks(activation, outcome)?;
-    Ok(outcome)
+    go_on(alloc, classes, shared, refused, activation)
 }

@@ -1,12 +1,13 @@
 //! Calls of functions of the JNI (JNI Specification, chapter 4).
 
-ghost use Rattle.std.specs.Prelude.{◌≡◌, IfOk, IfSome, IsTrue, None, map};
+ghost use Rattle.std.specs.Prelude.{◌≡◌, IfOk, IfSome, IsTrue, None, is_some, map};
 ghost use Rattle.classes.specs.Grown.{IsGrown};
 ghost use Rattle.jni.specs.JniFunction.{is_built_function};
 ghost use Rattle.jni.specs.Table.{function_value};
 ghost use Rattle.tasks.specs.declared.task.Task.TheVariants as task;
 ghost use Rattle.call_checks.specs.Actuals.{actual_view};
-ghost use Rattle.steps.specs.Calls.{MakesCall, ReducesFirst, ReducesOne};
+ghost use Rattle.call_checks.specs.Checked.{trap_found};
+ghost use Rattle.steps.specs.Calls.{MakesCall, MakesInvocation, ReducesFirst, ReducesOne};
 ghost use Rattle.tasks.specs.Outcomes.{outcome_for};
 ghost use Rattle.steps.specs.Steps.{Does, scene_with};
 ghost use Rattle.call_checks.specs.Shares.{shared_view};
@@ -20,7 +21,6 @@ use call_checks::actual::{Actual, actuals};
 use call_checks::check::check;
 use call_checks::{Operand, Shared};
 use class_table::table::ClassTable;
-use jni::JniFunction;
 use object_store::Frames;
 use std::alloc::{AllocError, Global};
 use tasks::{Invocation, Outcome, Purpose};
@@ -49,17 +49,40 @@ pub(crate) fn invoke<'a>(
     ensures purpose { i.new.purpose ≡ i.old.purpose }
     ensures range { IfOk result OutcomeInRange }
 {
-    let (line, purpose, function) = (i.line, i.purpose, i.function);
+    let line = i.line;
     if let Some(reduction) = reduce_number(&shared.statics, variables, i) {
         if refused {
             return Ok(Outcome::Impossible);
         }
         return Ok(reduced(line, reduction));
     }
-    let actuals = actuals(alloc, shared, variables, function, &i.operands)?;
+    make_call(
+        alloc, classes, shared, variables, frames, pending, refused, i,
+    )
+}
+
+/// The step of a call whose numbers are worked out: its arguments are looked up, and it is made.
+#[inline]
+fn make_call<'a>(
+    alloc: Global,
+    classes: &'a ClassTable,
+    shared: &mut Shared<'a>,
+    variables: &Variables<'a>,
+    frames: &mut Frames,
+    pending: &mut Option<usize>,
+    refused: bool,
+    i: &Invocation<'a>,
+) -> Result<Outcome<'a>, AllocError>
+    requires built { IsTrue (is_built_function (function_value i.now.function)) }
+    requires ways { PurposeInRange i.now.purpose }
+    requires grown { IsGrown classes.now }
+    ensures step { IfOk result (λ o. MakesInvocation refused (scene_with classes.now (shared_view shared.old) variables.now frames.old pending.old) i.entry.now o
+        (scene_with classes.now (shared_view shared.new) variables.now frames.new pending.new)) }
+    ensures range { IfOk result OutcomeInRange }
+{
+    let actuals = actuals(alloc, shared, variables, i.function, &i.operands)?;
     call(
-        alloc, classes, shared, variables, frames, pending, refused, line, purpose, function,
-        &actuals,
+        alloc, classes, shared, variables, frames, pending, refused, i, &actuals,
     )
 }
 
@@ -131,7 +154,7 @@ fn outcome_for<'a>(line: usize, purpose: Purpose<'a>, given: Given<'a>) -> Outco
     }
 }
 
-/// The call's own step.
+/// The call's own step: what is checked, and what is done.
 fn call<'a>(
     alloc: Global,
     classes: &'a ClassTable,
@@ -140,15 +163,13 @@ fn call<'a>(
     frames: &mut Frames,
     pending: &mut Option<usize>,
     refused: bool,
-    line: usize,
-    purpose: Purpose<'a>,
-    function: JniFunction,
+    i: &Invocation<'a>,
     actuals: &[Actual<'a>],
 ) -> Result<Outcome<'a>, AllocError>
-    requires built { IsTrue (is_built_function (function_value function)) }
-    requires ways { PurposeInRange purpose }
+    requires built { IsTrue (is_built_function (function_value i.now.function)) }
+    requires ways { PurposeInRange i.now.purpose }
     requires grown { IsGrown classes.now }
-    ensures step { IfOk result (λ o. MakesCall refused (scene_with classes.now (shared_view shared.old) variables.now frames.old pending.old) line purpose.entry (function_value function) (map actual_view actuals.now) o
+    ensures step { IfOk result (λ o. MakesCall refused (scene_with classes.now (shared_view shared.old) variables.now frames.old pending.old) i.entry.now.line i.entry.now.purpose (function_value i.entry.now.function) (map actual_view actuals.entry.now) o
         (scene_with classes.now (shared_view shared.new) variables.now frames.new pending.new)) }
     ensures range { IfOk result OutcomeInRange }
 {
@@ -158,23 +179,57 @@ fn call<'a>(
         &shared.store,
         frames,
         is_pending,
-        function,
+        i.function,
         actuals,
     ) {
         if refused {
             return Ok(Outcome::Impossible);
         }
-        return Ok(Outcome::Trapped(trap, line));
+        return Ok(Outcome::Trapped(trap, i.line));
     }
-    let answer = work_out(classes, &shared.store, variables, frames, function, actuals);
-    let kind = function.prototype().result;
+    answer(
+        alloc, classes, shared, variables, frames, pending, refused, i, actuals,
+    )
+}
+
+/// What a call does that passed the checks.
+#[inline]
+fn answer<'a>(
+    alloc: Global,
+    classes: &'a ClassTable,
+    shared: &mut Shared<'a>,
+    variables: &Variables<'a>,
+    frames: &mut Frames,
+    pending: &mut Option<usize>,
+    refused: bool,
+    i: &Invocation<'a>,
+    actuals: &[Actual<'a>],
+) -> Result<Outcome<'a>, AllocError>
+    requires built { IsTrue (is_built_function (function_value i.now.function)) }
+    requires ways { PurposeInRange i.now.purpose }
+    requires grown { IsGrown classes.now }
+    requires passed { trap_found classes.now shared.old.store frames.old (is_some pending.old) (function_value i.now.function) (map actual_view actuals.now) ≡ None }
+    ensures step { IfOk result (λ o. MakesCall refused (scene_with classes.now (shared_view shared.old) variables.now frames.old pending.old) i.entry.now.line i.entry.now.purpose (function_value i.entry.now.function) (map actual_view actuals.entry.now) o
+        (scene_with classes.now (shared_view shared.new) variables.now frames.new pending.new)) }
+    ensures range { IfOk result OutcomeInRange }
+{
+    let answer = work_out(
+        classes,
+        &shared.store,
+        variables,
+        frames,
+        i.function,
+        actuals,
+    );
+    let kind = i.function.prototype().result;
     if refused {
         if !makes_object(answer) {
             return Ok(Outcome::Impossible);
         }
-        return Ok(outcome_for(line, purpose, refuse(classes, pending, kind)));
+        let given = refuse(classes, pending, kind);
+        return Ok(outcome_for(i.line, i.purpose, given));
     }
     let given = carry_out(alloc, classes, shared, frames, pending, kind, answer)?;
     put_local(frames, kind, given)?;
-    Ok(outcome_for(line, purpose, given))
+    Ok(outcome_for(i.line, i.purpose, given))
 }

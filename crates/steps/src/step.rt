@@ -10,7 +10,7 @@ ghost use Rattle.terms.specs.declared.term.Term.TheVariants as term;
 ghost use Rattle.tasks.specs.Outcomes.{else_tree};
 ghost use Rattle.steps.specs.Steps.{HasEffect, HasWays, IsAssignment, Does, reduced, scene_with};
 ghost use Rattle.call_checks.specs.Shares.{shared_view};
-ghost use Rattle.tasks.specs.Tasks.{branch_task, element_task, loop_task, print_task, return_task, value_task, tasks_of_statements, ExprInRange, BlockInRange, ElseInRange, StatementsInRange, TaskInRange, OutcomeInRange, IsPlain};
+ghost use Rattle.tasks.specs.Tasks.{element_task, tasks_of_statements, ExprInRange, BlockInRange, ElseInRange, StatementsInRange, TaskInRange, OutcomeInRange, IsPlain};
 ghost use Rattle.terms.specs.Views.{NumbersInRange, variables_view};
 
 use crate::invoke::invoke;
@@ -18,8 +18,8 @@ use call_checks::Shared;
 use class_table::table::ClassTable;
 use object_store::Frames;
 use std::alloc::{AllocError, Global};
-use syntax::{Block, Expr, Name, Stmt};
-use tasks::{End, Outcome, Task};
+use syntax::{Block, Name, Stmt};
+use tasks::{Assignment, Choice, ElementAssignment, End, Evaluation, Iteration, Outcome, Task};
 use terms::{
     Evaluated, Indexed, Reduction, Statics, Term, Value, Variables, constant, number_in, place_in,
     put_term, reduce,
@@ -41,39 +41,32 @@ pub(crate) fn reduced<'a>(line: usize, reduction: Reduction) -> Outcome<'a>
 fn print<'a>(
     statics: &Statics<'_>,
     variables: &Variables<'_>,
-    line: usize,
-    t: &mut Term<'_>,
+    e: &mut Evaluation<'_>,
 ) -> Outcome<'a>
-    requires { NumbersInRange t.old }
-    ensures step { HasEffect (variables_view variables.now) statics.now (print_task line t.old) result (print_task line t.new) }
-    ensures numbers { NumbersInRange t.new }
+    requires { NumbersInRange e.old.term }
+    ensures step { HasEffect (variables_view variables.now) statics.now (task.Print e.old) result (task.Print e.new) }
+    ensures numbers { NumbersInRange e.new.term }
     ensures range { OutcomeInRange result }
 {
-    match t {
+    match &mut e.term {
         Term::Done(v) => match v {
             Value::Int(z) => Outcome::Printed(*z),
             Value::Word(_) | Value::Flag(_) | Value::Truth(_) => Outcome::Impossible,
         },
-        t => reduced(line, reduce(statics, variables, t)),
+        t => reduced(e.line, reduce(statics, variables, t)),
     }
 }
 
 /// Evaluates an expression by one step, or sets a variable to its value.
-fn set<'a>(
-    statics: &Statics<'_>,
-    variables: &Variables<'_>,
-    line: usize,
-    name: &'a Name,
-    t: &mut Term<'_>,
-) -> Outcome<'a>
-    requires { NumbersInRange t.old }
-    ensures step { HasEffect (variables_view variables.now) statics.now (value_task line name.entry t.old) result (value_task line name.entry t.new) }
-    ensures numbers { NumbersInRange t.new }
+fn set<'a>(statics: &Statics<'_>, variables: &Variables<'_>, a: &mut Assignment<'a>) -> Outcome<'a>
+    requires { NumbersInRange a.old.term }
+    ensures step { HasEffect (variables_view variables.now) statics.now (task.Set a.old) result (task.Set a.new) }
+    ensures numbers { NumbersInRange a.new.term }
     ensures range { OutcomeInRange result }
 {
-    match t {
-        Term::Done(v) => Outcome::Sets(name, *v),
-        t => reduced(line, reduce(statics, variables, t)),
+    match &mut a.term {
+        Term::Done(v) => Outcome::Sets(a.name, *v),
+        t => reduced(a.line, reduce(statics, variables, t)),
     }
 }
 
@@ -122,21 +115,18 @@ fn set_at<'a>(
 fn set_element<'a>(
     statics: &Statics<'_>,
     variables: &Variables<'_>,
-    line: usize,
-    name: &'a Name,
-    i: &mut Term<'_>,
-    t: &mut Term<'_>,
+    a: &mut ElementAssignment<'a>,
 ) -> Outcome<'a>
-    requires index { NumbersInRange i.old }
-    requires number { NumbersInRange t.old }
-    ensures step { HasEffect (variables_view variables.now) statics.now (element_task line name.entry i.old t.old) result (element_task line name.entry i.new t.new) }
-    ensures index { NumbersInRange i.new }
-    ensures number { NumbersInRange t.new }
+    requires index { NumbersInRange a.old.index }
+    requires number { NumbersInRange a.old.number }
+    ensures step { HasEffect (variables_view variables.now) statics.now (task.SetElement a.old) result (task.SetElement a.new) }
+    ensures index { NumbersInRange a.new.index }
+    ensures number { NumbersInRange a.new.number }
     ensures range { OutcomeInRange result }
 {
-    match i {
-        Term::Done(index) => set_at(statics, variables, line, name, *index, t),
-        i => reduced(line, reduce(statics, variables, i)),
+    match &mut a.index {
+        Term::Done(index) => set_at(statics, variables, a.line, a.name, *index, &mut a.number),
+        i => reduced(a.line, reduce(statics, variables, i)),
     }
 }
 
@@ -156,53 +146,44 @@ fn statements_of<'a>(block: Option<&'a Block>) -> &'a [Stmt]
 fn branch<'a>(
     statics: &Statics<'_>,
     variables: &Variables<'_>,
-    line: usize,
-    t: &mut Term<'_>,
-    block: &'a Block,
-    otherwise: Option<&'a Block>,
+    choice: &mut Choice<'a>,
 ) -> Outcome<'a>
-    requires numbers { NumbersInRange t.old }
-    requires block { BlockInRange (block_tree block.now) }
-    requires otherwise { ElseInRange otherwise }
-    ensures step { HasEffect (variables_view variables.now) statics.now (branch_task line t.old block.entry otherwise.entry) result (branch_task line t.new block.entry otherwise.entry) }
-    ensures numbers { NumbersInRange t.new }
+    requires numbers { NumbersInRange choice.old.test }
+    requires block { BlockInRange (block_tree choice.old.block.now) }
+    requires otherwise { ElseInRange choice.old.otherwise }
+    ensures step { HasEffect (variables_view variables.now) statics.now (task.Branch choice.old) result (task.Branch choice.new) }
+    ensures task { TaskInRange (task.Branch choice.new) }
     ensures range { OutcomeInRange result }
 {
-    match t {
+    match &mut choice.test {
         Term::Done(v) => match v {
-            Value::Truth(true) => Outcome::Enters(statements_of(Some(block)), End::If),
-            Value::Truth(false) => Outcome::Enters(statements_of(otherwise), End::If),
+            Value::Truth(true) => Outcome::Enters(statements_of(Some(choice.block)), End::If),
+            Value::Truth(false) => Outcome::Enters(statements_of(choice.otherwise), End::If),
             Value::Word(_) | Value::Int(_) | Value::Flag(_) => Outcome::Impossible,
         },
-        t => reduced(line, reduce(statics, variables, t)),
+        t => reduced(choice.line, reduce(statics, variables, t)),
     }
 }
 
 /// Evaluates the test of a loop by one step, or takes a turn, or goes on after it.
-fn turn<'a>(
-    statics: &Statics<'_>,
-    variables: &Variables<'_>,
-    line: usize,
-    test: &'a Expr,
-    t: &mut Term<'_>,
-    body: &'a Block,
-) -> Outcome<'a>
-    requires test { ExprInRange (expr_tree test.now) }
-    requires numbers { NumbersInRange t.old }
-    requires body { BlockInRange (block_tree body.now) }
-    ensures step { HasEffect (variables_view variables.now) statics.now (loop_task line test.entry t.old body.entry) result (loop_task line test.entry t.new body.entry) }
-    ensures numbers { NumbersInRange t.new }
+fn turn<'a>(statics: &Statics<'_>, variables: &Variables<'_>, i: &mut Iteration<'a>) -> Outcome<'a>
+    requires test { ExprInRange (expr_tree i.old.test.now) }
+    requires numbers { NumbersInRange i.old.term }
+    requires body { BlockInRange (block_tree i.old.body.now) }
+    ensures step { HasEffect (variables_view variables.now) statics.now (task.Loop i.old) result (task.Loop i.new) }
+    ensures task { TaskInRange (task.Loop i.new) }
     ensures range { OutcomeInRange result }
 {
-    match t {
+    match &mut i.term {
         Term::Done(v) => match v {
-            Value::Truth(true) => {
-                Outcome::Enters(statements_of(Some(body)), End::Turn(line, test, body))
-            }
+            Value::Truth(true) => Outcome::Enters(
+                statements_of(Some(i.body)),
+                End::Turn(i.line, i.test, i.body),
+            ),
             Value::Truth(false) => Outcome::Ends,
             Value::Word(_) | Value::Int(_) | Value::Flag(_) => Outcome::Impossible,
         },
-        t => reduced(line, reduce(statics, variables, t)),
+        t => reduced(i.line, reduce(statics, variables, t)),
     }
 }
 
@@ -211,31 +192,30 @@ fn turn<'a>(
 fn return_value<'a>(
     statics: &Statics<'_>,
     variables: &Variables<'_>,
-    line: usize,
-    t: &mut Term<'_>,
+    e: &mut Evaluation<'_>,
 ) -> Outcome<'a>
-    requires { NumbersInRange t.old }
-    ensures step { HasEffect (variables_view variables.now) statics.now (return_task line t.old) result (return_task line t.new) }
-    ensures numbers { NumbersInRange t.new }
+    requires { NumbersInRange e.old.term }
+    ensures step { HasEffect (variables_view variables.now) statics.now (task.ReturnValue e.old) result (task.ReturnValue e.new) }
+    ensures numbers { NumbersInRange e.new.term }
     ensures range { OutcomeInRange result }
 {
-    match t {
+    match &mut e.term {
         Term::Done(_) => Outcome::Returned,
         Term::Named(c) => match constant(*c) {
             Evaluated::Gives(value) => {
-                put_term(t, Term::Done(value));
+                put_term(&mut e.term, Term::Done(value));
                 Outcome::Stays
             }
             Evaluated::Traps(_) | Evaluated::Stuck => Outcome::Returned,
         },
         Term::Read(name) => match number_in(variables, name) {
             Evaluated::Gives(value) => {
-                put_term(t, Term::Done(value));
+                put_term(&mut e.term, Term::Done(value));
                 Outcome::Stays
             }
             Evaluated::Traps(_) | Evaluated::Stuck => Outcome::Returned,
         },
-        t => reduced(line, reduce(statics, variables, t)),
+        t => reduced(e.line, reduce(statics, variables, t)),
     }
 }
 
@@ -249,14 +229,8 @@ fn assign<'a>(statics: &Statics<'_>, variables: &Variables<'a>, task: &mut Task<
     ensures range { OutcomeInRange result }
 {
     match task {
-        Task::Set(a) => {
-            let (line, name) = (a.line, a.name);
-            set(statics, variables, line, name, &mut a.term)
-        }
-        Task::SetElement(a) => {
-            let (line, name) = (a.line, a.name);
-            set_element(statics, variables, line, name, &mut a.index, &mut a.number)
-        }
+        Task::Set(a) => set(statics, variables, a),
+        Task::SetElement(a) => set_element(statics, variables, a),
         _ => unreachable!(),
     }
 }
@@ -275,14 +249,8 @@ fn take_way<'a>(
     ensures range { OutcomeInRange result }
 {
     match task {
-        Task::Branch(c) => {
-            let (line, block, otherwise) = (c.line, c.block, c.otherwise);
-            branch(statics, variables, line, &mut c.test, block, otherwise)
-        }
-        Task::Loop(i) => {
-            let (line, test, body) = (i.line, i.test, i.body);
-            turn(statics, variables, line, test, &mut i.term, body)
-        }
+        Task::Branch(choice) => branch(statics, variables, choice),
+        Task::Loop(i) => turn(statics, variables, i),
         _ => unreachable!(),
     }
 }
@@ -300,13 +268,13 @@ fn plain_step<'a>(
     ensures range { OutcomeInRange result }
 {
     match task {
-        Task::Print(e) => print(statics, variables, e.line, &mut e.term),
+        Task::Print(e) => print(statics, variables, e),
         Task::Set(_) | Task::SetElement(_) => assign(statics, variables, task),
         Task::SetNull(target) => Outcome::SetsNull(*target),
         Task::MakeArray(kind, name, size) => Outcome::Makes(*kind, name, *size),
         Task::Branch(_) | Task::Loop(_) => take_way(statics, variables, task),
         Task::Return => Outcome::Returned,
-        Task::ReturnValue(e) => return_value(statics, variables, e.line, &mut e.term),
+        Task::ReturnValue(e) => return_value(statics, variables, e),
         Task::Invoke(_) => unreachable!(),
     }
 }

@@ -1,12 +1,15 @@
 -- A thread in memory steps as the thread that it stands for.
-use Rattle.std.proofs.Common.{◌≡◌, ℕ, Bool, true, false, List, [], ◌∷◌, Option, Some, None, refl, sym, ap, ◌∙◌, IsTrue, subst}
+use Rattle.std.proofs.Common.{◌≡◌, ℕ, Bool, true, false, List, [], ◌∷◌, Option, Some, None, refl, sym, ap, ◌∙◌, IsTrue, subst, append-nil}
 use Rattle.std.specs.List.{list_all}
 use Rattle.std.specs.Option.{option_map}
 use Rattle.source.specs.World.{Invocation}
 use Rattle.source.specs.Load.{call_loads}
 use Rattle.std.proofs.lemmas.Bool.{and_parts}
 use Rattle.std.specs.Borrow.{Bor}
+use Rattle.syntax.specs.declared.stmt.Block.{Block as BlockInMemory, out-Block}
+use Rattle.syntax.specs.declared.stmt.Stmt.{Stmt}
 use Rattle.syntax.specs.Tree.{Function, SourceUnit}
+use Rattle.syntax.specs.Views.{block_tree}
 use Rattle.source.specs.Task.{tasks_of}
 use Rattle.classes.specs.Class.{Classes}
 use Rattle.source.specs.Thread.{Monitor, Thread, Shared, BuffersInUse, Event, Quiet, PrintedNumber, Trapped, Advances as AdvancesTo, NoAdvance, Ending, Unfinished, Ended, Uncaught}
@@ -14,9 +17,13 @@ use Rattle.source.specs.Object.{Reference}
 use Rattle.source.specs.Activation.{named_object, entry_frame, ending_after, monitors_after, calls_after, return_step, enter, entered, entry_advance, entered_function, class_of_function, function_at, parameter_variables}
 use Rattle.source.specs.ThreadStep.{thread_step, step_within}
 use Rattle.steps.specs.declared.activation.Activation.{Activation}
+use Rattle.steps.specs.declared.activation.Outer.{Outer}
+use Rattle.tasks.specs.declared.task.Task.{Task as TaskInMemory}
 use Rattle.threads.specs.declared.thread.Thread.{Thread as ThreadInMemory}
 use Rattle.tasks.specs.declared.outcome.Outcome.TheVariants as outcome
-use Rattle.steps.specs.Activations.{tasks_left, thread_in, scene_of, advance_by, Advances}
+use Rattle.steps.specs.Activations.{IsInRange, tasks_from, tasks_after, tasks_left, thread_in, scene_of, advance_by, Advances}
+use Rattle.tasks.specs.Tasks.{tasks_of_statements}
+use Rattle.steps.proofs.TaskLemmas.{block_tasks}
 use Rattle.call_checks.specs.Shares.{shared_view}
 use Rattle.call_checks.specs.declared.shared.Shared.{Shared as SharedInMemory}
 use Rattle.steps.specs.Steps.{Sees}
@@ -24,13 +31,35 @@ use Rattle.terms.specs.Views.{variables_view, trap_view}
 use Rattle.source.specs.Variable.{LocalRef}
 use Rattle.std.specs.Prelude.{filter_map, zip}
 use Rattle.tasks.specs.declared.outcome.Outcome.{Outcome}
-use Rattle.threads.specs.Threads.{ThreadStands, WorkStands, Leaves, StepIs, step_of, tasks_in, ending_view}
+use Rattle.threads.specs.declared.thread.Step.{Step}
+use Rattle.source.specs.Heap.{Heap}
+use Rattle.threads.specs.Threads.{ThreadStands, WorkInRange, WorkStands, EndsStep, Leaves, StepIs, step_of, tasks_in, ending_view}
 
 -- a thread that has ended owns nothing where nobody does
 no_monitors : (e : Ending) (k : ℕ) → monitors_after e k [] ≡ []
 no_monitors Unfinished k = refl
 no_monitors Ended k = refl
 no_monitors (Uncaught c) k = refl
+
+-- the tasks of a call in progress at its beginning
+pub begun_tasks : (body : BlockInMemory) (a : Activation) → a.task ≡ None → a.rest.now ≡ (out-Block body).statements.items → a.outer.items ≡ [] → tasks_left a ≡ tasks_of (block_tree body)
+begun_tasks body a none rest outer =
+    let statements = (out-Block body).statements.items in
+    ap (λ (o : Option TaskInMemory). tasks_from o (tasks_after a.rest.now a.outer.items)) none
+    ∙ ap (λ (left : List Stmt). tasks_after left a.outer.items) rest
+    ∙ ap (λ (os : List Outer). tasks_after statements os) outer
+    ∙ append-nil (tasks_of_statements statements)
+    ∙ block_tasks body
+
+-- a call that didn't return goes on
+pub goes_on : (store : Heap) (pending : Option ℕ) (t : ThreadInMemory) (o : Outcome) (took : Step) → (o ≡ outcome.Returned → ⊥) → took ≡ step_of o → EndsStep store pending t o took t
+goes_on store pending t outcome.Returned took none is = absurd (none refl)
+goes_on store pending t o took none is = (is, refl)
+
+-- what is known of it stays known
+pub ended_range : (store : Heap) (t : ThreadInMemory) (new : Activation) (o : Outcome) (took : Step) (left : ThreadInMemory) → EndsStep store new.pending (record t { activation = Some new }) o took left → IsInRange new → WorkInRange left.activation
+ended_range store t new outcome.Returned took left e known = subst WorkInRange (sym e.1.activation) tt
+ended_range store t new o took left e known = subst (λ (u : ThreadInMemory). WorkInRange u.activation) (sym e.1) known
 
 module _ (unit : SourceUnit) (classes : Classes) (lent : BuffersInUse) (k : ℕ) where
   -- a thread after its call that stands so, with these calls to come before
@@ -104,6 +133,14 @@ module _ (unit : SourceUnit) (classes : Classes) (lent : BuffersInUse) (k : ℕ)
             ending = refl;
           };
         }
+
+    -- what a step of the call did is the thread's step
+    pub ended_step : (o : Outcome) (took : Step) (left : ThreadInMemory) → EndsStep after.store new.pending (record t { activation = Some new }) o took left → Advances classes refused shared a o (shared_view after) new
+        → StepIs unit classes (shared_view after) left took (thread_step unit classes lent k shared s refused)
+    ended_step outcome.Returned took left e does = rw e.0 (returns left does e.1.activation e.1.ending e.1.calls)
+    ended_step o took left e does =
+        let taken = thread_step unit classes lent k shared s refused in
+        subst (λ (w : Step). StepIs unit classes (shared_view after) left w taken) (sym e.0) (subst (λ (u : ThreadInMemory). StepIs unit classes (shared_view after) u (step_of o) taken) (sym e.1) (goes o (λ r. absurd (cc)) does))
 
   -- the entry into the next call
   pub enters : (shared : Shared) (t : ThreadInMemory) (call : Invocation) (rest : List Invocation) (f : Function) (class : ℕ) (a : Activation) (s : Thread)

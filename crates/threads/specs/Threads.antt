@@ -1,9 +1,14 @@
 -- Threads that lie in memory, as those of the language, and what a step of one does.
-use Rattle.std.specs.Prelude.{◌≡◌, ℕ, Bool, List, [], Option, Some, None, IsTrue}
+use Rattle.std.specs.Prelude.{◌≡◌, ℕ, Bool, List, [], ◌∷◌, map, filter_map, zip, Option, Some, None, IsTrue}
 use Rattle.std.specs.List.{list_all}
+use Rattle.syntax.specs.declared.stmt.Block.{out-Block}
+use Rattle.syntax.specs.declared.unit.Function.{Function}
 use Rattle.syntax.specs.Tree.{SourceUnit}
+use Rattle.syntax.specs.Views.{function_tree}
 use Rattle.classes.specs.Class.{Classes}
 use Rattle.source.specs.Object.{ObjectValue, Number, Refers}
+use Rattle.source.specs.Activation.{parameter_variables, named_object, entry_frame, ending_after, calls_after}
+use Rattle.source.specs.Heap.{Heap}
 use Rattle.source.specs.Load.{call_loads}
 use Rattle.source.specs.Task.{Task}
 use Rattle.source.specs.Thread.{Ending, Unfinished, Ended, Uncaught, Thread, Shared, BuffersInUse, Event, Quiet, PrintedNumber, Trapped, Advance, Advances, NoAdvance}
@@ -19,7 +24,9 @@ use Rattle.threads.specs.declared.thread.Ending.TheVariants as ending
 use Rattle.threads.specs.declared.thread.Step.{Step}
 use Rattle.threads.specs.declared.thread.Step.TheVariants as step
 use Rattle.steps.specs.Activations.{tasks_left, IsInRange}
-use Rattle.terms.specs.Views.{variables_view, trap_view}
+use Rattle.terms.specs.Views.{assign_all, variables_view, trap_view}
+use Rattle.world.specs.declared.object.ObjectValue.{ObjectValue as ObjectValueInMemory}
+use Rattle.world.specs.Views.{object_value_view}
 
 -- the tasks of the call in progress, if there is one
 abbrev pub tasks_in : Option Activation → Option (List Task)
@@ -45,12 +52,34 @@ abbrev pub argument_content : ObjectValue → Variable
 argument_content (Number z) = Scalar (Int z)
 argument_content (Refers r) = LocalRef 1 r
 
+-- a call in progress at its beginning, of a function whose native method is of this class
+pub record IsBegun (f : Function) (class : ℕ) (arguments : List ObjectValueInMemory) (o : Option Activation) : Type 0 where
+  pub activation : Activation
+  pub is : o ≡ Some activation
+  pub task : activation.task ≡ None
+  pub rest : activation.rest.now ≡ (out-Block f.body).statements.items
+  pub outer : activation.outer.items ≡ []
+  pub variables : variables_view activation.variables ≡ assign_all ((f.class_name, LocalRef 1 (Some class)) ∷ parameter_variables (zip (function_tree f).parameters (map object_value_view arguments))) []
+  pub frames : activation.frames ≡ entry_frame (class ∷ filter_map named_object (map object_value_view arguments)) ∷ []
+  pub pending : activation.pending ≡ None
+
 -- what others see of what a call in progress did
 abbrev pub step_of : Outcome → Step
 step_of (outcome.Printed z) = step.Printed z
 step_of (outcome.Trapped trap line) = step.Trapped trap line
 step_of outcome.Impossible = step.Impossible
 step_of took = step.Quiet
+
+-- its call in progress was left, with this exception pending
+pub record HasLeft (store : Heap) (pending : Option ℕ) (old new : ThreadInMemory) : Type 0 where
+  pub activation : new.activation ≡ None
+  pub ending : ending_view new.ending ≡ ending_after store pending old.calls.now
+  pub calls : new.calls.now ≡ calls_after (ending_view new.ending) old.calls.now
+
+-- what others see of what a call in progress did, which was left if it returned
+abbrev pub EndsStep : Heap → Option ℕ → ThreadInMemory → Outcome → Step → ThreadInMemory → Type 0
+EndsStep store pending old outcome.Returned took new = (took ≡ step.Quiet) × HasLeft store pending old new
+EndsStep store pending old o took new = (took ≡ step_of o) × (new ≡ old)
 
 -- a thread in memory stands for one of the language
 pub record ThreadStands (unit : SourceUnit) (classes : Classes) (t : ThreadInMemory) (s : Thread) : Type 0 where

@@ -11,7 +11,7 @@ ghost use Rattle.source.specs.Activation.{parameter_variables, class_of_function
 ghost use Rattle.source.specs.Step.{is_unfinished};
 ghost use Rattle.source.specs.Thread.{Shared as SharedOfThreads};
 ghost use Rattle.source.specs.Variable.{LocalRef};
-ghost use Rattle.threads.specs.Threads.{argument_content, ending_view, TakesStep, WorkInRange, step_of};
+ghost use Rattle.threads.specs.Threads.{argument_content, ending_view, IsBegun, EndsStep, TakesStep, WorkInRange, step_of};
 ghost use Rattle.call_checks.specs.Shares.{shared_view};
 ghost use Rattle.terms.specs.Views.{assign_all, content_view, variables_view};
 
@@ -47,11 +47,22 @@ pub(crate) fn is_unfinished(ending: Ending) -> bool
 }
 
 /// A thread: the calls to come, the one in progress, and how it has ended.
-#[derive(Drop)]
 pub struct Thread<'a> {
     pub calls: &'a [Call],
     pub activation: Option<Activation<'a>>,
     pub ending: Ending,
+}
+
+// Written out, and not derived, so that a crate above drops one by a call and doesn't prove it anew.
+impl Drop for Thread<'_> {
+    fn drop(self) {
+        let Thread {
+            calls: _,
+            activation,
+            ending: _,
+        } = self;
+        drop(activation);
+    }
 }
 
 /// What a step of a thread did.
@@ -165,6 +176,31 @@ fn put_activation<'a>(place: &mut Option<Activation<'a>>, activation: Option<Act
     drop(mem::replace(place, activation));
 }
 
+/// Begins the call of a function of this class, in the place of the call in progress.
+#[inline]
+fn begin_call<'a>(
+    alloc: Global,
+    place: &mut Option<Activation<'a>>,
+    function: &'a Function,
+    class: usize,
+    arguments: &[ObjectValue],
+) -> Result<(), AllocError>
+    ensures { IfOk result (λ _. IsBegun function.entry.now class arguments.now place.new) }
+{
+    let variables = entry_variables(alloc, function, class, arguments)?;
+    let frames = entry_frames(alloc, class, arguments)?;
+    let activation = Activation {
+        task: None,
+        rest: &function.body.statements,
+        outer: Vec::new(alloc),
+        variables,
+        frames,
+        pending: None,
+    };
+    put_activation(place, Some(activation));
+    Ok(())
+}
+
 /// Enters the next call.
 fn enter<'a>(
     alloc: Global,
@@ -194,18 +230,14 @@ fn enter<'a>(
     let Some(class) = class_of(alloc, world, function)? else {
         return Ok(Step::Impossible);
     };
-    let variables = entry_variables(alloc, function, class, call.arguments())?;
-    let frames = entry_frames(alloc, class, call.arguments())?;
+    begin_call(
+        alloc,
+        &mut thread.activation,
+        function,
+        class,
+        call.arguments(),
+    )?;
     thread.calls = rest;
-    let activation = Activation {
-        task: None,
-        rest: &function.body.statements,
-        outer: Vec::new(alloc),
-        variables,
-        frames,
-        pending: None,
-    };
-    put_activation(&mut thread.activation, Some(activation));
     Ok(Step::Quiet)
 }
 
@@ -253,6 +285,25 @@ fn leave(store: &Store, thread: &mut Thread<'_>, pending: Option<usize>)
     }
 }
 
+/// Leaves the call in progress if it returned, with this exception pending. Tells what others see of what it did.
+#[inline]
+fn end_step(
+    store: &Store,
+    thread: &mut Thread<'_>,
+    pending: Option<usize>,
+    outcome: Outcome<'_>,
+) -> Step
+    ensures { EndsStep store.now pending thread.old outcome.entry result thread.new }
+{
+    match outcome {
+        Outcome::Returned => {
+            leave(store, thread, pending);
+            Step::Quiet
+        }
+        outcome => step_of(outcome),
+    }
+}
+
 /// Lets a thread that has not ended take its next step, or the same with its object refused.
 pub(crate) fn take_step<'a>(
     alloc: Global,
@@ -272,12 +323,7 @@ pub(crate) fn take_step<'a>(
     let Some(activation) = &mut thread.activation else {
         return enter(alloc, functions, world, refused, thread);
     };
-    match advance(alloc, world.classes(), shared, refused, activation)? {
-        Outcome::Returned => {
-            let pending = activation.pending;
-            leave(&shared.store, thread, pending);
-            Ok(Step::Quiet)
-        }
-        outcome => Ok(step_of(outcome)),
-    }
+    let outcome = advance(alloc, world.classes(), shared, refused, activation)?;
+    let pending = activation.pending;
+    Ok(end_step(&shared.store, thread, pending, outcome))
 }

@@ -1,28 +1,14 @@
-use Rattle.std.proofs.Common.{get_or, false, subst}
-use Rattle.std.proofs.lemmas.Option.{slice_get-get_or}
+use Rattle.std.proofs.Common.{refl}
 use Rattle.syntax.specs.Views.{unit_tree}
-use Rattle.source.specs.declared.journal.Entry.{Entry}
-use Rattle.source.specs.declared.journal.Entry.TheVariants.{Step}
-use Rattle.threads.specs.States.{TakesEntry}
-use Rattle.replay.proofs.RunLemmas.{stops, goes_on}
+use Rattle.source.specs.Start.{start}
 use Rattle.replay.proofs.journal.run.Goals as goal
 
-pub returns-then-not-branch-clause-refused : goal.returns-then-not-branch-clause-refused
-returns-then-not-branch-clause-refused c =
-    let journal = c.args.journal.now in
-    let entry : Entry = get_or journal c.loop-done.done (Step 0 false) in
-    let at = slice_get-get_or journal c.loop-done.done (Step 0 false) c.loop-done-test.true in
-    stops (unit_tree c.args.functions.now) c.args.world.now journal c.loop-done.done entry c.loop-done.state c.take_entry.new.state at c.loop-done.invariant.replayed c.loop-done-test.true
-    (subst (λ b. TakesEntry (unit_tree c.args.functions.now) c.loop-done.state entry b c.take_entry.new.state) c.if-not-branch.true c.in_ok-take_entry.ensures.step)
+pub returns-in-Ok-follow-clause-end : goal.returns-in-Ok-follow-clause-end
+returns-in-Ok-follow-clause-end c =
+    let s = c.in-Ok.ensures in
+    c.in-Ok-follow.ensures.end c.args.world.now (record { fits = s.fits; end = start (unit_tree c.args.functions.now) c.args.world.now; replays = refl; stands = s.stands; range = s.range })
 
-pub loop-done-preserved : goal.loop-done-preserved
-loop-done-preserved c =
-    let journal = c.args.journal.now in
-    let entry : Entry = get_or journal c.loop-done.done (Step 0 false) in
-    let at = slice_get-get_or journal c.loop-done.done (Step 0 false) c.loop-done-test.true in
-    record {
-      replayed = goes_on (unit_tree c.args.functions.now) c.args.world.now journal c.loop-done.done entry c.loop-done.state c.take_entry.new.state at c.loop-done.invariant.replayed
-          (subst (λ b. TakesEntry (unit_tree c.args.functions.now) c.loop-done.state entry b c.take_entry.new.state) c.if-not-branch.false c.in_ok-take_entry.ensures.step)
-          c.in_ok-take_entry.ensures.range;
-      range = c.in_ok-take_entry.ensures.range;
-    }
+pub returns-clause-refused : goal.returns-clause-refused
+returns-clause-refused c =
+    let s = c.in-Ok.ensures in
+    c.in-Err-follow.ensures.refused c.args.world.now (record { fits = s.fits; end = start (unit_tree c.args.functions.now) c.args.world.now; replays = refl; stands = s.stands; range = s.range })

@@ -1,26 +1,15 @@
-use Rattle.std.proofs.Common.{List, map, ap, ◌∙◌}
-use Rattle.jni.specs.Table.{function_value}
-use Rattle.source.specs.Arguments.{actuals}
-use Rattle.tasks.specs.declared.task.Invocation.{Invocation}
-use Rattle.call_checks.specs.declared.operand.Operand.{Operand}
-use Rattle.call_checks.specs.Actuals.{actual_view, operand_view}
-use Rattle.call_checks.specs.Shares.{shared_view, sight_in}
+use Rattle.call_checks.specs.Shares.{shared_view}
 use Rattle.steps.specs.Steps.{scene_with}
-use Rattle.terms.specs.Views.{variables_view}
 use Rattle.object_store.proofs.Results.{if_ok}
-use Rattle.steps.proofs.Invocations.{call_does, same_call}
+use Rattle.steps.proofs.Invocations.{invocation_does}
 use Rattle.steps.proofs.invoke.invoke.Goals as goal
 
 pub returns-clause-step : goal.returns-clause-step
 returns-clause-step c =
+    let classes = c.args.classes.now in
     let vs = c.args.variables.now in
-    let s = shared_view c.args.shared.now in
-    let i = c.args.i.now in
-    let f = function_value i.function in
-    let first = c.in_default.ensures.step in
-    let i' : Invocation = c.reduce_number.new.i in
-    let looked_up = ap (map actual_view) c.deref-2.ensures.value ∙ c.in_ok-actuals.ensures ∙ ap (λ (os : List Operand). actuals (sight_in s vs) f (map operand_view os)) (c.deref.ensures.value ∙ first.1) in
-    let same = same_call (variables_view vs) s.statics i i' c.in_default.ensures.line c.in_default.ensures.purpose c.in_default.ensures.function (map operand_view i.operands.items) (ap (map operand_view) first.1) in
-    if_ok c.call.result
-    (λ o makes. call_does c.args.classes.now s vs c.args.frames.now c.args.pending.now i i' (scene_with c.args.classes.now (shared_view c.call.new.shared) vs c.call.new.frames c.call.new.pending) same first.0 (map actual_view c.deref-2.result.now) looked_up c.args.refused o makes)
-    c.call.ensures.step
+    let left = c.in_default.ensures in
+    if_ok c.make_call.result
+    (λ o makes. invocation_does classes (shared_view c.args.shared.now) vs c.args.frames.now c.args.pending.now c.args.i.now c.reduce_number.new.i (scene_with classes (shared_view c.make_call.new.shared) vs c.make_call.new.frames c.make_call.new.pending)
+    left.line left.purpose left.function left.step.1 left.step.0 c.args.refused o makes)
+    c.make_call.ensures.step

@@ -9,9 +9,9 @@ use Rattle.steps.proofs.step.branch.Goals as goal
 
 pub returns-in_default-clause-step : goal.returns-in_default-clause-step
 returns-in_default-clause-step c =
-    rw c.reduced.ensures.view (branch_reduces (variables_view c.args.variables.now) c.args.statics.now c.args.line _ _ _ c.in_default.not-Done c.reduce.ensures.step c.args.block c.args.otherwise)
+    rw c.reduced.ensures.view (branch_reduces (variables_view c.args.variables.now) c.args.statics.now c.args.choice.now.line _ _ _ c.in_default.not-Done c.reduce.ensures.step c.args.choice.now.block c.args.choice.now.otherwise)
 
 pub returns-in-Truth-true-clause-step : goal.returns-in-Truth-true-clause-step
 returns-in-Truth-true-clause-step c =
-    let shape : c.args.t.now ≡ term.Done (value.Truth true) = cc in
-    λ heap. rw shape (way_entered c.statements_of.result.now (block_tree c.args.block.now) EndIf (c.statements_of.ensures.view c.args.line))
+    let shape : c.args.choice.now.test ≡ term.Done (value.Truth true) = cc in
+    λ heap. rw shape (way_entered c.statements_of.result.now (block_tree c.args.choice.now.block.now) EndIf (c.statements_of.ensures.view c.args.choice.now.line))

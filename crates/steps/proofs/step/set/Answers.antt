@@ -4,4 +4,4 @@ use Rattle.steps.proofs.step.set.Goals as goal
 
 pub returns-in_default-clause-step : goal.returns-in_default-clause-step
 returns-in_default-clause-step c =
-    rw c.reduced.ensures.view (set_reduces (variables_view c.args.variables.now) c.args.statics.now c.args.line _ _ _ c.in_default.not-Done c.reduce.ensures.step c.args.name)
+    rw c.reduced.ensures.view (set_reduces (variables_view c.args.variables.now) c.args.statics.now c.args.a.now.line _ _ _ c.in_default.not-Done c.reduce.ensures.step c.args.a.now.name)

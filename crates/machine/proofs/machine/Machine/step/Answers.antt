@@ -1,25 +1,16 @@
 use Rattle.std.proofs.Common.{◌≡◌, ℕ, suc, ◌-◌, ◌<◌, ◌≤◌, true, false, Option, Some, None, [], ◌∷◌, ◌++◌, List, length, get_or, refl, sym, ap, ◌∙◌, subst, arith}
-use Rattle.std.specs.Prelude.{slice_get, is_some, Result, Ok, Err, OnErr}
+use Rattle.std.specs.Prelude.{slice_get, is_some, Result, Ok, Err, OnErr, IsSome}
 use Rattle.std.proofs.lemmas.Option.{slice_get_read}
 use Rattle.source.specs.declared.journal.Entry.{Entry}
+use Rattle.source.specs.declared.journal.Entry.TheVariants.{Step}
 use Rattle.heap.specs.Heap.{left_of}
 use Rattle.execution.specs.declared.thread.Ending.{Ending}
 use Rattle.execution.specs.declared.thread.Ending.TheVariants.{Unfinished, Ended, Uncaught}
 use Rattle.machine.specs.declared.stop.Stop.{Stop}
 use Rattle.execution.specs.declared.thread.Thread.{Thread}
-use Rattle.machine.specs.Run.{has_ended as ended, Run, InState, CouldStep, replay_of, entry_of, refused_entry_of, printed_after, can_turn, stepped, refused}
-use Rattle.source.specs.Thread.{BuffersInUse, Shared, Thread as SourceThread}
-use Rattle.source.specs.World.{World, loaded_objects}
-use Rattle.lowered.specs.Lowered.{Lowered}
+use Rattle.machine.specs.Run.{has_ended as ended, Run, InState, CouldStep, replay_of, printed_after, can_turn, event_of, is_refused}
 use Rattle.jni_calls.specs.declared.store.Store.{Store}
-use Rattle.execution.specs.declared.advance.Advanced.{Advanced}
-use Rattle.execution.specs.declared.execute.Event.TheVariants.{Quiet}
-use Rattle.safety.specs.Owners.{Owners}
-use Rattle.execution.specs.Executes.{IsSteady}
-use Rattle.jni_calls.specs.StoreAgrees.{StoreAgrees}
-use Rattle.execution.specs.ThreadAgrees.{ThreadAgrees}
-use Rattle.execution.specs.Advances.{AdvancesBy}
-use Rattle.machine.proofs.Steps.{steady, the_thread, can_turn_here, has_ended, steps_on}
+use Rattle.machine.proofs.Steps.{steady, the_thread, can_turn_here, has_ended, steps_by, turn_holds}
 use Rattle.machine.proofs.machine.Machine.step.Goals as goal
 use Rattle.machine.proofs.machine.Machine.step.Goals.{After-has_ended}
 
@@ -91,7 +82,29 @@ returns-then-len-ge-MOST_ENTRIES-clause-turn c =
       can_step (goal.at.returns-then-len-ge-MOST_ENTRIES-clause-turn c).After-has_ended (is_live _ (sym c.has_ended.ensures ∙ c.if-has_ended.false)),
     )
 
+-- the run is defined at the start
+runs : (c : After-has_ended) → IsSome (replay_of c.args.self.now)
+runs c = rw (replays c) refl
+
+pub returns-then-has_ended-clause-runs : goal.returns-then-has_ended-clause-runs
+returns-then-has_ended-clause-runs c = runs (goal.at.returns-then-has_ended-clause-runs c).After-has_ended
+
+pub returns-then-len-ge-MOST_ENTRIES-clause-runs : goal.returns-then-len-ge-MOST_ENTRIES-clause-runs
+returns-then-len-ge-MOST_ENTRIES-clause-runs c = runs (goal.at.returns-then-len-ge-MOST_ENTRIES-clause-runs c).After-has_ended
+
 -- ---- where the journal has room
+
+pub invariant_of-self : goal.invariant_of-self
+invariant_of-self c = rw c.reserve.ensures.items c.self.invariant
+
+pub returns-in_err-reserve-clause-runs : goal.returns-in_err-reserve-clause-runs
+returns-in_err-reserve-clause-runs c = rw (invariant_of-self c).replays refl
+
+pub invariant_of-self-in_err-reserve-2 : goal.invariant_of-self-in_err-reserve-2
+invariant_of-self-in_err-reserve-2 c = rw (c.reserve.ensures.items, c.reserve-2.ensures.items) c.self.invariant
+
+pub returns-in_err-reserve-2-clause-runs : goal.returns-in_err-reserve-2-clause-runs
+returns-in_err-reserve-2-clause-runs c = rw (invariant_of-self-in_err-reserve-2 c).replays refl
 
 could_step : (c : After-has_ended) → length c.self.inside.journal.items < 1000000 → c.index.result.now.ending ≡ Unfinished → CouldStep c.args.self.now c.args.k
 could_step c room live = (subst (λ (r : Run). length r.journal < 1000000) c.self.view_is room, can_step c live)
@@ -130,61 +143,30 @@ advance-requires-clause-agrees c =
     let f = the_thread _ _ _ _ _ _ _ c.self.invariant c.args.k (c.from-index.result - 1) c.index_mut.result.now (number a) at in
     (_, c.self.invariant.state.shared, f.source, c.self.invariant.store_agrees, f.agrees, same_thread c.self.inside.threads.items (c.from-index.result - 1) _ _ seen at (is_live _ (sym c.has_ended.ensures ∙ c.if-has_ended.false)), steady _ _ _ _ _ _ _ c.self.invariant c.args.k (c.from-index.result - 1) c.index_mut.result.now (number a) at)
 
--- what the thread did, whatever state it stands for
-abbrev Always : Lowered → World → (store store' : Store) → Thread → Thread → Advanced → Type 0
-Always p w store store' t after x =
-    (lent : BuffersInUse) (k : ℕ) (own : Owners) (shared : Shared) (s : SourceThread) → StoreAgrees p w store shared → ThreadAgrees p w.classes store.heap (length (loaded_objects w)) own shared t s → IsSteady own shared s
-    → AdvancesBy p w store.heap store' lent k own shared s after x
-
 -- the journal has one more entry
 one_more : (old before after : List Entry) (e : Entry) → after ≡ before ++ e ∷ [] → before ≡ old → after ≡ old ++ e ∷ []
 one_more old before after e written kept = written ∙ ap (λ (j : List Entry). j ++ e ∷ []) kept
 
-pub invariant_of-self-in-Did : goal.invariant_of-self-in-Did
-invariant_of-self-in-Did c =
-    let a = (goal.at.invariant_of-self-in-Did c).After-has_ended in
+pub invariant_of-self-2 : goal.invariant_of-self-2
+invariant_of-self-2 c =
+    let a = (goal.at.invariant_of-self-2 c).After-has_ended in
     let i = c.self.inside in
+    let x = c.in_ok-advanced.advanced in
     let seen = there a c.index.result.now c.index.ensures in
     let at = there a c.index_mut.result.now c.index_mut.ensures.value in
     let live = same_thread i.threads.items (c.from-index.result - 1) _ _ seen at (is_live _ (sym c.has_ended.ensures ∙ c.if-has_ended.false)) in
-    let always = subst (λ (x : Advanced). Always i.program i.world i.store c.advance.new.store c.index_mut.result.now c.advance.new.thread x) c.in-Did.is c.in_ok-advanced.ensures.advances in
-    let s = steps_on _ _ _ _ _ _ _ c.self.invariant c.args.k (c.from-index.result - 1) c.index_mut.result.now (number a) at c.advance.new.store c.advance.new.thread false c.in-Did.event (running a) live always in
-    let printed : c.note.new.printed.items ≡ printed_after i.printed.items c.args.k c.in-Did.event = c.note.ensures.printed ∙ ap (λ l. printed_after l c.args.k c.in-Did.event) c.reserve-2.ensures.items in
-    let journal = one_more i.journal.items c.reserve.new.self.items c.write_down.new.journal.items (entry_of c.args.k) c.write_down.ensures c.reserve.ensures.items in
-    rw (printed, c.note.ensures.stop, journal) s
+    let s = steps_by _ _ _ _ _ _ _ c.self.invariant c.args.k (c.from-index.result - 1) c.index_mut.result.now (number a) at c.advance.new.store c.advance.new.thread x (running a) live c.in_ok-advanced.ensures.advances in
+    let printed : c.write_step.new.printed.items ≡ printed_after i.printed.items c.args.k (event_of x) = c.write_step.ensures.printed ∙ ap (λ l. printed_after l c.args.k (event_of x)) c.reserve-2.ensures.items in
+    let journal = one_more i.journal.items c.reserve.new.self.items c.write_step.new.journal.items (Step c.args.k (is_refused x)) c.write_step.ensures.journal c.reserve.ensures.items in
+    rw (printed, c.write_step.ensures.stop, journal) s
 
-pub invariant_of-self-in-Refused : goal.invariant_of-self-in-Refused
-invariant_of-self-in-Refused c =
-    let a = (goal.at.invariant_of-self-in-Refused c).After-has_ended in
+pub returns-clause-turn : goal.returns-clause-turn
+returns-clause-turn c =
     let i = c.self.inside in
-    let seen = there a c.index.result.now c.index.ensures in
-    let at = there a c.index_mut.result.now c.index_mut.ensures.value in
-    let live = same_thread i.threads.items (c.from-index.result - 1) _ _ seen at (is_live _ (sym c.has_ended.ensures ∙ c.if-has_ended.false)) in
-    let always = subst (λ (x : Advanced). Always i.program i.world i.store c.advance.new.store c.index_mut.result.now c.advance.new.thread x) c.in-Refused.is c.in_ok-advanced.ensures.advances in
-    let s = steps_on _ _ _ _ _ _ _ c.self.invariant c.args.k (c.from-index.result - 1) c.index_mut.result.now (number a) at c.advance.new.store c.advance.new.thread true Quiet (running a) live always in
-    let journal = one_more i.journal.items c.reserve.new.self.items c.write_down-in-Refused.new.journal.items (refused_entry_of c.args.k) c.write_down-in-Refused.ensures c.reserve.ensures.items in
-    rw (c.reserve-2.ensures.items, journal) s
+    let x = c.in_ok-advanced.advanced in
+    let journal = one_more i.journal.items c.reserve.new.self.items c.write_step.new.journal.items (Step c.args.k (is_refused x)) c.write_step.ensures.journal c.reserve.ensures.items in
+    rw c.write_step.ensures.turn (turn_holds c.args.self.now i.program.unit i.world i.journal.items c.write_step.new.journal.items (left_of i.store.heap) (left_of c.advance.new.store.heap) c.args.k x c.self.view_is journal
+    (could_step (goal.at.returns-clause-turn c).After-has_ended (omega (arith, c.len.ensures, c.if-len-ge-MOST_ENTRIES.false)) (is_live _ (sym c.has_ended.ensures ∙ c.if-has_ended.false))))
 
-pub returns-in-Did-clause-turn : goal.returns-in-Did-clause-turn
-returns-in-Did-clause-turn c =
-    let i = c.self.inside in
-    let left : ℕ = left_of c.advance.new.store.heap in
-    let journal = one_more i.journal.items c.reserve.new.self.items c.write_down.new.journal.items (entry_of c.args.k) c.write_down.ensures c.reserve.ensures.items in (
-      subst (λ (r : Run). ◌≡◌ {A = Run} (record { unit = i.program.unit; world = i.world; journal = c.write_down.new.journal.items; left = left }) (stepped r c.args.k left)) c.self.view_is (ap (λ (j : List Entry). let r : Run = record { unit = i.program.unit; world = i.world; journal = j; left = left } in r) journal),
-      could_step (goal.at.returns-in-Did-clause-turn c).After-has_ended (omega (arith, c.len.ensures, c.if-len-ge-MOST_ENTRIES.false)) (is_live _ (sym c.has_ended.ensures ∙ c.if-has_ended.false)),
-    )
-
-pub returns-in-Refused-clause-turn : goal.returns-in-Refused-clause-turn
-returns-in-Refused-clause-turn c =
-    let i = c.self.inside in
-    let left : ℕ = left_of c.advance.new.store.heap in
-    let journal = one_more i.journal.items c.reserve.new.self.items c.write_down-in-Refused.new.journal.items (refused_entry_of c.args.k) c.write_down-in-Refused.ensures c.reserve.ensures.items in (
-      subst (λ (r : Run). ◌≡◌ {A = Run} (record { unit = i.program.unit; world = i.world; journal = c.write_down-in-Refused.new.journal.items; left = left }) (refused r c.args.k left)) c.self.view_is (ap (λ (j : List Entry). let r : Run = record { unit = i.program.unit; world = i.world; journal = j; left = left } in r) journal),
-      could_step (goal.at.returns-in-Refused-clause-turn c).After-has_ended (omega (arith, c.len.ensures, c.if-len-ge-MOST_ENTRIES.false)) (is_live _ (sym c.has_ended.ensures ∙ c.if-has_ended.false)),
-    )
-
-pub returns-in-Did-clause-runs : goal.returns-in-Did-clause-runs
-returns-in-Did-clause-runs c = rw (invariant_of-self-in-Did c).replays refl
-
-pub returns-in-Refused-clause-runs : goal.returns-in-Refused-clause-runs
-returns-in-Refused-clause-runs c = rw (invariant_of-self-in-Refused c).replays refl
+pub returns-clause-runs : goal.returns-clause-runs
+returns-clause-runs c = rw (invariant_of-self-2 c).replays refl

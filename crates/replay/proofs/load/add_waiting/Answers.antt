@@ -6,7 +6,7 @@ use Rattle.source.specs.World.{Invocation}
 use Rattle.threads.specs.declared.thread.Thread.{Thread}
 use Rattle.replay.specs.Loading.{AreWaiting}
 use Rattle.threads.specs.States.{AreInRange}
-use Rattle.replay.proofs.load.waiting_threads.Goals as goal
+use Rattle.replay.proofs.load.add_waiting.Goals as goal
 
 -- all threads are made
 all : (items : List (Vec Invocation)) (i : ℕ) (threads : List Thread) → length items ≤ i

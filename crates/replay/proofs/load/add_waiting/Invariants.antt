@@ -2,7 +2,7 @@ use Rattle.std.proofs.Common.{◌++◌, drop, map, List}
 use Rattle.threads.specs.declared.thread.Thread.{Thread}
 use Rattle.replay.specs.Loading.{AreWaiting}
 use Rattle.threads.specs.States.{AreInRange}
-use Rattle.replay.proofs.load.waiting_threads.Given as goal
+use Rattle.replay.proofs.load.add_waiting.Given as goal
 
 abbrev pub invariant-loop-calls : goal.invariant-loop-calls
 invariant-loop-calls l = record {

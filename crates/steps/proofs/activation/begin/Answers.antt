@@ -1,0 +1,27 @@
+use Rattle.std.proofs.Common.{◌≡◌, ◌∷◌, false, Option, Some, None, refl, sym, ◌∙◌, rules}
+use Rattle.std.specs.Prelude.{is_some}
+use Rattle.steps.specs.declared.activation.Activation.{Activation}
+use Rattle.steps.proofs.ActivationLemmas.{begun_first, begun_range}
+use Rattle.steps.proofs.activation.begin.Goals as goal
+
+-- no task is begun
+no_task : {A : Type 0} (o : Option A) → is_some o ≡ false → o ≡ None
+no_task None h = refl
+no_task (Some x) h = absurd (cc)
+
+pub returns-clause-tasks : goal.returns-clause-tasks
+returns-clause-tasks c =
+    let old = c.args.activation.now in
+    let rest : old.rest.now ≡ c.in-Some.first.now ∷ c.in-Some.after.now = search rules in
+    let new : Activation = record old { task = c.begin_statement.new.place; rest = c.in-Some.after } in
+    begun_first old new c.in-Some.first.now c.in-Some.after.now (no_task old.task (sym c.is_some.ensures ∙ c.if-is_some.false)) rest c.in_ok-begin_statement.ensures refl refl
+
+pub returns-clause-range : goal.returns-clause-range
+returns-clause-range c =
+    let old = c.args.activation.now in
+    let rest : old.rest.now ≡ c.in-Some.first.now ∷ c.in-Some.after.now = search rules in
+    let new : Activation = record old { task = c.begin_statement.new.place; rest = c.in-Some.after } in
+    begun_range old new c.in-Some.first.now c.in-Some.after.now rest c.requires c.in_ok-begin_statement.ensures refl refl
+
+pub returns-clause-begun : goal.returns-clause-begun
+returns-clause-begun c = λ none. absurd (let bad = sym c.in_ok-begin_statement.ensures.is ∙ none in cc)

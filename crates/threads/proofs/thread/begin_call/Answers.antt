@@ -1,0 +1,14 @@
+use Rattle.std.proofs.Common.{refl}
+use Rattle.threads.proofs.thread.begin_call.Goals as goal
+
+pub returns : goal.returns
+returns c = record {
+  activation = _;
+  is = c.put_activation.ensures;
+  task = refl;
+  rest = c.deref.ensures.value;
+  outer = c.new.ensures.items;
+  variables = c.in_ok-variables.ensures;
+  frames = c.in_ok-frames.ensures;
+  pending = refl;
+}
