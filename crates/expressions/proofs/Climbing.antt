@@ -11,7 +11,7 @@ use Rattle.lexemes.specs.declared.fault.ParseFault.TheVariants.{Memory, Found}
 use Rattle.lexemes.specs.Results.{◌>>=◌, Fails}
 use Rattle.lexemes.specs.Lexemes.{Lexed, fault_at}
 use Rattle.expressions.specs.Reading.{ReadExpr, operator_at, climb, climb_step, deeper, operand_at, expr_by, expr_at}
-use Rattle.expressions.specs.Steps.{extended_by, within}
+use Rattle.expressions.specs.Steps.{joined_by, right_by, within}
 use Rattle.lexemes.specs.Reading.{rest_of}
 
 -- Some steps are left, and what is read from here is all that is read.
@@ -82,27 +82,30 @@ module _ (room least : ℕ) (left : Expr) (high : ℕ) (ls : List Lexed) (total 
   pub climb_done : None ≡ within least (operator_at ls) → total ≡ Ok (left, high, ls)
   climb_done none = done_at (operator_at ls) refl none
 
-  joined : (op : BinaryOp) → Some op ≡ operator_at ls → least ≤ operator_level op → total ≡ (extended_by (deeper room) room op (left, high, ls) >>= λ r. climb (deeper room) room least c.steps r.0 r.1 r.2)
-  unfolding extended_by
+  -- the right operand, and what is read after the larger expression
+  after_right : (op : BinaryOp) → Result ReadExpr ParseFault → Result ReadExpr ParseFault
+  after_right op right = joined_by op (left, high, ls) right >>= λ r. climb (deeper room) room least c.steps r.0 r.1 r.2
+
+  joined : (op : BinaryOp) → Some op ≡ operator_at ls → least ≤ operator_level op → total ≡ after_right op (right_by (deeper room) room high op ls)
+  unfolding after_right
   joined op e le = sym (step_is (Some op) e) ∙ rw (le-ltb (operator_level op) least le) (chosen (nat_lt high room))
     where
-      with_right : ReadExpr → Result ReadExpr ParseFault
-      with_right r = Ok (Binary op left r.0, 1 + max high r.1, r.2)
-
-      one : (r : Result ReadExpr ParseFault) → (r >>= λ r. climb (deeper room) room least c.steps (Binary op left r.0) (1 + max high r.1) r.2) ≡ (r >>= (λ r. with_right r) >>= λ r. climb (deeper room) room least c.steps r.0 r.1 r.2)
+      one : (r : Result ReadExpr ParseFault) → (r >>= λ r. climb (deeper room) room least c.steps (Binary op left r.0) (1 + max high r.1) r.2) ≡ after_right op r
       one (Ok r) = refl
       one (Err f) = refl
 
       chosen : (b : Bool) → (if b then (deeper room (operator_level op + 1) (rest_of ls) >>= λ r. climb (deeper room) room least c.steps (Binary op left r.0) (1 + max high r.1) r.2) else Err (fault_at TooHigh ls))
-          ≡ ((if b then (deeper room (operator_level op + 1) (rest_of ls) >>= λ r. with_right r) else Err (fault_at TooHigh ls)) >>= λ r. climb (deeper room) room least c.steps r.0 r.1 r.2)
+          ≡ after_right op (if b then deeper room (operator_level op + 1) (rest_of ls) else Err (fault_at TooHigh ls))
       chosen true = one (deeper room (operator_level op + 1) (rest_of ls))
       chosen false = refl
 
-  pub climb_fails : (op : BinaryOp) (f : ParseFault) → Some op ≡ operator_at ls → least ≤ operator_level op → Fails f (extended_by (deeper room) room op (left, high, ls)) → Fails f total
+  pub climb_fails : (op : BinaryOp) (f : ParseFault) → Some op ≡ operator_at ls → least ≤ operator_level op → Fails f (joined_by op (left, high, ls) (right_by (deeper room) room high op ls)) → Fails f total
+  unfolding after_right
   climb_fails op Memory e le h = tt
   climb_fails op (Found fault line) e le h = joined op e le ∙ rw h refl
 
-  pub climb_on : (op : BinaryOp) (next : Expr) (high' : ℕ) (rest : List Lexed) → Some op ≡ operator_at ls → least ≤ operator_level op → high < high' → high' ≤ room → extended_by (deeper room) room op (left, high, ls) ≡ Ok (next, high', rest) → Climbs room least next high' rest total
+  pub climb_on : (op : BinaryOp) (next : Expr) (high' : ℕ) (rest : List Lexed) → Some op ≡ operator_at ls → least ≤ operator_level op → high < high' → high' ≤ room → joined_by op (left, high, ls) (right_by (deeper room) room high op ls) ≡ Ok (next, high', rest) → Climbs room least next high' rest total
+  unfolding after_right
   climb_on op next high' rest e le higher low h =
       let on : climb (deeper room) room least c.steps next high' rest ≡ total = sym (joined op e le ∙ rw h refl) in
       climbs_from next high' rest low c.steps (omega (arith, c.enough)) on

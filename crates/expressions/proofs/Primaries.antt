@@ -1,17 +1,18 @@
 -- What is known of an expression's first lexeme by its shape.
-use Rattle.std.proofs.Common.{◌≡◌, Bool, true, false, List, [], ◌∷◌, Option, Some, None, Result, Ok, Err, refl, sym, ap, ◌∙◌}
+use Rattle.std.proofs.Common.{◌≡◌, ℕ, Bool, true, false, List, [], ◌∷◌, Option, Some, None, Result, Ok, Err, refl, sym, ap, ◌∙◌}
 use Rattle.std.specs.Prelude.{is_ok, is_some}
 use Rattle.scan.specs.declared.token.Mark.{Mark}
-use Rattle.syntax.specs.Tree.{BinaryOp, Constant, Number}
+use Rattle.syntax.specs.Tree.{BinaryOp, Constant, Number, Variable}
 use Rattle.lexemes.specs.declared.fault.Fault.TheVariants.{NoForm}
 use Rattle.lexemes.specs.declared.fault.ParseFault.{ParseFault}
+use Rattle.lexemes.specs.declared.fault.ParseFault.TheVariants.{Memory, Found}
 use Rattle.lexemes.specs.declared.first.Fixed.TheVariants as fixed
 use Rattle.lexemes.specs.declared.first.Shape.{Shape}
 use Rattle.lexemes.specs.declared.first.Shape.TheVariants as shapes
 use Rattle.lexemes.specs.Meaning.{Meaning, Fixed', Name', Number', Text'}
+use Rattle.lexemes.specs.Results.{◌>>=◌, Fails}
 use Rattle.lexemes.specs.Lexemes.{Lexed, fault_at, name_at}
 use Rattle.lexemes.specs.Shapes.{shape_of, shape_at, mark_of_shape}
-use Rattle.expressions.specs.Steps.{variable_at}
 use Rattle.expressions.specs.Reading.{ReadExpr, operator_at, binary_of, binary_of_mark, primary_of, primary_at, named_of}
 use Rattle.lexemes.specs.Reading.{rest_of, constant_of_word}
 
@@ -35,7 +36,7 @@ operator_at_is (l ∷ ls) = operator_in_is l.meaning
 
 abbrev pub primary_by : Shape → List Lexed → Result ReadExpr ParseFault
 primary_by (shapes.Number unsigned value) ls = Ok (Number value unsigned, 0, rest_of ls)
-primary_by shapes.Name ls = variable_at ls
+primary_by shapes.Name ls = name_at ls >>= λ name. Ok (Variable name.0, 0, name.1)
 primary_by (shapes.Fixed (fixed.Word word)) ls = named_of (constant_of_word word) ls (rest_of ls)
 primary_by (shapes.Fixed (fixed.Mark mark)) ls = Err (fault_at NoForm ls)
 primary_by (shapes.Fixed fixed.End) ls = Err (fault_at NoForm ls)
@@ -85,3 +86,11 @@ starts_primary_is (l ∷ ls) = primary_in_ok l.meaning (l ∷ ls) ls
 -- what is read by the first lexeme's shape
 pub primary_shape : (ls : List Lexed) (s : Shape) → s ≡ shape_at ls → primary_at ls ≡ primary_by s ls
 primary_shape ls s is = sym (primary_is ls) ∙ ap (λ (x : Shape). primary_by x ls) (sym is)
+
+-- where a name comes next
+pub primary_named : (ls after : List Lexed) (s : Shape) (bytes : List ℕ) → s ≡ shape_at ls → s ≡ shapes.Name → name_at ls ≡ Ok (bytes, after) → primary_at ls ≡ Ok (Variable bytes, 0, after)
+primary_named ls after s bytes is name read = rw (primary_shape ls s is, name, read) refl
+
+pub primary_fails : (ls : List Lexed) (s : Shape) (e : ParseFault) → s ≡ shape_at ls → s ≡ shapes.Name → Fails e (name_at ls) → Fails e (primary_at ls)
+primary_fails ls s Memory is name h = tt
+primary_fails ls s (Found fault line) is name h = rw (primary_shape ls s is, name, h) refl

@@ -6,6 +6,7 @@ use Rattle.scan.specs.declared.reserved.Word.TheVariants as words
 use Rattle.syntax.specs.Limits.{operator_level, prefix_level}
 use Rattle.syntax.specs.Tree.{PrefixOp, LogicalNot, Complement, ToWord, ToInt, BinaryOp, Expr, Variable, Element, Prefix, Binary, Paren, Call, RightSide}
 use Rattle.syntax.specs.Views.{prefix_tree}
+use Rattle.lexemes.specs.declared.first.Fixed.{Fixed}
 use Rattle.lexemes.specs.declared.first.Fixed.TheVariants as fixed
 use Rattle.lexemes.specs.declared.fault.Fault.TheVariants.{TooHigh}
 use Rattle.lexemes.specs.declared.fault.ParseFault.{ParseFault}
@@ -41,15 +42,17 @@ within least (Some op) = if nat_lt (operator_level op) least then None else Some
 abbrev pub function_at : List Lexed → Result ReadName ParseFault
 function_at ls = interface_at ls >>= λ a. name_at a
 
--- an expression that goes on with an operator, and with what comes after it
-unfoldable pub extended_by : Reader → (room : ℕ) → BinaryOp → ReadExpr → Result ReadExpr ParseFault
-extended_by deep room op left =
-    if nat_lt left.1 room then (deep (operator_level op + 1) (rest_of left.2) >>= λ r. Ok (Binary op left.0 r.0, 1 + max left.1 r.1, r.2))
-    else Err (fault_at TooHigh left.2)
+-- two lexemes
+abbrev pub two : (first second : Fixed) → List Lexed → Result (List Lexed) ParseFault
+two first second ls = expect first ls >>= λ rest. expect second rest
 
--- a name
-abbrev pub variable_at : List Lexed → Result ReadExpr ParseFault
-variable_at ls = name_at ls >>= λ name. Ok (Variable name.0, 0, name.1)
+-- what comes after an operator, whose left operand is this high
+abbrev pub right_by : Reader → (room high : ℕ) → BinaryOp → List Lexed → Result ReadExpr ParseFault
+right_by deep room high op ls = if nat_lt high room then deep (operator_level op + 1) (rest_of ls) else Err (fault_at TooHigh ls)
+
+-- an operator with both operands, of which the right one is read so
+abbrev pub joined_by : BinaryOp → ReadExpr → Result ReadExpr ParseFault → Result ReadExpr ParseFault
+joined_by op left read = read >>= λ r. Ok (Binary op left.0 r.0, 1 + max left.1 r.1, r.2)
 
 -- ---- operands
 

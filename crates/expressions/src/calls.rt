@@ -7,7 +7,7 @@ ghost use Rattle.expressions.specs.Steps.{ReadCall, ReadName, ReadSetting, made_
 ghost use Rattle.lexemes.specs.Lexemes.{views, expect};
 ghost use Rattle.expressions.specs.Reading.{interface_at, value_at, argument_at, arguments_at, call_at, starts_call, right_at, setting_at, test_at};
 
-use crate::expressions::{expression, right_expression};
+use crate::expressions::{expect_two, expression, owned_name, right_expression};
 use lexemes::{
     Cursor, Fixed, ParseFault, expect, name_at, number_at, rest_of, starts_with, text_at,
 };
@@ -16,14 +16,16 @@ use std::alloc::Global;
 use syntax::{Argument, Call, Name, RightSide, Test};
 
 /// What comes after `(*env)->`.
-#[tactic(auto, unfolding(crate::specs::Reading::interface_at))]
+#[tactic(auto, using(crate::proofs::Called::interface_is))]
 fn interface(lexemes: Cursor<'_>) -> Result<Cursor<'_>, ParseFault>
     ensures { Gives (λ x. views x) result (interface_at (views lexemes.entry)) }
 {
-    let rest = expect(Fixed::Mark(Mark::OpenParen), lexemes)?;
-    let rest = expect(Fixed::Mark(Mark::Star), rest)?;
-    let rest = expect(Fixed::Word(Word::Env), rest)?;
-    let rest = expect(Fixed::Mark(Mark::CloseParen), rest)?;
+    let rest = expect_two(
+        Fixed::Mark(Mark::OpenParen),
+        Fixed::Mark(Mark::Star),
+        lexemes,
+    )?;
+    let rest = expect_two(Fixed::Word(Word::Env), Fixed::Mark(Mark::CloseParen), rest)?;
     expect(Fixed::Mark(Mark::Arrow), rest)
 }
 
@@ -38,8 +40,8 @@ fn value(
     ensures { Gives (λ x. (argument_tree x.0, views x.1)) result (value_at room (views lexemes.entry)) }
 {
     if starts_with(Fixed::Mark(Mark::Ampersand), lexemes) {
-        let (name, rest) = name_at(rest_of(lexemes))?;
-        return Ok((Argument::AddressOf(Name::new(alloc, name)?), rest));
+        let (name, rest) = owned_name(alloc, rest_of(lexemes))?;
+        return Ok((Argument::AddressOf(name), rest));
     }
     let (value, _, rest) = expression(alloc, room, 0, lexemes)?;
     Ok((Argument::Value(value), rest))
@@ -120,8 +122,7 @@ pub fn call(alloc: Global, room: u32, lexemes: Cursor<'_>) -> Result<(Call, Curs
     ensures { Gives (λ x. (call_tree x.0, views x.1)) result (call_at room (views lexemes.entry)) }
 {
     let (function, rest) = function(lexemes)?;
-    let rest = expect(Fixed::Mark(Mark::OpenParen), rest)?;
-    let rest = expect(Fixed::Word(Word::Env), rest)?;
+    let rest = expect_two(Fixed::Mark(Mark::OpenParen), Fixed::Word(Word::Env), rest)?;
     let (arguments, rest) = arguments(alloc, room, rest)?;
     called(
         alloc,

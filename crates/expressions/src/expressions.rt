@@ -1,13 +1,13 @@
 //! Expressions, by the levels of their operators (ISO/IEC 9899:1999, 6.5).
 
-ghost use Rattle.std.specs.Prelude.{◌≡◌, ◌+◌, ◌≤◌, ◌<◌, max, IfOk, IfSome, is_ok};
+ghost use Rattle.std.specs.Prelude.{◌≡◌, ℕ, ◌+◌, ◌≤◌, ◌<◌, Result, IfOk, IfSome, is_ok};
 ghost use Rattle.std.specs.Option.{option_map};
 ghost use Rattle.syntax.specs.Limits.{operator_level};
-ghost use Rattle.syntax.specs.Tree.{Binary};
 ghost use Rattle.syntax.specs.Views.{constant_tree, prefix_tree, binary_tree, expr_tree};
 ghost use Rattle.lexemes.specs.Results.{Gives};
-ghost use Rattle.expressions.specs.Steps.{made_of, extended_by, within, variable_at, opening_view, level_inside, around, ending_at, operand_of, cast_at, paren_opening_at, bracket_at, element_opening_at, starts_deep, opening_at};
-ghost use Rattle.lexemes.specs.Lexemes.{views, expect};
+ghost use Rattle.expressions.specs.Steps.{made_of, two, joined_by, right_by, within, opening_view, level_inside, around, ending_at, operand_of, cast_at, paren_opening_at, bracket_at, element_opening_at, starts_deep, opening_at};
+ghost use Rattle.lexemes.specs.declared.fault.ParseFault.{ParseFault};
+ghost use Rattle.lexemes.specs.Lexemes.{views, expect, name_at};
 ghost use Rattle.expressions.specs.Reading.{ReadExpr, operator_at, binary_of_mark, named_of, primary_at, starts_element, starts_inside, index_at, operand_at, expr_at, right_expr_at, deeper};
 ghost use Rattle.lexemes.specs.Reading.{constant_of_word, rest_of};
 
@@ -106,14 +106,25 @@ fn constant_of(word: Word) -> Option<Constant>
     }
 }
 
-/// A name.
-#[inline(always)]
-fn variable(alloc: Global, lexemes: Cursor<'_>) -> Result<ReadExpr<'_>, ParseFault>
-    ensures low { IfOk result (λ x. x.1 ≡ 0) }
-    ensures gives { Gives {Y = ReadExpr} (λ x. (expr_tree x.0, x.1, views x.2)) result (variable_at (views lexemes.entry)) }
+/// A name, and what comes after it.
+pub fn owned_name(alloc: Global, lexemes: Cursor<'_>) -> Result<(Name, Cursor<'_>), ParseFault>
+    ensures { Gives (λ x. (x.0, views x.1)) result (name_at (views lexemes.entry)) }
 {
     let (name, rest) = name_at(lexemes)?;
-    Ok((Expr::Variable(Name::new(alloc, name)?), 0, rest))
+    Ok((Name::new(alloc, name)?, rest))
+}
+
+/// Two lexemes, and what comes after them.
+#[inline(always)]
+pub fn expect_two(
+    first: Fixed,
+    second: Fixed,
+    lexemes: Cursor<'_>,
+) -> Result<Cursor<'_>, ParseFault>
+    ensures { Gives views result (two first second (views lexemes.entry)) }
+{
+    let rest = expect(first, lexemes)?;
+    expect(second, rest)
 }
 
 /// A named constant.
@@ -138,7 +149,10 @@ fn primary(alloc: Global, lexemes: Cursor<'_>) -> Result<ReadExpr<'_>, ParseFaul
         Shape::Number { value, unsigned } => {
             Ok((Expr::Number { value, unsigned }, 0, rest_of(lexemes)))
         }
-        Shape::Name => variable(alloc, lexemes),
+        Shape::Name => {
+            let (name, rest) = owned_name(alloc, lexemes)?;
+            Ok((Expr::Variable(name), 0, rest))
+        }
         Shape::Fixed(Fixed::Word(word)) => named(word, lexemes),
         _ => Err(unexpected(lexemes)),
     }
@@ -181,15 +195,16 @@ fn ended<'t>(end: Fixed, read: ReadExpr<'t>) -> Result<ReadExpr<'t>, ParseFault>
     closed(end, inside, height, rest)
 }
 
-/// What comes after the lexeme that ends an operand which opened so.
+/// What is read inside an operand which opened so, and what comes after the lexeme that ends it.
 #[inline(always)]
-fn ending<'t>(opening: Opening<'t>, lexemes: Cursor<'t>) -> Result<Cursor<'t>, ParseFault>
-    ensures { Gives views result (ending_at (opening_view opening.entry) (views lexemes.entry)) }
+fn ended_as<'t>(opening: Opening<'t>, inside: ReadExpr<'t>) -> Result<ReadExpr<'t>, ParseFault>
+    ensures low { IfOk result (λ x. x.1 ≡ inside.entry.1) }
+    ensures gives { Gives (λ x. (expr_tree x.0, x.1, views x.2)) result (made_of {B = ReadExpr} (ending_at (opening_view opening.entry) (views inside.entry.2)) (λ after. (expr_tree inside.entry.0, inside.entry.1, after))) }
 {
     match opening {
-        Opening::Prefix(_) => Ok(lexemes),
-        Opening::Paren => expect(Fixed::Mark(Mark::CloseParen), lexemes),
-        Opening::Element(_) => expect(Fixed::Mark(Mark::CloseBracket), lexemes),
+        Opening::Prefix(_) => Ok(inside),
+        Opening::Paren => ended(Fixed::Mark(Mark::CloseParen), inside),
+        Opening::Element(_) => ended(Fixed::Mark(Mark::CloseBracket), inside),
     }
 }
 
@@ -204,25 +219,24 @@ fn operand_of<'t>(
     ensures low { IfOk result (λ x. x.1 ≡ 1 + inside.entry.1) }
     ensures gives { Gives (λ x. (expr_tree x.0, x.1, views x.2)) result (operand_of (opening_view opening.entry) (expr_tree inside.entry.0, inside.entry.1, views inside.entry.2)) }
 {
-    let (inside, height, rest) = inside;
-    let rest = ending(opening, rest)?;
+    let (inside, height, rest) = ended_as(opening, inside)?;
     Ok((around(alloc, opening, inside)?, 1 + height, rest))
 }
 
-/// An operator between two operands, its height, and what comes after it.
+/// What stands to the left of an operator, and what was read after it.
 #[inline(always)]
 fn joined<'t>(
     alloc: Global,
     op: BinaryOp,
-    left: Expr,
-    height: u32,
-    right: ReadExpr<'t>,
-) -> Result<ReadExpr<'t>, AllocError>
-    requires left { height < 32 }
-    requires right { right.1 < 32 }
-    ensures { IfOk result (λ x. ◌≡◌ {A = ReadExpr} (expr_tree x.0, x.1, views x.2) (Binary (binary_tree op) (expr_tree left) (expr_tree right.entry.0), 1 + max height right.entry.1, views right.entry.2)) }
+    left: ReadExpr<'t>,
+    right: Result<ReadExpr<'t>, ParseFault>,
+) -> Result<ReadExpr<'t>, ParseFault>
+    requires { IfOk right (λ x. (x.1 < 32) × (left.1 < 32)) }
+    ensures low { (most : ℕ) → IfOk right.entry (λ x. (x.1 < most) × (left.entry.1 < most)) → IfOk result (λ x. (x.1 ≤ most) × (left.entry.1 < x.1)) }
+    ensures gives { (read : Result ReadExpr ParseFault) → Gives (λ x. (expr_tree x.0, x.1, views x.2)) right.entry read → Gives (λ x. (expr_tree x.0, x.1, views x.2)) result (joined_by (binary_tree op) (expr_tree left.entry.0, left.entry.1, views left.entry.2) read) }
 {
-    let (right, right_height, rest) = right;
+    let (right, right_height, rest) = right?;
+    let (left, height, _) = left;
     let operands = Box::new(alloc, (left, right))?;
     Ok((
         Expr::Binary(op, operands),
@@ -359,31 +373,30 @@ pub fn expression(
 {
     let mut read = operand(alloc, room, lexemes)?;
     while let Some(op) = operator_within(least, read.2) {
-        read = extended(alloc, room, op, read)?;
+        let right = right_operand(alloc, room, read.1, op, read.2);
+        read = joined(alloc, op, read, right)?;
     }
     Ok(read)
 }
 
-/// An expression that goes on with an operator, and with what comes after it.
+/// What comes after this operator, whose left operand has this height.
 #[cycle(expressions)]
-#[tactic(auto, using(crate::proofs::Climbing::deeps), unfolding(crate::specs::Steps::extended_by))]
-fn extended<'t>(
+#[tactic(auto, using(crate::proofs::Climbing::deeps))]
+fn right_operand(
     alloc: Global,
     room: u32,
+    height: u32,
     op: BinaryOp,
-    left: ReadExpr<'t>,
-) -> Result<ReadExpr<'t>, ParseFault>
+    lexemes: Cursor<'_>,
+) -> Result<ReadExpr<'_>, ParseFault>
     requires { room ≤ 32 }
-    ensures low { IfOk result (λ x. x.1 ≤ room) }
-    ensures higher { IfOk result (λ x. left.entry.1 < x.1) }
-    ensures gives { Gives (λ x. (expr_tree x.0, x.1, views x.2)) result (extended_by (deeper room) room (binary_tree op) (expr_tree left.entry.0, left.entry.1, views left.entry.2)) }
+    ensures low { IfOk result (λ x. (x.1 < room) × (height < room)) }
+    ensures gives { Gives (λ x. (expr_tree x.0, x.1, views x.2)) result (right_by (deeper room) room height (binary_tree op) (views lexemes.entry)) }
 {
-    let (left, height, lexemes) = left;
     if height >= room {
         return Err(fault_at(Fault::TooHigh, lexemes));
     }
-    let right = expression(alloc, room - 1, level(op) + 1, rest_of(lexemes))?;
-    Ok(joined(alloc, op, left, height, right)?)
+    expression(alloc, room - 1, level(op) + 1, rest_of(lexemes))
 }
 
 /// A prefix with its operand, parentheses, an element, or what holds best.

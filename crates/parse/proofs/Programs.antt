@@ -1,5 +1,5 @@
 -- Functions and units: what is read is spelled so, and what is spelled so is read.
-use Rattle.std.proofs.Common.{◌≡◌, ℕ, zero, suc, ◌-◌, ◌<◌, ◌≤◌, true, List, [], ◌∷◌, ◌++◌, length, Option, Some, None, Result, Ok, refl, sym, ap, subst, ◌∙◌, arith, inl, inr}
+use Rattle.std.proofs.Common.{◌≡◌, ℕ, zero, suc, ◌+◌, ◌-◌, ◌<◌, ◌≤◌, true, List, [], ◌∷◌, ◌++◌, length, Option, Some, None, Result, Ok, refl, sym, ap, subst, ◌∙◌, arith, inl, inr}
 use Rattle.std.specs.Prelude.{◌==◌, ◌≢◌, flat_map}
 use Rattle.std.proofs.lemmas.Bool.{eqb-false}
 use Rattle.scan.specs.declared.token.Mark.TheVariants as marks
@@ -168,6 +168,9 @@ pub record TakesFunction (ls : List Lexed) (x : Function × List Lexed) : Type 0
   pub formed : IsFunction x.0
   pub shorter : length x.1 < length ls
 
+names_fit : (parameters names : ℕ) → parameters ≤ 255 → names ≤ 255 - parameters → parameters + names ≤ 255
+names_fit parameters names few rest = omega arith
+
 steps_take : (ls : List Lexed) (x : Function × List Lexed) → (expect (fixed.Word words.JniExport) ls >>= step0 (line_at ls)) ≡ Ok x → TakesFunction ls x
 steps_take ls x h =
     let line = line_at ls in
@@ -195,10 +198,9 @@ steps_take ls x h =
     let t2 = begins_append (word words.JniCall ∷ []) es3 b.0.1 c.0 g.0.1 (expect_takes (fixed.Word words.JniCall) b.0.1 c.0 c.1) t3 in
     let t1 = begins_append (word (result_word b.0.0) ∷ []) es2 a.0 b.0.1 g.0.1 type t2 in
     let t0 = begins_append (OnLine line (Fixed' (fixed.Word words.JniExport)) ∷ []) es1 ls a.0 g.0.1 (on_expected (fixed.Word words.JniExport) ls a.0 a.1) t1 in
-    let few = ps.1 in
     subst (λ (y : Function × List Lexed). TakesFunction ls y) (ok_is (made line b.0.0 d.0.0 f.0.0 k.0.0 g.0.0, g.0.1) x g.2) (record {
       parts = t0;
-      formed = record { body = body.formed; names = omega (arith, few, body.few) };
+      formed = record { body = body.formed; names = names_fit (length k.0.0) (names_in g.0.0) ps.1 body.few };
       shorter = shortens (OnLine line (Fixed' (fixed.Word words.JniExport))) es1 ls g.0.1 t0;
     })
 
@@ -274,6 +276,9 @@ pub record TakesItem (functions statics : ℕ) (ls : List Lexed) (x : ReadItem) 
   pub statics_count : (others : List Item) → statics_in others ≤ x.2 → statics_in (x.0 ∷ others) ≤ statics
   pub shorter : length x.3 < length ls
 
+one_more : (count limit others : ℕ) → limit ≢ 0 → others ≤ limit - 1 → count ≡ suc others → count ≤ limit
+one_more count limit others other few is = omega arith
+
 pub item_takes : (functions statics : ℕ) (ls : List Lexed) (x : ReadItem) → item_at functions statics ls ≡ Ok x → TakesItem functions statics ls x
 unfolding item_at
 item_takes functions statics ls x e =
@@ -287,7 +292,7 @@ item_takes functions statics ls x e =
             subst (λ (y : ReadItem). TakesItem functions statics ls y) (ok_is (FunctionItem a.0.0, functions - 1, statics, a.0.1) x a.2) (record {
               parts = t.parts;
               formed = λ others are. (t.formed, are);
-              functions_count = λ others few. omega (arith, other, few);
+              functions_count = λ others few. one_more (functions_in (FunctionItem a.0.0 ∷ others)) functions (functions_in others) other few refl;
               statics_count = λ others few. few;
               shorter = t.shorter;
             })
@@ -303,7 +308,7 @@ item_takes functions statics ls x e =
                 parts = t.parts;
                 formed = λ others are. are;
                 functions_count = λ others few. few;
-                statics_count = λ others few. omega (arith, other, few);
+                statics_count = λ others few. one_more (statics_in (StaticItem a.0.0 ∷ others)) statics (statics_in others) other few refl;
                 shorter = t.shorter;
               })
         ]

@@ -3,7 +3,8 @@ use Rattle.std.proofs.lemmas.Result.{err_from_is_err_and}
 use Rattle.lexemes.specs.Lexemes.{views}
 use Rattle.std.specs.Option.{option_map}
 use Rattle.syntax.specs.Views.{expr_tree, binary_tree}
-use Rattle.expressions.specs.Reading.{operator_at, expr_at}
+use Rattle.expressions.specs.Steps.{right_by}
+use Rattle.expressions.specs.Reading.{operator_at, deeper, expr_at}
 use Rattle.expressions.proofs.Climbing.{climbs_start, start_fails, climb_done, within_some, within_tight, climb_fails, climb_on, none_since}
 use Rattle.expressions.proofs.expressions.+expressions.Goals as goal
 
@@ -24,7 +25,7 @@ expression-returns-in_err-read-2-clause-gives t c =
     let next = operator_at (views read.2) in
     let op = binary_tree c.in-Some.op in
     rw (p.1, p.2) (climb_fails c.args.room c.args.least (expr_tree read.0) read.1 (views read.2) (expr_at c.args.room c.args.least (views c.args.lexemes)) c.loop-op.invariant op c.in_err-read-2.field-0.0
-    (within_some c.args.least next op c.in-Some.ensures) (within_tight c.args.least next op c.in-Some.ensures) c.in_err-read-2.ensures.gives)
+    (within_some c.args.least next op c.in-Some.ensures) (within_tight c.args.least next op c.in-Some.ensures) (c.in_err-read-2.ensures.gives (right_by (deeper c.args.room) c.args.room read.1 op (views read.2)) c.right_operand-right.ensures.gives))
 
 pub expression-loop-op-preserved : goal.expression-loop-op-preserved
 expression-loop-op-preserved t c =
@@ -32,8 +33,9 @@ expression-loop-op-preserved t c =
     let next = operator_at (views read.2) in
     let op = binary_tree c.in-Some.op in
     let larger = c.in_ok-read-2.read in
+    let low = c.in_ok-read-2.ensures.low c.args.room c.right_operand-right.ensures.low in
     climb_on c.args.room c.args.least (expr_tree read.0) read.1 (views read.2) (expr_at c.args.room c.args.least (views c.args.lexemes)) c.loop-op.invariant op
-    (expr_tree larger.0) larger.1 (views larger.2) (within_some c.args.least next op c.in-Some.ensures) (within_tight c.args.least next op c.in-Some.ensures) c.in_ok-read-2.ensures.higher c.in_ok-read-2.ensures.low c.in_ok-read-2.ensures.gives
+    (expr_tree larger.0) larger.1 (views larger.2) (within_some c.args.least next op c.in-Some.ensures) (within_tight c.args.least next op c.in-Some.ensures) low.1 low.0 (c.in_ok-read-2.ensures.gives (right_by (deeper c.args.room) c.args.room read.1 op (views read.2)) c.right_operand-right.ensures.gives)
 
 pub expression-returns-clause-gives : goal.expression-returns-clause-gives
 expression-returns-clause-gives t c =

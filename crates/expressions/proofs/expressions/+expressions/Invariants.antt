@@ -8,8 +8,8 @@ use Rattle.expressions.proofs.expressions.+expressions.Given as goal
 abbrev pub decreases-expression : goal.decreases-expression
 decreases-expression l = 2 * l.room + 1
 
-abbrev pub decreases-extended : goal.decreases-extended
-decreases-extended l = 2 * l.room
+abbrev pub decreases-right_operand : goal.decreases-right_operand
+decreases-right_operand l = 2 * l.room
 
 abbrev pub decreases-operand : goal.decreases-operand
 decreases-operand l = 2 * l.room
