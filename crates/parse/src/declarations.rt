@@ -7,7 +7,7 @@ ghost use Rattle.lexemes.specs.Lexemes.{views};
 ghost use Rattle.parse.specs.Steps.{array_head_at};
 ghost use Rattle.parse.specs.Reading.{zeros_at, array_at, is_array, after_element, after_variable, after_const, declared_at, starts_declaration};
 
-use expressions::setting;
+use expressions::{expect_two, setting};
 use lexemes::{
     Cursor, Fixed, ParseFault, element_type, expect, line_at, name_at, number_at, rest_of,
     starts_with, variable_type,
@@ -20,15 +20,21 @@ use syntax::{ElementType, Form, Name, Stmt, VariableType};
 const ELEMENTS: u32 = 1024;
 
 /// What comes after the zeros of a local array.
-#[tactic(auto, unfolding(crate::specs::Reading::zeros_at))]
+#[tactic(auto, using(crate::proofs::Regrouped::zeros_are))]
 fn zeros(lexemes: Cursor<'_>) -> Result<Cursor<'_>, ParseFault>
     ensures { Gives (λ x. views x) result (zeros_at (views lexemes.entry)) }
 {
-    let rest = expect(Fixed::Mark(Mark::Assign), lexemes)?;
-    let rest = expect(Fixed::Mark(Mark::OpenBrace), rest)?;
+    let rest = expect_two(
+        Fixed::Mark(Mark::Assign),
+        Fixed::Mark(Mark::OpenBrace),
+        lexemes,
+    )?;
     let (_, rest) = number_at(0, 0, rest)?;
-    let rest = expect(Fixed::Mark(Mark::CloseBrace), rest)?;
-    expect(Fixed::Mark(Mark::Semicolon), rest)
+    expect_two(
+        Fixed::Mark(Mark::CloseBrace),
+        Fixed::Mark(Mark::Semicolon),
+        rest,
+    )
 }
 
 /// The name and the size of a local array, in its brackets.
@@ -111,7 +117,7 @@ fn after_variable(
 }
 
 /// What comes after `const`.
-#[tactic(auto, unfolding(crate::specs::Reading::after_const))]
+#[tactic(auto, using(crate::proofs::Regrouped::const_is))]
 fn after_const(
     alloc: Global,
     room: u32,
@@ -121,8 +127,7 @@ fn after_const(
     requires { room ≤ 32 }
     ensures { Gives (λ x. (stmt_tree x.0, views x.1)) result (after_const room line (views lexemes.entry)) }
 {
-    let rest = expect(Fixed::Word(Word::Jchar), lexemes)?;
-    let rest = expect(Fixed::Mark(Mark::Star), rest)?;
+    let rest = expect_two(Fixed::Word(Word::Jchar), Fixed::Mark(Mark::Star), lexemes)?;
     let (name, right, rest) = setting(alloc, room, rest)?;
     let form = Form::DeclareChars(name, right);
     Ok((Stmt { line, form }, rest))

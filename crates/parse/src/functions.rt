@@ -12,6 +12,7 @@ ghost use Rattle.parse.specs.Reading.{head_at, body_at, signature_at, function_a
 
 use crate::parameters::{NAMES, parameters};
 use crate::statements::block;
+use expressions::expect_two;
 use lexemes::{
     Cursor, Fault, Fixed, ParseFault, Source, expect, fault_at, line_at, name_at, reference_type,
     rest_of, result_type, start, starts_with, unexpected,
@@ -30,25 +31,29 @@ const FUNCTIONS: usize = 256;
 const STATICS: usize = 256;
 
 /// What comes after the parameters that each function has.
-#[tactic(auto, unfolding(crate::specs::Reading::head_at))]
+#[tactic(auto, using(crate::proofs::Regrouped::head_is))]
 fn head(lexemes: Cursor<'_>) -> Result<Cursor<'_>, ParseFault>
     ensures { Gives (λ x. views x) result (head_at (views lexemes.entry)) }
 {
-    let rest = expect(Fixed::Mark(Mark::OpenParen), lexemes)?;
-    let rest = expect(Fixed::Word(Word::JniEnv), rest)?;
-    let rest = expect(Fixed::Mark(Mark::Star), rest)?;
-    let rest = expect(Fixed::Word(Word::Env), rest)?;
-    let rest = expect(Fixed::Mark(Mark::Comma), rest)?;
-    expect(Fixed::Word(Word::Jclass), rest)
+    let rest = expect_two(
+        Fixed::Mark(Mark::OpenParen),
+        Fixed::Word(Word::JniEnv),
+        lexemes,
+    )?;
+    let rest = expect_two(Fixed::Mark(Mark::Star), Fixed::Word(Word::Env), rest)?;
+    expect_two(Fixed::Mark(Mark::Comma), Fixed::Word(Word::Jclass), rest)
 }
 
 /// A function's block, with what closes its parameters, where `free` more names may be declared.
-#[tactic(auto, unfolding(crate::specs::Reading::body_at))]
+#[tactic(auto, using(crate::proofs::Regrouped::body_is))]
 fn body(alloc: Global, free: usize, lexemes: Cursor<'_>) -> Result<(Block, Cursor<'_>), ParseFault>
     ensures { Gives (λ x. (block_tree x.0, views x.1)) result (body_at free (views lexemes.entry)) }
 {
-    let rest = expect(Fixed::Mark(Mark::CloseParen), lexemes)?;
-    let rest = expect(Fixed::Mark(Mark::OpenBrace), rest)?;
+    let rest = expect_two(
+        Fixed::Mark(Mark::CloseParen),
+        Fixed::Mark(Mark::OpenBrace),
+        lexemes,
+    )?;
     let (body, _, rest) = block(alloc, ROOM, free, rest)?;
     Ok((body, rest))
 }
@@ -139,8 +144,7 @@ fn static_reference(alloc: Global, lexemes: Cursor<'_>) -> Result<(Static, Curso
 {
     let line = line_at(lexemes);
     let (kind, name, rest) = static_head(lexemes)?;
-    let rest = expect(Fixed::Word(Word::Null), rest)?;
-    let rest = expect(Fixed::Mark(Mark::Semicolon), rest)?;
+    let rest = expect_two(Fixed::Word(Word::Null), Fixed::Mark(Mark::Semicolon), rest)?;
     let name = Name::new(alloc, name)?;
     Ok((Static { line, kind, name }, rest))
 }

@@ -3,7 +3,7 @@
 ghost use Rattle.std.specs.Prelude.{◌≡◌, ◌≤◌};
 ghost use Rattle.syntax.specs.Views.{expr_tree, stmt_tree};
 ghost use Rattle.lexemes.specs.Results.{Gives};
-ghost use Rattle.parse.specs.Steps.{assigned_at, element_set_at};
+ghost use Rattle.parse.specs.Steps.{ended_at, parenthesized_at, assigned_at, element_set_at};
 ghost use Rattle.lexemes.specs.Lexemes.{views};
 ghost use Rattle.parse.specs.Reading.{put_at, return_at, perform_at, set_element_at, set_at, plain_at};
 
@@ -13,8 +13,42 @@ use scan::{Mark, Word};
 use std::alloc::Global;
 use syntax::{Expr, Form, Name, Stmt};
 
+/// An expression, and what comes after this lexeme, which ends it.
+#[inline]
+#[tactic(auto, unfolding(crate::specs::Steps::ended_at))]
+fn ended(
+    alloc: Global,
+    room: u32,
+    end: Fixed,
+    lexemes: Cursor<'_>,
+) -> Result<(Expr, Cursor<'_>), ParseFault>
+    requires { room ≤ 32 }
+    ensures { Gives (λ x. (expr_tree x.0, views x.1)) result (ended_at room end (views lexemes.entry)) }
+{
+    let (operand, height, rest) = expression(alloc, room, 0, lexemes)?;
+    let (operand, _, rest) = closed(end, operand, height, rest)?;
+    Ok((operand, rest))
+}
+
+/// An expression in parentheses, and what comes after this lexeme, which stands after them.
+#[tactic(auto, using(crate::proofs::Regrouped::parenthesized_is))]
+pub(crate) fn parenthesized(
+    alloc: Global,
+    room: u32,
+    end: Fixed,
+    lexemes: Cursor<'_>,
+) -> Result<(Expr, Cursor<'_>), ParseFault>
+    requires { room ≤ 32 }
+    ensures { Gives (λ x. (expr_tree x.0, views x.1)) result (parenthesized_at room end (views lexemes.entry)) }
+{
+    let rest = expect(Fixed::Mark(Mark::OpenParen), lexemes)?;
+    let (operand, rest) = ended(alloc, room, Fixed::Mark(Mark::CloseParen), rest)?;
+    let (operand, _, rest) = closed(end, operand, 0, rest)?;
+    Ok((operand, rest))
+}
+
 /// What comes after the `put_jint` of this line.
-#[tactic(auto, unfolding(crate::specs::Reading::put_at))]
+#[tactic(auto, using(crate::proofs::Regrouped::put_is))]
 fn put(
     alloc: Global,
     room: u32,
@@ -24,16 +58,13 @@ fn put(
     requires { room ≤ 32 }
     ensures { Gives (λ x. (stmt_tree x.0, views x.1)) result (put_at room line (views lexemes.entry)) }
 {
-    let rest = expect(Fixed::Mark(Mark::OpenParen), lexemes)?;
-    let (operand, height, rest) = expression(alloc, room, 0, rest)?;
-    let (operand, height, rest) = closed(Fixed::Mark(Mark::CloseParen), operand, height, rest)?;
-    let (operand, _, rest) = closed(Fixed::Mark(Mark::Semicolon), operand, height, rest)?;
+    let (operand, rest) = parenthesized(alloc, room, Fixed::Mark(Mark::Semicolon), lexemes)?;
     let form = Form::PutJint(operand);
     Ok((Stmt { line, form }, rest))
 }
 
 /// What comes after the `return` of this line.
-#[tactic(auto, unfolding(crate::specs::Reading::return_at))]
+#[tactic(auto, using(crate::proofs::Regrouped::return_is))]
 fn returned(
     alloc: Global,
     room: u32,
@@ -47,8 +78,7 @@ fn returned(
         let form = Form::Return(None);
         return Ok((Stmt { line, form }, rest_of(lexemes)));
     }
-    let (operand, height, rest) = expression(alloc, room, 0, lexemes)?;
-    let (operand, _, rest) = closed(Fixed::Mark(Mark::Semicolon), operand, height, rest)?;
+    let (operand, rest) = ended(alloc, room, Fixed::Mark(Mark::Semicolon), lexemes)?;
     let form = Form::Return(Some(operand));
     Ok((Stmt { line, form }, rest))
 }
@@ -72,15 +102,13 @@ fn perform(
 
 /// What comes after an equals sign up to the semicolon.
 #[inline]
-#[tactic(auto, unfolding(crate::specs::Steps::assigned_at))]
+#[tactic(auto, unfolding(crate::specs::Steps::assigned_at, crate::specs::Steps::ended_at))]
 fn assigned(alloc: Global, room: u32, lexemes: Cursor<'_>) -> Result<(Expr, Cursor<'_>), ParseFault>
     requires { room ≤ 32 }
     ensures { Gives (λ x. (expr_tree x.0, views x.1)) result (assigned_at room (views lexemes.entry)) }
 {
     let rest = expect(Fixed::Mark(Mark::Assign), lexemes)?;
-    let (value, height, rest) = expression(alloc, room, 0, rest)?;
-    let (value, _, rest) = closed(Fixed::Mark(Mark::Semicolon), value, height, rest)?;
-    Ok((value, rest))
+    ended(alloc, room, Fixed::Mark(Mark::Semicolon), rest)
 }
 
 /// What an element of this name and index is set to.
