@@ -40,11 +40,15 @@ fn value(
     ensures { Gives (λ x. (argument_tree x.0, views x.1)) result (value_at room (views lexemes.entry)) }
 {
     if starts_with(Fixed::Mark(Mark::Ampersand), lexemes) {
-        let (name, rest) = owned_name(alloc, rest_of(lexemes))?;
-        return Ok((Argument::AddressOf(name), rest));
+        return match owned_name(alloc, rest_of(lexemes)) {
+            Ok((name, rest)) => Ok((Argument::AddressOf(name), rest)),
+            Err(fault) => Err(fault),
+        };
     }
-    let (value, _, rest) = expression(alloc, room, 0, lexemes)?;
-    Ok((Argument::Value(value), rest))
+    match expression(alloc, room, 0, lexemes) {
+        Ok((value, _, rest)) => Ok((Argument::Value(value), rest)),
+        Err(fault) => Err(fault),
+    }
 }
 
 /// An argument.
@@ -59,7 +63,9 @@ fn argument(
 {
     match text_at(lexemes) {
         Some(bytes) => {
-            let bytes = Vec::from_slice(alloc, bytes)?;
+            let Ok(bytes) = Vec::from_slice(alloc, bytes) else {
+                return Err(ParseFault::Memory);
+            };
             Ok((Argument::Text(bytes), rest_of(lexemes)))
         }
         None => value(alloc, room, lexemes),
@@ -96,7 +102,9 @@ fn called<'t>(
     ensures { Gives (λ x. (call_tree x.0, views x.1)) result (made_of {B = ReadCall} (expect paren (views lexemes.entry)) (λ after. (record { function = function.now; arguments = map argument_tree arguments.items }, after))) }
 {
     let rest = expect(paren, lexemes)?;
-    let function = Name::new(alloc, function)?;
+    let Ok(function) = Name::new(alloc, function) else {
+        return Err(ParseFault::Memory);
+    };
     Ok((
         Call {
             function,
@@ -152,11 +160,15 @@ pub(crate) fn right_side(
     ensures { Gives (λ x. (right_side_tree x.0, views x.1)) result (right_at room (views lexemes.entry)) }
 {
     if starts_call(lexemes) {
-        let (call, rest) = call(alloc, room, lexemes)?;
-        return Ok((RightSide::Call(call), rest));
+        return match call(alloc, room, lexemes) {
+            Ok((call, rest)) => Ok((RightSide::Call(call), rest)),
+            Err(fault) => Err(fault),
+        };
     }
-    let (value, _, rest) = right_expression(alloc, room, lexemes)?;
-    Ok((RightSide::Expr(value), rest))
+    match right_expression(alloc, room, lexemes) {
+        Ok((value, _, rest)) => Ok((RightSide::Expr(value), rest)),
+        Err(fault) => Err(fault),
+    }
 }
 
 /// A name with what it is set to, and what comes after the semicolon.
@@ -169,8 +181,10 @@ fn set_to<'t>(
 ) -> Result<(Name, RightSide, Cursor<'t>), ParseFault>
     ensures { Gives (λ x. (x.0, right_side_tree x.1, views x.2)) result (made_of {B = ReadSetting} (expect semicolon (views lexemes.entry)) (λ rest. (name.now, right_side_tree right, rest))) }
 {
-    let (name, rest) = ended_name(alloc, name, semicolon, lexemes)?;
-    Ok((name, right, rest))
+    match ended_name(alloc, name, semicolon, lexemes) {
+        Ok((name, rest)) => Ok((name, right, rest)),
+        Err(fault) => Err(fault),
+    }
 }
 
 /// A name, and what comes after this lexeme, which ends it.
@@ -184,7 +198,10 @@ fn ended_name<'t>(
     ensures { Gives (λ x. (x.0, views x.1)) result (made_of {B = ReadName} (expect end (views lexemes.entry)) (λ rest. (name.now, rest))) }
 {
     let rest = expect(end, lexemes)?;
-    Ok((Name::new(alloc, name)?, rest))
+    let Ok(name) = Name::new(alloc, name) else {
+        return Err(ParseFault::Memory);
+    };
+    Ok((name, rest))
 }
 
 /// A name, what it is set to, and what comes after the semicolon.
@@ -215,6 +232,8 @@ pub fn test(alloc: Global, room: u32, lexemes: Cursor<'_>) -> Result<(Test, Curs
         let (_, rest) = number_at(0, 0, rest)?;
         return Ok((Test::Call(call), rest));
     }
-    let (value, _, rest) = expression(alloc, room, 0, lexemes)?;
-    Ok((Test::Expr(value), rest))
+    match expression(alloc, room, 0, lexemes) {
+        Ok((value, _, rest)) => Ok((Test::Expr(value), rest)),
+        Err(fault) => Err(fault),
+    }
 }

@@ -111,7 +111,10 @@ pub fn owned_name(alloc: Global, lexemes: Cursor<'_>) -> Result<(Name, Cursor<'_
     ensures { Gives (λ x. (x.0, views x.1)) result (name_at (views lexemes.entry)) }
 {
     let (name, rest) = name_at(lexemes)?;
-    Ok((Name::new(alloc, name)?, rest))
+    let Ok(name) = Name::new(alloc, name) else {
+        return Err(ParseFault::Memory);
+    };
+    Ok((name, rest))
 }
 
 /// Two lexemes, and what comes after them.
@@ -149,10 +152,10 @@ fn primary(alloc: Global, lexemes: Cursor<'_>) -> Result<ReadExpr<'_>, ParseFaul
         Shape::Number { value, unsigned } => {
             Ok((Expr::Number { value, unsigned }, 0, rest_of(lexemes)))
         }
-        Shape::Name => {
-            let (name, rest) = owned_name(alloc, lexemes)?;
-            Ok((Expr::Variable(name), 0, rest))
-        }
+        Shape::Name => match owned_name(alloc, lexemes) {
+            Ok((name, rest)) => Ok((Expr::Variable(name), 0, rest)),
+            Err(fault) => Err(fault),
+        },
         Shape::Fixed(Fixed::Word(word)) => named(word, lexemes),
         _ => Err(unexpected(lexemes)),
     }
@@ -181,8 +184,10 @@ pub fn closed(
     ensures low { IfOk result (λ x. x.1 ≡ height) }
     ensures gives { Gives (λ x. (expr_tree x.0, x.1, views x.2)) result (made_of {B = ReadExpr} (expect end (views lexemes.entry)) (λ after. (expr_tree inside, height, after))) }
 {
-    let rest = expect(end, lexemes)?;
-    Ok((inside, height, rest))
+    match expect(end, lexemes) {
+        Ok(rest) => Ok((inside, height, rest)),
+        Err(fault) => Err(fault),
+    }
 }
 
 /// What is read of an expression, and what comes after the next lexeme, which ends it.
@@ -220,7 +225,10 @@ fn operand_of<'t>(
     ensures gives { Gives (λ x. (expr_tree x.0, x.1, views x.2)) result (operand_of (opening_view opening.entry) (expr_tree inside.entry.0, inside.entry.1, views inside.entry.2)) }
 {
     let (inside, height, rest) = ended_as(opening, inside)?;
-    Ok((around(alloc, opening, inside)?, 1 + height, rest))
+    let Ok(operand) = around(alloc, opening, inside) else {
+        return Err(ParseFault::Memory);
+    };
+    Ok((operand, 1 + height, rest))
 }
 
 /// What stands to the left of an operator, and what was read after it.
@@ -237,7 +245,9 @@ fn joined<'t>(
 {
     let (right, right_height, rest) = right?;
     let (left, height, _) = left;
-    let operands = Box::new(alloc, (left, right))?;
+    let Ok(operands) = Box::new(alloc, (left, right)) else {
+        return Err(ParseFault::Memory);
+    };
     Ok((
         Expr::Binary(op, operands),
         1 + height.max(right_height),
@@ -277,8 +287,10 @@ pub fn starts_element(lexemes: Cursor<'_>) -> bool
 fn cast(op: PrefixOp, lexemes: Cursor<'_>) -> Result<ReadOpening<'_>, ParseFault>
     ensures { Gives (option_map (λ x. (opening_view x.0, views x.1))) result (cast_at (prefix_tree op) (views lexemes.entry)) }
 {
-    let rest = expect(Fixed::Mark(Mark::CloseParen), lexemes)?;
-    Ok(Some((Opening::Prefix(op), rest)))
+    match expect(Fixed::Mark(Mark::CloseParen), lexemes) {
+        Ok(rest) => Ok(Some((Opening::Prefix(op), rest))),
+        Err(fault) => Err(fault),
+    }
 }
 
 /// What opens with a parenthesis: a cast, or an expression.
@@ -317,8 +329,10 @@ fn element_opening(room: u32, lexemes: Cursor<'_>) -> Result<ReadOpening<'_>, Pa
     ensures gives { Gives (option_map (λ x. (opening_view x.0, views x.1))) result (element_opening_at room (views lexemes.entry)) }
 {
     let (name, rest) = name_at(lexemes)?;
-    let rest = bracket(room, rest)?;
-    Ok(Some((Opening::Element(name), rest)))
+    match bracket(room, rest) {
+        Ok(rest) => Ok(Some((Opening::Element(name), rest))),
+        Err(fault) => Err(fault),
+    }
 }
 
 /// How an operand opens that has an expression inside, for which there is room, and what comes after that.
