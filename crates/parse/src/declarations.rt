@@ -46,8 +46,10 @@ fn array_head(lexemes: Cursor<'_>) -> Result<(&[u8], u32, Cursor<'_>), ParseFaul
     let (name, rest) = name_at(lexemes)?;
     let rest = expect(Fixed::Mark(Mark::OpenBracket), rest)?;
     let (size, rest) = number_at(1, ELEMENTS, rest)?;
-    let rest = expect(Fixed::Mark(Mark::CloseBracket), rest)?;
-    Ok((name, size, rest))
+    match expect(Fixed::Mark(Mark::CloseBracket), rest) {
+        Ok(rest) => Ok((name, size, rest)),
+        Err(fault) => Err(fault),
+    }
 }
 
 /// The name, the size and the zeros of a local array.
@@ -62,7 +64,10 @@ fn array(
 {
     let (name, size, rest) = array_head(lexemes)?;
     let rest = zeros(rest)?;
-    let form = Form::DeclareArray(element, Name::new(alloc, name)?, size);
+    let Ok(name) = Name::new(alloc, name) else {
+        return Err(ParseFault::Memory);
+    };
+    let form = Form::DeclareArray(element, name, size);
     Ok((Stmt { line, form }, rest))
 }
 
@@ -89,9 +94,13 @@ fn after_element(
     ensures { Gives (λ x. (stmt_tree x.0, views x.1)) result (after_element room line (element_tree element) (views lexemes.entry)) }
 {
     if starts_with(Fixed::Mark(Mark::Star), lexemes) {
-        let (name, right, rest) = setting(alloc, room, rest_of(lexemes))?;
-        let form = Form::DeclareBuffer(element, name, right);
-        return Ok((Stmt { line, form }, rest));
+        return match setting(alloc, room, rest_of(lexemes)) {
+            Ok((name, right, rest)) => {
+                let form = Form::DeclareBuffer(element, name, right);
+                Ok((Stmt { line, form }, rest))
+            }
+            Err(fault) => Err(fault),
+        };
     }
     if is_array(element, lexemes) {
         return array(alloc, line, element, lexemes);
@@ -111,9 +120,13 @@ fn after_variable(
     requires { room ≤ 32 }
     ensures { Gives (λ x. (stmt_tree x.0, views x.1)) result (after_variable room line (variable_type_tree kind) (views lexemes.entry)) }
 {
-    let (name, right, rest) = setting(alloc, room, lexemes)?;
-    let form = Form::Declare(kind, name, right);
-    Ok((Stmt { line, form }, rest))
+    match setting(alloc, room, lexemes) {
+        Ok((name, right, rest)) => {
+            let form = Form::Declare(kind, name, right);
+            Ok((Stmt { line, form }, rest))
+        }
+        Err(fault) => Err(fault),
+    }
 }
 
 /// What comes after `const`.
@@ -128,9 +141,13 @@ fn after_const(
     ensures { Gives (λ x. (stmt_tree x.0, views x.1)) result (after_const room line (views lexemes.entry)) }
 {
     let rest = expect_two(Fixed::Word(Word::Jchar), Fixed::Mark(Mark::Star), lexemes)?;
-    let (name, right, rest) = setting(alloc, room, rest)?;
-    let form = Form::DeclareChars(name, right);
-    Ok((Stmt { line, form }, rest))
+    match setting(alloc, room, rest) {
+        Ok((name, right, rest)) => {
+            let form = Form::DeclareChars(name, right);
+            Ok((Stmt { line, form }, rest))
+        }
+        Err(fault) => Err(fault),
+    }
 }
 
 /// A declaration.

@@ -54,8 +54,10 @@ fn body(alloc: Global, free: usize, lexemes: Cursor<'_>) -> Result<(Block, Curso
         Fixed::Mark(Mark::OpenBrace),
         lexemes,
     )?;
-    let (body, _, rest) = block(alloc, ROOM, free, rest)?;
-    Ok((body, rest))
+    match block(alloc, ROOM, free, rest) {
+        Ok((body, _, rest)) => Ok((body, rest)),
+        Err(fault) => Err(fault),
+    }
 }
 
 /// The result of a function, up to its name.
@@ -68,8 +70,10 @@ fn exported(lexemes: Cursor<'_>) -> Result<(ResultType, Cursor<'_>), ParseFault>
     let Some(result) = result_type(rest) else {
         return Err(unexpected(rest));
     };
-    let rest = expect(Fixed::Word(Word::JniCall), rest_of(rest))?;
-    Ok((result, rest))
+    match expect(Fixed::Word(Word::JniCall), rest_of(rest)) {
+        Ok(rest) => Ok((result, rest)),
+        Err(fault) => Err(fault),
+    }
 }
 
 /// The result, the name and the class of a function, and what comes after them.
@@ -80,8 +84,10 @@ fn signature(lexemes: Cursor<'_>) -> Result<(ResultType, &[u8], &[u8], Cursor<'_
     let (result, rest) = exported(lexemes)?;
     let (name, rest) = name_at(rest)?;
     let rest = head(rest)?;
-    let (class_name, rest) = name_at(rest)?;
-    Ok((result, name, class_name, rest))
+    match name_at(rest) {
+        Ok((class_name, rest)) => Ok((result, name, class_name, rest)),
+        Err(fault) => Err(fault),
+    }
 }
 
 /// A function (JNI Specification, chapter 2, "Native Method Arguments").
@@ -93,7 +99,9 @@ fn function(alloc: Global, lexemes: Cursor<'_>) -> Result<(Function, Cursor<'_>)
     let (result, name, class_name, rest) = signature(lexemes)?;
     let (parameters, rest) = parameters(alloc, rest)?;
     let (body, rest) = body(alloc, NAMES - parameters.len(), rest)?;
-    let function = made(alloc, line, result, name, class_name, parameters, body)?;
+    let Ok(function) = made(alloc, line, result, name, class_name, parameters, body) else {
+        return Err(ParseFault::Memory);
+    };
     Ok((function, rest))
 }
 
@@ -133,8 +141,10 @@ fn static_head(lexemes: Cursor<'_>) -> Result<(ReferenceType, &[u8], Cursor<'_>)
         return Err(unexpected(rest));
     };
     let (name, rest) = name_at(rest_of(rest))?;
-    let rest = expect(Fixed::Mark(Mark::Assign), rest)?;
-    Ok((kind, name, rest))
+    match expect(Fixed::Mark(Mark::Assign), rest) {
+        Ok(rest) => Ok((kind, name, rest)),
+        Err(fault) => Err(fault),
+    }
 }
 
 /// A reference that all functions share.
@@ -145,7 +155,9 @@ fn static_reference(alloc: Global, lexemes: Cursor<'_>) -> Result<(Static, Curso
     let line = line_at(lexemes);
     let (kind, name, rest) = static_head(lexemes)?;
     let rest = expect_two(Fixed::Word(Word::Null), Fixed::Mark(Mark::Semicolon), rest)?;
-    let name = Name::new(alloc, name)?;
+    let Ok(name) = Name::new(alloc, name) else {
+        return Err(ParseFault::Memory);
+    };
     Ok((Static { line, kind, name }, rest))
 }
 
@@ -166,8 +178,10 @@ fn function_item(
     if functions == 0 {
         return Err(fault_at(Fault::TooMany, lexemes));
     }
-    let (function, rest) = function(alloc, lexemes)?;
-    Ok((Item::Function(function), functions - 1, statics, rest))
+    match function(alloc, lexemes) {
+        Ok((function, rest)) => Ok((Item::Function(function), functions - 1, statics, rest)),
+        Err(fault) => Err(fault),
+    }
 }
 
 /// A static, where there may be this many more functions and statics.
@@ -184,8 +198,10 @@ fn static_item(
     if statics == 0 {
         return Err(fault_at(Fault::TooMany, lexemes));
     }
-    let (shared, rest) = static_reference(alloc, lexemes)?;
-    Ok((Item::Static(shared), functions, statics - 1, rest))
+    match static_reference(alloc, lexemes) {
+        Ok((shared, rest)) => Ok((Item::Static(shared), functions, statics - 1, rest)),
+        Err(fault) => Err(fault),
+    }
 }
 
 /// An item, where there may be this many more functions and statics.

@@ -25,8 +25,10 @@ fn parameter(alloc: Global, lexemes: Cursor<'_>) -> Result<(Parameter, Cursor<'_
     let Some(kind) = parameter_type(lexemes) else {
         return Err(unexpected(lexemes));
     };
-    let (name, rest) = owned_name(alloc, rest_of(lexemes))?;
-    Ok((Parameter { kind, name }, rest))
+    match owned_name(alloc, rest_of(lexemes)) {
+        Ok((name, rest)) => Ok((Parameter { kind, name }, rest)),
+        Err(fault) => Err(fault),
+    }
 }
 
 /// The parameters after the class, each with the comma before it.

@@ -26,8 +26,10 @@ fn ended(
     ensures { Gives (λ x. (expr_tree x.0, views x.1)) result (ended_at room end (views lexemes.entry)) }
 {
     let (operand, height, rest) = expression(alloc, room, 0, lexemes)?;
-    let (operand, _, rest) = closed(end, operand, height, rest)?;
-    Ok((operand, rest))
+    match closed(end, operand, height, rest) {
+        Ok((operand, _, rest)) => Ok((operand, rest)),
+        Err(fault) => Err(fault),
+    }
 }
 
 /// An expression in parentheses, and what comes after this lexeme, which stands after them.
@@ -43,8 +45,10 @@ pub(crate) fn parenthesized(
 {
     let rest = expect(Fixed::Mark(Mark::OpenParen), lexemes)?;
     let (operand, rest) = ended(alloc, room, Fixed::Mark(Mark::CloseParen), rest)?;
-    let (operand, _, rest) = closed(end, operand, 0, rest)?;
-    Ok((operand, rest))
+    match closed(end, operand, 0, rest) {
+        Ok((operand, _, rest)) => Ok((operand, rest)),
+        Err(fault) => Err(fault),
+    }
 }
 
 /// What comes after the `put_jint` of this line.
@@ -58,9 +62,13 @@ fn put(
     requires { room ≤ 32 }
     ensures { Gives (λ x. (stmt_tree x.0, views x.1)) result (put_at room line (views lexemes.entry)) }
 {
-    let (operand, rest) = parenthesized(alloc, room, Fixed::Mark(Mark::Semicolon), lexemes)?;
-    let form = Form::PutJint(operand);
-    Ok((Stmt { line, form }, rest))
+    match parenthesized(alloc, room, Fixed::Mark(Mark::Semicolon), lexemes) {
+        Ok((operand, rest)) => {
+            let form = Form::PutJint(operand);
+            Ok((Stmt { line, form }, rest))
+        }
+        Err(fault) => Err(fault),
+    }
 }
 
 /// What comes after the `return` of this line.
@@ -78,9 +86,13 @@ fn returned(
         let form = Form::Return(None);
         return Ok((Stmt { line, form }, rest_of(lexemes)));
     }
-    let (operand, rest) = ended(alloc, room, Fixed::Mark(Mark::Semicolon), lexemes)?;
-    let form = Form::Return(Some(operand));
-    Ok((Stmt { line, form }, rest))
+    match ended(alloc, room, Fixed::Mark(Mark::Semicolon), lexemes) {
+        Ok((operand, rest)) => {
+            let form = Form::Return(Some(operand));
+            Ok((Stmt { line, form }, rest))
+        }
+        Err(fault) => Err(fault),
+    }
 }
 
 /// A call whose result is dropped.
@@ -95,9 +107,13 @@ fn perform(
     ensures { Gives (λ x. (stmt_tree x.0, views x.1)) result (perform_at room line (views lexemes.entry)) }
 {
     let (call, rest) = call(alloc, room, lexemes)?;
-    let rest = expect(Fixed::Mark(Mark::Semicolon), rest)?;
-    let form = Form::Perform(call);
-    Ok((Stmt { line, form }, rest))
+    match expect(Fixed::Mark(Mark::Semicolon), rest) {
+        Ok(rest) => {
+            let form = Form::Perform(call);
+            Ok((Stmt { line, form }, rest))
+        }
+        Err(fault) => Err(fault),
+    }
 }
 
 /// What comes after an equals sign up to the semicolon.
@@ -124,9 +140,13 @@ fn set_to(
     requires { room ≤ 32 }
     ensures { Gives (λ x. (stmt_tree x.0, views x.1)) result (element_set_at room line name (expr_tree index) (views lexemes.entry)) }
 {
-    let (value, rest) = assigned(alloc, room, lexemes)?;
-    let form = Form::AssignElement(name, index, value);
-    Ok((Stmt { line, form }, rest))
+    match assigned(alloc, room, lexemes) {
+        Ok((value, rest)) => {
+            let form = Form::AssignElement(name, index, value);
+            Ok((Stmt { line, form }, rest))
+        }
+        Err(fault) => Err(fault),
+    }
 }
 
 /// An assignment to an element.
@@ -142,7 +162,9 @@ fn set_element(
 {
     let (name, rest) = name_at(lexemes)?;
     let (index, _, rest) = index(alloc, room, rest)?;
-    let name = Name::new(alloc, name)?;
+    let Ok(name) = Name::new(alloc, name) else {
+        return Err(ParseFault::Memory);
+    };
     set_to(alloc, room, line, name, index, rest)
 }
 
@@ -160,9 +182,13 @@ fn set(
     if starts_element(lexemes) {
         return set_element(alloc, room, line, lexemes);
     }
-    let (name, right, rest) = setting(alloc, room, lexemes)?;
-    let form = Form::Assign(name, right);
-    Ok((Stmt { line, form }, rest))
+    match setting(alloc, room, lexemes) {
+        Ok((name, right, rest)) => {
+            let form = Form::Assign(name, right);
+            Ok((Stmt { line, form }, rest))
+        }
+        Err(fault) => Err(fault),
+    }
 }
 
 /// A statement that declares no name and has no block.

@@ -54,11 +54,15 @@ fn simple(
         if free == 0 {
             return Err(fault_at(Fault::TooMany, lexemes));
         }
-        let (stmt, rest) = declared(alloc, room, lexemes)?;
-        return Ok((stmt, free - 1, rest));
+        return match declared(alloc, room, lexemes) {
+            Ok((stmt, rest)) => Ok((stmt, free - 1, rest)),
+            Err(fault) => Err(fault),
+        };
     }
-    let (stmt, rest) = plain(alloc, room, lexemes)?;
-    Ok((stmt, free, rest))
+    match plain(alloc, room, lexemes) {
+        Ok((stmt, rest)) => Ok((stmt, free, rest)),
+        Err(fault) => Err(fault),
+    }
 }
 
 /// Whether a statement is a return, which ends its block.
@@ -73,12 +77,11 @@ fn is_return(stmt: &Stmt) -> bool
 fn tested(test: Test, lexemes: Cursor<'_>) -> Result<(Test, Cursor<'_>), ParseFault>
     ensures { Gives (λ x. (test_tree x.0, views x.1)) result (made_of {B = ReadTest} (two (Fixed.Mark Mark.CloseParen) (Fixed.Mark Mark.OpenBrace) (views lexemes.entry)) (λ after. (test_tree test, after))) }
 {
-    let rest = expect_two(
-        Fixed::Mark(Mark::CloseParen),
-        Fixed::Mark(Mark::OpenBrace),
-        lexemes,
-    )?;
-    Ok((test, rest))
+    let paren = Fixed::Mark(Mark::CloseParen);
+    match expect_two(paren, Fixed::Mark(Mark::OpenBrace), lexemes) {
+        Ok(rest) => Ok((test, rest)),
+        Err(fault) => Err(fault),
+    }
 }
 
 /// What an `if` tests, in its parentheses, and what comes after the brace of its block.
@@ -120,12 +123,16 @@ fn nested_head(
         return Err(fault_at(Fault::TooHigh, lexemes));
     }
     if starts_with(Fixed::Word(Word::If), lexemes) {
-        let (test, rest) = if_test(alloc, room, rest_of(lexemes))?;
-        return Ok(Some((Head::If(test), rest)));
+        return match if_test(alloc, room, rest_of(lexemes)) {
+            Ok((test, rest)) => Ok(Some((Head::If(test), rest))),
+            Err(fault) => Err(fault),
+        };
     }
     if starts_with(Fixed::Word(Word::While), lexemes) {
-        let (test, rest) = while_test(alloc, room, rest_of(lexemes))?;
-        return Ok(Some((Head::While(test), rest)));
+        return match while_test(alloc, room, rest_of(lexemes)) {
+            Ok((test, rest)) => Ok(Some((Head::While(test), rest))),
+            Err(fault) => Err(fault),
+        };
     }
     Ok(None)
 }
@@ -168,9 +175,13 @@ fn nested<'t>(
 ) -> Result<ReadStmt<'t>, ParseFault>
     ensures { (read : Result WaysRead ParseFault) → Gives (λ x. (block_tree x.0, option_map block_tree x.1, x.2, views x.3)) ways.entry read → Gives (λ x. (stmt_tree x.0, x.1, views x.2)) result (nested_of line (head_view head) read) }
 {
-    let (body, other, free, rest) = ways?;
-    let form = nested_form(head, body, other);
-    Ok((Stmt { line, form }, free, rest))
+    match ways {
+        Ok((body, other, free, rest)) => {
+            let form = nested_form(head, body, other);
+            Ok((Stmt { line, form }, free, rest))
+        }
+        Err(fault) => Err(fault),
+    }
 }
 
 /// The first block, and what was read after it.
@@ -181,8 +192,10 @@ fn both<'t>(
 ) -> Result<ReadWays<'t>, ParseFault>
     ensures { (read : Result OtherRead ParseFault) → Gives (λ x. (option_map block_tree x.0, x.1, views x.2)) other.entry read → Gives (λ x. (block_tree x.0, option_map block_tree x.1, x.2, views x.3)) result (both_of (block_tree body) read) }
 {
-    let (other, free, rest) = other?;
-    Ok((body, other, free, rest))
+    match other {
+        Ok((other, free, rest)) => Ok((body, other, free, rest)),
+        Err(fault) => Err(fault),
+    }
 }
 
 /// The blocks of a statement, of which `otherwise` says whether there may be a second one.
@@ -209,8 +222,10 @@ fn ways(
 fn second(read: Result<ReadBlock<'_>, ParseFault>) -> Result<ReadOther<'_>, ParseFault>
     ensures { (from : Result BlockRead ParseFault) → Gives (λ x. (block_tree x.0, x.1, views x.2)) read.entry from → Gives (λ x. (option_map block_tree x.0, x.1, views x.2)) result (second_of from) }
 {
-    let (other, free, rest) = read?;
-    Ok((Some(other), free, rest))
+    match read {
+        Ok((other, free, rest)) => Ok((Some(other), free, rest)),
+        Err(fault) => Err(fault),
+    }
 }
 
 /// The second block, where there may be one and `else` comes next.
