@@ -245,9 +245,7 @@ fn joined<'t>(
 {
     let (right, right_height, rest) = right?;
     let (left, height, _) = left;
-    let Ok(operands) = Box::new(alloc, (left, right)) else {
-        return Err(ParseFault::Memory);
-    };
+    let operands = Box::new(alloc, (left, right))?;
     Ok((
         Expr::Binary(op, operands),
         1 + height.max(right_height),
