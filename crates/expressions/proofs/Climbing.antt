@@ -27,7 +27,9 @@ unfolding deeper
 deeper_is zero least ls lt = absurd (omega arith)
 deeper_is (suc room) least ls lt = let e : suc room - 1 ≡ room = omega arith in rw e refl
 
-pub ruleset deeps = (deeper_is)
+-- what comes after an operator, where there is room
+pub right_is : (room high : ℕ) (op : BinaryOp) (ls : List Lexed) → high < room → right_by (deeper room) room high op ls ≡ expr_at (room - 1) (operator_level op + 1) (rest_of ls)
+right_is room high op ls lt = let some : 0 < room = omega arith in rw (lt-ltb high room lt, deeper_is room (operator_level op + 1) (rest_of ls) some) refl
 
 pub none_since : (o : Option BinaryInMemory) → ((op : BinaryInMemory) → o ≡ Some op → ⊥) → None ≡ o
 none_since None h = refl

@@ -1,5 +1,5 @@
 -- An operand, read as how it opens and the expression inside.
-use Rattle.std.proofs.Common.{◌≡◌, ℕ, ◌+◌, Bool, true, false, List, Some, None, Result, Ok, Err, if◌then◌else◌, refl, ap, ◌∙◌}
+use Rattle.std.proofs.Common.{◌≡◌, ℕ, ◌+◌, ◌-◌, ◌≤◌, Bool, true, false, List, Some, None, Result, Ok, Err, if◌then◌else◌, refl, ap, ◌∙◌}
 use Rattle.std.specs.Prelude.{◌||◌, ◌&&◌, ◌==◌}
 use Rattle.base.specs.Bytes.{Identifier}
 use Rattle.scan.specs.declared.token.Mark.TheVariants as marks
@@ -8,18 +8,20 @@ use Rattle.syntax.specs.Tree.{LogicalNot, Complement, ToWord, ToInt, PrefixOp, E
 use Rattle.lexemes.specs.declared.first.Fixed.TheVariants as fixed
 use Rattle.lexemes.specs.declared.fault.Fault.TheVariants.{TooHigh}
 use Rattle.lexemes.specs.declared.fault.ParseFault.{ParseFault}
-use Rattle.lexemes.specs.Results.{◌>>=◌}
+use Rattle.lexemes.specs.declared.fault.ParseFault.TheVariants.{Memory, Found}
+use Rattle.lexemes.specs.Results.{◌>>=◌, Fails}
 use Rattle.lexemes.specs.Lexemes.{Lexed, expect, name_at, fault_at}
 use Rattle.lexemes.specs.Reading.{starts_with, rest_of}
-use Rattle.expressions.specs.Reading.{Reader, ReadExpr, under_prefix, in_parens, after_paren, index_by, starts_element, element_by, primary_at, operand_by}
-use Rattle.expressions.specs.Steps.{OfPrefix, OfParen, OfElement, ReadOpening, level_inside, operand_of, cast_at, paren_opening_at, bracket_at, element_opening_at, opening_at}
+use Rattle.expressions.specs.Reading.{Reader, ReadExpr, under_prefix, in_parens, after_paren, index_by, starts_element, element_by, primary_at, operand_by, deeper, expr_at, operand_at, index_at}
+use Rattle.expressions.proofs.Climbing.{deeper_is}
+use Rattle.expressions.specs.Steps.{Opening, OfPrefix, OfParen, OfElement, ReadOpening, level_inside, operand_of, cast_at, paren_opening_at, bracket_at, element_opening_at, opening_at}
 
 -- what is read of an operand that opens so, or of one without an expression inside
 abbrev pub operand_from : Reader → List Lexed → ReadOpening → Result ReadExpr ParseFault
 operand_from deep ls None = primary_at ls
 operand_from deep ls (Some x) = deep (level_inside x.0) x.1 >>= λ e. operand_of x.0 e
 
-abbrev until_bracket : ReadExpr → Result ReadExpr ParseFault
+abbrev pub until_bracket : ReadExpr → Result ReadExpr ParseFault
 until_bracket i = expect (fixed.Mark marks.CloseBracket) i.2 >>= λ after. Ok (i.0, i.1, after)
 
 abbrev element_of : Identifier → ReadExpr → Result ReadExpr ParseFault
@@ -94,3 +96,30 @@ module _ (room : ℕ) (deep : Reader) (ls : List Lexed) where
       choice (room == 0) (starts_with (fixed.Mark marks.Tilde) ls) (starts_with (fixed.Mark marks.Exclamation) ls) (starts_with (fixed.Mark marks.OpenParen) ls) (starts_element ls) (fault_at TooHigh ls)
       (under_prefix deep Complement (rest_of ls)) (under_prefix deep LogicalNot (rest_of ls)) (after_paren deep (rest_of ls)) (element_by room deep ls) (paren_opening_at (rest_of ls)) (element_opening_at room ls)
       (Some (OfPrefix Complement, rest_of ls)) (Some (OfPrefix LogicalNot, rest_of ls)) refl refl (paren_is deep ls (rest_of ls)) element_is
+
+-- how the cases of an operand are read
+module _ (room : ℕ) (ls : List Lexed) where
+  pub operand_fails : (f : ParseFault) → Fails f (opening_at room ls) → Fails f (operand_at room ls)
+  operand_fails Memory h = tt
+  operand_fails (Found fault line) h = rw (operand_is room (deeper room) ls, h) refl
+
+  pub operand_plain : opening_at room ls ≡ Ok None → operand_at room ls ≡ primary_at ls
+  operand_plain h = rw (operand_is room (deeper room) ls, h) refl
+
+  pub operand_opens : (o : Opening) (rest : List Lexed) → opening_at room ls ≡ Ok (Some (o, rest)) → 1 ≤ room → operand_at room ls ≡ (expr_at (room - 1) (level_inside o) rest >>= λ e. operand_of o e)
+  operand_opens o rest h some = rw (operand_is room (deeper room) ls, h, deeper_is room (level_inside o) rest some) refl
+
+  pub inside_fails : (o : Opening) (rest : List Lexed) (f : ParseFault) → opening_at room ls ≡ Ok (Some (o, rest)) → 1 ≤ room → Fails f (expr_at (room - 1) (level_inside o) rest) → Fails f (operand_at room ls)
+  inside_fails o rest Memory h some fails = tt
+  inside_fails o rest (Found fault line) h some fails = rw (operand_opens o rest h some, fails) refl
+
+  pub index_fails : (f : ParseFault) → Fails f (bracket_at room ls) → Fails f (index_at room ls)
+  index_fails Memory h = tt
+  index_fails (Found fault line) h = rw (index_is room (deeper room) ls, h) refl
+
+  pub index_opens : (within : List Lexed) → bracket_at room ls ≡ Ok within → 1 ≤ room → index_at room ls ≡ (expr_at (room - 1) 0 within >>= λ i. until_bracket i)
+  index_opens within h some = rw (index_is room (deeper room) ls, h, deeper_is room 0 within some) refl
+
+  pub index_inside_fails : (within : List Lexed) (f : ParseFault) → bracket_at room ls ≡ Ok within → 1 ≤ room → Fails f (expr_at (room - 1) 0 within) → Fails f (index_at room ls)
+  index_inside_fails within Memory h some fails = tt
+  index_inside_fails within (Found fault line) h some fails = rw (index_opens within h some, fails) refl

@@ -16,7 +16,6 @@ use std::alloc::Global;
 use syntax::{Argument, Call, Name, RightSide, Test};
 
 /// What comes after `(*env)->`.
-#[tactic(auto, using(crate::proofs::Called::interface_is))]
 fn interface(lexemes: Cursor<'_>) -> Result<Cursor<'_>, ParseFault>
     ensures { Gives (λ x. views x) result (interface_at (views lexemes.entry)) }
 {
@@ -124,7 +123,6 @@ fn function(lexemes: Cursor<'_>) -> Result<(&[u8], Cursor<'_>), ParseFault>
 }
 
 /// A call.
-#[tactic(auto, using(crate::proofs::Called::call_is))]
 pub fn call(alloc: Global, room: u32, lexemes: Cursor<'_>) -> Result<(Call, Cursor<'_>), ParseFault>
     requires { room ≤ 32 }
     ensures { Gives (λ x. (call_tree x.0, views x.1)) result (call_at room (views lexemes.entry)) }

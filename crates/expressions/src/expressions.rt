@@ -393,7 +393,6 @@ pub fn expression(
 
 /// What comes after this operator, whose left operand has this height.
 #[cycle(expressions)]
-#[tactic(auto, using(crate::proofs::Climbing::deeps))]
 fn right_operand(
     alloc: Global,
     room: u32,
@@ -413,7 +412,6 @@ fn right_operand(
 
 /// A prefix with its operand, parentheses, an element, or what holds best.
 #[cycle(expressions)]
-#[tactic(auto, using(crate::proofs::Climbing::deeps, crate::proofs::Openings::operand_is))]
 fn operand(alloc: Global, room: u32, lexemes: Cursor<'_>) -> Result<ReadExpr<'_>, ParseFault>
     requires { room ≤ 32 }
     ensures low { IfOk result (λ x. x.1 ≤ room) }
@@ -427,7 +425,6 @@ fn operand(alloc: Global, room: u32, lexemes: Cursor<'_>) -> Result<ReadExpr<'_>
 }
 
 /// An index in its brackets, which counts one.
-#[tactic(auto, using(crate::proofs::Climbing::deeps, crate::proofs::Openings::index_is))]
 pub fn index(alloc: Global, room: u32, lexemes: Cursor<'_>) -> Result<ReadExpr<'_>, ParseFault>
     requires { room ≤ 32 }
     ensures low { IfOk result (λ x. x.1 < room) }
