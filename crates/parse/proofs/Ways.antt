@@ -1,5 +1,5 @@
 -- A statement, read as how it begins and its blocks.
-use Rattle.std.proofs.Common.{◌≡◌, ℕ, Bool, true, false, List, Option, Some, None, Result, Ok, Err, refl, ◌∙◌, if◌then◌else◌}
+use Rattle.std.proofs.Common.{◌≡◌, ℕ, ◌-◌, ◌≤◌, Bool, true, false, List, Option, Some, None, Result, Ok, Err, refl, ◌∙◌, if◌then◌else◌}
 use Rattle.std.specs.Prelude.{◌&&◌, ◌||◌, ◌==◌}
 use Rattle.scan.specs.declared.token.Mark.TheVariants as marks
 use Rattle.scan.specs.declared.reserved.Word.TheVariants as words
@@ -7,12 +7,14 @@ use Rattle.syntax.specs.Tree.{Expr, Test, Block, If}
 use Rattle.lexemes.specs.declared.first.Fixed.TheVariants as fixed
 use Rattle.lexemes.specs.declared.fault.Fault.TheVariants.{TooHigh}
 use Rattle.lexemes.specs.declared.fault.ParseFault.{ParseFault}
-use Rattle.lexemes.specs.Results.{◌>>=◌}
+use Rattle.lexemes.specs.declared.fault.ParseFault.TheVariants.{Memory, Found}
+use Rattle.lexemes.specs.Results.{◌>>=◌, Fails}
 use Rattle.lexemes.specs.Lexemes.{Lexed, line_at, fault_at, expect}
 use Rattle.lexemes.specs.Reading.{starts_with, rest_of}
 use Rattle.expressions.proofs.Called.{after_step}
-use Rattle.parse.specs.Reading.{BlockReader, ReadBlock, ReadStmt, simple_at, else_by, if_test_at, if_by, while_test_at, while_by, statement_by}
+use Rattle.parse.specs.Reading.{BlockReader, ReadBlock, ReadStmt, simple_at, else_by, if_test_at, if_by, while_test_at, while_by, statement_by, inner, statement_at, block_at}
 use Rattle.parse.specs.Steps.{Head, IfHead, WhileHead, ReadHead, OtherRead, WaysRead, nested_head_at, takes_other, nested_made, nested_of, both_of, second_of, other_at, ways_at}
+use Rattle.parse.proofs.Blocks.{inner_is}
 use Rattle.parse.proofs.Regrouped.{last, last_two}
 
 -- what is read of a statement that begins so, or of one without blocks
@@ -75,3 +77,33 @@ module _ (deep : BlockReader) (room free : ℕ) (ls : List Lexed) where
   statement_is =
       choice (room == 0) (starts_with (fixed.Word words.If) ls) (starts_with (fixed.Word words.While) ls) (fault_at TooHigh ls) (if_by deep room free (line_at ls) (rest_of ls)) (while_by deep room free (line_at ls) (rest_of ls))
       (if_test_at room (rest_of ls) >>= λ t. Ok (Some (IfHead t.0, t.1))) (while_test_at room (rest_of ls) >>= λ t. Ok (Some (WhileHead t.0, t.1))) (if_is (if_test_at room (rest_of ls))) (while_is (while_test_at room (rest_of ls)))
+
+-- how the cases of a statement are read
+module _ (room free : ℕ) (ls : List Lexed) where
+  pub statement_fails : (f : ParseFault) → Fails f (nested_head_at room ls) → Fails f (statement_at room free ls)
+  statement_fails Memory h = tt
+  statement_fails (Found fault line) h = rw (statement_is (inner room) room free ls, h) refl
+
+  pub statement_simple : nested_head_at room ls ≡ Ok None → statement_at room free ls ≡ simple_at room free ls
+  statement_simple h = rw (statement_is (inner room) room free ls, h) refl
+
+  pub statement_nested : (head : Head) (rest : List Lexed) → nested_head_at room ls ≡ Ok (Some (head, rest)) → statement_at room free ls ≡ nested_of (line_at ls) head (ways_at (inner room) free (takes_other head) rest)
+  statement_nested head rest h = rw (statement_is (inner room) room free ls, h) refl
+
+  pub ways_fail : (otherwise : Bool) (f : ParseFault) → 1 ≤ room → Fails f (block_at (room - 1) free ls) → Fails f (ways_at (inner room) free otherwise ls)
+  unfolding ways_at
+  ways_fail otherwise Memory some h = tt
+  ways_fail otherwise (Found fault line) some h = rw (inner_is room free ls some, h) refl
+
+  pub ways_on : (otherwise : Bool) (body : Block) (left : ℕ) (rest : List Lexed) → 1 ≤ room → block_at (room - 1) free ls ≡ Ok (body, left, rest) → ways_at (inner room) free otherwise ls ≡ both_of body (other_at (inner room) left otherwise rest)
+  unfolding ways_at
+  ways_on otherwise body left rest some h = rw (inner_is room free ls some, h) refl
+
+  pub other_fails : (otherwise : Bool) (f : ParseFault) → otherwise ≡ true → starts_with (fixed.Word words.Else) ls ≡ true → Fails f (expect (fixed.Mark marks.OpenBrace) (rest_of ls)) → Fails f (other_at (inner room) free otherwise ls)
+  unfolding other_at
+  other_fails otherwise Memory may s h = tt
+  other_fails otherwise (Found fault line) may s h = rw (may, s, h) refl
+
+  pub other_on : (otherwise : Bool) (within : List Lexed) → otherwise ≡ true → starts_with (fixed.Word words.Else) ls ≡ true → expect (fixed.Mark marks.OpenBrace) (rest_of ls) ≡ Ok within → 1 ≤ room → other_at (inner room) free otherwise ls ≡ second_of (block_at (room - 1) free within)
+  unfolding other_at
+  other_on otherwise within may s h some = rw (may, s, h, inner_is room free within some) refl

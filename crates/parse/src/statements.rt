@@ -200,7 +200,6 @@ fn both<'t>(
 
 /// The blocks of a statement, of which `otherwise` says whether there may be a second one.
 #[cycle(blocks)]
-#[tactic(auto, using(crate::proofs::Blocks::inners), unfolding(crate::specs::Steps::ways_at))]
 fn ways(
     alloc: Global,
     room: u32,
@@ -230,7 +229,7 @@ fn second(read: Result<ReadBlock<'_>, ParseFault>) -> Result<ReadOther<'_>, Pars
 
 /// The second block, where there may be one and `else` comes next.
 #[cycle(blocks)]
-#[tactic(auto, using(crate::proofs::Blocks::inners), unfolding(crate::specs::Steps::other_at))]
+#[tactic(auto, unfolding(crate::specs::Steps::other_at))]
 fn other_block(
     alloc: Global,
     room: u32,
@@ -251,7 +250,6 @@ fn other_block(
 
 /// A statement, where `free` more names may be declared.
 #[cycle(blocks)]
-#[tactic(auto, using(crate::proofs::Ways::statement_is))]
 fn statement(
     alloc: Global,
     room: u32,
