@@ -1,16 +1,17 @@
 -- A call, read as the name of its function and what comes after it.
-use Rattle.std.proofs.Common.{◌≡◌, ℕ, ◌+◌, List, length, Result, Ok, Err, refl, ◌∙◌}
+use Rattle.std.proofs.Common.{◌≡◌, ℕ, ◌+◌, Bool, true, false, if◌then◌else◌, List, length, Result, Ok, Err, refl, ◌∙◌}
 use Rattle.base.specs.Bytes.{Identifier}
 use Rattle.scan.specs.declared.token.Mark.TheVariants as marks
 use Rattle.scan.specs.declared.reserved.Word.TheVariants as words
-use Rattle.syntax.specs.Tree.{Argument, Call}
+use Rattle.syntax.specs.Tree.{Argument, Call, TestExpr, TestCall}
 use Rattle.lexemes.specs.declared.first.Fixed.{Fixed}
 use Rattle.lexemes.specs.declared.first.Fixed.TheVariants as fixed
 use Rattle.lexemes.specs.declared.fault.ParseFault.{ParseFault}
 use Rattle.lexemes.specs.Results.{◌>>=◌}
 use Rattle.lexemes.specs.Lexemes.{Lexed, expect, name_at}
-use Rattle.expressions.specs.Steps.{ReadCall, two, function_at}
-use Rattle.expressions.specs.Reading.{interface_at, arguments_at, call_at}
+use Rattle.lexemes.specs.Reading.{number_at}
+use Rattle.expressions.specs.Steps.{ReadCall, ReadTest, two, function_at, zero_at}
+use Rattle.expressions.specs.Reading.{expr_at, interface_at, arguments_at, call_at, starts_call, test_at}
 
 pub in_turn : {A B C : Type 0} (r : Result A ParseFault) (f : A → Result B ParseFault) (g : B → Result C ParseFault) → (r >>= λ a. f a >>= g) ≡ (r >>= f >>= g)
 in_turn (Ok x) f g = refl
@@ -48,3 +49,25 @@ call_is room ls =
     in_turn (interface_at ls) (λ a. name_at a) (λ function. expect (fixed.Mark marks.OpenParen) function.1 >>= λ b. expect (fixed.Word words.Env) b >>= λ c. after_env room function.0 c)
     ∙ after_step (function_at ls) (λ function. expect (fixed.Mark marks.OpenParen) function.1 >>= λ b. expect (fixed.Word words.Env) b >>= λ c. after_env room function.0 c) (λ function. after_function room function)
     (λ function. two_is (fixed.Mark marks.OpenParen) (fixed.Word words.Env) function.1 (λ c. after_env room function.0 c))
+
+-- a test, read as what is tested and how
+tested : Call → List Lexed → Result ReadTest ParseFault
+tested call rest = Ok (TestCall call, rest)
+
+number_is : (call : Call) (r : Result (ℕ × List Lexed) ParseFault) → (r >>= λ n. tested call n.1) ≡ (r >>= (λ n. Ok n.1) >>= λ rest. tested call rest)
+number_is call (Ok n) = refl
+number_is call (Err e) = refl
+
+zero_is : (call : Call) (r : Result (List Lexed) ParseFault) → (r >>= λ a. number_at 0 0 a >>= λ n. tested call n.1) ≡ (r >>= (λ a. number_at 0 0 a >>= λ n. Ok n.1) >>= λ rest. tested call rest)
+zero_is call (Ok a) = number_is call (number_at 0 0 a)
+zero_is call (Err e) = refl
+
+pub test_is : (room : ℕ) (ls : List Lexed) → test_at room ls ≡ (if starts_call ls then (call_at room ls >>= λ c. zero_at c.1 >>= λ rest. Ok (TestCall c.0, rest)) else (expr_at room 0 ls >>= λ e. Ok (TestExpr e.0, e.2)))
+unfolding test_at zero_at tested
+test_is room ls = chosen (starts_call ls)
+  where
+    chosen : (b : Bool) → (if b then (call_at room ls >>= λ c. expect (fixed.Mark marks.Equal) c.1 >>= λ a. number_at 0 0 a >>= λ n. tested c.0 n.1) else (expr_at room 0 ls >>= λ e. Ok (TestExpr e.0, e.2)))
+        ≡ (if b then (call_at room ls >>= λ c. (expect (fixed.Mark marks.Equal) c.1 >>= λ a. number_at 0 0 a >>= λ n. Ok n.1) >>= λ rest. tested c.0 rest) else (expr_at room 0 ls >>= λ e. Ok (TestExpr e.0, e.2)))
+    chosen true = after_step (call_at room ls) (λ c. expect (fixed.Mark marks.Equal) c.1 >>= λ a. number_at 0 0 a >>= λ n. tested c.0 n.1) (λ c. (expect (fixed.Mark marks.Equal) c.1 >>= λ a. number_at 0 0 a >>= λ n. Ok n.1) >>= λ rest. tested c.0 rest)
+        (λ c. zero_is c.0 (expect (fixed.Mark marks.Equal) c.1))
+    chosen false = refl

@@ -4,13 +4,13 @@ use Rattle.base.specs.Bytes.{Identifier}
 use Rattle.scan.specs.declared.token.Mark.TheVariants as marks
 use Rattle.scan.specs.declared.reserved.Word.TheVariants as words
 use Rattle.syntax.specs.Limits.{operator_level, prefix_level}
-use Rattle.syntax.specs.Tree.{PrefixOp, LogicalNot, Complement, ToWord, ToInt, BinaryOp, Expr, Variable, Element, Prefix, Binary, Paren, Call, RightSide}
+use Rattle.syntax.specs.Tree.{PrefixOp, LogicalNot, Complement, ToWord, ToInt, BinaryOp, Expr, Variable, Element, Prefix, Binary, Paren, Call, RightSide, Test}
 use Rattle.syntax.specs.Views.{prefix_tree}
 use Rattle.lexemes.specs.declared.first.Fixed.{Fixed}
 use Rattle.lexemes.specs.declared.first.Fixed.TheVariants as fixed
 use Rattle.lexemes.specs.declared.fault.Fault.TheVariants.{TooHigh}
 use Rattle.lexemes.specs.declared.fault.ParseFault.{ParseFault}
-use Rattle.lexemes.specs.Reading.{rest_of, starts_with}
+use Rattle.lexemes.specs.Reading.{rest_of, starts_with, number_at}
 use Rattle.lexemes.specs.Results.{◌>>=◌}
 use Rattle.lexemes.specs.Lexemes.{Lexed, name_at, expect, fault_at}
 use Rattle.expressions.specs.declared.expressions.Opening.{Opening as InMemory}
@@ -32,6 +32,17 @@ ReadCall = Call × List Lexed
 -- a name, what it is set to, and what comes after it
 abbrev pub ReadSetting : Type 0
 ReadSetting = Identifier × RightSide × List Lexed
+
+-- a test, and what comes after it
+abbrev pub ReadTest : Type 0
+ReadTest = Test × List Lexed
+
+-- what comes after a test for 0
+unfoldable pub zero_at : List Lexed → Result (List Lexed) ParseFault
+zero_at ls = do
+  a ← expect (fixed.Mark marks.Equal) ls
+  number ← number_at 0 0 a
+  Ok number.1
 
 -- an operator, where it is of this level or tighter
 abbrev pub within : ℕ → Option BinaryOp → Option BinaryOp

@@ -1,9 +1,10 @@
 //! Calls of JNI functions, what variables are set to, and what is tested.
 
 ghost use Rattle.std.specs.Prelude.{◌≡◌, ◌≤◌, ◌+◌, length, map};
+ghost use Rattle.syntax.specs.Tree.{TestCall};
 ghost use Rattle.syntax.specs.Views.{argument_tree, call_tree, right_side_tree, test_tree};
 ghost use Rattle.lexemes.specs.Results.{Gives};
-ghost use Rattle.expressions.specs.Steps.{ReadCall, ReadName, ReadSetting, made_of, function_at};
+ghost use Rattle.expressions.specs.Steps.{ReadCall, ReadName, ReadSetting, ReadTest, made_of, function_at, zero_at};
 ghost use Rattle.lexemes.specs.Lexemes.{views, expect};
 ghost use Rattle.expressions.specs.Reading.{interface_at, value_at, argument_at, arguments_at, call_at, starts_call, right_at, setting_at, test_at};
 
@@ -218,17 +219,39 @@ pub fn setting(
     set_to(alloc, name, right, Fixed::Mark(Mark::Semicolon), rest)
 }
 
+/// What comes after `== 0`.
+#[inline]
+#[tactic(auto, unfolding(crate::specs::Steps::zero_at))]
+fn zero(lexemes: Cursor<'_>) -> Result<Cursor<'_>, ParseFault>
+    ensures { Gives views result (zero_at (views lexemes.entry)) }
+{
+    let rest = expect(Fixed::Mark(Mark::Equal), lexemes)?;
+    match number_at(0, 0, rest) {
+        Ok((_, rest)) => Ok(rest),
+        Err(fault) => Err(fault),
+    }
+}
+
+/// A call with what tests it for 0, which comes next.
+#[inline]
+fn called_test(call: Call, lexemes: Cursor<'_>) -> Result<(Test, Cursor<'_>), ParseFault>
+    ensures { Gives (λ x. (test_tree x.0, views x.1)) result (made_of {B = ReadTest} (zero_at (views lexemes.entry)) (λ rest. (TestCall (call_tree call), rest))) }
+{
+    match zero(lexemes) {
+        Ok(rest) => Ok((Test::Call(call), rest)),
+        Err(fault) => Err(fault),
+    }
+}
+
 /// An expression, or a call that is tested for 0.
-#[tactic(auto, unfolding(crate::specs::Reading::test_at))]
+#[tactic(auto, using(crate::proofs::Called::test_is))]
 pub fn test(alloc: Global, room: u32, lexemes: Cursor<'_>) -> Result<(Test, Cursor<'_>), ParseFault>
     requires { room ≤ 32 }
     ensures { Gives (λ x. (test_tree x.0, views x.1)) result (test_at room (views lexemes.entry)) }
 {
     if starts_call(lexemes) {
         let (call, rest) = call(alloc, room, lexemes)?;
-        let rest = expect(Fixed::Mark(Mark::Equal), rest)?;
-        let (_, rest) = number_at(0, 0, rest)?;
-        return Ok((Test::Call(call), rest));
+        return called_test(call, rest);
     }
     match expression(alloc, room, 0, lexemes) {
         Ok((value, _, rest)) => Ok((Test::Expr(value), rest)),
