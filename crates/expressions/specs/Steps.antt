@@ -4,7 +4,7 @@ use Rattle.base.specs.Bytes.{Identifier}
 use Rattle.scan.specs.declared.token.Mark.TheVariants as marks
 use Rattle.scan.specs.declared.reserved.Word.TheVariants as words
 use Rattle.syntax.specs.Limits.{operator_level, prefix_level}
-use Rattle.syntax.specs.Tree.{PrefixOp, LogicalNot, Complement, ToWord, ToInt, BinaryOp, Expr, Variable, Element, Prefix, Binary, Paren, Call, RightSide, Test}
+use Rattle.syntax.specs.Tree.{PrefixOp, LogicalNot, Complement, ToWord, ToInt, BinaryOp, Expr, Element, Prefix, Binary, Paren, Call, RightSide, Test}
 use Rattle.syntax.specs.Views.{prefix_tree}
 use Rattle.lexemes.specs.declared.first.Fixed.{Fixed}
 use Rattle.lexemes.specs.declared.first.Fixed.TheVariants as fixed

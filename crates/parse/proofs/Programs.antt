@@ -1,5 +1,5 @@
 -- Functions and units: what is read is spelled so, and what is spelled so is read.
-use Rattle.std.proofs.Common.{◌≡◌, ℕ, zero, suc, ◌+◌, ◌-◌, ◌<◌, ◌≤◌, true, List, [], ◌∷◌, ◌++◌, length, Option, Some, None, Result, Ok, refl, sym, ap, subst, ◌∙◌, arith, inl, inr}
+use Rattle.std.proofs.Common.{◌≡◌, ℕ, zero, suc, ◌+◌, ◌-◌, ◌<◌, ◌≤◌, true, List, [], ◌∷◌, ◌++◌, length, Option, Some, None, Result, Ok, refl, ap, subst, arith, inl, inr}
 use Rattle.std.specs.Prelude.{◌==◌, ◌≢◌, flat_map}
 use Rattle.std.proofs.lemmas.Bool.{eqb-false}
 use Rattle.scan.specs.declared.token.Mark.TheVariants as marks

@@ -1,5 +1,5 @@
 -- A statement, read as how it begins and its blocks.
-use Rattle.std.proofs.Common.{◌≡◌, ℕ, ◌-◌, ◌≤◌, Bool, true, false, List, Option, Some, None, Result, Ok, Err, refl, ◌∙◌, if◌then◌else◌}
+use Rattle.std.proofs.Common.{◌≡◌, ℕ, ◌-◌, ◌≤◌, Bool, true, false, List, Some, None, Result, Ok, Err, refl, ◌∙◌, if◌then◌else◌}
 use Rattle.std.specs.Prelude.{◌&&◌, ◌||◌, ◌==◌}
 use Rattle.scan.specs.declared.token.Mark.TheVariants as marks
 use Rattle.scan.specs.declared.reserved.Word.TheVariants as words
@@ -11,7 +11,6 @@ use Rattle.lexemes.specs.declared.fault.ParseFault.TheVariants.{Memory, Found}
 use Rattle.lexemes.specs.Results.{◌>>=◌, Fails}
 use Rattle.lexemes.specs.Lexemes.{Lexed, line_at, fault_at, expect}
 use Rattle.lexemes.specs.Reading.{starts_with, rest_of}
-use Rattle.expressions.proofs.Called.{after_step}
 use Rattle.parse.specs.Reading.{BlockReader, ReadBlock, ReadStmt, simple_at, else_by, if_test_at, if_by, while_test_at, while_by, statement_by, inner, statement_at, block_at}
 use Rattle.parse.specs.Steps.{Head, IfHead, WhileHead, ReadHead, OtherRead, WaysRead, nested_head_at, takes_other, nested_made, nested_of, both_of, second_of, other_at, ways_at}
 use Rattle.parse.proofs.Blocks.{inner_is}
