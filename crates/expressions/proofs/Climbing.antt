@@ -11,7 +11,7 @@ use Rattle.lexemes.specs.declared.fault.ParseFault.TheVariants.{Memory, Found}
 use Rattle.lexemes.specs.Results.{◌>>=◌, Fails}
 use Rattle.lexemes.specs.Lexemes.{Lexed, fault_at}
 use Rattle.expressions.specs.Reading.{ReadExpr, operator_at, climb, climb_step, deeper, operand_at, expr_by, expr_at}
-use Rattle.expressions.specs.Steps.{right_by, within}
+use Rattle.expressions.specs.Steps.{joined_by, right_by, within}
 use Rattle.lexemes.specs.Reading.{rest_of}
 
 -- Some steps are left, and what is read from here is all that is read.
@@ -27,7 +27,9 @@ unfolding deeper
 deeper_is zero least ls lt = absurd (omega arith)
 deeper_is (suc room) least ls lt = let e : suc room - 1 ≡ room = omega arith in rw e refl
 
-pub ruleset deeps = (deeper_is)
+-- what comes after an operator, where there is room
+pub right_is : (room high : ℕ) (op : BinaryOp) (ls : List Lexed) → high < room → right_by (deeper room) room high op ls ≡ expr_at (room - 1) (operator_level op + 1) (rest_of ls)
+right_is room high op ls lt = let some : 0 < room = omega arith in rw (lt-ltb high room lt, deeper_is room (operator_level op + 1) (rest_of ls) some) refl
 
 pub none_since : (o : Option BinaryInMemory) → ((op : BinaryInMemory) → o ≡ Some op → ⊥) → None ≡ o
 none_since None h = refl
@@ -36,6 +38,11 @@ none_since (Some op) h = absurd (h op refl)
 pub climbs_start : (room least : ℕ) (ls : List Lexed) (left : Expr) (high : ℕ) (rest : List Lexed) → high ≤ room → operand_at room ls ≡ Ok (left, high, rest) → Climbs room least left high rest (expr_at room least ls)
 unfolding expr_by
 climbs_start room least ls left high rest low h = record { low = low; steps = room; enough = omega arith; same = sym (rw (h, add-one room) refl) }
+
+pub start_fails : (room least : ℕ) (ls : List Lexed) (f : ParseFault) → Fails f (operand_at room ls) → Fails f (expr_at room least ls)
+unfolding expr_by
+start_fails room least ls Memory h = tt
+start_fails room least ls (Found fault line) h = rw h refl
 
 -- an operator within a level is one that comes next
 pub within_some : (least : ℕ) (o : Option BinaryOp) (op : BinaryOp) → Some op ≡ within least o → Some op ≡ o
@@ -77,23 +84,34 @@ module _ (room least : ℕ) (left : Expr) (high : ℕ) (ls : List Lexed) (total 
   pub climb_done : None ≡ within least (operator_at ls) → total ≡ Ok (left, high, ls)
   climb_done none = done_at (operator_at ls) refl none
 
-  joined : (op : BinaryOp) → Some op ≡ operator_at ls → least ≤ operator_level op → total ≡ (right_by (deeper room) room high op ls >>= λ r. climb (deeper room) room least c.steps (Binary op left r.0) (1 + max high r.1) r.2)
+  -- the right operand, and what is read after the larger expression
+  after_right : (op : BinaryOp) → Result ReadExpr ParseFault → Result ReadExpr ParseFault
+  after_right op right = joined_by op (left, high, ls) right >>= λ r. climb (deeper room) room least c.steps r.0 r.1 r.2
+
+  joined : (op : BinaryOp) → Some op ≡ operator_at ls → least ≤ operator_level op → total ≡ after_right op (right_by (deeper room) room high op ls)
+  unfolding after_right
   joined op e le = sym (step_is (Some op) e) ∙ rw (le-ltb (operator_level op) least le) (chosen (nat_lt high room))
     where
+      one : (r : Result ReadExpr ParseFault) → (r >>= λ r. climb (deeper room) room least c.steps (Binary op left r.0) (1 + max high r.1) r.2) ≡ after_right op r
+      one (Ok r) = refl
+      one (Err f) = refl
+
       chosen : (b : Bool) → (if b then (deeper room (operator_level op + 1) (rest_of ls) >>= λ r. climb (deeper room) room least c.steps (Binary op left r.0) (1 + max high r.1) r.2) else Err (fault_at TooHigh ls))
-          ≡ ((if b then deeper room (operator_level op + 1) (rest_of ls) else Err (fault_at TooHigh ls)) >>= λ r. climb (deeper room) room least c.steps (Binary op left r.0) (1 + max high r.1) r.2)
-      chosen true = refl
+          ≡ after_right op (if b then deeper room (operator_level op + 1) (rest_of ls) else Err (fault_at TooHigh ls))
+      chosen true = one (deeper room (operator_level op + 1) (rest_of ls))
       chosen false = refl
 
-  pub climb_fails : (op : BinaryOp) (f : ParseFault) → Some op ≡ operator_at ls → least ≤ operator_level op → Fails f (right_by (deeper room) room high op ls) → Fails f total
+  pub climb_fails : (op : BinaryOp) (f : ParseFault) → Some op ≡ operator_at ls → least ≤ operator_level op → Fails f (joined_by op (left, high, ls) (right_by (deeper room) room high op ls)) → Fails f total
+  unfolding after_right
   climb_fails op Memory e le h = tt
   climb_fails op (Found fault line) e le h = joined op e le ∙ rw h refl
 
-  pub climb_on : (op : BinaryOp) (right : Expr) (right_high high' : ℕ) (rest : List Lexed) → Some op ≡ operator_at ls → least ≤ operator_level op → high < room → right_high < room → high' ≡ 1 + max high right_high → right_by (deeper room) room high op ls ≡ Ok (right, right_high, rest) → Climbs room least (Binary op left right) high' rest total
-  climb_on op right right_high high' rest e le lt fits is h =
-      let on : climb (deeper room) room least c.steps (Binary op left right) (1 + max high right_high) rest ≡ total = sym (joined op e le ∙ rw h refl) in
-      climbs_from op right high' rest (omega arith) c.steps (omega (arith, c.enough)) (rw is on)
+  pub climb_on : (op : BinaryOp) (next : Expr) (high' : ℕ) (rest : List Lexed) → Some op ≡ operator_at ls → least ≤ operator_level op → high < high' → high' ≤ room → joined_by op (left, high, ls) (right_by (deeper room) room high op ls) ≡ Ok (next, high', rest) → Climbs room least next high' rest total
+  unfolding after_right
+  climb_on op next high' rest e le higher low h =
+      let on : climb (deeper room) room least c.steps next high' rest ≡ total = sym (joined op e le ∙ rw h refl) in
+      climbs_from next high' rest low c.steps (omega (arith, c.enough)) on
     where
-      climbs_from : (op : BinaryOp) (right : Expr) (high' : ℕ) (rest : List Lexed) → high' ≤ room → (steps : ℕ) → room < high' + steps → climb (deeper room) room least steps (Binary op left right) high' rest ≡ total → Climbs room least (Binary op left right) high' rest total
-      climbs_from op right high' rest low zero enough same = absurd (omega arith)
-      climbs_from op right high' rest low (suc steps) enough same = record { low = low; steps = steps; enough = enough; same = same }
+      climbs_from : (next : Expr) (high' : ℕ) (rest : List Lexed) → high' ≤ room → (steps : ℕ) → room < high' + steps → climb (deeper room) room least steps next high' rest ≡ total → Climbs room least next high' rest total
+      climbs_from next high' rest low zero enough same = absurd (omega arith)
+      climbs_from next high' rest low (suc steps) enough same = record { low = low; steps = steps; enough = enough; same = same }

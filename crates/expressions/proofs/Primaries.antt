@@ -83,13 +83,14 @@ unfolding primary_at
 starts_primary_is [] = refl
 starts_primary_is (l ∷ ls) = primary_in_ok l.meaning (l ∷ ls) ls
 
+-- what is read by the first lexeme's shape
+pub primary_shape : (ls : List Lexed) (s : Shape) → s ≡ shape_at ls → primary_at ls ≡ primary_by s ls
+primary_shape ls s is = sym (primary_is ls) ∙ ap (λ (x : Shape). primary_by x ls) (sym is)
+
 -- where a name comes next
-primary_named : (ls : List Lexed) (s : Shape) → s ≡ shape_at ls → s ≡ shapes.Name → primary_at ls ≡ (name_at ls >>= λ name. Ok (Variable name.0, 0, name.1))
-primary_named ls s is name = sym (primary_is ls) ∙ ap (λ (x : Shape). primary_by x ls) (sym is ∙ name)
+pub primary_named : (ls after : List Lexed) (s : Shape) (bytes : List ℕ) → s ≡ shape_at ls → s ≡ shapes.Name → name_at ls ≡ Ok (bytes, after) → primary_at ls ≡ Ok (Variable bytes, 0, after)
+primary_named ls after s bytes is name read = rw (primary_shape ls s is, name, read) refl
 
-pub name_read : (ls after : List Lexed) (s : Shape) (bytes : List ℕ) → s ≡ shape_at ls → s ≡ shapes.Name → name_at ls ≡ Ok (bytes, after) → primary_at ls ≡ Ok (Variable bytes, 0, after)
-name_read ls after s bytes is name read = primary_named ls s is name ∙ rw read refl
-
-pub name_fails : (ls : List Lexed) (s : Shape) (e : ParseFault) → s ≡ shape_at ls → s ≡ shapes.Name → Fails e (name_at ls) → Fails e (primary_at ls)
-name_fails ls s Memory is name h = tt
-name_fails ls s (Found fault line) is name h = primary_named ls s is name ∙ rw h refl
+pub primary_fails : (ls : List Lexed) (s : Shape) (e : ParseFault) → s ≡ shape_at ls → s ≡ shapes.Name → Fails e (name_at ls) → Fails e (primary_at ls)
+primary_fails ls s Memory is name h = tt
+primary_fails ls s (Found fault line) is name h = rw (primary_shape ls s is, name, h) refl

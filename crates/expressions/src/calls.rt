@@ -1,13 +1,14 @@
 //! Calls of JNI functions, what variables are set to, and what is tested.
 
 ghost use Rattle.std.specs.Prelude.{◌≡◌, ◌≤◌, ◌+◌, length, map};
+ghost use Rattle.syntax.specs.Tree.{TestCall};
 ghost use Rattle.syntax.specs.Views.{argument_tree, call_tree, right_side_tree, test_tree};
 ghost use Rattle.lexemes.specs.Results.{Gives};
-ghost use Rattle.expressions.specs.Steps.{ReadCall, ReadName, ReadSetting, made_of, function_at};
+ghost use Rattle.expressions.specs.Steps.{ReadCall, ReadName, ReadSetting, ReadTest, made_of, function_at, zero_at};
 ghost use Rattle.lexemes.specs.Lexemes.{views, expect};
 ghost use Rattle.expressions.specs.Reading.{interface_at, value_at, argument_at, arguments_at, call_at, starts_call, right_at, setting_at, test_at};
 
-use crate::expressions::{expression, right_expression};
+use crate::expressions::{expect_two, expression, owned_name, right_expression};
 use lexemes::{
     Cursor, Fixed, ParseFault, expect, name_at, number_at, rest_of, starts_with, text_at,
 };
@@ -16,14 +17,15 @@ use std::alloc::Global;
 use syntax::{Argument, Call, Name, RightSide, Test};
 
 /// What comes after `(*env)->`.
-#[tactic(auto, unfolding(crate::specs::Reading::interface_at))]
 fn interface(lexemes: Cursor<'_>) -> Result<Cursor<'_>, ParseFault>
     ensures { Gives (λ x. views x) result (interface_at (views lexemes.entry)) }
 {
-    let rest = expect(Fixed::Mark(Mark::OpenParen), lexemes)?;
-    let rest = expect(Fixed::Mark(Mark::Star), rest)?;
-    let rest = expect(Fixed::Word(Word::Env), rest)?;
-    let rest = expect(Fixed::Mark(Mark::CloseParen), rest)?;
+    let rest = expect_two(
+        Fixed::Mark(Mark::OpenParen),
+        Fixed::Mark(Mark::Star),
+        lexemes,
+    )?;
+    let rest = expect_two(Fixed::Word(Word::Env), Fixed::Mark(Mark::CloseParen), rest)?;
     expect(Fixed::Mark(Mark::Arrow), rest)
 }
 
@@ -38,11 +40,15 @@ fn value(
     ensures { Gives (λ x. (argument_tree x.0, views x.1)) result (value_at room (views lexemes.entry)) }
 {
     if starts_with(Fixed::Mark(Mark::Ampersand), lexemes) {
-        let (name, rest) = name_at(rest_of(lexemes))?;
-        return Ok((Argument::AddressOf(Name::new(alloc, name)?), rest));
+        return match owned_name(alloc, rest_of(lexemes)) {
+            Ok((name, rest)) => Ok((Argument::AddressOf(name), rest)),
+            Err(fault) => Err(fault),
+        };
     }
-    let (value, _, rest) = expression(alloc, room, 0, lexemes)?;
-    Ok((Argument::Value(value), rest))
+    match expression(alloc, room, 0, lexemes) {
+        Ok((value, _, rest)) => Ok((Argument::Value(value), rest)),
+        Err(fault) => Err(fault),
+    }
 }
 
 /// An argument.
@@ -57,7 +63,9 @@ fn argument(
 {
     match text_at(lexemes) {
         Some(bytes) => {
-            let bytes = Vec::from_slice(alloc, bytes)?;
+            let Ok(bytes) = Vec::from_slice(alloc, bytes) else {
+                return Err(ParseFault::Memory);
+            };
             Ok((Argument::Text(bytes), rest_of(lexemes)))
         }
         None => value(alloc, room, lexemes),
@@ -94,7 +102,9 @@ fn called<'t>(
     ensures { Gives (λ x. (call_tree x.0, views x.1)) result (made_of {B = ReadCall} (expect paren (views lexemes.entry)) (λ after. (record { function = function.now; arguments = map argument_tree arguments.items }, after))) }
 {
     let rest = expect(paren, lexemes)?;
-    let function = Name::new(alloc, function)?;
+    let Ok(function) = Name::new(alloc, function) else {
+        return Err(ParseFault::Memory);
+    };
     Ok((
         Call {
             function,
@@ -114,14 +124,12 @@ fn function(lexemes: Cursor<'_>) -> Result<(&[u8], Cursor<'_>), ParseFault>
 }
 
 /// A call.
-#[tactic(auto, using(crate::proofs::Called::call_is))]
 pub fn call(alloc: Global, room: u32, lexemes: Cursor<'_>) -> Result<(Call, Cursor<'_>), ParseFault>
     requires { room ≤ 32 }
     ensures { Gives (λ x. (call_tree x.0, views x.1)) result (call_at room (views lexemes.entry)) }
 {
     let (function, rest) = function(lexemes)?;
-    let rest = expect(Fixed::Mark(Mark::OpenParen), rest)?;
-    let rest = expect(Fixed::Word(Word::Env), rest)?;
+    let rest = expect_two(Fixed::Mark(Mark::OpenParen), Fixed::Word(Word::Env), rest)?;
     let (arguments, rest) = arguments(alloc, room, rest)?;
     called(
         alloc,
@@ -151,11 +159,15 @@ pub(crate) fn right_side(
     ensures { Gives (λ x. (right_side_tree x.0, views x.1)) result (right_at room (views lexemes.entry)) }
 {
     if starts_call(lexemes) {
-        let (call, rest) = call(alloc, room, lexemes)?;
-        return Ok((RightSide::Call(call), rest));
+        return match call(alloc, room, lexemes) {
+            Ok((call, rest)) => Ok((RightSide::Call(call), rest)),
+            Err(fault) => Err(fault),
+        };
     }
-    let (value, _, rest) = right_expression(alloc, room, lexemes)?;
-    Ok((RightSide::Expr(value), rest))
+    match right_expression(alloc, room, lexemes) {
+        Ok((value, _, rest)) => Ok((RightSide::Expr(value), rest)),
+        Err(fault) => Err(fault),
+    }
 }
 
 /// A name with what it is set to, and what comes after the semicolon.
@@ -168,8 +180,10 @@ fn set_to<'t>(
 ) -> Result<(Name, RightSide, Cursor<'t>), ParseFault>
     ensures { Gives (λ x. (x.0, right_side_tree x.1, views x.2)) result (made_of {B = ReadSetting} (expect semicolon (views lexemes.entry)) (λ rest. (name.now, right_side_tree right, rest))) }
 {
-    let (name, rest) = ended_name(alloc, name, semicolon, lexemes)?;
-    Ok((name, right, rest))
+    match ended_name(alloc, name, semicolon, lexemes) {
+        Ok((name, rest)) => Ok((name, right, rest)),
+        Err(fault) => Err(fault),
+    }
 }
 
 /// A name, and what comes after this lexeme, which ends it.
@@ -183,7 +197,10 @@ fn ended_name<'t>(
     ensures { Gives (λ x. (x.0, views x.1)) result (made_of {B = ReadName} (expect end (views lexemes.entry)) (λ rest. (name.now, rest))) }
 {
     let rest = expect(end, lexemes)?;
-    Ok((Name::new(alloc, name)?, rest))
+    let Ok(name) = Name::new(alloc, name) else {
+        return Err(ParseFault::Memory);
+    };
+    Ok((name, rest))
 }
 
 /// A name, what it is set to, and what comes after the semicolon.
@@ -202,18 +219,42 @@ pub fn setting(
     set_to(alloc, name, right, Fixed::Mark(Mark::Semicolon), rest)
 }
 
+/// What comes after `== 0`.
+#[inline]
+#[tactic(auto, unfolding(crate::specs::Steps::zero_at))]
+fn zero(lexemes: Cursor<'_>) -> Result<Cursor<'_>, ParseFault>
+    ensures { Gives views result (zero_at (views lexemes.entry)) }
+{
+    let rest = expect(Fixed::Mark(Mark::Equal), lexemes)?;
+    match number_at(0, 0, rest) {
+        Ok((_, rest)) => Ok(rest),
+        Err(fault) => Err(fault),
+    }
+}
+
+/// A call with what tests it for 0, which comes next.
+#[inline]
+fn called_test(call: Call, lexemes: Cursor<'_>) -> Result<(Test, Cursor<'_>), ParseFault>
+    ensures { Gives (λ x. (test_tree x.0, views x.1)) result (made_of {B = ReadTest} (zero_at (views lexemes.entry)) (λ rest. (TestCall (call_tree call), rest))) }
+{
+    match zero(lexemes) {
+        Ok(rest) => Ok((Test::Call(call), rest)),
+        Err(fault) => Err(fault),
+    }
+}
+
 /// An expression, or a call that is tested for 0.
-#[tactic(auto, unfolding(crate::specs::Reading::test_at))]
+#[tactic(auto, using(crate::proofs::Called::test_is))]
 pub fn test(alloc: Global, room: u32, lexemes: Cursor<'_>) -> Result<(Test, Cursor<'_>), ParseFault>
     requires { room ≤ 32 }
     ensures { Gives (λ x. (test_tree x.0, views x.1)) result (test_at room (views lexemes.entry)) }
 {
     if starts_call(lexemes) {
         let (call, rest) = call(alloc, room, lexemes)?;
-        let rest = expect(Fixed::Mark(Mark::Equal), rest)?;
-        let (_, rest) = number_at(0, 0, rest)?;
-        return Ok((Test::Call(call), rest));
+        return called_test(call, rest);
     }
-    let (value, _, rest) = expression(alloc, room, 0, lexemes)?;
-    Ok((Test::Expr(value), rest))
+    match expression(alloc, room, 0, lexemes) {
+        Ok((value, _, rest)) => Ok((Test::Expr(value), rest)),
+        Err(fault) => Err(fault),
+    }
 }

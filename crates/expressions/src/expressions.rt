@@ -1,15 +1,15 @@
 //! Expressions, by the levels of their operators (ISO/IEC 9899:1999, 6.5).
 
-ghost use Rattle.std.specs.Prelude.{◌≡◌, ◌+◌, ◌≤◌, ◌<◌, ◌||◌, max, Ok, IfOk, is_ok};
+ghost use Rattle.std.specs.Prelude.{◌≡◌, ℕ, ◌+◌, ◌≤◌, ◌<◌, Result, IfOk, IfSome, is_ok};
 ghost use Rattle.std.specs.Option.{option_map};
 ghost use Rattle.syntax.specs.Limits.{operator_level};
-ghost use Rattle.syntax.specs.Tree.{Binary, Prefix, Paren, Element};
 ghost use Rattle.syntax.specs.Views.{constant_tree, prefix_tree, binary_tree, expr_tree};
 ghost use Rattle.lexemes.specs.Results.{Gives};
-ghost use Rattle.expressions.specs.Steps.{made_of, right_by, within};
-ghost use Rattle.lexemes.specs.Lexemes.{views, expect};
-ghost use Rattle.expressions.specs.Reading.{ReadExpr, operator_at, binary_of_mark, primary_at, starts_element, starts_inside, index_at, operand_at, expr_at, right_expr_at, under_prefix, after_paren, in_parens, element_by, deeper};
-ghost use Rattle.lexemes.specs.Reading.{constant_of_word, starts_with};
+ghost use Rattle.expressions.specs.Steps.{made_of, two, joined_by, right_by, within, opening_view, level_inside, around, ending_at, operand_of, cast_at, paren_opening_at, bracket_at, element_opening_at, starts_deep, opening_at};
+ghost use Rattle.lexemes.specs.declared.fault.ParseFault.{ParseFault};
+ghost use Rattle.lexemes.specs.Lexemes.{views, expect, name_at};
+ghost use Rattle.expressions.specs.Reading.{ReadExpr, operator_at, binary_of_mark, named_of, primary_at, starts_element, starts_inside, index_at, operand_at, expr_at, right_expr_at, deeper};
+ghost use Rattle.lexemes.specs.Reading.{constant_of_word, rest_of};
 
 use lexemes::{
     Cursor, Fault, Fixed, ParseFault, Shape, expect, fault_at, mark_at, name_at, rest_of, shape_at,
@@ -21,6 +21,18 @@ use syntax::{BinaryOp, Constant, Expr, Name, PrefixOp};
 
 /// An expression, its height, and what comes after it.
 type ReadExpr<'t> = (Expr, u32, Cursor<'t>);
+
+/// What stands in an operand before an expression inside it.
+#[derive(Clone, Copy)]
+enum Opening<'t> {
+    Prefix(PrefixOp),
+    Paren,
+    /// The name before an opening bracket.
+    Element(&'t [u8]),
+}
+
+/// How an operand opens that has an expression inside, and what comes after that.
+type ReadOpening<'t> = Option<(Opening<'t>, Cursor<'t>)>;
 
 /// Prefixes bind tighter than all operators.
 const PREFIX_LEVEL: u32 = 11;
@@ -94,6 +106,42 @@ fn constant_of(word: Word) -> Option<Constant>
     }
 }
 
+/// A name, and what comes after it.
+pub fn owned_name(alloc: Global, lexemes: Cursor<'_>) -> Result<(Name, Cursor<'_>), ParseFault>
+    ensures { Gives (λ x. (x.0, views x.1)) result (name_at (views lexemes.entry)) }
+{
+    let (name, rest) = name_at(lexemes)?;
+    let Ok(name) = Name::new(alloc, name) else {
+        return Err(ParseFault::Memory);
+    };
+    Ok((name, rest))
+}
+
+/// Two lexemes, and what comes after them.
+#[inline(always)]
+pub fn expect_two(
+    first: Fixed,
+    second: Fixed,
+    lexemes: Cursor<'_>,
+) -> Result<Cursor<'_>, ParseFault>
+    ensures { Gives views result (two first second (views lexemes.entry)) }
+{
+    let rest = expect(first, lexemes)?;
+    expect(second, rest)
+}
+
+/// A named constant.
+#[inline(always)]
+fn named(word: Word, lexemes: Cursor<'_>) -> Result<ReadExpr<'_>, ParseFault>
+    ensures low { IfOk result (λ x. x.1 ≡ 0) }
+    ensures gives { Gives {Y = ReadExpr} (λ x. (expr_tree x.0, x.1, views x.2)) result (named_of (constant_of_word word) (views lexemes.entry) (rest_of (views lexemes.entry))) }
+{
+    match constant_of(word) {
+        Some(constant) => Ok((Expr::Named(constant), 0, rest_of(lexemes))),
+        None => Err(unexpected(lexemes)),
+    }
+}
+
 /// A number, a named constant or a name.
 #[tactic(auto, unfolding(crate::specs::Reading::primary_at))]
 fn primary(alloc: Global, lexemes: Cursor<'_>) -> Result<ReadExpr<'_>, ParseFault>
@@ -104,45 +152,25 @@ fn primary(alloc: Global, lexemes: Cursor<'_>) -> Result<ReadExpr<'_>, ParseFaul
         Shape::Number { value, unsigned } => {
             Ok((Expr::Number { value, unsigned }, 0, rest_of(lexemes)))
         }
-        Shape::Name => {
-            let (name, rest) = name_at(lexemes)?;
-            Ok((Expr::Variable(Name::new(alloc, name)?), 0, rest))
-        }
-        Shape::Fixed(Fixed::Word(word)) => match constant_of(word) {
-            Some(constant) => Ok((Expr::Named(constant), 0, rest_of(lexemes))),
-            None => Err(unexpected(lexemes)),
+        Shape::Name => match owned_name(alloc, lexemes) {
+            Ok((name, rest)) => Ok((Expr::Variable(name), 0, rest)),
+            Err(fault) => Err(fault),
         },
+        Shape::Fixed(Fixed::Word(word)) => named(word, lexemes),
         _ => Err(unexpected(lexemes)),
     }
 }
 
-/// An operator between two operands.
-fn binary(alloc: Global, op: BinaryOp, left: Expr, right: Expr) -> Result<Expr, AllocError>
-    ensures { IfOk result (λ e. expr_tree e ≡ Binary (binary_tree op) (expr_tree left) (expr_tree right)) }
+/// An expression inside an operand, with what stands around it.
+fn around(alloc: Global, opening: Opening<'_>, inside: Expr) -> Result<Expr, AllocError>
+    ensures { IfOk result (λ e. expr_tree e ≡ around (opening_view opening.entry) (expr_tree inside)) }
 {
-    Ok(Expr::Binary(op, Box::new(alloc, (left, right))?))
-}
-
-/// A prefix before its operand.
-fn prefix(alloc: Global, op: PrefixOp, operand: Expr) -> Result<Expr, AllocError>
-    ensures { IfOk result (λ e. expr_tree e ≡ Prefix (prefix_tree op) (expr_tree operand)) }
-{
-    Ok(Expr::Prefix(op, Box::new(alloc, operand)?))
-}
-
-/// An expression in parentheses.
-fn paren(alloc: Global, inside: Expr) -> Result<Expr, AllocError>
-    ensures { IfOk result (λ e. expr_tree e ≡ Paren (expr_tree inside)) }
-{
-    Ok(Expr::Paren(Box::new(alloc, inside)?))
-}
-
-/// A name with its index.
-fn indexed(alloc: Global, name: &[u8], index: Expr) -> Result<Expr, AllocError>
-    ensures { IfOk result (λ e. expr_tree e ≡ Element name.now (expr_tree index)) }
-{
-    let index = Box::new(alloc, index)?;
-    Ok(Expr::Element(Name::new(alloc, name)?, index))
+    let inside = Box::new(alloc, inside)?;
+    match opening {
+        Opening::Prefix(op) => Ok(Expr::Prefix(op, inside)),
+        Opening::Paren => Ok(Expr::Paren(inside)),
+        Opening::Element(name) => Ok(Expr::Element(Name::new(alloc, name)?, inside)),
+    }
 }
 
 /// An expression with its height, and what comes after this lexeme, which ends it.
@@ -156,23 +184,10 @@ pub fn closed(
     ensures low { IfOk result (λ x. x.1 ≡ height) }
     ensures gives { Gives (λ x. (expr_tree x.0, x.1, views x.2)) result (made_of {B = ReadExpr} (expect end (views lexemes.entry)) (λ after. (expr_tree inside, height, after))) }
 {
-    let rest = expect(end, lexemes)?;
-    Ok((inside, height, rest))
-}
-
-/// A prefix with its operand, and what comes after it.
-#[inline(always)]
-fn with_prefix<'t>(
-    alloc: Global,
-    op: PrefixOp,
-    operand: ReadExpr<'t>,
-) -> Result<ReadExpr<'t>, ParseFault>
-    requires { operand.1 < 32 }
-    ensures low { IfOk result (λ x. x.1 ≡ 1 + operand.entry.1) }
-    ensures gives { Gives {Y = ReadExpr} (λ x. (expr_tree x.0, x.1, views x.2)) result (Ok (Prefix (prefix_tree op) (expr_tree operand.entry.0), 1 + operand.entry.1, views operand.entry.2)) }
-{
-    let height = 1 + operand.1;
-    Ok((prefix(alloc, op, operand.0)?, height, operand.2))
+    match expect(end, lexemes) {
+        Ok(rest) => Ok((inside, height, rest)),
+        Err(fault) => Err(fault),
+    }
 }
 
 /// What is read of an expression, and what comes after the next lexeme, which ends it.
@@ -185,30 +200,57 @@ fn ended<'t>(end: Fixed, read: ReadExpr<'t>) -> Result<ReadExpr<'t>, ParseFault>
     closed(end, inside, height, rest)
 }
 
-/// An expression in parentheses, of which the closing one is read.
+/// What is read inside an operand which opened so, and what comes after the lexeme that ends it.
 #[inline(always)]
-fn in_closed_parens<'t>(alloc: Global, inside: ReadExpr<'t>) -> Result<ReadExpr<'t>, ParseFault>
-    requires { inside.1 < 32 }
-    ensures low { IfOk result (λ x. x.1 ≡ 1 + inside.entry.1) }
-    ensures gives { Gives (λ x. (expr_tree x.0, x.1, views x.2)) result (made_of {B = ReadExpr} (expect (Fixed.Mark Mark.CloseParen) (views inside.entry.2)) (λ after. (Paren (expr_tree inside.entry.0), 1 + inside.entry.1, after))) }
+fn ended_as<'t>(opening: Opening<'t>, inside: ReadExpr<'t>) -> Result<ReadExpr<'t>, ParseFault>
+    ensures low { IfOk result (λ x. x.1 ≡ inside.entry.1) }
+    ensures gives { Gives (λ x. (expr_tree x.0, x.1, views x.2)) result (made_of {B = ReadExpr} (ending_at (opening_view opening.entry) (views inside.entry.2)) (λ after. (expr_tree inside.entry.0, inside.entry.1, after))) }
 {
-    let (inside, height, rest) = ended(Fixed::Mark(Mark::CloseParen), inside)?;
-    Ok((paren(alloc, inside)?, 1 + height, rest))
+    match opening {
+        Opening::Prefix(_) => Ok(inside),
+        Opening::Paren => ended(Fixed::Mark(Mark::CloseParen), inside),
+        Opening::Element(_) => ended(Fixed::Mark(Mark::CloseBracket), inside),
+    }
 }
 
-/// A name with its index, and what comes after it.
+/// An operand with the expression that was read inside it, and what comes after it.
 #[inline(always)]
-fn element_of<'t>(
+fn operand_of<'t>(
     alloc: Global,
-    name: &[u8],
-    index: ReadExpr<'t>,
+    opening: Opening<'t>,
+    inside: ReadExpr<'t>,
 ) -> Result<ReadExpr<'t>, ParseFault>
-    requires { index.1 < 32 }
-    ensures low { IfOk result (λ x. x.1 ≡ 1 + index.entry.1) }
-    ensures gives { Gives {Y = ReadExpr} (λ x. (expr_tree x.0, x.1, views x.2)) result (Ok (Element name.now (expr_tree index.entry.0), 1 + index.entry.1, views index.entry.2)) }
+    requires { inside.1 < 32 }
+    ensures low { IfOk result (λ x. x.1 ≡ 1 + inside.entry.1) }
+    ensures gives { Gives (λ x. (expr_tree x.0, x.1, views x.2)) result (operand_of (opening_view opening.entry) (expr_tree inside.entry.0, inside.entry.1, views inside.entry.2)) }
 {
-    let height = 1 + index.1;
-    Ok((indexed(alloc, name, index.0)?, height, index.2))
+    let (inside, height, rest) = ended_as(opening, inside)?;
+    let Ok(operand) = around(alloc, opening, inside) else {
+        return Err(ParseFault::Memory);
+    };
+    Ok((operand, 1 + height, rest))
+}
+
+/// What stands to the left of an operator, and what was read after it.
+#[inline(always)]
+fn joined<'t>(
+    alloc: Global,
+    op: BinaryOp,
+    left: ReadExpr<'t>,
+    right: Result<ReadExpr<'t>, ParseFault>,
+) -> Result<ReadExpr<'t>, ParseFault>
+    requires { IfOk right (λ x. (x.1 < 32) × (left.1 < 32)) }
+    ensures low { (most : ℕ) → IfOk right.entry (λ x. (x.1 < most) × (left.entry.1 < most)) → IfOk result (λ x. (x.1 ≤ most) × (left.entry.1 < x.1)) }
+    ensures gives { (read : Result ReadExpr ParseFault) → Gives (λ x. (expr_tree x.0, x.1, views x.2)) right.entry read → Gives (λ x. (expr_tree x.0, x.1, views x.2)) result (joined_by (binary_tree op) (expr_tree left.entry.0, left.entry.1, views left.entry.2) read) }
+{
+    let (right, right_height, rest) = right?;
+    let (left, height, _) = left;
+    let operands = Box::new(alloc, (left, right))?;
+    Ok((
+        Expr::Binary(op, operands),
+        1 + height.max(right_height),
+        rest,
+    ))
 }
 
 /// The operator that comes next, where it is of this level or tighter.
@@ -224,7 +266,7 @@ fn operator_within(least: u32, rest: Cursor<'_>) -> Option<BinaryOp>
 
 /// Whether an operand begins here that holds another expression.
 fn starts_deep(lexemes: Cursor<'_>) -> bool
-    ensures { result ≡ (starts_with (Fixed.Mark Mark.Tilde) (views lexemes.entry) || starts_with (Fixed.Mark Mark.Exclamation) (views lexemes.entry) || starts_with (Fixed.Mark Mark.OpenParen) (views lexemes.entry)) }
+    ensures { result ≡ starts_deep (views lexemes.entry) }
 {
     starts_with(Fixed::Mark(Mark::Tilde), lexemes)
         || starts_with(Fixed::Mark(Mark::Exclamation), lexemes)
@@ -238,9 +280,99 @@ pub fn starts_element(lexemes: Cursor<'_>) -> bool
     starts_name(lexemes) && starts_with(Fixed::Mark(Mark::OpenBracket), rest_of(lexemes))
 }
 
+/// A cast to a type, of which the closing parenthesis is read.
+#[inline(always)]
+fn cast(op: PrefixOp, lexemes: Cursor<'_>) -> Result<ReadOpening<'_>, ParseFault>
+    ensures { Gives (option_map (λ x. (opening_view x.0, views x.1))) result (cast_at (prefix_tree op) (views lexemes.entry)) }
+{
+    match expect(Fixed::Mark(Mark::CloseParen), lexemes) {
+        Ok(rest) => Ok(Some((Opening::Prefix(op), rest))),
+        Err(fault) => Err(fault),
+    }
+}
+
+/// What opens with a parenthesis: a cast, or an expression.
+#[inline(always)]
+#[tactic(auto, unfolding(crate::specs::Steps::paren_opening_at))]
+fn paren_opening(lexemes: Cursor<'_>) -> Result<ReadOpening<'_>, ParseFault>
+    ensures { Gives (option_map (λ x. (opening_view x.0, views x.1))) result (paren_opening_at (views lexemes.entry)) }
+{
+    if starts_with(Fixed::Word(Word::Uint32), lexemes) {
+        return cast(PrefixOp::ToWord, rest_of(lexemes));
+    }
+    if starts_with(Fixed::Word(Word::Jint), lexemes) {
+        return cast(PrefixOp::ToInt, rest_of(lexemes));
+    }
+    Ok(Some((Opening::Paren, lexemes)))
+}
+
+/// What comes after the opening bracket of an index, which counts one.
+#[inline(always)]
+#[tactic(auto, unfolding(crate::specs::Steps::bracket_at))]
+fn bracket(room: u32, lexemes: Cursor<'_>) -> Result<Cursor<'_>, ParseFault>
+    ensures some { IfOk result (λ _. 1 ≤ room) }
+    ensures gives { Gives views result (bracket_at room (views lexemes.entry)) }
+{
+    if room == 0 {
+        return Err(fault_at(Fault::TooHigh, lexemes));
+    }
+    expect(Fixed::Mark(Mark::OpenBracket), lexemes)
+}
+
+/// The name of an element, and its opening bracket.
+#[inline(always)]
+#[tactic(auto, unfolding(crate::specs::Steps::element_opening_at))]
+fn element_opening(room: u32, lexemes: Cursor<'_>) -> Result<ReadOpening<'_>, ParseFault>
+    ensures some { IfOk result (λ _. 1 ≤ room) }
+    ensures gives { Gives (option_map (λ x. (opening_view x.0, views x.1))) result (element_opening_at room (views lexemes.entry)) }
+{
+    let (name, rest) = name_at(lexemes)?;
+    match bracket(room, rest) {
+        Ok(rest) => Ok(Some((Opening::Element(name), rest))),
+        Err(fault) => Err(fault),
+    }
+}
+
+/// How an operand opens that has an expression inside, for which there is room, and what comes after that.
+#[inline(always)]
+#[tactic(auto, unfolding(crate::specs::Steps::opening_at))]
+fn operand_opening(room: u32, lexemes: Cursor<'_>) -> Result<ReadOpening<'_>, ParseFault>
+    ensures some { IfOk result (λ x. IfSome x (λ _. 1 ≤ room)) }
+    ensures gives { Gives (option_map (λ x. (opening_view x.0, views x.1))) result (opening_at room (views lexemes.entry)) }
+{
+    if room == 0 && starts_deep(lexemes) {
+        return Err(fault_at(Fault::TooHigh, lexemes));
+    }
+    if starts_with(Fixed::Mark(Mark::Tilde), lexemes) {
+        let prefix = Opening::Prefix(PrefixOp::Complement);
+        return Ok(Some((prefix, rest_of(lexemes))));
+    }
+    if starts_with(Fixed::Mark(Mark::Exclamation), lexemes) {
+        let prefix = Opening::Prefix(PrefixOp::LogicalNot);
+        return Ok(Some((prefix, rest_of(lexemes))));
+    }
+    if starts_with(Fixed::Mark(Mark::OpenParen), lexemes) {
+        return paren_opening(rest_of(lexemes));
+    }
+    if starts_element(lexemes) {
+        return element_opening(room, lexemes);
+    }
+    Ok(None)
+}
+
+/// The level of the expression inside an operand that opens so.
+#[inline(always)]
+fn level_inside(opening: Opening<'_>) -> u32
+    ensures { result ≡ level_inside (opening_view opening.entry) }
+{
+    match opening {
+        Opening::Prefix(_) => PREFIX_LEVEL,
+        Opening::Paren | Opening::Element(_) => 0,
+    }
+}
+
 /// An expression of this level or tighter, no higher than there is room.
 #[cycle(expressions)]
-#[tactic(auto, unfolding(crate::specs::Reading::expr_by))]
 pub fn expression(
     alloc: Global,
     room: u32,
@@ -251,19 +383,16 @@ pub fn expression(
     ensures low { IfOk result (λ x. x.1 ≤ room) }
     ensures gives { Gives (λ x. (expr_tree x.0, x.1, views x.2)) result (expr_at room least (views lexemes.entry)) }
 {
-    let (mut left, mut height, mut rest) = operand(alloc, room, lexemes)?;
-    while let Some(op) = operator_within(least, rest) {
-        let (right, right_height, after) = right_operand(alloc, room, height, op, rest)?;
-        left = binary(alloc, op, left, right)?;
-        height = 1 + height.max(right_height);
-        rest = after;
+    let mut read = operand(alloc, room, lexemes)?;
+    while let Some(op) = operator_within(least, read.2) {
+        let right = right_operand(alloc, room, read.1, op, read.2);
+        read = joined(alloc, op, read, right)?;
     }
-    Ok((left, height, rest))
+    Ok(read)
 }
 
 /// What comes after this operator, whose left operand has this height.
 #[cycle(expressions)]
-#[tactic(auto, using(crate::proofs::Climbing::deeps))]
 fn right_operand(
     alloc: Global,
     room: u32,
@@ -272,8 +401,7 @@ fn right_operand(
     lexemes: Cursor<'_>,
 ) -> Result<ReadExpr<'_>, ParseFault>
     requires { room ≤ 32 }
-    ensures low { IfOk result (λ x. x.1 < room) }
-    ensures room { IfOk result (λ _. height < room) }
+    ensures low { IfOk result (λ x. (x.1 < room) × (height < room)) }
     ensures gives { Gives (λ x. (expr_tree x.0, x.1, views x.2)) result (right_by (deeper room) room height (binary_tree op) (views lexemes.entry)) }
 {
     if height >= room {
@@ -284,108 +412,27 @@ fn right_operand(
 
 /// A prefix with its operand, parentheses, an element, or what holds best.
 #[cycle(expressions)]
-#[tactic(auto, unfolding(crate::specs::Reading::operand_by))]
 fn operand(alloc: Global, room: u32, lexemes: Cursor<'_>) -> Result<ReadExpr<'_>, ParseFault>
     requires { room ≤ 32 }
     ensures low { IfOk result (λ x. x.1 ≤ room) }
     ensures gives { Gives (λ x. (expr_tree x.0, x.1, views x.2)) result (operand_at room (views lexemes.entry)) }
 {
-    if room == 0 && starts_deep(lexemes) {
-        return Err(fault_at(Fault::TooHigh, lexemes));
-    }
-    if starts_with(Fixed::Mark(Mark::Tilde), lexemes) {
-        return prefixed(alloc, room, PrefixOp::Complement, rest_of(lexemes));
-    }
-    if starts_with(Fixed::Mark(Mark::Exclamation), lexemes) {
-        return prefixed(alloc, room, PrefixOp::LogicalNot, rest_of(lexemes));
-    }
-    if starts_with(Fixed::Mark(Mark::OpenParen), lexemes) {
-        return after_paren(alloc, room, rest_of(lexemes));
-    }
-    if starts_element(lexemes) {
-        return element(alloc, room, lexemes);
-    }
-    primary(alloc, lexemes)
-}
-
-/// What comes after an opening parenthesis: a type, or an expression.
-#[cycle(expressions)]
-#[tactic(auto, unfolding(crate::specs::Reading::after_paren))]
-fn after_paren(alloc: Global, room: u32, lexemes: Cursor<'_>) -> Result<ReadExpr<'_>, ParseFault>
-    requires some { 1 ≤ room }
-    requires bound { room ≤ 32 }
-    ensures low { IfOk result (λ x. x.1 ≤ room) }
-    ensures gives { Gives (λ x. (expr_tree x.0, x.1, views x.2)) result (after_paren (deeper room) (views lexemes.entry)) }
-{
-    if starts_with(Fixed::Word(Word::Uint32), lexemes) {
-        let rest = expect(Fixed::Mark(Mark::CloseParen), rest_of(lexemes))?;
-        return prefixed(alloc, room, PrefixOp::ToWord, rest);
-    }
-    if starts_with(Fixed::Word(Word::Jint), lexemes) {
-        let rest = expect(Fixed::Mark(Mark::CloseParen), rest_of(lexemes))?;
-        return prefixed(alloc, room, PrefixOp::ToInt, rest);
-    }
-    in_parens(alloc, room, lexemes)
-}
-
-/// An expression after its opening parenthesis.
-#[cycle(expressions)]
-#[tactic(auto, using(crate::proofs::Climbing::deeps), unfolding(crate::specs::Reading::in_parens))]
-fn in_parens(alloc: Global, room: u32, lexemes: Cursor<'_>) -> Result<ReadExpr<'_>, ParseFault>
-    requires some { 1 ≤ room }
-    requires bound { room ≤ 32 }
-    ensures low { IfOk result (λ x. x.1 ≤ room) }
-    ensures gives { Gives (λ x. (expr_tree x.0, x.1, views x.2)) result (in_parens (deeper room) (views lexemes.entry)) }
-{
-    let inside = expression(alloc, room - 1, 0, lexemes)?;
-    in_closed_parens(alloc, inside)
-}
-
-/// A name with an index.
-#[cycle(expressions)]
-#[tactic(auto, unfolding(crate::specs::Reading::element_by))]
-fn element(alloc: Global, room: u32, lexemes: Cursor<'_>) -> Result<ReadExpr<'_>, ParseFault>
-    requires { room ≤ 32 }
-    ensures low { IfOk result (λ x. x.1 ≤ room) }
-    ensures gives { Gives (λ x. (expr_tree x.0, x.1, views x.2)) result (element_by room (deeper room) (views lexemes.entry)) }
-{
-    let (name, rest) = name_at(lexemes)?;
-    let index = index(alloc, room, rest)?;
-    element_of(alloc, name, index)
+    let Some((opening, rest)) = operand_opening(room, lexemes)? else {
+        return primary(alloc, lexemes);
+    };
+    let inside = expression(alloc, room - 1, level_inside(opening), rest)?;
+    operand_of(alloc, opening, inside)
 }
 
 /// An index in its brackets, which counts one.
-#[cycle(expressions)]
-#[tactic(auto, using(crate::proofs::Climbing::deeps), unfolding(crate::specs::Reading::index_by))]
 pub fn index(alloc: Global, room: u32, lexemes: Cursor<'_>) -> Result<ReadExpr<'_>, ParseFault>
     requires { room ≤ 32 }
     ensures low { IfOk result (λ x. x.1 < room) }
     ensures gives { Gives (λ x. (expr_tree x.0, x.1, views x.2)) result (index_at room (views lexemes.entry)) }
 {
-    if room == 0 {
-        return Err(fault_at(Fault::TooHigh, lexemes));
-    }
-    let rest = expect(Fixed::Mark(Mark::OpenBracket), lexemes)?;
+    let rest = bracket(room, lexemes)?;
     let index = expression(alloc, room - 1, 0, rest)?;
     ended(Fixed::Mark(Mark::CloseBracket), index)
-}
-
-/// The operand of a prefix.
-#[cycle(expressions)]
-#[tactic(auto, using(crate::proofs::Climbing::deeps), unfolding(crate::specs::Reading::under_prefix))]
-fn prefixed(
-    alloc: Global,
-    room: u32,
-    op: PrefixOp,
-    lexemes: Cursor<'_>,
-) -> Result<ReadExpr<'_>, ParseFault>
-    requires some { 1 ≤ room }
-    requires bound { room ≤ 32 }
-    ensures low { IfOk result (λ x. x.1 ≤ room) }
-    ensures gives { Gives (λ x. (expr_tree x.0, x.1, views x.2)) result (under_prefix (deeper room) (prefix_tree op) (views lexemes.entry)) }
-{
-    let operand = expression(alloc, room - 1, PREFIX_LEVEL, lexemes)?;
-    with_prefix(alloc, op, operand)
 }
 
 /// Whether a number, a named constant or a name comes next.

@@ -22,8 +22,6 @@ unfolding inner
 inner_is zero free ls lt = absurd (omega arith)
 inner_is (suc room) free ls lt = let e : suc room - 1 ≡ room = omega arith in rw e refl
 
-pub ruleset inners = (inner_is)
-
 -- statements that stand before a block
 abbrev pub before : List StmtInMemory → Block → Block
 before [] b = b

@@ -1,5 +1,5 @@
 -- Functions and units: what is read is spelled so, and what is spelled so is read.
-use Rattle.std.proofs.Common.{◌≡◌, ℕ, zero, suc, ◌-◌, ◌<◌, ◌≤◌, true, List, [], ◌∷◌, ◌++◌, length, Option, Some, None, Result, Ok, refl, sym, ap, subst, ◌∙◌, arith, inl, inr}
+use Rattle.std.proofs.Common.{◌≡◌, ℕ, zero, suc, ◌+◌, ◌-◌, ◌<◌, ◌≤◌, true, List, [], ◌∷◌, ◌++◌, length, Option, Some, None, Result, Ok, refl, ap, subst, arith, inl, inr}
 use Rattle.std.specs.Prelude.{◌==◌, ◌≢◌, flat_map}
 use Rattle.std.proofs.lemmas.Bool.{eqb-false}
 use Rattle.scan.specs.declared.token.Mark.TheVariants as marks
@@ -19,7 +19,7 @@ use Rattle.parse.specs.Reading.{parameter_at, parameters_at, head_at, body_at, b
 use Rattle.parse.proofs.Forms.{names_in, IsBlock, IsFunction, AreItems}
 use Rattle.lexemes.proofs.Singles.{Begins, bind_ok, ok_is, chosen, begins_append, first_takes, starts_takes, expect_takes, then_takes, name_takes, shortens}
 use Rattle.lexemes.proofs.TypeWords.{reference_type_takes, result_type_takes, parameter_type_takes}
-use Rattle.parse.proofs.Nested.{in_a_row, block_takes}
+use Rattle.parse.proofs.Nested.{block_takes}
 
 -- the parameters that each function has, up to the name of its class
 abbrev pub parameters_head : List Spelled
@@ -119,91 +119,89 @@ on_expected f (l ∷ ls) rest e = let t = expect_takes f (l ∷ ls) rest e in ((
 
 -- ---- a function, step by step
 
-abbrev Read : Type 0
-Read = Result (Function × List Lexed) ParseFault
+abbrev Signature : Type 0
+Signature = ResultType × List ℕ × List ℕ × List Lexed
 
-abbrev made : ℕ → ResultType → List ℕ → List ℕ → List Parameter → Block → Function
-made line r n c ps body = record { line = line; result = r; name = n; class_name = c; parameters = ps; body = body }
+abbrev signature5 : ResultType → List ℕ → List Lexed → Result Signature ParseFault
+signature5 r n c = name_at c >>= λ k. Ok (r, n, k.0, k.1)
 
-abbrev step7 : ℕ → ResultType → List ℕ → List ℕ → List Parameter → Block × List Lexed → Read
-step7 line r n c ps body = Ok (made line r n c ps body.0, body.1)
+abbrev signature4 : ResultType → List ℕ × List Lexed → Result Signature ParseFault
+signature4 r n = head_at n.1 >>= signature5 r n.0
 
-abbrev step6 : ℕ → ResultType → List ℕ → List ℕ → List Parameter × List Lexed → Read
-step6 line r n c ps = body_at (255 - length ps.0) ps.1 >>= step7 line r n c ps.0
+abbrev signature3 : ResultType → List Lexed → Result Signature ParseFault
+signature3 r b = name_at b >>= signature4 r
 
-abbrev step5 : ℕ → ResultType → List ℕ → List ℕ × List Lexed → Read
-step5 line r n c = parameters_at 255 c.1 >>= step6 line r n c.0
+abbrev signature2 : ResultType × List Lexed → Result Signature ParseFault
+signature2 r = expect (fixed.Word words.JniCall) r.1 >>= signature3 r.0
 
-abbrev step4 : ℕ → ResultType → List ℕ → List Lexed → Read
-step4 line r n ls = name_at ls >>= step5 line r n
+abbrev signature1 : List Lexed → Result Signature ParseFault
+signature1 a = found (result_type_at a) a >>= signature2
 
-abbrev step3 : ℕ → ResultType → List ℕ × List Lexed → Read
-step3 line r n = head_at n.1 >>= step4 line r n.0
+abbrev signature_tokens : ℕ → ResultType → List ℕ → List ℕ → List Spelled
+signature_tokens line r n c = OnLine line (Fixed' (fixed.Word words.JniExport)) ∷ word (result_word r) ∷ word words.JniCall ∷ Anywhere (Name' n) ∷ (parameters_head ++ Anywhere (Name' c) ∷ [])
 
-abbrev step2 : ℕ → ResultType → List Lexed → Read
-step2 line r ls = name_at ls >>= step3 line r
+abbrev TakesSignature : List Lexed → Signature → Type 0
+TakesSignature ls s = Begins (signature_tokens (line_at ls) s.0 s.1 s.2) ls s.3
 
-abbrev step1 : ℕ → ResultType × List Lexed → Read
-step1 line r = expect (fixed.Word words.JniCall) r.1 >>= step2 line r.0
-
-abbrev step0 : ℕ → List Lexed → Read
-step0 line ls = found (result_type_at ls) ls >>= step1 line
-
-abbrev after_signature : ℕ → ResultType × List ℕ × List ℕ × List Lexed → Read
-after_signature line s = parameters_at 255 s.3 >>= step6 line s.0 s.1 s.2
-
-function_is : (ls : List Lexed) → function_at ls ≡ (expect (fixed.Word words.JniExport) ls >>= step0 (line_at ls))
-unfolding function_at signature_at
-function_is ls =
+signature_takes : (ls : List Lexed) (s : Signature) → signature_at ls ≡ Ok s → TakesSignature ls s
+unfolding signature_at
+signature_takes ls s h =
     let line = line_at ls in
-    in_a_row (expect (fixed.Word words.JniExport) ls) _ (after_signature line) (step0 line) (λ a.
-    in_a_row (found (result_type_at a) a) _ (after_signature line) (step1 line) (λ r.
-    in_a_row (expect (fixed.Word words.JniCall) r.1) _ (after_signature line) (step2 line r.0) (λ b.
-    in_a_row (name_at b) _ (after_signature line) (step3 line r.0) (λ n.
-    in_a_row (head_at n.1) _ (after_signature line) (step4 line r.0 n.0) (λ c.
-    in_a_row (name_at c) _ (after_signature line) (step5 line r.0 n.0) (λ k. refl))))))
+    let a = bind_ok (expect (fixed.Word words.JniExport) ls) signature1 s h in
+    let b = bind_ok (found (result_type_at a.0) a.0) signature2 s a.2 in
+    let result = found_ok (result_type_at a.0) a.0 b.0 b.1 in
+    let type = subst (λ (mid : List Lexed). Begins (word (result_word b.0.0) ∷ []) a.0 mid) result.1 (result_type_takes b.0.0 a.0 result.0) in
+    let c = bind_ok (expect (fixed.Word words.JniCall) b.0.1) (signature3 b.0.0) s b.2 in
+    let d = bind_ok (name_at c.0) (signature4 b.0.0) s c.2 in
+    let e = bind_ok (head_at d.0.1) (signature5 b.0.0 d.0.0) s d.2 in
+    let f = bind_ok (name_at e.0) (λ k. Ok (b.0.0, d.0.0, k.0, k.1)) s e.2 in
+    let es5 : List Spelled = Anywhere (Name' f.0.0) ∷ [] in
+    let es3 : List Spelled = Anywhere (Name' d.0.0) ∷ (parameters_head ++ es5) in
+    let es2 : List Spelled = word words.JniCall ∷ es3 in
+    let es1 : List Spelled = word (result_word b.0.0) ∷ es2 in
+    let t4 = begins_append parameters_head es5 d.0.1 e.0 f.0.1 (head_takes d.0.1 e.0 e.1) (name_takes e.0 f.0 f.1) in
+    let t3 = begins_append (Anywhere (Name' d.0.0) ∷ []) (parameters_head ++ es5) c.0 d.0.1 f.0.1 (name_takes c.0 d.0 d.1) t4 in
+    let t2 = begins_append (word words.JniCall ∷ []) es3 b.0.1 c.0 f.0.1 (expect_takes (fixed.Word words.JniCall) b.0.1 c.0 c.1) t3 in
+    let t1 = begins_append (word (result_word b.0.0) ∷ []) es2 a.0 b.0.1 f.0.1 type t2 in
+    let made : Signature = (b.0.0, d.0.0, f.0.0, f.0.1) in
+    subst (λ (y : Signature). TakesSignature ls y) (ok_is made s f.2) (begins_append (OnLine line (Fixed' (fixed.Word words.JniExport)) ∷ []) es1 ls a.0 f.0.1 (on_expected (fixed.Word words.JniExport) ls a.0 a.1) t1)
+
+abbrev made : ℕ → Signature → List Parameter → Block → Function
+made line s ps body = record { line = line; result = s.0; name = s.1; class_name = s.2; parameters = ps; body = body }
+
+abbrev with_parameters : ℕ → Signature → List Parameter × List Lexed → Result (Function × List Lexed) ParseFault
+with_parameters line s ps = body_at (255 - length ps.0) ps.1 >>= λ body. Ok (made line s ps.0 body.0, body.1)
+
+abbrev with_signature : ℕ → Signature → Result (Function × List Lexed) ParseFault
+with_signature line s = parameters_at 255 s.3 >>= with_parameters line s
 
 pub record TakesFunction (ls : List Lexed) (x : Function × List Lexed) : Type 0 where
   pub parts : Begins (function x.0) ls x.1
   pub formed : IsFunction x.0
   pub shorter : length x.1 < length ls
 
-steps_take : (ls : List Lexed) (x : Function × List Lexed) → (expect (fixed.Word words.JniExport) ls >>= step0 (line_at ls)) ≡ Ok x → TakesFunction ls x
-steps_take ls x h =
-    let line = line_at ls in
-    let a = bind_ok (expect (fixed.Word words.JniExport) ls) (step0 line) x h in
-    let b = bind_ok (found (result_type_at a.0) a.0) (step1 line) x a.2 in
-    let result = found_ok (result_type_at a.0) a.0 b.0 b.1 in
-    let type = subst (λ (mid : List Lexed). Begins (word (result_word b.0.0) ∷ []) a.0 mid) result.1 (result_type_takes b.0.0 a.0 result.0) in
-    let c = bind_ok (expect (fixed.Word words.JniCall) b.0.1) (step2 line b.0.0) x b.2 in
-    let d = bind_ok (name_at c.0) (step3 line b.0.0) x c.2 in
-    let e = bind_ok (head_at d.0.1) (step4 line b.0.0 d.0.0) x d.2 in
-    let f = bind_ok (name_at e.0) (step5 line b.0.0 d.0.0) x e.2 in
-    let k = bind_ok (parameters_at 255 f.0.1) (step6 line b.0.0 d.0.0 f.0.0) x f.2 in
-    let g = bind_ok (body_at (255 - length k.0.0) k.0.1) (step7 line b.0.0 d.0.0 f.0.0 k.0.0) x k.2 in
-    let ps = parameters_take 255 f.0.1 k.0 k.1 in
-    let body = body_takes (255 - length k.0.0) k.0.1 g.0 g.1 in
-    let es6 : List Spelled = mark marks.CloseParen ∷ mark marks.OpenBrace ∷ inside g.0.0 in
-    let es5 : List Spelled = Anywhere (Name' f.0.0) ∷ (flat_map parameter k.0.0 ++ es6) in
-    let es3 : List Spelled = Anywhere (Name' d.0.0) ∷ (parameters_head ++ es5) in
-    let es2 : List Spelled = word words.JniCall ∷ es3 in
-    let es1 : List Spelled = word (result_word b.0.0) ∷ es2 in
-    let t6 = begins_append (flat_map parameter k.0.0) es6 f.0.1 k.0.1 g.0.1 ps.0 body.parts in
-    let t5 = begins_append (Anywhere (Name' f.0.0) ∷ []) (flat_map parameter k.0.0 ++ es6) e.0 f.0.1 g.0.1 (name_takes e.0 f.0 f.1) t6 in
-    let t4 = begins_append parameters_head es5 d.0.1 e.0 g.0.1 (head_takes d.0.1 e.0 e.1) t5 in
-    let t3 = begins_append (Anywhere (Name' d.0.0) ∷ []) (parameters_head ++ es5) c.0 d.0.1 g.0.1 (name_takes c.0 d.0 d.1) t4 in
-    let t2 = begins_append (word words.JniCall ∷ []) es3 b.0.1 c.0 g.0.1 (expect_takes (fixed.Word words.JniCall) b.0.1 c.0 c.1) t3 in
-    let t1 = begins_append (word (result_word b.0.0) ∷ []) es2 a.0 b.0.1 g.0.1 type t2 in
-    let t0 = begins_append (OnLine line (Fixed' (fixed.Word words.JniExport)) ∷ []) es1 ls a.0 g.0.1 (on_expected (fixed.Word words.JniExport) ls a.0 a.1) t1 in
-    let few = ps.1 in
-    subst (λ (y : Function × List Lexed). TakesFunction ls y) (ok_is (made line b.0.0 d.0.0 f.0.0 k.0.0 g.0.0, g.0.1) x g.2) (record {
-      parts = t0;
-      formed = record { body = body.formed; names = omega (arith, few, body.few) };
-      shorter = shortens (OnLine line (Fixed' (fixed.Word words.JniExport))) es1 ls g.0.1 t0;
-    })
+names_fit : (parameters names : ℕ) → parameters ≤ 255 → names ≤ 255 - parameters → parameters + names ≤ 255
+names_fit parameters names few rest = omega arith
 
 pub function_takes : (ls : List Lexed) (x : Function × List Lexed) → function_at ls ≡ Ok x → TakesFunction ls x
-function_takes ls x h = steps_take ls x (sym (function_is ls) ∙ h)
+unfolding function_at
+function_takes ls x h =
+    let line = line_at ls in
+    let a = bind_ok (signature_at ls) (with_signature line) x h in
+    let b = bind_ok (parameters_at 255 a.0.3) (with_parameters line a.0) x a.2 in
+    let c = bind_ok (body_at (255 - length b.0.0) b.0.1) (λ body. Ok (made line a.0 b.0.0 body.0, body.1)) x b.2 in
+    let ps = parameters_take 255 a.0.3 b.0 b.1 in
+    let body = body_takes (255 - length b.0.0) b.0.1 c.0 c.1 in
+    let es2 : List Spelled = mark marks.CloseParen ∷ mark marks.OpenBrace ∷ inside c.0.0 in
+    let es1 : List Spelled = flat_map parameter b.0.0 ++ es2 in
+    let t1 = begins_append (flat_map parameter b.0.0) es2 a.0.3 b.0.1 c.0.1 ps.0 body.parts in
+    let t0 = begins_append (signature_tokens line a.0.0 a.0.1 a.0.2) es1 ls a.0.3 c.0.1 (signature_takes ls a.0 a.1) t1 in
+    let after : List Spelled = word (result_word a.0.0) ∷ word words.JniCall ∷ Anywhere (Name' a.0.1) ∷ (parameters_head ++ Anywhere (Name' a.0.2) ∷ es1) in
+    subst (λ (y : Function × List Lexed). TakesFunction ls y) (ok_is (made line a.0 b.0.0 c.0.0, c.0.1) x c.2) (record {
+      parts = t0;
+      formed = record { body = body.formed; names = names_fit (length b.0.0) (names_in c.0.0) ps.1 body.few };
+      shorter = shortens (OnLine line (Fixed' (fixed.Word words.JniExport))) after ls c.0.1 t0;
+    })
 
 -- ---- statics
 
@@ -274,6 +272,9 @@ pub record TakesItem (functions statics : ℕ) (ls : List Lexed) (x : ReadItem) 
   pub statics_count : (others : List Item) → statics_in others ≤ x.2 → statics_in (x.0 ∷ others) ≤ statics
   pub shorter : length x.3 < length ls
 
+one_more : (count limit others : ℕ) → limit ≢ 0 → others ≤ limit - 1 → count ≡ suc others → count ≤ limit
+one_more count limit others other few is = omega arith
+
 pub item_takes : (functions statics : ℕ) (ls : List Lexed) (x : ReadItem) → item_at functions statics ls ≡ Ok x → TakesItem functions statics ls x
 unfolding item_at
 item_takes functions statics ls x e =
@@ -287,7 +288,7 @@ item_takes functions statics ls x e =
             subst (λ (y : ReadItem). TakesItem functions statics ls y) (ok_is (FunctionItem a.0.0, functions - 1, statics, a.0.1) x a.2) (record {
               parts = t.parts;
               formed = λ others are. (t.formed, are);
-              functions_count = λ others few. omega (arith, other, few);
+              functions_count = λ others few. one_more (functions_in (FunctionItem a.0.0 ∷ others)) functions (functions_in others) other few refl;
               statics_count = λ others few. few;
               shorter = t.shorter;
             })
@@ -303,7 +304,7 @@ item_takes functions statics ls x e =
                 parts = t.parts;
                 formed = λ others are. are;
                 functions_count = λ others few. few;
-                statics_count = λ others few. omega (arith, other, few);
+                statics_count = λ others few. one_more (statics_in (StaticItem a.0.0 ∷ others)) statics (statics_in others) other few refl;
                 shorter = t.shorter;
               })
         ]

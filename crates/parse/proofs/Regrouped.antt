@@ -1,18 +1,21 @@
 -- What is read in several steps, by the steps that have functions of their own.
-use Rattle.std.proofs.Common.{◌≡◌, ℕ, List, Result, Ok, Err, refl}
+use Rattle.std.proofs.Common.{◌≡◌, ℕ, Bool, true, false, List, Result, Ok, Err, refl, ◌∙◌, if◌then◌else◌}
 use Rattle.base.specs.Bytes.{Identifier}
 use Rattle.base.specs.Element.{ElementType}
 use Rattle.scan.specs.declared.token.Mark.TheVariants as marks
 use Rattle.scan.specs.declared.reserved.Word.TheVariants as words
-use Rattle.syntax.specs.Tree.{Expr, AssignElement, DeclareArray, ReferenceType, ResultType}
+use Rattle.syntax.specs.Tree.{Expr, AssignElement, DeclareArray, DeclareChars, PutJint, Return, ReturnValue, ReferenceType, ResultType, Static}
+use Rattle.lexemes.specs.declared.first.Fixed.{Fixed}
 use Rattle.lexemes.specs.declared.first.Fixed.TheVariants as fixed
 use Rattle.lexemes.specs.declared.fault.ParseFault.{ParseFault}
 use Rattle.lexemes.specs.Results.{◌>>=◌}
 use Rattle.lexemes.specs.Lexemes.{Lexed, line_at, expect, name_at}
-use Rattle.lexemes.specs.Reading.{reference_type_at, result_type_at, found, number_at}
-use Rattle.expressions.specs.Reading.{expr_at}
-use Rattle.parse.specs.Reading.{zeros_at, array_at, head_at, signature_at, static_at}
-use Rattle.parse.specs.Steps.{assigned_at, element_set_at, array_head_at, exported_at, static_head_at}
+use Rattle.lexemes.specs.Reading.{reference_type_at, result_type_at, found, number_at, starts_with, rest_of}
+use Rattle.expressions.specs.Reading.{expr_at, setting_at, test_at}
+use Rattle.expressions.specs.Steps.{two}
+use Rattle.expressions.proofs.Called.{after_step, two_is}
+use Rattle.parse.specs.Reading.{ReadPlain, put_at, return_at, zeros_at, array_at, after_const, if_test_at, block_at, head_at, body_at, signature_at, static_at}
+use Rattle.parse.specs.Steps.{ended_at, parenthesized_at, assigned_at, element_set_at, array_head_at, exported_at, static_head_at}
 
 -- the last of some steps give one value
 pub last : {C D E : Type 0} (r : Result C ParseFault) (made : C → D) (k : D → Result E ParseFault) → (r >>= λ c. k (made c)) ≡ (r >>= (λ c. Ok (made c)) >>= k)
@@ -50,8 +53,62 @@ signature_is ls =
     three (expect (fixed.Word words.JniExport) ls) (λ a. found (result_type_at a) a) (λ a result. expect (fixed.Word words.JniCall) result.1) (λ a result b. (result.0, b))
     (λ (h : ResultType × List Lexed). name_at h.1 >>= λ name. head_at name.1 >>= λ c. name_at c >>= λ class_name. Ok (h.0, name.0, class_name.0, class_name.1))
 
-pub static_is : (ls : List Lexed) → static_at ls ≡ (static_head_at ls >>= λ h. expect (fixed.Word words.Null) h.2 >>= λ c. expect (fixed.Mark marks.Semicolon) c >>= λ rest. Ok (record { line = line_at ls; type = h.0; name = h.1 }, rest))
+abbrev static_made : (line : ℕ) → ReferenceType × Identifier × List Lexed → List Lexed → Result (Static × List Lexed) ParseFault
+static_made line h rest = Ok (record { line = line; type = h.0; name = h.1 }, rest)
+
+pub static_is : (ls : List Lexed) → static_at ls ≡ (static_head_at ls >>= λ h. two (fixed.Word words.Null) (fixed.Mark marks.Semicolon) h.2 >>= λ rest. static_made (line_at ls) h rest)
 unfolding static_at static_head_at
 static_is ls =
     four (expect (fixed.Word words.Static) ls) (λ a. found (reference_type_at a) a) (λ a t. name_at t.1) (λ a t name. expect (fixed.Mark marks.Assign) name.1) (λ a t name b. (t.0, name.0, b))
-    (λ (h : ReferenceType × Identifier × List Lexed). expect (fixed.Word words.Null) h.2 >>= λ c. expect (fixed.Mark marks.Semicolon) c >>= λ rest. Ok (record { line = line_at ls; type = h.0; name = h.1 }, rest))
+    (λ (h : ReferenceType × Identifier × List Lexed). expect (fixed.Word words.Null) h.2 >>= λ c. expect (fixed.Mark marks.Semicolon) c >>= λ rest. static_made (line_at ls) h rest)
+    ∙ after_step (static_head_at ls) (λ (h : ReferenceType × Identifier × List Lexed). expect (fixed.Word words.Null) h.2 >>= λ c. expect (fixed.Mark marks.Semicolon) c >>= λ rest. static_made (line_at ls) h rest) (λ (h : ReferenceType × Identifier × List Lexed). two (fixed.Word words.Null) (fixed.Mark marks.Semicolon) h.2 >>= λ rest. static_made (line_at ls) h rest)
+    (λ h. two_is (fixed.Word words.Null) (fixed.Mark marks.Semicolon) h.2 (λ rest. static_made (line_at ls) h rest))
+
+pub if_test_is : (room : ℕ) (ls : List Lexed) → if_test_at room ls ≡ (expect (fixed.Mark marks.OpenParen) ls >>= λ a. test_at room a >>= λ test. two (fixed.Mark marks.CloseParen) (fixed.Mark marks.OpenBrace) test.1 >>= λ within. Ok (test.0, within))
+unfolding if_test_at
+if_test_is room ls =
+    after_step (expect (fixed.Mark marks.OpenParen) ls) _ (λ a. test_at room a >>= λ test. two (fixed.Mark marks.CloseParen) (fixed.Mark marks.OpenBrace) test.1 >>= λ within. Ok (test.0, within)) (λ a.
+    after_step (test_at room a) _ (λ test. two (fixed.Mark marks.CloseParen) (fixed.Mark marks.OpenBrace) test.1 >>= λ within. Ok (test.0, within)) (λ test.
+    two_is (fixed.Mark marks.CloseParen) (fixed.Mark marks.OpenBrace) test.1 (λ (within : List Lexed). Ok (test.0, within))))
+
+pub parenthesized_is : (room : ℕ) (end : Fixed) (ls : List Lexed) → parenthesized_at room end ls ≡ (expect (fixed.Mark marks.OpenParen) ls >>= λ a. ended_at room (fixed.Mark marks.CloseParen) a >>= λ e. expect end e.1 >>= λ rest. Ok (e.0, rest))
+unfolding parenthesized_at ended_at
+parenthesized_is room end ls =
+    after_step (expect (fixed.Mark marks.OpenParen) ls) _ (λ a. (expr_at room 0 a >>= λ e. expect (fixed.Mark marks.CloseParen) e.2 >>= λ b. Ok (e.0, b)) >>= λ e. expect end e.1 >>= λ rest. Ok (e.0, rest)) (λ a.
+    last_two (expr_at room 0 a) (λ e. expect (fixed.Mark marks.CloseParen) e.2) (λ e b. (e.0, b)) (λ (e : Expr × List Lexed). expect end e.1 >>= λ rest. Ok (e.0, rest)))
+
+pub put_is : (room line : ℕ) (ls : List Lexed) → put_at room line ls ≡ (parenthesized_at room (fixed.Mark marks.Semicolon) ls >>= λ e. Ok (PutJint line e.0, e.1))
+unfolding put_at parenthesized_at
+put_is room line ls =
+    four (expect (fixed.Mark marks.OpenParen) ls) (λ a. expr_at room 0 a) (λ a e. expect (fixed.Mark marks.CloseParen) e.2) (λ a e b. expect (fixed.Mark marks.Semicolon) b) (λ a e b rest. (e.0, rest)) (λ (e : Expr × List Lexed). Ok (PutJint line e.0, e.1))
+
+pub return_is : (room line : ℕ) (ls : List Lexed) → return_at room line ls ≡ (if starts_with (fixed.Mark marks.Semicolon) ls then Ok (Return line, rest_of ls) else (ended_at room (fixed.Mark marks.Semicolon) ls >>= λ e. Ok (ReturnValue line e.0, e.1)))
+unfolding return_at ended_at
+return_is room line ls = chosen (starts_with (fixed.Mark marks.Semicolon) ls)
+  where
+    with_value : Expr × List Lexed → Result ReadPlain ParseFault
+    with_value e = Ok (ReturnValue line e.0, e.1)
+
+    chosen : (b : Bool) → (if b then Ok (Return line, rest_of ls) else (expr_at room 0 ls >>= λ e. expect (fixed.Mark marks.Semicolon) e.2 >>= λ rest. with_value (e.0, rest)))
+        ≡ (if b then Ok (Return line, rest_of ls) else (expr_at room 0 ls >>= (λ e. expect (fixed.Mark marks.Semicolon) e.2 >>= λ rest. Ok (e.0, rest)) >>= with_value))
+    chosen true = refl
+    chosen false = last_two (expr_at room 0 ls) (λ e. expect (fixed.Mark marks.Semicolon) e.2) (λ e rest. (e.0, rest)) with_value
+
+pub head_is : (ls : List Lexed) → head_at ls ≡ (two (fixed.Mark marks.OpenParen) (fixed.Word words.JniEnv) ls >>= λ b. two (fixed.Mark marks.Star) (fixed.Word words.Env) b >>= λ d. two (fixed.Mark marks.Comma) (fixed.Word words.Jclass) d)
+unfolding head_at
+head_is ls =
+    two_is (fixed.Mark marks.OpenParen) (fixed.Word words.JniEnv) ls (λ b. expect (fixed.Mark marks.Star) b >>= λ c. expect (fixed.Word words.Env) c >>= λ d. two (fixed.Mark marks.Comma) (fixed.Word words.Jclass) d)
+    ∙ after_step (two (fixed.Mark marks.OpenParen) (fixed.Word words.JniEnv) ls) (λ b. expect (fixed.Mark marks.Star) b >>= λ c. expect (fixed.Word words.Env) c >>= λ d. two (fixed.Mark marks.Comma) (fixed.Word words.Jclass) d) (λ b. two (fixed.Mark marks.Star) (fixed.Word words.Env) b >>= λ d. two (fixed.Mark marks.Comma) (fixed.Word words.Jclass) d)
+    (λ b. two_is (fixed.Mark marks.Star) (fixed.Word words.Env) b (λ d. two (fixed.Mark marks.Comma) (fixed.Word words.Jclass) d))
+
+pub zeros_are : (ls : List Lexed) → zeros_at ls ≡ (two (fixed.Mark marks.Assign) (fixed.Mark marks.OpenBrace) ls >>= λ b. number_at 0 0 b >>= λ number. two (fixed.Mark marks.CloseBrace) (fixed.Mark marks.Semicolon) number.1)
+unfolding zeros_at
+zeros_are ls = two_is (fixed.Mark marks.Assign) (fixed.Mark marks.OpenBrace) ls (λ b. number_at 0 0 b >>= λ number. two (fixed.Mark marks.CloseBrace) (fixed.Mark marks.Semicolon) number.1)
+
+pub const_is : (room line : ℕ) (ls : List Lexed) → after_const room line ls ≡ (two (fixed.Word words.Jchar) (fixed.Mark marks.Star) ls >>= λ b. setting_at room b >>= λ s. Ok (DeclareChars line s.0 s.1, s.2))
+unfolding after_const
+const_is room line ls = two_is (fixed.Word words.Jchar) (fixed.Mark marks.Star) ls (λ b. setting_at room b >>= λ s. Ok (DeclareChars line s.0 s.1, s.2))
+
+pub body_is : (free : ℕ) (ls : List Lexed) → body_at free ls ≡ (two (fixed.Mark marks.CloseParen) (fixed.Mark marks.OpenBrace) ls >>= λ b. block_at 31 free b >>= λ body. Ok (body.0, body.2))
+unfolding body_at
+body_is free ls = two_is (fixed.Mark marks.CloseParen) (fixed.Mark marks.OpenBrace) ls (λ b. block_at 31 free b >>= λ body. Ok (body.0, body.2))

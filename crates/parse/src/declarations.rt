@@ -7,7 +7,7 @@ ghost use Rattle.lexemes.specs.Lexemes.{views};
 ghost use Rattle.parse.specs.Steps.{array_head_at};
 ghost use Rattle.parse.specs.Reading.{zeros_at, array_at, is_array, after_element, after_variable, after_const, declared_at, starts_declaration};
 
-use expressions::setting;
+use expressions::{expect_two, setting};
 use lexemes::{
     Cursor, Fixed, ParseFault, element_type, expect, line_at, name_at, number_at, rest_of,
     starts_with, variable_type,
@@ -20,15 +20,21 @@ use syntax::{ElementType, Form, Name, Stmt, VariableType};
 const ELEMENTS: u32 = 1024;
 
 /// What comes after the zeros of a local array.
-#[tactic(auto, unfolding(crate::specs::Reading::zeros_at))]
+#[tactic(auto, using(crate::proofs::Regrouped::zeros_are))]
 fn zeros(lexemes: Cursor<'_>) -> Result<Cursor<'_>, ParseFault>
     ensures { Gives (λ x. views x) result (zeros_at (views lexemes.entry)) }
 {
-    let rest = expect(Fixed::Mark(Mark::Assign), lexemes)?;
-    let rest = expect(Fixed::Mark(Mark::OpenBrace), rest)?;
+    let rest = expect_two(
+        Fixed::Mark(Mark::Assign),
+        Fixed::Mark(Mark::OpenBrace),
+        lexemes,
+    )?;
     let (_, rest) = number_at(0, 0, rest)?;
-    let rest = expect(Fixed::Mark(Mark::CloseBrace), rest)?;
-    expect(Fixed::Mark(Mark::Semicolon), rest)
+    expect_two(
+        Fixed::Mark(Mark::CloseBrace),
+        Fixed::Mark(Mark::Semicolon),
+        rest,
+    )
 }
 
 /// The name and the size of a local array, in its brackets.
@@ -40,8 +46,10 @@ fn array_head(lexemes: Cursor<'_>) -> Result<(&[u8], u32, Cursor<'_>), ParseFaul
     let (name, rest) = name_at(lexemes)?;
     let rest = expect(Fixed::Mark(Mark::OpenBracket), rest)?;
     let (size, rest) = number_at(1, ELEMENTS, rest)?;
-    let rest = expect(Fixed::Mark(Mark::CloseBracket), rest)?;
-    Ok((name, size, rest))
+    match expect(Fixed::Mark(Mark::CloseBracket), rest) {
+        Ok(rest) => Ok((name, size, rest)),
+        Err(fault) => Err(fault),
+    }
 }
 
 /// The name, the size and the zeros of a local array.
@@ -56,7 +64,10 @@ fn array(
 {
     let (name, size, rest) = array_head(lexemes)?;
     let rest = zeros(rest)?;
-    let form = Form::DeclareArray(element, Name::new(alloc, name)?, size);
+    let Ok(name) = Name::new(alloc, name) else {
+        return Err(ParseFault::Memory);
+    };
+    let form = Form::DeclareArray(element, name, size);
     Ok((Stmt { line, form }, rest))
 }
 
@@ -83,9 +94,13 @@ fn after_element(
     ensures { Gives (λ x. (stmt_tree x.0, views x.1)) result (after_element room line (element_tree element) (views lexemes.entry)) }
 {
     if starts_with(Fixed::Mark(Mark::Star), lexemes) {
-        let (name, right, rest) = setting(alloc, room, rest_of(lexemes))?;
-        let form = Form::DeclareBuffer(element, name, right);
-        return Ok((Stmt { line, form }, rest));
+        return match setting(alloc, room, rest_of(lexemes)) {
+            Ok((name, right, rest)) => {
+                let form = Form::DeclareBuffer(element, name, right);
+                Ok((Stmt { line, form }, rest))
+            }
+            Err(fault) => Err(fault),
+        };
     }
     if is_array(element, lexemes) {
         return array(alloc, line, element, lexemes);
@@ -105,13 +120,17 @@ fn after_variable(
     requires { room ≤ 32 }
     ensures { Gives (λ x. (stmt_tree x.0, views x.1)) result (after_variable room line (variable_type_tree kind) (views lexemes.entry)) }
 {
-    let (name, right, rest) = setting(alloc, room, lexemes)?;
-    let form = Form::Declare(kind, name, right);
-    Ok((Stmt { line, form }, rest))
+    match setting(alloc, room, lexemes) {
+        Ok((name, right, rest)) => {
+            let form = Form::Declare(kind, name, right);
+            Ok((Stmt { line, form }, rest))
+        }
+        Err(fault) => Err(fault),
+    }
 }
 
 /// What comes after `const`.
-#[tactic(auto, unfolding(crate::specs::Reading::after_const))]
+#[tactic(auto, using(crate::proofs::Regrouped::const_is))]
 fn after_const(
     alloc: Global,
     room: u32,
@@ -121,11 +140,14 @@ fn after_const(
     requires { room ≤ 32 }
     ensures { Gives (λ x. (stmt_tree x.0, views x.1)) result (after_const room line (views lexemes.entry)) }
 {
-    let rest = expect(Fixed::Word(Word::Jchar), lexemes)?;
-    let rest = expect(Fixed::Mark(Mark::Star), rest)?;
-    let (name, right, rest) = setting(alloc, room, rest)?;
-    let form = Form::DeclareChars(name, right);
-    Ok((Stmt { line, form }, rest))
+    let rest = expect_two(Fixed::Word(Word::Jchar), Fixed::Mark(Mark::Star), lexemes)?;
+    match setting(alloc, room, rest) {
+        Ok((name, right, rest)) => {
+            let form = Form::DeclareChars(name, right);
+            Ok((Stmt { line, form }, rest))
+        }
+        Err(fault) => Err(fault),
+    }
 }
 
 /// A declaration.

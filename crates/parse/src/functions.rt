@@ -12,6 +12,7 @@ ghost use Rattle.parse.specs.Reading.{head_at, body_at, signature_at, function_a
 
 use crate::parameters::{NAMES, parameters};
 use crate::statements::block;
+use expressions::expect_two;
 use lexemes::{
     Cursor, Fault, Fixed, ParseFault, Source, expect, fault_at, line_at, name_at, reference_type,
     rest_of, result_type, start, starts_with, unexpected,
@@ -30,27 +31,33 @@ const FUNCTIONS: usize = 256;
 const STATICS: usize = 256;
 
 /// What comes after the parameters that each function has.
-#[tactic(auto, unfolding(crate::specs::Reading::head_at))]
+#[tactic(auto, using(crate::proofs::Regrouped::head_is))]
 fn head(lexemes: Cursor<'_>) -> Result<Cursor<'_>, ParseFault>
     ensures { Gives (λ x. views x) result (head_at (views lexemes.entry)) }
 {
-    let rest = expect(Fixed::Mark(Mark::OpenParen), lexemes)?;
-    let rest = expect(Fixed::Word(Word::JniEnv), rest)?;
-    let rest = expect(Fixed::Mark(Mark::Star), rest)?;
-    let rest = expect(Fixed::Word(Word::Env), rest)?;
-    let rest = expect(Fixed::Mark(Mark::Comma), rest)?;
-    expect(Fixed::Word(Word::Jclass), rest)
+    let rest = expect_two(
+        Fixed::Mark(Mark::OpenParen),
+        Fixed::Word(Word::JniEnv),
+        lexemes,
+    )?;
+    let rest = expect_two(Fixed::Mark(Mark::Star), Fixed::Word(Word::Env), rest)?;
+    expect_two(Fixed::Mark(Mark::Comma), Fixed::Word(Word::Jclass), rest)
 }
 
 /// A function's block, with what closes its parameters, where `free` more names may be declared.
-#[tactic(auto, unfolding(crate::specs::Reading::body_at))]
+#[tactic(auto, using(crate::proofs::Regrouped::body_is))]
 fn body(alloc: Global, free: usize, lexemes: Cursor<'_>) -> Result<(Block, Cursor<'_>), ParseFault>
     ensures { Gives (λ x. (block_tree x.0, views x.1)) result (body_at free (views lexemes.entry)) }
 {
-    let rest = expect(Fixed::Mark(Mark::CloseParen), lexemes)?;
-    let rest = expect(Fixed::Mark(Mark::OpenBrace), rest)?;
-    let (body, _, rest) = block(alloc, ROOM, free, rest)?;
-    Ok((body, rest))
+    let rest = expect_two(
+        Fixed::Mark(Mark::CloseParen),
+        Fixed::Mark(Mark::OpenBrace),
+        lexemes,
+    )?;
+    match block(alloc, ROOM, free, rest) {
+        Ok((body, _, rest)) => Ok((body, rest)),
+        Err(fault) => Err(fault),
+    }
 }
 
 /// The result of a function, up to its name.
@@ -63,8 +70,10 @@ fn exported(lexemes: Cursor<'_>) -> Result<(ResultType, Cursor<'_>), ParseFault>
     let Some(result) = result_type(rest) else {
         return Err(unexpected(rest));
     };
-    let rest = expect(Fixed::Word(Word::JniCall), rest_of(rest))?;
-    Ok((result, rest))
+    match expect(Fixed::Word(Word::JniCall), rest_of(rest)) {
+        Ok(rest) => Ok((result, rest)),
+        Err(fault) => Err(fault),
+    }
 }
 
 /// The result, the name and the class of a function, and what comes after them.
@@ -75,8 +84,10 @@ fn signature(lexemes: Cursor<'_>) -> Result<(ResultType, &[u8], &[u8], Cursor<'_
     let (result, rest) = exported(lexemes)?;
     let (name, rest) = name_at(rest)?;
     let rest = head(rest)?;
-    let (class_name, rest) = name_at(rest)?;
-    Ok((result, name, class_name, rest))
+    match name_at(rest) {
+        Ok((class_name, rest)) => Ok((result, name, class_name, rest)),
+        Err(fault) => Err(fault),
+    }
 }
 
 /// A function (JNI Specification, chapter 2, "Native Method Arguments").
@@ -88,7 +99,9 @@ fn function(alloc: Global, lexemes: Cursor<'_>) -> Result<(Function, Cursor<'_>)
     let (result, name, class_name, rest) = signature(lexemes)?;
     let (parameters, rest) = parameters(alloc, rest)?;
     let (body, rest) = body(alloc, NAMES - parameters.len(), rest)?;
-    let function = made(alloc, line, result, name, class_name, parameters, body)?;
+    let Ok(function) = made(alloc, line, result, name, class_name, parameters, body) else {
+        return Err(ParseFault::Memory);
+    };
     Ok((function, rest))
 }
 
@@ -128,8 +141,10 @@ fn static_head(lexemes: Cursor<'_>) -> Result<(ReferenceType, &[u8], Cursor<'_>)
         return Err(unexpected(rest));
     };
     let (name, rest) = name_at(rest_of(rest))?;
-    let rest = expect(Fixed::Mark(Mark::Assign), rest)?;
-    Ok((kind, name, rest))
+    match expect(Fixed::Mark(Mark::Assign), rest) {
+        Ok(rest) => Ok((kind, name, rest)),
+        Err(fault) => Err(fault),
+    }
 }
 
 /// A reference that all functions share.
@@ -139,9 +154,10 @@ fn static_reference(alloc: Global, lexemes: Cursor<'_>) -> Result<(Static, Curso
 {
     let line = line_at(lexemes);
     let (kind, name, rest) = static_head(lexemes)?;
-    let rest = expect(Fixed::Word(Word::Null), rest)?;
-    let rest = expect(Fixed::Mark(Mark::Semicolon), rest)?;
-    let name = Name::new(alloc, name)?;
+    let rest = expect_two(Fixed::Word(Word::Null), Fixed::Mark(Mark::Semicolon), rest)?;
+    let Ok(name) = Name::new(alloc, name) else {
+        return Err(ParseFault::Memory);
+    };
     Ok((Static { line, kind, name }, rest))
 }
 
@@ -162,8 +178,10 @@ fn function_item(
     if functions == 0 {
         return Err(fault_at(Fault::TooMany, lexemes));
     }
-    let (function, rest) = function(alloc, lexemes)?;
-    Ok((Item::Function(function), functions - 1, statics, rest))
+    match function(alloc, lexemes) {
+        Ok((function, rest)) => Ok((Item::Function(function), functions - 1, statics, rest)),
+        Err(fault) => Err(fault),
+    }
 }
 
 /// A static, where there may be this many more functions and statics.
@@ -180,8 +198,10 @@ fn static_item(
     if statics == 0 {
         return Err(fault_at(Fault::TooMany, lexemes));
     }
-    let (shared, rest) = static_reference(alloc, lexemes)?;
-    Ok((Item::Static(shared), functions, statics - 1, rest))
+    match static_reference(alloc, lexemes) {
+        Ok((shared, rest)) => Ok((Item::Static(shared), functions, statics - 1, rest)),
+        Err(fault) => Err(fault),
+    }
 }
 
 /// An item, where there may be this many more functions and statics.

@@ -6,13 +6,13 @@ ghost use Rattle.lexemes.specs.Results.{Gives};
 ghost use Rattle.lexemes.specs.Lexemes.{views};
 ghost use Rattle.parse.specs.Reading.{parameter_at, parameters_at};
 
+use expressions::owned_name;
 use lexemes::{
-    Cursor, Fault, Fixed, ParseFault, fault_at, name_at, parameter_type, rest_of, starts_with,
-    unexpected,
+    Cursor, Fault, Fixed, ParseFault, fault_at, parameter_type, rest_of, starts_with, unexpected,
 };
 use scan::Mark;
 use std::alloc::Global;
-use syntax::{Name, Parameter};
+use syntax::Parameter;
 
 /// How many names a function may have after that of its class.
 pub(crate) const NAMES: usize = 255;
@@ -25,9 +25,10 @@ fn parameter(alloc: Global, lexemes: Cursor<'_>) -> Result<(Parameter, Cursor<'_
     let Some(kind) = parameter_type(lexemes) else {
         return Err(unexpected(lexemes));
     };
-    let (name, rest) = name_at(rest_of(lexemes))?;
-    let name = Name::new(alloc, name)?;
-    Ok((Parameter { kind, name }, rest))
+    match owned_name(alloc, rest_of(lexemes)) {
+        Ok((name, rest)) => Ok((Parameter { kind, name }, rest)),
+        Err(fault) => Err(fault),
+    }
 }
 
 /// The parameters after the class, each with the comma before it.

@@ -3,7 +3,7 @@
 ghost use Rattle.std.specs.Prelude.{◌≡◌, ◌≤◌};
 ghost use Rattle.syntax.specs.Views.{expr_tree, stmt_tree};
 ghost use Rattle.lexemes.specs.Results.{Gives};
-ghost use Rattle.parse.specs.Steps.{assigned_at, element_set_at};
+ghost use Rattle.parse.specs.Steps.{ended_at, parenthesized_at, assigned_at, element_set_at};
 ghost use Rattle.lexemes.specs.Lexemes.{views};
 ghost use Rattle.parse.specs.Reading.{put_at, return_at, perform_at, set_element_at, set_at, plain_at};
 
@@ -13,8 +13,46 @@ use scan::{Mark, Word};
 use std::alloc::Global;
 use syntax::{Expr, Form, Name, Stmt};
 
+/// An expression, and what comes after this lexeme, which ends it.
+#[inline]
+#[tactic(auto, unfolding(crate::specs::Steps::ended_at))]
+fn ended(
+    alloc: Global,
+    room: u32,
+    end: Fixed,
+    lexemes: Cursor<'_>,
+) -> Result<(Expr, Cursor<'_>), ParseFault>
+    requires { room ≤ 32 }
+    ensures { Gives (λ x. (expr_tree x.0, views x.1)) result (ended_at room end (views lexemes.entry)) }
+{
+    let (operand, height, rest) = expression(alloc, room, 0, lexemes)?;
+    match closed(end, operand, height, rest) {
+        Ok((operand, _, rest)) => Ok((operand, rest)),
+        Err(fault) => Err(fault),
+    }
+}
+
+/// An expression in parentheses, and what comes after this lexeme, which stands after them.
+#[tactic(auto, using(crate::proofs::Regrouped::parenthesized_is))]
+pub(crate) fn parenthesized(
+    alloc: Global,
+    room: u32,
+    end: Fixed,
+    lexemes: Cursor<'_>,
+) -> Result<(Expr, Cursor<'_>), ParseFault>
+    requires { room ≤ 32 }
+    ensures { Gives (λ x. (expr_tree x.0, views x.1)) result (parenthesized_at room end (views lexemes.entry)) }
+{
+    let rest = expect(Fixed::Mark(Mark::OpenParen), lexemes)?;
+    let (operand, rest) = ended(alloc, room, Fixed::Mark(Mark::CloseParen), rest)?;
+    match closed(end, operand, 0, rest) {
+        Ok((operand, _, rest)) => Ok((operand, rest)),
+        Err(fault) => Err(fault),
+    }
+}
+
 /// What comes after the `put_jint` of this line.
-#[tactic(auto, unfolding(crate::specs::Reading::put_at))]
+#[tactic(auto, using(crate::proofs::Regrouped::put_is))]
 fn put(
     alloc: Global,
     room: u32,
@@ -24,16 +62,17 @@ fn put(
     requires { room ≤ 32 }
     ensures { Gives (λ x. (stmt_tree x.0, views x.1)) result (put_at room line (views lexemes.entry)) }
 {
-    let rest = expect(Fixed::Mark(Mark::OpenParen), lexemes)?;
-    let (operand, height, rest) = expression(alloc, room, 0, rest)?;
-    let (operand, height, rest) = closed(Fixed::Mark(Mark::CloseParen), operand, height, rest)?;
-    let (operand, _, rest) = closed(Fixed::Mark(Mark::Semicolon), operand, height, rest)?;
-    let form = Form::PutJint(operand);
-    Ok((Stmt { line, form }, rest))
+    match parenthesized(alloc, room, Fixed::Mark(Mark::Semicolon), lexemes) {
+        Ok((operand, rest)) => {
+            let form = Form::PutJint(operand);
+            Ok((Stmt { line, form }, rest))
+        }
+        Err(fault) => Err(fault),
+    }
 }
 
 /// What comes after the `return` of this line.
-#[tactic(auto, unfolding(crate::specs::Reading::return_at))]
+#[tactic(auto, using(crate::proofs::Regrouped::return_is))]
 fn returned(
     alloc: Global,
     room: u32,
@@ -47,10 +86,13 @@ fn returned(
         let form = Form::Return(None);
         return Ok((Stmt { line, form }, rest_of(lexemes)));
     }
-    let (operand, height, rest) = expression(alloc, room, 0, lexemes)?;
-    let (operand, _, rest) = closed(Fixed::Mark(Mark::Semicolon), operand, height, rest)?;
-    let form = Form::Return(Some(operand));
-    Ok((Stmt { line, form }, rest))
+    match ended(alloc, room, Fixed::Mark(Mark::Semicolon), lexemes) {
+        Ok((operand, rest)) => {
+            let form = Form::Return(Some(operand));
+            Ok((Stmt { line, form }, rest))
+        }
+        Err(fault) => Err(fault),
+    }
 }
 
 /// A call whose result is dropped.
@@ -65,22 +107,24 @@ fn perform(
     ensures { Gives (λ x. (stmt_tree x.0, views x.1)) result (perform_at room line (views lexemes.entry)) }
 {
     let (call, rest) = call(alloc, room, lexemes)?;
-    let rest = expect(Fixed::Mark(Mark::Semicolon), rest)?;
-    let form = Form::Perform(call);
-    Ok((Stmt { line, form }, rest))
+    match expect(Fixed::Mark(Mark::Semicolon), rest) {
+        Ok(rest) => {
+            let form = Form::Perform(call);
+            Ok((Stmt { line, form }, rest))
+        }
+        Err(fault) => Err(fault),
+    }
 }
 
 /// What comes after an equals sign up to the semicolon.
 #[inline]
-#[tactic(auto, unfolding(crate::specs::Steps::assigned_at))]
+#[tactic(auto, unfolding(crate::specs::Steps::assigned_at, crate::specs::Steps::ended_at))]
 fn assigned(alloc: Global, room: u32, lexemes: Cursor<'_>) -> Result<(Expr, Cursor<'_>), ParseFault>
     requires { room ≤ 32 }
     ensures { Gives (λ x. (expr_tree x.0, views x.1)) result (assigned_at room (views lexemes.entry)) }
 {
     let rest = expect(Fixed::Mark(Mark::Assign), lexemes)?;
-    let (value, height, rest) = expression(alloc, room, 0, rest)?;
-    let (value, _, rest) = closed(Fixed::Mark(Mark::Semicolon), value, height, rest)?;
-    Ok((value, rest))
+    ended(alloc, room, Fixed::Mark(Mark::Semicolon), rest)
 }
 
 /// What an element of this name and index is set to.
@@ -96,9 +140,13 @@ fn set_to(
     requires { room ≤ 32 }
     ensures { Gives (λ x. (stmt_tree x.0, views x.1)) result (element_set_at room line name (expr_tree index) (views lexemes.entry)) }
 {
-    let (value, rest) = assigned(alloc, room, lexemes)?;
-    let form = Form::AssignElement(name, index, value);
-    Ok((Stmt { line, form }, rest))
+    match assigned(alloc, room, lexemes) {
+        Ok((value, rest)) => {
+            let form = Form::AssignElement(name, index, value);
+            Ok((Stmt { line, form }, rest))
+        }
+        Err(fault) => Err(fault),
+    }
 }
 
 /// An assignment to an element.
@@ -114,7 +162,9 @@ fn set_element(
 {
     let (name, rest) = name_at(lexemes)?;
     let (index, _, rest) = index(alloc, room, rest)?;
-    let name = Name::new(alloc, name)?;
+    let Ok(name) = Name::new(alloc, name) else {
+        return Err(ParseFault::Memory);
+    };
     set_to(alloc, room, line, name, index, rest)
 }
 
@@ -132,9 +182,13 @@ fn set(
     if starts_element(lexemes) {
         return set_element(alloc, room, line, lexemes);
     }
-    let (name, right, rest) = setting(alloc, room, lexemes)?;
-    let form = Form::Assign(name, right);
-    Ok((Stmt { line, form }, rest))
+    match setting(alloc, room, lexemes) {
+        Ok((name, right, rest)) => {
+            let form = Form::Assign(name, right);
+            Ok((Stmt { line, form }, rest))
+        }
+        Err(fault) => Err(fault),
+    }
 }
 
 /// A statement that declares no name and has no block.

@@ -1,18 +1,18 @@
 //! Statements and blocks (ISO/IEC 9899:1999, 6.8).
 
-ghost use Rattle.std.specs.Prelude.{◌≡◌, ◌≤◌};
+ghost use Rattle.std.specs.Prelude.{◌≡◌, ◌≤◌, ℕ, Result, IfOk, IfSome};
 ghost use Rattle.std.specs.Option.{option_map};
-ghost use Rattle.syntax.specs.Tree.{While};
 ghost use Rattle.syntax.specs.Views.{expr_tree, test_tree, stmt_tree, block_tree};
+ghost use Rattle.lexemes.specs.declared.fault.ParseFault.{ParseFault};
 ghost use Rattle.lexemes.specs.Results.{Gives};
-ghost use Rattle.lexemes.specs.Lexemes.{views, expect};
-ghost use Rattle.expressions.specs.Steps.{made_of};
-ghost use Rattle.parse.specs.Steps.{ReadTest, if_made, other_at, ways_at};
-ghost use Rattle.parse.specs.Reading.{simple_at, inner, if_test_at, if_by, while_test_at, while_by, is_return, statement_at, block_at};
+ghost use Rattle.lexemes.specs.Lexemes.{views};
+ghost use Rattle.expressions.specs.Steps.{made_of, two};
+ghost use Rattle.parse.specs.Steps.{ReadTest, WaysRead, OtherRead, BlockRead, head_view, nested_head_at, starts_nested, takes_other, nested_made, nested_of, both_of, second_of, other_at, ways_at};
+ghost use Rattle.parse.specs.Reading.{simple_at, inner, if_test_at, while_test_at, is_return, statement_at, block_at};
 
 use crate::declarations::{declared, starts_declaration};
-use crate::plain::plain;
-use expressions::{closed, expression, test};
+use crate::plain::{parenthesized, plain};
+use expressions::{expect_two, test};
 use lexemes::{
     Cursor, Fault, Fixed, ParseFault, expect, fault_at, line_at, rest_of, starts_with, unexpected,
 };
@@ -32,6 +32,13 @@ type ReadOther<'t> = (Option<Block>, usize, Cursor<'t>);
 /// Both blocks of an `if`, how many more names may be declared after them, and what comes after them.
 type ReadWays<'t> = (Block, Option<Block>, usize, Cursor<'t>);
 
+/// What stands in a statement before its first block.
+#[derive(Drop)]
+enum Head {
+    If(Test),
+    While(Expr),
+}
+
 /// A statement without a block, where `free` more names may be declared.
 #[tactic(auto, unfolding(crate::specs::Reading::simple_at))]
 fn simple(
@@ -47,11 +54,15 @@ fn simple(
         if free == 0 {
             return Err(fault_at(Fault::TooMany, lexemes));
         }
-        let (stmt, rest) = declared(alloc, room, lexemes)?;
-        return Ok((stmt, free - 1, rest));
+        return match declared(alloc, room, lexemes) {
+            Ok((stmt, rest)) => Ok((stmt, free - 1, rest)),
+            Err(fault) => Err(fault),
+        };
     }
-    let (stmt, rest) = plain(alloc, room, lexemes)?;
-    Ok((stmt, free, rest))
+    match plain(alloc, room, lexemes) {
+        Ok((stmt, rest)) => Ok((stmt, free, rest)),
+        Err(fault) => Err(fault),
+    }
 }
 
 /// Whether a statement is a return, which ends its block.
@@ -61,29 +72,31 @@ fn is_return(stmt: &Stmt) -> bool
     matches!(stmt.form, Form::Return(_))
 }
 
-/// A test, and what comes after this lexeme, which stands after it.
+/// A test, and what comes after its parenthesis and the brace of a block.
 #[inline]
-fn tested(end: Fixed, test: Test, lexemes: Cursor<'_>) -> Result<(Test, Cursor<'_>), ParseFault>
-    ensures { Gives (λ x. (test_tree x.0, views x.1)) result (made_of {B = ReadTest} (expect end (views lexemes.entry)) (λ after. (test_tree test, after))) }
+fn tested(test: Test, lexemes: Cursor<'_>) -> Result<(Test, Cursor<'_>), ParseFault>
+    ensures { Gives (λ x. (test_tree x.0, views x.1)) result (made_of {B = ReadTest} (two (Fixed.Mark Mark.CloseParen) (Fixed.Mark Mark.OpenBrace) (views lexemes.entry)) (λ after. (test_tree test, after))) }
 {
-    let rest = expect(end, lexemes)?;
-    Ok((test, rest))
+    let paren = Fixed::Mark(Mark::CloseParen);
+    match expect_two(paren, Fixed::Mark(Mark::OpenBrace), lexemes) {
+        Ok(rest) => Ok((test, rest)),
+        Err(fault) => Err(fault),
+    }
 }
 
 /// What an `if` tests, in its parentheses, and what comes after the brace of its block.
-#[tactic(auto, unfolding(crate::specs::Reading::if_test_at))]
+#[tactic(auto, using(crate::proofs::Regrouped::if_test_is))]
 fn if_test(alloc: Global, room: u32, lexemes: Cursor<'_>) -> Result<(Test, Cursor<'_>), ParseFault>
     requires { room ≤ 32 }
     ensures { Gives (λ x. (test_tree x.0, views x.1)) result (if_test_at room (views lexemes.entry)) }
 {
     let rest = expect(Fixed::Mark(Mark::OpenParen), lexemes)?;
     let (test, rest) = test(alloc, room, rest)?;
-    let (test, rest) = tested(Fixed::Mark(Mark::CloseParen), test, rest)?;
-    tested(Fixed::Mark(Mark::OpenBrace), test, rest)
+    tested(test, rest)
 }
 
 /// What a `while` tests, in its parentheses, and what comes after the brace of its block.
-#[tactic(auto, unfolding(crate::specs::Reading::while_test_at))]
+#[tactic(auto, unfolding(crate::specs::Reading::while_test_at, crate::specs::Steps::parenthesized_at))]
 fn while_test(
     alloc: Global,
     room: u32,
@@ -92,120 +105,151 @@ fn while_test(
     requires { room ≤ 32 }
     ensures { Gives (λ x. (expr_tree x.0, views x.1)) result (while_test_at room (views lexemes.entry)) }
 {
-    let rest = expect(Fixed::Mark(Mark::OpenParen), lexemes)?;
-    let (test, height, rest) = expression(alloc, room, 0, rest)?;
-    let (test, height, rest) = closed(Fixed::Mark(Mark::CloseParen), test, height, rest)?;
-    let (test, _, rest) = closed(Fixed::Mark(Mark::OpenBrace), test, height, rest)?;
-    Ok((test, rest))
+    parenthesized(alloc, room, Fixed::Mark(Mark::OpenBrace), lexemes)
 }
 
-/// An `if` of this line, with its test and its blocks.
-#[inline]
-fn if_of<'t>(line: usize, test: Test, ways: ReadWays<'t>) -> ReadStmt<'t>
-    ensures tree { stmt_tree result.0 ≡ if_made line (test_tree test) (block_tree ways.entry.0) (option_map block_tree ways.entry.1) }
-    ensures free { result.1 ≡ ways.entry.2 }
-    ensures rest { result.2 ≡ ways.entry.3 }
-{
-    let (body, other, free, rest) = ways;
-    let form = match other {
-        None => Form::If(test, body),
-        Some(other) => Form::IfElse(test, body, other),
-    };
-    (Stmt { line, form }, free, rest)
-}
-
-/// What comes after the `if` of this line.
-#[cycle(blocks)]
-#[tactic(auto, using(crate::proofs::Ways::if_is))]
-fn if_statement(
+/// How a statement with blocks begins, up to the brace of the first, where there is room for blocks, and what comes after that.
+#[tactic(auto, unfolding(crate::specs::Steps::nested_head_at))]
+fn nested_head(
     alloc: Global,
     room: u32,
-    free: usize,
-    line: usize,
     lexemes: Cursor<'_>,
-) -> Result<ReadStmt<'_>, ParseFault>
-    requires some { 1 ≤ room }
-    requires bound { room ≤ 32 }
-    ensures { Gives (λ x. (stmt_tree x.0, x.1, views x.2)) result (if_by (inner room) room free line (views lexemes.entry)) }
+) -> Result<Option<(Head, Cursor<'_>)>, ParseFault>
+    requires { room ≤ 32 }
+    ensures some { IfOk result (λ x. IfSome x (λ _. 1 ≤ room)) }
+    ensures gives { Gives (option_map (λ x. (head_view x.0, views x.1))) result (nested_head_at room (views lexemes.entry)) }
 {
-    let (test, rest) = if_test(alloc, room, lexemes)?;
-    let ways = ways(alloc, room, free, rest)?;
-    Ok(if_of(line, test, ways))
+    if room == 0 && starts_nested(lexemes) {
+        return Err(fault_at(Fault::TooHigh, lexemes));
+    }
+    if starts_with(Fixed::Word(Word::If), lexemes) {
+        return match if_test(alloc, room, rest_of(lexemes)) {
+            Ok((test, rest)) => Ok(Some((Head::If(test), rest))),
+            Err(fault) => Err(fault),
+        };
+    }
+    if starts_with(Fixed::Word(Word::While), lexemes) {
+        return match while_test(alloc, room, rest_of(lexemes)) {
+            Ok((test, rest)) => Ok(Some((Head::While(test), rest))),
+            Err(fault) => Err(fault),
+        };
+    }
+    Ok(None)
 }
 
-/// The blocks of an `if`.
+/// Whether a statement with blocks begins.
+fn starts_nested(lexemes: Cursor<'_>) -> bool
+    ensures { result ≡ starts_nested (views lexemes.entry) }
+{
+    starts_with(Fixed::Word(Word::If), lexemes) || starts_with(Fixed::Word(Word::While), lexemes)
+}
+
+/// Whether a second block may come after the first.
+#[inline]
+fn takes_other(head: &Head) -> bool
+    ensures { result ≡ takes_other (head_view head.now) }
+{
+    matches!(head, Head::If(_))
+}
+
+/// A statement of its blocks.
+#[inline]
+fn nested_form(head: Head, body: Block, other: Option<Block>) -> Form
+    ensures { (line : ℕ) → stmt_tree (record { line = line; form = result }) ≡ nested_made line (head_view head) (block_tree body) (option_map block_tree other) }
+{
+    match head {
+        Head::While(test) => Form::While(test, body),
+        Head::If(test) => match other {
+            None => Form::If(test, body),
+            Some(other) => Form::IfElse(test, body, other),
+        },
+    }
+}
+
+/// A statement of this line, with the blocks that were read after its head.
+#[inline]
+fn nested<'t>(
+    line: usize,
+    head: Head,
+    ways: Result<ReadWays<'t>, ParseFault>,
+) -> Result<ReadStmt<'t>, ParseFault>
+    ensures { (read : Result WaysRead ParseFault) → Gives (λ x. (block_tree x.0, option_map block_tree x.1, x.2, views x.3)) ways.entry read → Gives (λ x. (stmt_tree x.0, x.1, views x.2)) result (nested_of line (head_view head) read) }
+{
+    match ways {
+        Ok((body, other, free, rest)) => {
+            let form = nested_form(head, body, other);
+            Ok((Stmt { line, form }, free, rest))
+        }
+        Err(fault) => Err(fault),
+    }
+}
+
+/// The first block, and what was read after it.
+#[inline]
+fn both<'t>(
+    body: Block,
+    other: Result<ReadOther<'t>, ParseFault>,
+) -> Result<ReadWays<'t>, ParseFault>
+    ensures { (read : Result OtherRead ParseFault) → Gives (λ x. (option_map block_tree x.0, x.1, views x.2)) other.entry read → Gives (λ x. (block_tree x.0, option_map block_tree x.1, x.2, views x.3)) result (both_of (block_tree body) read) }
+{
+    match other {
+        Ok((other, free, rest)) => Ok((body, other, free, rest)),
+        Err(fault) => Err(fault),
+    }
+}
+
+/// The blocks of a statement, of which `otherwise` says whether there may be a second one.
 #[cycle(blocks)]
-#[tactic(auto, using(crate::proofs::Blocks::inners), unfolding(crate::specs::Steps::ways_at))]
 fn ways(
     alloc: Global,
     room: u32,
     free: usize,
+    otherwise: bool,
     lexemes: Cursor<'_>,
 ) -> Result<ReadWays<'_>, ParseFault>
     requires some { 1 ≤ room }
     requires bound { room ≤ 32 }
-    ensures { Gives (λ x. (block_tree x.0, option_map block_tree x.1, x.2, views x.3)) result (ways_at (inner room) free (views lexemes.entry)) }
+    ensures { Gives (λ x. (block_tree x.0, option_map block_tree x.1, x.2, views x.3)) result (ways_at (inner room) free otherwise (views lexemes.entry)) }
 {
     let (body, left, rest) = block(alloc, room - 1, free, lexemes)?;
-    let (other, left, rest) = other_block(alloc, room, left, rest)?;
-    Ok((body, other, left, rest))
+    let other = other_block(alloc, room, left, otherwise, rest);
+    both(body, other)
 }
 
-/// The second block of an `if`, where it has one.
+/// A block that was read as the second one.
+#[inline]
+fn second(read: Result<ReadBlock<'_>, ParseFault>) -> Result<ReadOther<'_>, ParseFault>
+    ensures { (from : Result BlockRead ParseFault) → Gives (λ x. (block_tree x.0, x.1, views x.2)) read.entry from → Gives (λ x. (option_map block_tree x.0, x.1, views x.2)) result (second_of from) }
+{
+    match read {
+        Ok((other, free, rest)) => Ok((Some(other), free, rest)),
+        Err(fault) => Err(fault),
+    }
+}
+
+/// The second block, where there may be one and `else` comes next.
 #[cycle(blocks)]
-#[tactic(auto, using(crate::proofs::Blocks::inners), unfolding(crate::specs::Steps::other_at))]
+#[tactic(auto, unfolding(crate::specs::Steps::other_at))]
 fn other_block(
     alloc: Global,
     room: u32,
     free: usize,
+    otherwise: bool,
     lexemes: Cursor<'_>,
 ) -> Result<ReadOther<'_>, ParseFault>
     requires some { 1 ≤ room }
     requires bound { room ≤ 32 }
-    ensures { Gives (λ x. (option_map block_tree x.0, x.1, views x.2)) result (other_at (inner room) free (views lexemes.entry)) }
+    ensures { Gives (λ x. (option_map block_tree x.0, x.1, views x.2)) result (other_at (inner room) free otherwise (views lexemes.entry)) }
 {
-    if !starts_with(Fixed::Word(Word::Else), lexemes) {
+    if !otherwise || !starts_with(Fixed::Word(Word::Else), lexemes) {
         return Ok((None, free, lexemes));
     }
     let rest = expect(Fixed::Mark(Mark::OpenBrace), rest_of(lexemes))?;
-    let (other, left, rest) = block(alloc, room - 1, free, rest)?;
-    Ok((Some(other), left, rest))
-}
-
-/// A `while` of this line, with its test and its block.
-#[inline]
-fn while_of<'t>(line: usize, test: Expr, body: ReadBlock<'t>) -> ReadStmt<'t>
-    ensures tree { stmt_tree result.0 ≡ While line (expr_tree test) (block_tree body.entry.0) }
-    ensures free { result.1 ≡ body.entry.1 }
-    ensures rest { result.2 ≡ body.entry.2 }
-{
-    let (body, free, rest) = body;
-    let form = Form::While(test, body);
-    (Stmt { line, form }, free, rest)
-}
-
-/// What comes after the `while` of this line.
-#[cycle(blocks)]
-#[tactic(auto, using(crate::proofs::Blocks::inners), unfolding(crate::specs::Reading::while_by))]
-fn while_statement(
-    alloc: Global,
-    room: u32,
-    free: usize,
-    line: usize,
-    lexemes: Cursor<'_>,
-) -> Result<ReadStmt<'_>, ParseFault>
-    requires some { 1 ≤ room }
-    requires bound { room ≤ 32 }
-    ensures { Gives (λ x. (stmt_tree x.0, x.1, views x.2)) result (while_by (inner room) room free line (views lexemes.entry)) }
-{
-    let (test, rest) = while_test(alloc, room, lexemes)?;
-    let body = block(alloc, room - 1, free, rest)?;
-    Ok(while_of(line, test, body))
+    second(block(alloc, room - 1, free, rest))
 }
 
 /// A statement, where `free` more names may be declared.
 #[cycle(blocks)]
-#[tactic(auto, unfolding(crate::specs::Reading::statement_by))]
 fn statement(
     alloc: Global,
     room: u32,
@@ -215,20 +259,11 @@ fn statement(
     requires { room ≤ 32 }
     ensures { Gives (λ x. (stmt_tree x.0, x.1, views x.2)) result (statement_at room free (views lexemes.entry)) }
 {
-    let line = line_at(lexemes);
-    if starts_with(Fixed::Word(Word::If), lexemes) {
-        if room == 0 {
-            return Err(fault_at(Fault::TooHigh, lexemes));
-        }
-        return if_statement(alloc, room, free, line, rest_of(lexemes));
-    }
-    if starts_with(Fixed::Word(Word::While), lexemes) {
-        if room == 0 {
-            return Err(fault_at(Fault::TooHigh, lexemes));
-        }
-        return while_statement(alloc, room, free, line, rest_of(lexemes));
-    }
-    simple(alloc, room, free, lexemes)
+    let Some((head, rest)) = nested_head(alloc, room, lexemes)? else {
+        return simple(alloc, room, free, lexemes);
+    };
+    let ways = ways(alloc, room, free, takes_other(&head), rest);
+    nested(line_at(lexemes), head, ways)
 }
 
 /// Statements up to the closing brace, where `names` more names may be declared.

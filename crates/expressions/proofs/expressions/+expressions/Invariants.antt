@@ -6,31 +6,16 @@ use Rattle.expressions.proofs.Climbing.{Climbs}
 use Rattle.expressions.proofs.expressions.+expressions.Given as goal
 
 abbrev pub decreases-expression : goal.decreases-expression
-decreases-expression l = 4 * l.room + 3
+decreases-expression l = 2 * l.room + 1
 
 abbrev pub decreases-right_operand : goal.decreases-right_operand
-decreases-right_operand l = 4 * l.room
+decreases-right_operand l = 2 * l.room
 
 abbrev pub decreases-operand : goal.decreases-operand
-decreases-operand l = 4 * l.room + 2
-
-abbrev pub decreases-after_paren : goal.decreases-after_paren
-decreases-after_paren l = 4 * l.room + 1
-
-abbrev pub decreases-in_parens : goal.decreases-in_parens
-decreases-in_parens l = 4 * l.room
-
-abbrev pub decreases-element : goal.decreases-element
-decreases-element l = 4 * l.room + 1
-
-abbrev pub decreases-prefixed : goal.decreases-prefixed
-decreases-prefixed l = 4 * l.room
-
-abbrev pub decreases-index : goal.decreases-index
-decreases-index l = 4 * l.room
+decreases-operand l = 2 * l.room
 
 abbrev pub invariant-expression-loop-op : goal.invariant-expression-loop-op
-invariant-expression-loop-op l = Climbs l.room l.least (expr_tree l.left) l.height (views l.rest) (expr_at l.room l.least (views l.lexemes))
+invariant-expression-loop-op l = Climbs l.room l.least (expr_tree l.read.0) l.read.1 (views l.read.2) (expr_at l.room l.least (views l.lexemes))
 
 abbrev pub decreases-expression-loop-op : goal.decreases-expression-loop-op
-decreases-expression-loop-op l = l.room - l.height
+decreases-expression-loop-op l = l.room - l.read.1

@@ -5,22 +5,16 @@ use Rattle.parse.proofs.Blocks.{Fills}
 use Rattle.parse.proofs.statements.+blocks.Given as goal
 
 abbrev pub decreases-block : goal.decreases-block
-decreases-block l = 5 * l.room + 4
+decreases-block l = 4 * l.room + 3
 
 abbrev pub decreases-statement : goal.decreases-statement
-decreases-statement l = 5 * l.room + 3
-
-abbrev pub decreases-if_statement : goal.decreases-if_statement
-decreases-if_statement l = 5 * l.room + 2
+decreases-statement l = 4 * l.room + 2
 
 abbrev pub decreases-ways : goal.decreases-ways
-decreases-ways l = 5 * l.room + 1
+decreases-ways l = 4 * l.room + 1
 
 abbrev pub decreases-other_block : goal.decreases-other_block
-decreases-other_block l = 5 * l.room
-
-abbrev pub decreases-while_statement : goal.decreases-while_statement
-decreases-while_statement l = 5 * l.room + 2
+decreases-other_block l = 4 * l.room
 
 abbrev pub invariant-block-statements : goal.invariant-block-statements
 invariant-block-statements l = Fills l.room l.free l.statements.items l.returned (views l.rest) (block_at l.room l.names (views l.lexemes))

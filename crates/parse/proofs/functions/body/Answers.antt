@@ -1,0 +1,13 @@
+use Rattle.std.proofs.Common.{rules}
+use Rattle.lexemes.specs.Lexemes.{views}
+use Rattle.parse.proofs.Regrouped.{body_is}
+use Rattle.parse.proofs.functions.body.Goals as goal
+
+pub returns-in_err-rest : goal.returns-in_err-rest
+returns-in_err-rest c = rw (body_is c.args.free (views c.args.lexemes)) (search rules)
+
+pub returns-in-Ok : goal.returns-in-Ok
+returns-in-Ok c = rw (body_is c.args.free (views c.args.lexemes)) (search rules)
+
+pub returns-in-Err : goal.returns-in-Err
+returns-in-Err c = rw (body_is c.args.free (views c.args.lexemes)) (search rules)
