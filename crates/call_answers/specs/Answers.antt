@@ -1,32 +1,21 @@
 -- What calls do, as data, and what that leaves.
 use Rattle.std.specs.Prelude.{ℕ, pos, negsuc, Bool, true, false, List, [], ◌∷◌, ◌++◌, drop, nat_le, IsTrue, Some}
-use Rattle.std.specs.Option.{option_map}
 use Rattle.base.specs.Bytes.{Identifier}
-use Rattle.class_table.specs.FieldViews.{field_id_view}
 use Rattle.classes.specs.Class.{Classes}
 use Rattle.jni.specs.Prototype.{ResultKind, NewLocal}
-use Rattle.source.specs.CallEffects.{CallResult, NoResult, NullResult, ScalarResult, ReferenceResult, FieldResult, CallEffect, Throws, Leaves, heap_effect, new_effect, out_of_memory, refuses_frames, with_capacity, with_local, without_local, without_one}
+use Rattle.source.specs.CallEffects.{CallResult, NoResult, ScalarResult, ReferenceResult, CallEffect, Throws, Leaves, heap_effect, new_effect, out_of_memory, refuses_frames, with_capacity, with_local, without_local, without_one}
 use Rattle.source.specs.CallStep.{failure}
 use Rattle.source.specs.Heap.{Heap, next_name, with_value_at}
 use Rattle.source.specs.Object.{ObjectValue, Reference}
 use Rattle.source.specs.Thread.{Frame, Shared, Thread, capacities}
-use Rattle.source.specs.Value.{Int, Flag}
+use Rattle.source.specs.Value.{Int}
 use Rattle.source.specs.Variable.{Deleted, assign}
 use Rattle.source.specs.World.{fresh_object}
 use Rattle.call_answers.specs.declared.answer.Answer.{Answer as InMemory}
 use Rattle.call_answers.specs.declared.answer.Answer.TheVariants as answer
-use Rattle.call_answers.specs.declared.given.Given.{Given}
-use Rattle.call_answers.specs.declared.given.Given.TheVariants as given
 use Rattle.object_store.specs.Frames.{new_frame}
+use Rattle.terms.specs.Views.{given_view}
 use Rattle.world.specs.Views.{object_value_view}
-
-abbrev pub given_view : Given → CallResult
-given_view given.Nothing = NoResult
-given_view given.Null = NullResult
-given_view (given.Number z) = ScalarResult (Int z)
-given_view (given.Flag b) = ScalarResult (Flag b)
-given_view (given.Reference r) = ReferenceResult r
-given_view (given.Field f) = FieldResult (option_map field_id_view f)
 
 -- What a call does: nothing changes and this is given, a value of an object is written, an object of a class is made and given,
 -- an exception of a class is made, the current frame gets room for so many more and 0 is given, a frame of this capacity is made

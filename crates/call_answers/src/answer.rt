@@ -21,7 +21,6 @@ ghost use Rattle.call_answers.specs.declared.answer.Subject.TheVariants as subje
 ghost use Rattle.terms.specs.Views.{variables_view};
 ghost use Rattle.world.specs.Views.{object_value_view};
 
-use crate::given::Given;
 use call_checks::actual::{
     Actual, field_given, level_of, number_given, object_given, reference_given, text_given,
     variable_given,
@@ -33,7 +32,7 @@ use class_table::fields::FieldId;
 use class_table::table::ClassTable;
 use jni::JniFunction;
 use object_store::{Frames, Store};
-use terms::{Variables, convert};
+use terms::{Given, Variables, convert};
 use world::ObjectValue;
 
 /// What a call does.

@@ -6,17 +6,17 @@ ghost use Rattle.source.specs.CallEffects.{out_of_memory};
 ghost use Rattle.source.specs.CallStep.{failure};
 ghost use Rattle.source.specs.Heap.{next_name};
 ghost use Rattle.source.specs.World.{fresh_object};
-ghost use Rattle.call_answers.specs.Answers.{FitsFrames, answer_view, frames_after, frames_with, given_after, given_view, makes_object, pending_after, shared_after};
+ghost use Rattle.call_answers.specs.Answers.{FitsFrames, answer_view, frames_after, frames_with, given_after, makes_object, pending_after, shared_after};
+ghost use Rattle.terms.specs.Views.{given_view};
 ghost use Rattle.call_checks.specs.Shares.{shared_view};
 
 use crate::answer::Answer;
-use crate::given::{Given, failed};
 use call_checks::Shared;
 use class_table::table::ClassTable;
 use jni::ResultKind;
 use object_store::{Frames, Store, fresh_values};
 use std::alloc::{AllocError, Global};
-use terms::StaticReference;
+use terms::{Given, StaticReference};
 
 /// Does what a function of this kind of result answers, and tells what it gives.
 pub fn carry_out<'a>(
@@ -133,4 +133,18 @@ fn run_out(classes: &ClassTable, pending: &mut Option<usize>)
     ensures { pending.new ≡ Some (out_of_memory classes.now) }
 {
     *pending = Some(classes.len() + 1);
+}
+
+/// What a call of this kind of result gives where it fails: NULL, -1 or nothing (JNI Specification, chapter 2, "Exceptions and
+/// Error Codes").
+fn failed<'a>(kind: ResultKind) -> Given<'a>
+    ensures { given_view result ≡ failure (result_value kind) }
+{
+    match kind {
+        ResultKind::NewLocal | ResultKind::NewGlobal => Given::Null,
+        ResultKind::GivesField | ResultKind::GivesBuffer(_) => Given::Null,
+        ResultKind::GivesInt => Given::Number(-1),
+        ResultKind::GivesFlag => Given::Flag(false),
+        ResultKind::GivesNothing => Given::Nothing,
+    }
 }

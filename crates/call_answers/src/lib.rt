@@ -3,7 +3,5 @@
 
 mod answer;
 pub mod carry_out;
-mod given;
 
 pub use answer::{Answer, work_out};
-pub use given::{Given, is_zero, static_result};

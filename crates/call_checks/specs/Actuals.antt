@@ -13,15 +13,7 @@ use Rattle.call_checks.specs.declared.actual.Actual.{Actual as InMemory}
 use Rattle.call_checks.specs.declared.actual.Actual.TheVariants as actual
 use Rattle.call_checks.specs.declared.actual.ReleaseMode.{ReleaseMode as ModeInMemory}
 use Rattle.call_checks.specs.declared.actual.ReleaseMode.TheVariants as mode
-use Rattle.syntax.specs.Views.{argument_tree}
-use Rattle.source.specs.Task.{Operand, NumberOperand, Given}
-use Rattle.call_checks.specs.declared.operand.Operand.{Operand as OperandInMemory}
-use Rattle.call_checks.specs.declared.operand.Operand.TheVariants as operands
-use Rattle.terms.specs.Views.{held_view, term_view}
-
-abbrev pub operand_view : OperandInMemory → Operand
-operand_view (operands.Number t) = NumberOperand (term_view t)
-operand_view (operands.Given a) = Given (argument_tree a.now)
+use Rattle.terms.specs.Views.{held_view}
 
 -- a name, which is empty where there is none
 abbrev pub name_view : Option (Bor Identifier) → Identifier

@@ -12,17 +12,16 @@ ghost use Rattle.source.specs.CallEffects.{level_of};
 ghost use Rattle.source.specs.Sight.{Sight, held_field, held_reference};
 ghost use Rattle.source.specs.Task.{Given, NumberOperand};
 ghost use Rattle.source.specs.Thread.{Shared as SharedOfThreads};
-ghost use Rattle.call_checks.specs.Actuals.{actual_view, mode_view, name_view, given_field, operand_view};
+ghost use Rattle.call_checks.specs.Actuals.{actual_view, mode_view, name_view, given_field};
+ghost use Rattle.terms.specs.Views.{operand_view, held_view, term_view, variables_view};
 ghost use Rattle.call_checks.specs.Shares.{shared_view, sight_in};
-ghost use Rattle.terms.specs.Views.{held_view, term_view, variables_view};
 
-use crate::operand::Operand;
 use crate::shared::Shared;
 use class_table::fields::FieldId;
 use jni::{JniFunction, ParameterKind};
 use std::alloc::{AllocError, Global};
 use syntax::{Argument, Constant, Expr, Name};
-use terms::{Content, StaticReference, Term, Value, Variables};
+use terms::{Content, Operand, StaticReference, Term, Value, Variables};
 
 /// How a buffer of copied elements is released (JNI Specification, chapter 4, "Release<PrimitiveType>ArrayElements
 /// Routines").

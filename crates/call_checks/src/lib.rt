@@ -4,8 +4,6 @@
 pub mod actual;
 pub mod check;
 pub mod field;
-mod operand;
 mod shared;
 
-pub use operand::Operand;
 pub use shared::Shared;

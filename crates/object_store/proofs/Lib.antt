@@ -1,4 +1,3 @@
 mod Lists
-pub mod Results
 mod LoadedLemmas
 mod FrameLemmas

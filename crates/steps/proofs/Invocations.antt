@@ -18,8 +18,8 @@ use Rattle.source.specs.Value.{Outcome as Outcomes, outcome_map}
 use Rattle.source.specs.Variable.{Statics, Variables}
 use Rattle.tasks.specs.declared.outcome.Outcome.{Outcome}
 use Rattle.tasks.specs.declared.task.Invocation.{Invocation}
-use Rattle.call_checks.specs.declared.operand.Operand.{Operand}
-use Rattle.call_checks.specs.declared.operand.Operand.TheVariants as operands
+use Rattle.terms.specs.declared.operand.Operand.{Operand}
+use Rattle.terms.specs.declared.operand.Operand.TheVariants as operands
 use Rattle.tasks.specs.declared.task.Task.TheVariants as task
 use Rattle.terms.specs.declared.reduction.Reduction.{Reduction}
 use Rattle.terms.specs.declared.reduction.Reduction.TheVariants as reduction
@@ -29,10 +29,10 @@ use Rattle.terms.specs.declared.value.Value.{Value}
 use Rattle.steps.specs.Calls.{MakesCall, MakesInvocation, ReducesFirst, ReducesOne}
 use Rattle.tasks.specs.Outcomes.{purpose_view}
 use Rattle.call_checks.specs.Shares.{sight_in}
-use Rattle.steps.specs.Steps.{Scene, Sees, Does, HasEffect, reduced, scene_with}
-use Rattle.call_checks.specs.Actuals.{operand_view}
+use Rattle.plain_steps.specs.Effects.{HasEffect, reduced}
+use Rattle.steps.specs.Steps.{Scene, Sees, Does, scene_with}
+use Rattle.terms.specs.Views.{operand_view, Contents, term_view, variables_view, Reduces}
 use Rattle.tasks.specs.Tasks.{task_view}
-use Rattle.terms.specs.Views.{Contents, term_view, variables_view, Reduces}
 use Rattle.steps.proofs.TaskLemmas.{sees_so}
 
 -- ---- the first number that isn't worked out

@@ -1,4 +1,3 @@
-mod PutLemmas
 pub mod TaskLemmas
 mod CallLemmas
 mod Invocations

@@ -14,16 +14,15 @@ use Rattle.source.specs.Variable.{Statics, Variables}
 use Rattle.tasks.specs.declared.outcome.Outcome.{Outcome}
 use Rattle.tasks.specs.declared.outcome.Purpose.{Purpose as PurposeInMemory}
 use Rattle.tasks.specs.declared.task.Invocation.{Invocation}
-use Rattle.call_checks.specs.declared.operand.Operand.{Operand}
+use Rattle.terms.specs.declared.operand.Operand.{Operand}
 use Rattle.tasks.specs.declared.task.Task.{Task as TaskInMemory}
 use Rattle.terms.specs.declared.reduction.Reduction.{Reduction as ReductionInMemory}
 use Rattle.terms.specs.declared.reduction.Reduction.TheVariants as reduction
 use Rattle.tasks.specs.Outcomes.{purpose_view}
 use Rattle.steps.specs.Steps.{Scene, Sees, in_frames, left_by}
-use Rattle.call_checks.specs.Actuals.{operand_view}
+use Rattle.terms.specs.Views.{operand_view, trap_view}
 use Rattle.call_checks.specs.Shares.{sight_in}
 use Rattle.tasks.specs.Tasks.{task_view}
-use Rattle.terms.specs.Views.{trap_view}
 
 -- With these variables and statics, each number is worked out already, or what was done is the step of the first that isn't.
 abbrev pub ReducesFirst : Variables → Statics → List Operand → Option ReductionInMemory → List Operand → Type 0

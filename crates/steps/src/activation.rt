@@ -11,11 +11,11 @@ ghost use Rattle.tasks.specs.Tasks.{branch_task, BlockInRange, ExprInRange, Stat
 ghost use Rattle.terms.specs.declared.term.Term.TheVariants as term;
 ghost use Rattle.terms.specs.declared.value.Value.TheVariants as value;
 
-use crate::put::set_variables;
 use crate::step::step;
 use call_checks::Shared;
 use class_table::table::ClassTable;
 use object_store::Frames;
+use plain_steps::set_variables;
 use std::alloc::{AllocError, Global};
 use std::mem;
 use syntax::{Block, Expr, Stmt};

@@ -14,17 +14,17 @@ ghost use Rattle.call_checks.specs.Shares.{shared_view};
 ghost use Rattle.tasks.specs.Tasks.{OperandInRange, OperandsInRange, OutcomeInRange, PurposeInRange};
 ghost use Rattle.terms.specs.Views.{variables_view};
 
-use crate::step::reduced;
 use call_answers::carry_out::{carry_out, makes_object, put_local, refuse};
-use call_answers::{Given, is_zero, work_out};
+use call_answers::work_out;
 use call_checks::actual::{Actual, actuals};
 use call_checks::check::check;
-use call_checks::{Operand, Shared};
+use call_checks::Shared;
 use class_table::table::ClassTable;
 use object_store::Frames;
+use plain_steps::reduced;
 use std::alloc::{AllocError, Global};
 use tasks::{Invocation, Outcome, Purpose};
-use terms::{Reduction, Statics, Term, Variables, reduce};
+use terms::{Given, Operand, Reduction, Statics, Term, Variables, is_zero, reduce};
 
 /// The step of a call: the first of its numbers that isn't worked out takes a step, or else the call is made. With its object
 /// refused it is possible only where it makes one.

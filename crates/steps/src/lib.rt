@@ -3,7 +3,6 @@
 
 mod activation;
 mod invoke;
-mod put;
 mod step;
 
 pub use activation::{Activation, Outer, advance};

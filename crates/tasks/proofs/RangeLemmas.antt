@@ -23,8 +23,8 @@ use Rattle.syntax.proofs.Blocks.{block_is}
 use Rattle.sorts.specs.BuiltCalls.{calls_are_built}
 use Rattle.source.specs.Activation.{function_at}
 use Rattle.source.specs.Task.{Task, operand, task_of, tasks_of}
-use Rattle.call_checks.specs.declared.operand.Operand.{Operand}
-use Rattle.call_checks.specs.Actuals.{operand_view}
+use Rattle.terms.specs.declared.operand.Operand.{Operand}
+use Rattle.terms.specs.Views.{operand_view}
 use Rattle.tasks.specs.Tasks.{ArgumentsInRange, OperandInRange, OperandsInRange, tasks_of_statements, has_numbers_in_range, calls_built, BlockInRange, InsideInRange, StatementsInRange}
 
 -- the tasks of statements, by their tree

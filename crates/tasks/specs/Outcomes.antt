@@ -15,13 +15,12 @@ use Rattle.tasks.specs.declared.outcome.Outcome.{Outcome}
 use Rattle.tasks.specs.declared.outcome.Outcome.TheVariants as outcome
 use Rattle.tasks.specs.declared.outcome.Target.{Target as TargetInMemory}
 use Rattle.tasks.specs.declared.outcome.Target.TheVariants as target
-use Rattle.call_answers.specs.declared.given.Given.{Given}
+use Rattle.terms.specs.declared.given.Given.{Given}
 use Rattle.tasks.specs.declared.outcome.Purpose.{Purpose as PurposeInMemory}
 use Rattle.tasks.specs.declared.outcome.Purpose.TheVariants as purpose
 use Rattle.tasks.specs.declared.outcome.VariableKind.{VariableKind as KindInMemory}
 use Rattle.tasks.specs.declared.outcome.VariableKind.TheVariants as kind
-use Rattle.call_answers.specs.Answers.{given_view}
-use Rattle.terms.specs.Views.{Contents, value_view, variables_view}
+use Rattle.terms.specs.Views.{given_view, Contents, value_view, variables_view}
 
 abbrev pub kind_view : KindInMemory → VariableKind
 kind_view kind.Number = ScalarKind

@@ -21,14 +21,13 @@ use Rattle.tasks.specs.declared.outcome.Outcome.{Outcome}
 use Rattle.tasks.specs.declared.outcome.Outcome.TheVariants as outcome
 use Rattle.tasks.specs.declared.outcome.Purpose.{Purpose}
 use Rattle.tasks.specs.declared.outcome.Purpose.TheVariants as purpose
-use Rattle.call_checks.specs.Actuals.{operand_view}
-use Rattle.call_checks.specs.declared.operand.Operand.{Operand as OperandInMemory}
-use Rattle.call_checks.specs.declared.operand.Operand.TheVariants as operands
+use Rattle.terms.specs.Views.{operand_view, term_view, NumbersInRange}
+use Rattle.terms.specs.declared.operand.Operand.{Operand as OperandInMemory}
+use Rattle.terms.specs.declared.operand.Operand.TheVariants as operands
 use Rattle.tasks.specs.declared.task.Task.{Task as TaskInMemory}
 use Rattle.tasks.specs.declared.task.Task.TheVariants as task
 use Rattle.terms.specs.declared.term.Term.{Term as TermInMemory}
 use Rattle.tasks.specs.Outcomes.{else_tree, purpose_view, target_view}
-use Rattle.terms.specs.Views.{term_view, NumbersInRange}
 
 abbrev pub task_view : TaskInMemory → Task
 task_view (task.Print e) = Print e.line (term_view e.term)

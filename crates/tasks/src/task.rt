@@ -10,17 +10,16 @@ ghost use Rattle.sorts.specs.BuiltCalls.{is_built_call};
 ghost use Rattle.source.specs.Task.{Declared, Loop, Print, ReturnValue, SetElement, set_task, right_side_task, if_task, task_of, call_task, operand};
 ghost use Rattle.source.specs.Term.{term_of};
 ghost use Rattle.tasks.specs.Outcomes.{else_tree, kind_view, purpose_view, target_view};
-ghost use Rattle.call_checks.specs.Actuals.{operand_view};
+ghost use Rattle.terms.specs.Views.{operand_view};
 ghost use Rattle.tasks.specs.Tasks.{task_view, ArgumentsInRange, OperandInRange, OperandsInRange, ExprInRange, RightSideInRange, TestInRange, BlockInRange, PurposeInRange, ElseInRange, StatementInRange, TaskInRange};
 
 use crate::outcome::{Purpose, Target, VariableKind, kind_of};
-use call_checks::Operand;
+use terms::{Operand, Term, term_of};
 use jni::{JniFunction, ParameterKind, function_named};
 use std::alloc::{AllocError, Global};
 use syntax::{
     Argument, Block, Call, Constant, ElementType, Expr, Form, Name, RightSide, Stmt, Test,
 };
-use terms::{Term, term_of};
 
 /// A call that is to do.
 #[derive(Drop)]

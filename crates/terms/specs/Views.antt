@@ -5,14 +5,21 @@ use Rattle.std.specs.Borrow.{Bor}
 use Rattle.base.specs.Bytes.{Identifier, ByName, lookup}
 use Rattle.base.specs.Element.{ElementType}
 use Rattle.syntax.specs.Tree.{BinaryOp}
-use Rattle.syntax.specs.Views.{constant_tree, element_tree, prefix_tree, binary_tree}
+use Rattle.syntax.specs.Views.{argument_tree, constant_tree, element_tree, prefix_tree, binary_tree}
 use Rattle.syntax.specs.Limits.{number_limit}
 use Rattle.class_table.specs.FieldViews.{field_id_view}
+use Rattle.source.specs.CallEffects.{CallResult, NoResult, NullResult, ScalarResult, ReferenceResult, FieldResult}
 use Rattle.source.specs.Heap.{Heap}
 use Rattle.source.specs.Sight.{seen, in_range}
+use Rattle.source.specs.Task.{Operand, NumberOperand}
+use Rattle.source.specs.Task as task
 use Rattle.source.specs.Term.{Term, Done, Number, Named, Read, Element, IsNull, Prefix, And, Or, Binary, Reduction, binary_term, done, reduce}
 use Rattle.source.specs.Value.{Value, Word, Int, Flag, Truth, Trap, DivisionByZero, ShiftTooFar, OutOfRange, NullReference, ExceptionPending, WrongObject, DeletedReference, NoCapacity, Outcome, Gives, Traps, Stuck, outcome_then, outcome_map, convert}
 use Rattle.source.specs.Variable.{Variable, Scalar, LocalRef, FieldHandle, Elements, LocalArray, NoBuffer, Copy, View, StaticReference, Empty, Live, Deleted, Variables, Statics, assign}
+use Rattle.terms.specs.declared.given.Given.{Given}
+use Rattle.terms.specs.declared.given.Given.TheVariants as given
+use Rattle.terms.specs.declared.operand.Operand.{Operand as OperandInMemory}
+use Rattle.terms.specs.declared.operand.Operand.TheVariants as operand
 use Rattle.terms.specs.declared.reduction.Reduction.{Reduction as ReductionInMemory}
 use Rattle.terms.specs.declared.reduction.Reduction.TheVariants as reduction
 use Rattle.terms.specs.declared.sight.Indexed.{Indexed}
@@ -211,3 +218,19 @@ abbrev pub Reduces : Variables → Statics → TermInMemory → ReductionInMemor
 Reduces vs ss old reduction.Reduced new = (heap : Heap) → reduce (seen vs ss heap) (term_view old) ≡ Gives (term_view new)
 Reduces vs ss old (reduction.Trapped trap) new = ((heap : Heap) → reduce (seen vs ss heap) (term_view old) ≡ Traps (trap_view trap)) × (new ≡ old)
 Reduces vs ss old reduction.Stuck new = (heap : Heap) → reduce (seen vs ss heap) (term_view old) ≡ Stuck
+
+-- ---- calls
+
+-- an argument of a call before the call's own step
+abbrev pub operand_view : OperandInMemory → Operand
+operand_view (operand.Number t) = NumberOperand (term_view t)
+operand_view (operand.Given a) = task.Given (argument_tree a.now)
+
+-- what a call gives
+abbrev pub given_view : Given → CallResult
+given_view given.Nothing = NoResult
+given_view given.Null = NullResult
+given_view (given.Number z) = ScalarResult (Int z)
+given_view (given.Flag b) = ScalarResult (Flag b)
+given_view (given.Reference r) = ReferenceResult r
+given_view (given.Field f) = FieldResult (option_map field_id_view f)

@@ -1,6 +1,8 @@
-//! The values, the variables and the terms of the source in memory, and how a term is reduced.
+//! The values, the variables and the terms of the source in memory, how a term is reduced, and what goes into a call and comes out of it.
 #![tactic(auto)]
 
+mod given;
+mod operand;
 mod reduction;
 mod sight;
 mod statics;
@@ -9,6 +11,8 @@ mod trap;
 mod value;
 mod variable;
 
+pub use given::{Given, is_zero, static_result};
+pub use operand::Operand;
 pub use reduction::{Reduction, reduce};
 pub use sight::{Indexed, number_in, place_in};
 pub use statics::{StaticReference, Statics, null_statics};

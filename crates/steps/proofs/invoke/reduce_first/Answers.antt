@@ -1,12 +1,11 @@
 use Rattle.std.proofs.Common.{◌≡◌, ◌+◌, true, List, length, map, refl, sym, ◌∙◌, subst, arith}
 use Rattle.std.specs.Prelude.{slice_set}
 use Rattle.std.proofs.lemmas.Option.{slice_get_read}
-use Rattle.call_checks.specs.declared.operand.Operand.{Operand}
+use Rattle.terms.specs.declared.operand.Operand.{Operand}
 use Rattle.steps.specs.Calls.{ReducesFirst, ReducesOne}
 use Rattle.source.specs.Effect.{is_ready}
-use Rattle.call_checks.specs.Actuals.{operand_view}
+use Rattle.terms.specs.Views.{operand_view, variables_view}
 use Rattle.tasks.specs.Tasks.{OperandInRange}
-use Rattle.terms.specs.Views.{variables_view}
 use Rattle.steps.proofs.Invocations.{first_step, none_step, none_first, AreGiven}
 use Rattle.tasks.proofs.RangeLemmas.{operand_at, operand_set}
 use Rattle.steps.proofs.invoke.reduce_first.Goals as goal

@@ -6,10 +6,10 @@ use Rattle.jni.specs.declared.kinds.ParameterKind.{ParameterKind}
 use Rattle.jni.specs.declared.kinds.ParameterKind.TheVariants as kind
 use Rattle.jni.specs.Table.{parameter_value}
 use Rattle.source.specs.Task.{Operand, operand}
-use Rattle.call_checks.specs.declared.operand.Operand.{Operand as OperandInMemory}
-use Rattle.call_checks.specs.Actuals.{operand_view}
+use Rattle.terms.specs.declared.operand.Operand.{Operand as OperandInMemory}
+use Rattle.terms.specs.Views.{operand_view}
 use Rattle.tasks.specs.Tasks.{OperandsInRange}
-use Rattle.object_store.proofs.Results.{if_ok}
+use Rattle.std.proofs.lemmas.Result.{IfOk-weaker}
 use Rattle.tasks.proofs.RangeLemmas.{after_first, first_is, operand_first, operands_pushed, rest_in_range, shorter}
 use Rattle.tasks.proofs.task.+push_operands.Goals as goal
 
@@ -30,7 +30,7 @@ returns-in_ok-push-in-len1-up-arguments-clause-view t c =
     let parameter : ParameterKind = get_or parameters 0 kind.Nullable in
     let argument : Argument = c.argument-item.result in
     let more : List Operand = map operand (zip (map parameter_value (after_first parameters)) (map argument_tree (after_first arguments))) in
-    if_ok c.push_operands.result
+    IfOk-weaker c.push_operands.result _ _
     (λ done is. is ∙ ap (λ (os : List OperandInMemory). map operand_view os ++ more) c.in_ok-push-in-len1-up-arguments.ensures.items
     ∙ operand_first c.args.operands.now.items c.in_ok-operand_of-in-len1-up-arguments.field-0 parameter argument parameters arguments
     c.in_ok-operand_of-in-len1-up-arguments.ensures.view

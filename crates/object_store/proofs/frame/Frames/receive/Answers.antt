@@ -1,7 +1,7 @@
 use Rattle.std.proofs.Common.{◌≡◌, ◌+◌, ◌-◌, length, refl, ap, ◌∙◌, arith}
 use Rattle.std.proofs.lemmas.Option.{slice_get_read}
 use Rattle.source.specs.CallEffects.{with_local}
-use Rattle.object_store.proofs.Results.{if_ok}
+use Rattle.std.proofs.lemmas.Result.{IfOk-weaker}
 use Rattle.object_store.proofs.FrameLemmas.{received_total, received_view}
 use Rattle.object_store.proofs.frame.Frames.receive.Goals as goal
 
@@ -21,6 +21,6 @@ returns c =
     let x = c.index_mut.result.now in
     let counted : length xs ≡ p + 1 = omega (arith, c.len-count.ensures, c.if-count-eq0.false) in
     let at = slice_get_read xs (length xs) p x refl (omega (arith, counted)) c.index_mut.ensures.value in
-    if_ok c.receive_in.result
+    IfOk-weaker c.receive_in.result _ _
     (λ done has. received_view xs p x counted at c.receive_in.new.frame c.args.name c.receive_in.ensures.capacity has ∙ ap (with_local c.args.name) c.self.view_is)
     c.receive_in.ensures.references

@@ -1,0 +1,2 @@
+mod PutLemmas
+pub mod EffectLemmas

@@ -1,0 +1,17 @@
+use Rattle.std.proofs.Common.{◌≡◌, true}
+use Rattle.syntax.specs.Views.{block_tree}
+use Rattle.source.specs.Task.{EndIf}
+use Rattle.terms.specs.declared.term.Term.TheVariants as term
+use Rattle.terms.specs.declared.value.Value.TheVariants as value
+use Rattle.terms.specs.Views.{variables_view}
+use Rattle.plain_steps.proofs.EffectLemmas.{way_entered, branch_reduces}
+use Rattle.plain_steps.proofs.step.branch.Goals as goal
+
+pub returns-in_default-clause-step : goal.returns-in_default-clause-step
+returns-in_default-clause-step c =
+    rw c.reduced.ensures.view (branch_reduces (variables_view c.args.variables.now) c.args.statics.now c.args.choice.now.line _ _ _ c.in_default.not-Done c.reduce.ensures.step c.args.choice.now.block c.args.choice.now.otherwise)
+
+pub returns-in-Truth-true-clause-step : goal.returns-in-Truth-true-clause-step
+returns-in-Truth-true-clause-step c =
+    let shape : c.args.choice.now.test ≡ term.Done (value.Truth true) = cc in
+    λ heap. rw shape (way_entered c.statements_of.result.now (block_tree c.args.choice.now.block.now) EndIf (c.statements_of.ensures.view c.args.choice.now.line))

@@ -1,0 +1,273 @@
+//! Steps of tasks that are no call.
+
+ghost use Rattle.std.specs.Prelude.{◌≡◌, ℕ};
+ghost use Rattle.syntax.specs.Views.{expr_tree, block_tree};
+ghost use Rattle.source.specs.Task.{tasks_of};
+ghost use Rattle.source.specs.Variable.{Statics as StaticsOfUnit};
+ghost use Rattle.tasks.specs.declared.task.Task.TheVariants as task;
+ghost use Rattle.terms.specs.declared.term.Term.TheVariants as term;
+ghost use Rattle.tasks.specs.Outcomes.{else_tree};
+ghost use Rattle.plain_steps.specs.Effects.{HasEffect, HasWays, IsAssignment, reduced};
+ghost use Rattle.tasks.specs.Tasks.{element_task, tasks_of_statements, ExprInRange, BlockInRange, ElseInRange, StatementsInRange, TaskInRange, OutcomeInRange, IsPlain};
+ghost use Rattle.terms.specs.Views.{NumbersInRange, variables_view};
+
+use syntax::{Block, Name, Stmt};
+use tasks::{Assignment, Choice, ElementAssignment, End, Evaluation, Iteration, Outcome, Task};
+use terms::{
+    Evaluated, Indexed, Reduction, Statics, Term, Value, Variables, constant, number_in, place_in,
+    put_term, reduce,
+};
+
+/// What a step does that reduces a term, which has no value yet.
+pub fn reduced<'a>(line: usize, reduction: Reduction) -> Outcome<'a>
+    ensures view { result ≡ reduced line reduction }
+    ensures range { OutcomeInRange result }
+{
+    match reduction {
+        Reduction::Reduced => Outcome::Stays,
+        Reduction::Trapped(trap) => Outcome::Trapped(trap, line),
+        Reduction::Stuck => Outcome::Impossible,
+    }
+}
+
+/// Evaluates a number by one step, or prints it.
+fn print<'a>(
+    statics: &Statics<'_>,
+    variables: &Variables<'_>,
+    e: &mut Evaluation<'_>,
+) -> Outcome<'a>
+    requires { NumbersInRange e.old.term }
+    ensures step { HasEffect (variables_view variables.now) statics.now (task.Print e.old) result (task.Print e.new) }
+    ensures numbers { NumbersInRange e.new.term }
+    ensures range { OutcomeInRange result }
+{
+    match &mut e.term {
+        Term::Done(v) => match v {
+            Value::Int(z) => Outcome::Printed(*z),
+            Value::Word(_) | Value::Flag(_) | Value::Truth(_) => Outcome::Impossible,
+        },
+        t => reduced(e.line, reduce(statics, variables, t)),
+    }
+}
+
+/// Evaluates an expression by one step, or sets a variable to its value.
+fn set<'a>(statics: &Statics<'_>, variables: &Variables<'_>, a: &mut Assignment<'a>) -> Outcome<'a>
+    requires { NumbersInRange a.old.term }
+    ensures step { HasEffect (variables_view variables.now) statics.now (task.Set a.old) result (task.Set a.new) }
+    ensures numbers { NumbersInRange a.new.term }
+    ensures range { OutcomeInRange result }
+{
+    match &mut a.term {
+        Term::Done(v) => Outcome::Sets(a.name, *v),
+        t => reduced(a.line, reduce(statics, variables, t)),
+    }
+}
+
+/// Sets an element whose index and number have their values.
+fn write<'a>(
+    variables: &Variables<'_>,
+    line: usize,
+    name: &'a Name,
+    index: Value,
+    number: Value,
+) -> Outcome<'a>
+    ensures step { (statics : StaticsOfUnit) → HasEffect (variables_view variables.now) statics (element_task line name.entry (term.Done index) (term.Done number)) result (element_task line name.entry (term.Done index) (term.Done number)) }
+    ensures range { OutcomeInRange result }
+{
+    match number {
+        Value::Int(z) => match place_in(variables, name, index) {
+            Indexed::At(i) => Outcome::SetsElement(name, i, z),
+            Indexed::Traps(trap) => Outcome::Trapped(trap, line),
+            Indexed::Stuck => Outcome::Impossible,
+        },
+        Value::Word(_) | Value::Flag(_) | Value::Truth(_) => Outcome::Impossible,
+    }
+}
+
+/// Evaluates the number of an element by one step, or sets the element at this index.
+fn set_at<'a>(
+    statics: &Statics<'_>,
+    variables: &Variables<'_>,
+    line: usize,
+    name: &'a Name,
+    index: Value,
+    t: &mut Term<'_>,
+) -> Outcome<'a>
+    requires { NumbersInRange t.old }
+    ensures step { HasEffect (variables_view variables.now) statics.now (element_task line name.entry (term.Done index) t.old) result (element_task line name.entry (term.Done index) t.new) }
+    ensures number { NumbersInRange t.new }
+    ensures range { OutcomeInRange result }
+{
+    match t {
+        Term::Done(number) => write(variables, line, name, index, *number),
+        t => reduced(line, reduce(statics, variables, t)),
+    }
+}
+
+/// Evaluates the index or the number of an element by one step, or sets it.
+fn set_element<'a>(
+    statics: &Statics<'_>,
+    variables: &Variables<'_>,
+    a: &mut ElementAssignment<'a>,
+) -> Outcome<'a>
+    requires index { NumbersInRange a.old.index }
+    requires number { NumbersInRange a.old.number }
+    ensures step { HasEffect (variables_view variables.now) statics.now (task.SetElement a.old) result (task.SetElement a.new) }
+    ensures index { NumbersInRange a.new.index }
+    ensures number { NumbersInRange a.new.number }
+    ensures range { OutcomeInRange result }
+{
+    match &mut a.index {
+        Term::Done(index) => set_at(statics, variables, a.line, a.name, *index, &mut a.number),
+        i => reduced(a.line, reduce(statics, variables, i)),
+    }
+}
+
+/// The statements of a block; none where an `else` is missing.
+fn statements_of<'a>(block: Option<&'a Block>) -> &'a [Stmt]
+    requires { ElseInRange block }
+    ensures view { (line : ℕ) → tasks_of_statements result.now ≡ tasks_of (else_tree line block.entry) }
+    ensures range { StatementsInRange result.now }
+{
+    match block {
+        Some(block) => &block.statements,
+        None => &[],
+    }
+}
+
+/// Evaluates the test of an `if` by one step, or takes a way.
+fn branch<'a>(
+    statics: &Statics<'_>,
+    variables: &Variables<'_>,
+    choice: &mut Choice<'a>,
+) -> Outcome<'a>
+    requires numbers { NumbersInRange choice.old.test }
+    requires block { BlockInRange (block_tree choice.old.block.now) }
+    requires otherwise { ElseInRange choice.old.otherwise }
+    ensures step { HasEffect (variables_view variables.now) statics.now (task.Branch choice.old) result (task.Branch choice.new) }
+    ensures task { TaskInRange (task.Branch choice.new) }
+    ensures range { OutcomeInRange result }
+{
+    match &mut choice.test {
+        Term::Done(v) => match v {
+            Value::Truth(true) => Outcome::Enters(statements_of(Some(choice.block)), End::If),
+            Value::Truth(false) => Outcome::Enters(statements_of(choice.otherwise), End::If),
+            Value::Word(_) | Value::Int(_) | Value::Flag(_) => Outcome::Impossible,
+        },
+        t => reduced(choice.line, reduce(statics, variables, t)),
+    }
+}
+
+/// Evaluates the test of a loop by one step, or takes a turn, or goes on after it.
+fn turn<'a>(statics: &Statics<'_>, variables: &Variables<'_>, i: &mut Iteration<'a>) -> Outcome<'a>
+    requires test { ExprInRange (expr_tree i.old.test.now) }
+    requires numbers { NumbersInRange i.old.term }
+    requires body { BlockInRange (block_tree i.old.body.now) }
+    ensures step { HasEffect (variables_view variables.now) statics.now (task.Loop i.old) result (task.Loop i.new) }
+    ensures task { TaskInRange (task.Loop i.new) }
+    ensures range { OutcomeInRange result }
+{
+    match &mut i.term {
+        Term::Done(v) => match v {
+            Value::Truth(true) => Outcome::Enters(
+                statements_of(Some(i.body)),
+                End::Turn(i.line, i.test, i.body),
+            ),
+            Value::Truth(false) => Outcome::Ends,
+            Value::Word(_) | Value::Int(_) | Value::Flag(_) => Outcome::Impossible,
+        },
+        t => reduced(i.line, reduce(statics, variables, t)),
+    }
+}
+
+/// Evaluates a result by one step, or returns it. A name of a number is evaluated; NULL or a reference is returned as it is.
+#[tactic(auto, using(crate::proofs::EffectLemmas::return_rules))]
+fn return_value<'a>(
+    statics: &Statics<'_>,
+    variables: &Variables<'_>,
+    e: &mut Evaluation<'_>,
+) -> Outcome<'a>
+    requires { NumbersInRange e.old.term }
+    ensures step { HasEffect (variables_view variables.now) statics.now (task.ReturnValue e.old) result (task.ReturnValue e.new) }
+    ensures numbers { NumbersInRange e.new.term }
+    ensures range { OutcomeInRange result }
+{
+    match &mut e.term {
+        Term::Done(_) => Outcome::Returned,
+        Term::Named(c) => match constant(*c) {
+            Evaluated::Gives(value) => {
+                put_term(&mut e.term, Term::Done(value));
+                Outcome::Stays
+            }
+            Evaluated::Traps(_) | Evaluated::Stuck => Outcome::Returned,
+        },
+        Term::Read(name) => match number_in(variables, name) {
+            Evaluated::Gives(value) => {
+                put_term(&mut e.term, Term::Done(value));
+                Outcome::Stays
+            }
+            Evaluated::Traps(_) | Evaluated::Stuck => Outcome::Returned,
+        },
+        t => reduced(e.line, reduce(statics, variables, t)),
+    }
+}
+
+/// Lets a task that sets a variable or an element to a value take its next step.
+#[inline]
+fn assign<'a>(statics: &Statics<'_>, variables: &Variables<'a>, task: &mut Task<'a>) -> Outcome<'a>
+    requires range { TaskInRange task.old }
+    requires kind { IsAssignment task.old }
+    ensures step { HasEffect (variables_view variables.now) statics.now task.old result task.new }
+    ensures task { TaskInRange task.new }
+    ensures range { OutcomeInRange result }
+{
+    match task {
+        Task::Set(a) => set(statics, variables, a),
+        Task::SetElement(a) => set_element(statics, variables, a),
+        _ => unreachable!(),
+    }
+}
+
+/// Lets an `if` or a loop take its next step.
+#[inline]
+fn take_way<'a>(
+    statics: &Statics<'_>,
+    variables: &Variables<'a>,
+    task: &mut Task<'a>,
+) -> Outcome<'a>
+    requires range { TaskInRange task.old }
+    requires kind { HasWays task.old }
+    ensures step { HasEffect (variables_view variables.now) statics.now task.old result task.new }
+    ensures task { TaskInRange task.new }
+    ensures range { OutcomeInRange result }
+{
+    match task {
+        Task::Branch(choice) => branch(statics, variables, choice),
+        Task::Loop(i) => turn(statics, variables, i),
+        _ => unreachable!(),
+    }
+}
+
+/// Lets a task that is no call take its next step.
+pub fn plain_step<'a>(
+    statics: &Statics<'_>,
+    variables: &Variables<'a>,
+    task: &mut Task<'a>,
+) -> Outcome<'a>
+    requires range { TaskInRange task.old }
+    requires plain { IsPlain task.old }
+    ensures step { HasEffect (variables_view variables.now) statics.now task.old result task.new }
+    ensures task { TaskInRange task.new }
+    ensures range { OutcomeInRange result }
+{
+    match task {
+        Task::Print(e) => print(statics, variables, e),
+        Task::Set(_) | Task::SetElement(_) => assign(statics, variables, task),
+        Task::SetNull(target) => Outcome::SetsNull(*target),
+        Task::MakeArray(kind, name, size) => Outcome::Makes(*kind, name, *size),
+        Task::Branch(_) | Task::Loop(_) => take_way(statics, variables, task),
+        Task::Return => Outcome::Returned,
+        Task::ReturnValue(e) => return_value(statics, variables, e),
+        Task::Invoke(_) => unreachable!(),
+    }
+}

@@ -1,7 +1,0 @@
-use Rattle.terms.specs.Views.{variables_view}
-use Rattle.steps.proofs.TaskLemmas.{print_reduces}
-use Rattle.steps.proofs.step.print.Goals as goal
-
-pub returns-in_default-clause-step : goal.returns-in_default-clause-step
-returns-in_default-clause-step c =
-    rw c.reduced.ensures.view (print_reduces (variables_view c.args.variables.now) c.args.statics.now c.args.e.now.line _ _ _ c.in_default.not-Done c.reduce.ensures.step)
