@@ -127,6 +127,34 @@ fn shown_stop(stop: Option<Stop>) -> Option<TrapAt>
     })
 }
 
+/// The same as `replay`, of the unit that these functions are of.
+fn replay_with<W: Sink>(
+    alloc: Global,
+    functions: &Functions<'_>,
+    world: &World,
+    journal: &[Entry],
+    out: &mut W,
+) -> Result<Option<TrapAt>, ReplayFault>
+    requires sink { CanFail (W.written out.old) }
+    requires tree { IsTree (unit_tree functions.now) }
+    requires sorted { IsSorted (unit_tree functions.now) }
+    requires calls { IsTrue (calls_are_built (unit_tree functions.now)) }
+    ensures ok { OnOk result (WritesRun (unit_tree functions.now) world.now journal.now (W.written out.old) (W.written out.new)) }
+    ensures trap { IfOk result (EndsBy (unit_tree functions.now) world.now journal.now) }
+    ensures none_waits { OnOk result ((W.written out.new).waiting ≡ 0) }
+    ensures err { IfErr result (IsStoppedBy (unit_tree functions.now) world.now journal.now (W.written out.old) (W.written out.new)) }
+    ensures only { IsReplayable (unit_tree functions.now) world.now journal.now → IfErr result IsFromOutside }
+{
+    let state = match run(alloc, functions, world, journal) {
+        Ok(state) => state,
+        Err(fault) => return Err(fault),
+    };
+    match write_report(alloc, &state, journal, out) {
+        Ok(()) => Ok(shown_stop(state.stop)),
+        Err(fault) => Err(fault),
+    }
+}
+
 /// Writes the report of a run that took these steps, and their journal, without code, addresses or a collector. Answers the
 /// trap that stopped the run, if one did.
 ///
@@ -149,12 +177,5 @@ pub fn replay<W: Sink>(
     ensures only { IsReplayable (unit_tree checked.now) world.now journal.now → IfErr result IsFromOutside }
 {
     let functions = Functions::of(alloc, checked.items())?;
-    let state = match run(alloc, &functions, world, journal) {
-        Ok(state) => state,
-        Err(fault) => return Err(fault),
-    };
-    match write_report(alloc, &state, journal, out) {
-        Ok(()) => Ok(shown_stop(state.stop)),
-        Err(fault) => Err(fault),
-    }
+    replay_with(alloc, &functions, world, journal, out)
 }

@@ -8,7 +8,8 @@ ghost use Rattle.source.specs.Load.{call_loads, fits_parameter, fit_parameters, 
 ghost use Rattle.source.specs.Start.{start};
 ghost use Rattle.call_checks.specs.Shares.{shared_view};
 ghost use Rattle.threads.specs.States.{AreInRange, Stands};
-ghost use Rattle.replay.specs.Loading.{refused_calls, first_line, AreWaiting};
+ghost use Rattle.threads.specs.Threads.{WorkInRange};
+ghost use Rattle.replay.specs.Loading.{refused_calls, first_line, AreWaiting, IsWaiting};
 ghost use Rattle.replay.specs.Replays.{IsLoadFault};
 
 use crate::fault::ReplayFault;
@@ -109,6 +110,18 @@ fn first_fault(
     Ok(None)
 }
 
+/// A thread before its first call.
+fn waiting<'a>(calls: &'a [Call]) -> Thread<'a>
+    ensures waiting { IsWaiting result calls.entry.now }
+    ensures range { WorkInRange result.activation }
+{
+    Thread {
+        calls,
+        activation: None,
+        ending: Ending::Unfinished,
+    }
+}
+
 /// Puts the threads before their first calls into an empty list.
 #[inline]
 fn add_waiting<'a>(threads: &mut Vec<Thread<'a>>, world: &'a World) -> Result<(), AllocError>
@@ -117,11 +130,7 @@ fn add_waiting<'a>(threads: &mut Vec<Thread<'a>>, world: &'a World) -> Result<()
     ensures range { IfOk result (λ _. AreInRange threads.new.items) }
 {
     for calls in world.threads() {
-        threads.push(Thread {
-            calls,
-            activation: None,
-            ending: Ending::Unfinished,
-        })?;
+        threads.push(waiting(calls))?;
     }
     Ok(())
 }
@@ -149,6 +158,28 @@ fn loaded<'a>(alloc: Global, items: &'a [Item], world: &World) -> Result<Shared<
     })
 }
 
+/// The state before the first entry, where each call fits.
+fn begun<'a>(
+    alloc: Global,
+    functions: &Functions<'a>,
+    world: &'a World,
+) -> Result<State<'a>, AllocError>
+    requires sorted { IsSorted (unit_tree functions.now) }
+    requires fits { first_load_fault (unit_tree functions.now) world.now ≡ None }
+    ensures stands { IfOk result (λ m. Stands (unit_tree functions.now) world.now m (start (unit_tree functions.now) world.now)) }
+    ensures range { IfOk result (λ m. AreInRange m.threads.items) }
+{
+    let threads = waiting_threads(alloc, world)?;
+    let shared = loaded(alloc, functions.items(), world)?;
+    Ok(State {
+        threads,
+        world,
+        shared,
+        printed: Vec::new(alloc),
+        stop: None,
+    })
+}
+
 /// The state before the first entry.
 pub(crate) fn start<'a>(
     alloc: Global,
@@ -164,11 +195,8 @@ pub(crate) fn start<'a>(
     if let Some(line) = first_fault(alloc, functions, world)? {
         return Err(ReplayFault::DoesNotFit(line));
     }
-    Ok(State {
-        threads: waiting_threads(alloc, world)?,
-        world,
-        shared: loaded(alloc, functions.items(), world)?,
-        printed: Vec::new(alloc),
-        stop: None,
-    })
+    match begun(alloc, functions, world) {
+        Ok(state) => Ok(state),
+        Err(_) => Err(ReplayFault::Memory),
+    }
 }
