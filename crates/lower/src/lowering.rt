@@ -36,7 +36,10 @@ pub fn lower<'a>(alloc: Global, checked: &'a Checked) -> Result<Program<'a>, Low
     let mut names = Names::new(alloc);
     let mut codes = Vec::new(alloc);
     for item in checked.items() {
-        lower_item(alloc, &mut names, &mut codes, item)?;
+        match lower_item(alloc, &mut names, &mut codes, item) {
+            Ok(()) => {}
+            Err(fault) => return Err(fault),
+        }
     }
     Ok(Program::of(checked, codes))
 }

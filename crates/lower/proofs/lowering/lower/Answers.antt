@@ -1,9 +1,10 @@
-use Rattle.std.proofs.Common.{◌+◌, List, [], map, drop, subst}
+use Rattle.std.proofs.Common.{◌≡◌, ◌+◌, List, [], Result, Err, map, drop, sym, ap, subst}
 use Rattle.syntax.specs.declared.unit.Item.{Item as ItemInMemory}
 use Rattle.syntax.specs.Views.{item_tree, unit_tree}
+use Rattle.lowered.specs.Length.{IsTooLong}
 use Rattle.lowered.specs.Lowered.{AreCodesOf}
 use Rattle.lower.proofs.AcceptedFacts.{accepted_fits}
-use Rattle.lower.proofs.ItemSteps.{AreLeft, none_done, item_fits, item_done, all_done, next_item, last_item}
+use Rattle.lower.proofs.ItemSteps.{AreLeft, none_done, item_fits, item_done, item_long, none_long, all_done, next_item, last_item}
 use Rattle.lower.proofs.lowering.lower.Goals as goal
 
 pub loop-item-init : goal.loop-item-init
@@ -37,4 +38,24 @@ loop-item-preserved c =
     let codes = c.loop-item.codes.items in
     let next = next_item items i c.item-item.result c.loop-item-test.true c.item-item.is in
     let left = subst (λ rest. AreLeft all statics rest codes) next c.loop-item.invariant in
-    item_done all statics (item_tree c.item-item.result) (map item_tree (drop (i + 1) items)) codes _ _ left c.in_ok-lower_item.ensures.done
+    item_done all statics (item_tree c.item-item.result) (map item_tree (drop (i + 1) items)) codes _ _ left c.in-Ok.ensures.done
+
+pub returns-clause-short : goal.returns-clause-short
+returns-clause-short c =
+    let items = c.items-item-items.result.now in
+    let statics = c.loop-item.names.known in
+    let last = last_item items c.loop-item.item-index c.loop-item-test.false in
+    let left = subst (λ rest. AreLeft (map item_tree items) statics rest c.loop-item.codes.items) last c.loop-item.invariant in
+    λ long. none_long (map item_tree items) statics c.loop-item.codes.items left (subst (λ (all : List ItemInMemory). IsTooLong (unit_tree all)) (sym c.items-item-items.ensures.same) long)
+
+-- the same fault, of another type of answers
+same_fault : {A B E : Type 0} (e f : E) → ◌≡◌ {A = Result A E} (Err e) (Err f) → ◌≡◌ {A = Result B E} (Err e) (Err f)
+same_fault e f h = let same : e ≡ f = cc in ap (λ x. Err x) same
+
+pub returns-in-Err-clause-too_long : goal.returns-in-Err-clause-too_long
+returns-in-Err-clause-too_long c =
+    let items = c.items-item-items.result.now in
+    let next = next_item items c.loop-item.item-index c.item-item.result c.loop-item-test.true c.item-item.is in
+    let left = subst (λ rest. AreLeft (map item_tree items) c.loop-item.names.known rest c.loop-item.codes.items) next c.loop-item.invariant in
+    λ is. subst (λ (all : List ItemInMemory). IsTooLong (unit_tree all)) c.items-item-items.ensures.same
+        (item_long (map item_tree items) c.loop-item.names.known (item_tree c.item-item.result) (map item_tree (drop (c.loop-item.item-index + 1) items)) c.loop-item.codes.items left (c.in-Err.ensures.too_long (same_fault _ _ is)))
