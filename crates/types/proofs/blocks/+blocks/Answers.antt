@@ -1,4 +1,4 @@
-use Rattle.std.proofs.Common.{◌≡◌, ℕ, ◌+◌, List, [], ◌++◌, Result, Ok, Err, OnOk, drop, refl, sym, ap, ap₂, subst, ◌∙◌, append_assoc}
+use Rattle.std.proofs.Common.{◌≡◌, ℕ, ◌+◌, List, [], ◌∷◌, ◌++◌, Result, Ok, Err, OnOk, drop, refl, sym, ap, ap₂, subst, ◌∙◌, append_assoc}
 use Rattle.std.proofs.lemmas.List.Elements.{filter_map-append}
 use Rattle.std.proofs.lemmas.Result.{err_from_is_err_and}
 use Rattle.base.specs.Bytes.{Identifier}
@@ -13,7 +13,7 @@ use Rattle.sorts.specs.BuiltCalls.{refused_at}
 use Rattle.types.specs.Faults.{Faults, Finds, Refuses, scope_of, found, statement_place}
 use Rattle.types.proofs.FindsLemmas.{Refuses-first}
 use Rattle.types.proofs.PlaceLemmas.{found-none, past}
-use Rattle.types.proofs.BlockLemmas.{found-rest, declared-rest, above-none, above-more}
+use Rattle.types.proofs.BlockLemmas.{found-rest, declared-rest, alone, none-inside, above-none, above-more}
 use Rattle.types.proofs.blocks.+blocks.Goals as goal
 
 nothing : (here inside rest : Faults) → here ≡ [] → inside ≡ [] → (here ++ inside) ++ rest ≡ rest
@@ -110,3 +110,22 @@ check_inside-returns-in_ok-check_block-in-IfElse-clause-taken t c =
     ∙ two_blocks c.args.taken.now.items line (test_tree c.in-IfElse.field-0) (block_tree c.in-IfElse.b) (block_tree c.in-IfElse.d)
     ∙ ap (λ f. c.args.taken.now.items ++ names_declared (statements_within (form_tree line f))) (sym c.in-IfElse.is))
     c.check_block-in-IfElse-2.ensures.taken
+
+pub check_inside-returns-in_default-clause-finds : goal.check_inside-returns-in_default-clause-finds
+check_inside-returns-in_default-clause-finds t c line =
+    subst (λ broken. Finds c.declare.result broken)
+    (sym (none-inside (result_tree c.args.returns) (scope_of c.args.known.now) c.args.taken.now.items line c.args.form.now c.in_default.not-If c.in_default.not-IfElse c.in_default.not-While))
+    c.declare.ensures.finds
+
+pub check_inside-returns-in_default-clause-scope : goal.check_inside-returns-in_default-clause-scope
+check_inside-returns-in_default-clause-scope t c = c.declare.ensures.scope
+
+pub check_inside-returns-in_default-clause-above : goal.check_inside-returns-in_default-clause-above
+check_inside-returns-in_default-clause-above t c = c.declare.ensures.above
+
+pub check_inside-returns-in_default-clause-taken : goal.check_inside-returns-in_default-clause-taken
+check_inside-returns-in_default-clause-taken t c =
+    on_ok c.declare.result _ _
+    (λ (e : (line : ℕ) → c.declare.new.taken.items ≡ c.args.taken.now.items ++ names_declared (form_tree line c.args.form.now ∷ [])) line.
+    e line ∙ ap (λ all. c.args.taken.now.items ++ names_declared all) (sym (alone line c.args.form.now c.in_default.not-If c.in_default.not-IfElse c.in_default.not-While)))
+    c.declare.ensures.taken
