@@ -1,21 +1,15 @@
-use Rattle.std.proofs.Common.{◌≡◌, ℕ, suc, ◌+◌, ◌-◌, ◌<◌, None, Some, List, [], ◌∷◌, ◌++◌, length, drop, get_or, ◌∙◌, sym, ap, ap₂, refl, arith, append_assoc, length-append, add-one, drop-cons}
-use Rattle.std.specs.Prelude.{slice_set, vec_len, IsTrue}
+use Rattle.std.proofs.Common.{◌≡◌, ℕ, ◌+◌, ◌-◌, List, [], ◌∷◌, ◌++◌, length, ◌∙◌, sym, ap, refl, arith, length-append}
+use Rattle.std.specs.Prelude.{slice_set, vec_len}
 use Rattle.std.proofs.Math.ListN.{drop_of_length-le}
 use Rattle.std.proofs.lemmas.List.{append-nil}
-use Rattle.syntax.specs.declared.expr.Expr.{Expr as ExprInMemory}
-use Rattle.syntax.specs.declared.call.Test.{Test as TestInMemory}
 use Rattle.syntax.specs.declared.stmt.Stmt.{Stmt as StmtInMemory}
-use Rattle.syntax.specs.declared.stmt.Form.{Form}
-use Rattle.syntax.specs.declared.stmt.Form.TheVariants as form
-use Rattle.syntax.specs.declared.stmt.Block.{Block as BlockInMemory, out-Block}
-use Rattle.syntax.specs.Tree.{Next}
+use Rattle.syntax.specs.declared.stmt.Block.{out-Block}
 use Rattle.syntax.specs.Views.{form_tree, block_tree, statements_tree}
 use Rattle.syntax.proofs.Blocks.{block_is}
 use Rattle.code.specs.declared.instr.Instr.{Instr}
 use Rattle.code.specs.declared.instr.Instr.TheVariants as instr
-use Rattle.lowered.specs.Layout.{layout_after, block_layout}
+use Rattle.lowered.specs.Layout.{block_layout}
 use Rattle.lowered.specs.Coding.{first_code, ways_code, loop_code, stmt_code, block_code}
-use Rattle.code_generator.specs.Plain.{is_plain}
 use Rattle.code_generator.proofs.BlockNames.{block_closed}
 use Rattle.code_generator.proofs.Jumps.{on_ok, first_made, ways_made, loop_made}
 use Rattle.code_generator.proofs.statements.+statements.Goals as goal
@@ -109,56 +103,3 @@ emit_block-returns-clause-names t c =
     let end = (out-Block c.args.block.now).end_line in
     let whole : block_layout c.args.names.now (block_tree c.args.block.now) ≡ inner = c.loop-stmt.invariant.layout ∙ ap (λ (items : List StmtInMemory). block_layout inner (statements_tree items end)) (drop_of_length-le _ c.loop-stmt-test.false) in
     c.leave.ensures ∙ block_closed c.args.names.now inner (block_tree c.args.block.now) c.len-outside.result whole c.len-outside.ensures
-
--- the first of the statements that are left
-next_item : (items : List StmtInMemory) (i : ℕ) (s : StmtInMemory) → i < length items → s ≡ get_or items i s → drop i items ≡ s ∷ drop (i + 1) items
-next_item items i s h e = rw add-one (drop-cons items i s h ∙ ap (λ x. x ∷ drop (suc i) items) (sym e))
-
-next_statement : (items : List StmtInMemory) (i line end : ℕ) (s : StmtInMemory) → i < length items → s ≡ get_or items i s → line ≡ s.line → statements_tree (drop i items) end ≡ Next (form_tree line s.form) (statements_tree (drop (i + 1) items) end)
-next_statement items i line end s h e k =
-    ap (λ rest. statements_tree rest end) (next_item items i s h e)
-    ∙ ap (λ l. Next (form_tree l s.form) (statements_tree (drop (i + 1) items) end)) (sym k)
-
-pub emit_block-loop-stmt-preserved : goal.emit_block-loop-stmt-preserved
-emit_block-loop-stmt-preserved t c =
-    let items = c.deref-stmt-items.result.now in
-    let i = c.loop-stmt.stmt-index in
-    let names = c.loop-stmt.names in
-    let end = (out-Block c.args.block.now).end_line in
-    let s = form_tree c.in_ok-counted.field-0 c.stmt-item.result.form in
-    let rest = statements_tree (drop (i + 1) items) end in
-    let next = next_statement items i c.in_ok-counted.field-0 end c.stmt-item.result c.loop-stmt-test.true c.stmt-item.is c.in_ok-counted.ensures in
-    let made = c.in_ok-emit_form.ensures in
-    record {
-      code =
-          c.loop-stmt.invariant.code ∙ ap (λ b. c.loop-stmt.code.items ++ block_code names b) next
-          ∙ sym (append_assoc c.loop-stmt.code.items (stmt_code names s) (block_code (layout_after names s) rest))
-          ∙ ap₂ (λ code l. code ++ block_code l rest) (sym made.code) (sym made.names);
-      layout = c.loop-stmt.invariant.layout ∙ ap (block_layout names) next ∙ ap (λ l. block_layout l rest) (sym made.names);
-    }
-
-pub emit_block-returns-clause-code : goal.emit_block-returns-clause-code
-emit_block-returns-clause-code t c =
-    sym
-    (c.loop-stmt.invariant.code
-    ∙ ap (λ (items : List StmtInMemory). c.loop-stmt.code.items ++ block_code c.loop-stmt.names (statements_tree items (out-Block c.args.block.now).end_line)) (drop_of_length-le _ c.loop-stmt-test.false)
-    ∙ append-nil c.loop-stmt.code.items)
-
--- a statement that is none of those with blocks
-plain_form : (f : Form) → ((t : TestInMemory) (b : BlockInMemory) → f ≡ form.If t b → ⊥) → ((t : TestInMemory) (b d : BlockInMemory) → f ≡ form.IfElse t b d → ⊥) → ((e : ExprInMemory) (b : BlockInMemory) → f ≡ form.While e b → ⊥) → IsTrue (is_plain f)
-plain_form (form.Declare t x r) h k l = refl
-plain_form (form.DeclareBuffer t x r) h k l = refl
-plain_form (form.DeclareChars x r) h k l = refl
-plain_form (form.DeclareArray t x size) h k l = refl
-plain_form (form.Assign x r) h k l = refl
-plain_form (form.AssignElement x i e) h k l = refl
-plain_form (form.Perform c) h k l = refl
-plain_form (form.PutJint e) h k l = refl
-plain_form (form.If t b) h k l = absurd (h t b refl)
-plain_form (form.IfElse t b d) h k l = absurd (k t b d refl)
-plain_form (form.While e b) h k l = absurd (l e b refl)
-plain_form (form.Return None) h k l = refl
-plain_form (form.Return (Some e)) h k l = refl
-
-pub emit_form-emit_plain-requires : goal.emit_form-emit_plain-requires
-emit_form-emit_plain-requires t c = plain_form c.args.form.now c.in_default.not-If c.in_default.not-IfElse c.in_default.not-While
