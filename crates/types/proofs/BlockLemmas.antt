@@ -1,18 +1,23 @@
 -- The statements of a block in memory, one after the other.
-use Rattle.std.proofs.Common.{◌≡◌, ℕ, suc, ◌+◌, ◌-◌, ◌<◌, Result, Ok, Err, OnOk, List, [], ◌∷◌, ◌++◌, drop, length, get_or, refl, sym, ap, ap₂, ◌∙◌, add-one, append_assoc, length-append, arith, drop-cons}
+use Rattle.std.proofs.Common.{◌≡◌, ℕ, suc, ◌+◌, ◌-◌, ◌<◌, None, Some, Result, Ok, Err, OnOk, List, [], ◌∷◌, ◌++◌, drop, length, get_or, refl, sym, ap, ap₂, ◌∙◌, add-one, append_assoc, length-append, arith, drop-cons}
 use Rattle.std.proofs.Math.Seq.{drop-append_seam}
 use Rattle.std.proofs.lemmas.List.Elements.{filter_map-append}
 use Rattle.base.specs.Bytes.{Identifier, ByName}
+use Rattle.syntax.specs.declared.expr.Expr.{Expr as ExprInMemory}
+use Rattle.syntax.specs.declared.call.Test.{Test as TestInMemory}
+use Rattle.syntax.specs.declared.stmt.Block.{Block as BlockInMemory}
+use Rattle.syntax.specs.declared.stmt.Form.{Form}
+use Rattle.syntax.specs.declared.stmt.Form.TheVariants as form
 use Rattle.syntax.specs.declared.stmt.Stmt.{Stmt as StmtInMemory}
 use Rattle.syntax.specs.Parts.{statements_of, statements_within, names_declared, declared_name}
 use Rattle.syntax.specs.Tree.{ResultType}
-use Rattle.syntax.specs.Views.{stmt_tree, statements_tree}
+use Rattle.syntax.specs.Views.{form_tree, stmt_tree, statements_tree}
 use Rattle.types.specs.declared.sort.Sort.{Sort as SortInMemory}
 use Rattle.sorts.specs.Sorts.{Scope}
 use Rattle.sorts.specs.SortRules.{places_of, with_declared}
 use Rattle.sorts.specs.BuiltCalls.{refused_at}
 use Rattle.types.specs.Faults.{IsAbove, found, statement_place, places_inside}
-use Rattle.types.proofs.PlaceLemmas.{found-statement}
+use Rattle.types.proofs.PlaceLemmas.{found-none, found-statement}
 
 stmt_next : (items : List StmtInMemory) (i : ℕ) (s : StmtInMemory) → i < length items → s ≡ get_or items i s → drop i items ≡ s ∷ drop (i + 1) items
 stmt_next items i s h e = rw add-one (drop-cons items i s h ∙ ap (λ x. x ∷ drop (suc i) items) (sym e))
@@ -33,6 +38,40 @@ declared-rest taken items i s end_line h e =
     ap (λ rest. taken ++ names_declared (statements_of (statements_tree rest end_line))) (stmt_next items i s h e)
     ∙ ap (λ names. taken ++ names) (filter_map-append declared_name (statements_within (stmt_tree s)) _)
     ∙ sym (append_assoc taken _ _)
+
+-- ---- statements without blocks
+
+pub alone : (line : ℕ) (f : Form) → ((t : TestInMemory) (b : BlockInMemory) → f ≡ form.If t b → ⊥) → ((t : TestInMemory) (b d : BlockInMemory) → f ≡ form.IfElse t b d → ⊥) → ((e : ExprInMemory) (b : BlockInMemory) → f ≡ form.While e b → ⊥)
+    → statements_within (form_tree line f) ≡ form_tree line f ∷ []
+alone line (form.Declare t x r) h k l = refl
+alone line (form.DeclareBuffer t x r) h k l = refl
+alone line (form.DeclareChars x r) h k l = refl
+alone line (form.DeclareArray t x size) h k l = refl
+alone line (form.Assign x r) h k l = refl
+alone line (form.AssignElement x i e) h k l = refl
+alone line (form.Perform c) h k l = refl
+alone line (form.PutJint e) h k l = refl
+alone line (form.If t b) h k l = absurd (h t b refl)
+alone line (form.IfElse t b d) h k l = absurd (k t b d refl)
+alone line (form.While e b) h k l = absurd (l e b refl)
+alone line (form.Return None) h k l = refl
+alone line (form.Return (Some e)) h k l = refl
+
+pub none-inside : (returns : ResultType) (known : Scope) (taken : List Identifier) (line : ℕ) (f : Form) → ((t : TestInMemory) (b : BlockInMemory) → f ≡ form.If t b → ⊥) → ((t : TestInMemory) (b d : BlockInMemory) → f ≡ form.IfElse t b d → ⊥) → ((e : ExprInMemory) (b : BlockInMemory) → f ≡ form.While e b → ⊥)
+    → found (places_inside returns known taken (form_tree line f)) ≡ []
+none-inside returns known taken line (form.Declare t x r) h k l = found-none
+none-inside returns known taken line (form.DeclareBuffer t x r) h k l = found-none
+none-inside returns known taken line (form.DeclareChars x r) h k l = found-none
+none-inside returns known taken line (form.DeclareArray t x size) h k l = found-none
+none-inside returns known taken line (form.Assign x r) h k l = found-none
+none-inside returns known taken line (form.AssignElement x i e) h k l = found-none
+none-inside returns known taken line (form.Perform c) h k l = found-none
+none-inside returns known taken line (form.PutJint e) h k l = found-none
+none-inside returns known taken line (form.If t b) h k l = absurd (h t b refl)
+none-inside returns known taken line (form.IfElse t b d) h k l = absurd (k t b d refl)
+none-inside returns known taken line (form.While e b) h k l = absurd (l e b refl)
+none-inside returns known taken line (form.Return None) h k l = found-none
+none-inside returns known taken line (form.Return (Some e)) h k l = found-none
 
 -- ---- names that are known
 

@@ -1,8 +1,12 @@
--- The function that a statement calls, looked up once.
-use Rattle.std.specs.Prelude.{Option, None, Some}
+-- What a statement calls and what it declares, looked up once.
+use Rattle.std.specs.Prelude.{true, false, Option, None, Some}
 use Rattle.std.specs.Option.{option_and_then}
-use Rattle.syntax.specs.Tree.{Call, Test, TestExpr, TestCall}
+use Rattle.base.specs.Bytes.{Identifier}
+use Rattle.base.specs.Element.{JChar}
+use Rattle.syntax.specs.Tree.{Call, Test, TestExpr, TestCall, Stmt, Declare, DeclareBuffer, DeclareChars, DeclareArray}
 use Rattle.jni.specs.JniFunction.{JniFunction, function_named}
+use Rattle.sorts.specs.Sorts.{Sort, Buffer, Array}
+use Rattle.sorts.specs.SortRules.{variable_sort}
 
 -- the function of a call, where there is a call and the table has its name
 abbrev pub function_in : Option Call → Option JniFunction
@@ -12,3 +16,11 @@ function_in call = option_and_then (λ c. function_named c.function) call
 abbrev pub call_of_test : Test → Option Call
 call_of_test (TestExpr e) = None
 call_of_test (TestCall c) = Some c
+
+-- the name that a statement declares, and its sort
+abbrev pub declared : Stmt → Option (Identifier × Sort)
+declared (Declare line t x r) = Some (x, variable_sort t)
+declared (DeclareBuffer line t x r) = Some (x, Buffer t true)
+declared (DeclareChars line x r) = Some (x, Buffer JChar false)
+declared (DeclareArray line t x size) = Some (x, Array t size)
+declared s = None

@@ -4,33 +4,15 @@ ghost use Rattle.std.specs.Prelude.{◌≡◌, ℕ, [], ◌∷◌, ◌++◌, OnO
 ghost use Rattle.syntax.specs.Parts.{statements_of, statements_within, names_declared};
 ghost use Rattle.syntax.specs.Views.{form_tree, block_tree, result_tree};
 ghost use Rattle.sorts.specs.SortRules.{places_of, with_declared};
-ghost use Rattle.types.specs.Faults.{Finds, IsAbove, sort_value, scope_of, found, places_inside};
+ghost use Rattle.types.specs.Faults.{Finds, IsAbove, scope_of, found, places_inside};
 
 use crate::fault::TypeFault;
 use crate::scope::take;
-use crate::sort::{Sort, variable_sort};
-use crate::statements::check_statement;
+use crate::sort::Sort;
+use crate::statements::{check_statement, declared};
 use sorts::Known;
 use std::alloc::Global;
-use syntax::{Block, ElementType, Form, Name, ResultType};
-
-/// One name more is known and taken.
-fn add<'a>(
-    alloc: Global,
-    known: &mut Known<'a, Sort>,
-    taken: &mut Vec<Name>,
-    name: &'a Name,
-    sort: Sort,
-) -> Result<(), TypeFault>
-    ensures finds { Finds result [] }
-    ensures scope { OnOk result (scope_of known.new ≡ (name.now, sort_value sort) ∷ scope_of known.old) }
-    ensures above { OnOk result (IsAbove known.new known.old) }
-    ensures taken { OnOk result (taken.new.items ≡ taken.old.items ++ name.now ∷ []) }
-{
-    known.declare(name, sort)?;
-    take(alloc, taken, name)?;
-    Ok(())
-}
+use syntax::{Block, Form, Name, ResultType};
 
 /// The name that a statement declares is known and taken.
 fn declare<'a>(
@@ -44,28 +26,13 @@ fn declare<'a>(
     ensures above { OnOk result (IsAbove known.new known.old) }
     ensures taken { OnOk result ((line : ℕ) → taken.new.items ≡ taken.old.items ++ names_declared (form_tree line form.now ∷ [])) }
 {
-    match form {
-        Form::Declare(t, x, _) => add(alloc, known, taken, x, variable_sort(*t)),
-        Form::DeclareBuffer(t, x, _) => add(alloc, known, taken, x, Sort::Buffer(*t, true)),
-        Form::DeclareChars(x, _) => {
-            add(
-                alloc,
-                known,
-                taken,
-                x,
-                Sort::Buffer(ElementType::Jchar, false),
-            )
+    match declared(form) {
+        Some((name, sort)) => {
+            known.declare(name, sort)?;
+            take(alloc, taken, name)?;
+            Ok(())
         }
-        Form::DeclareArray(t, x, size) => add(alloc, known, taken, x, Sort::Array(*t, *size)),
-        Form::Assign(..) => Ok(()),
-        Form::AssignElement(..) => Ok(()),
-        Form::Perform(_) => Ok(()),
-        Form::PutJint(_) => Ok(()),
-        Form::If(..) => Ok(()),
-        Form::IfElse(..) => Ok(()),
-        Form::While(..) => Ok(()),
-        Form::Return(None) => Ok(()),
-        Form::Return(Some(_)) => Ok(()),
+        None => Ok(()),
     }
 }
 

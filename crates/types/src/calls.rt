@@ -43,13 +43,7 @@ fn value_fits(known: &Known<'_, Sort>, kind: ParameterKind, e: &Expr) -> bool
         ParameterKind::FieldID => is_null(e) || is_field(name_sort(known, e)),
         ParameterKind::ArrayVariable(element) => is_array_of(element, name_sort(known, e)),
         ParameterKind::BufferVariable(access) => is_buffer_for(access, name_sort(known, e)),
-        ParameterKind::Nullable => is_reference(known, e),
-        ParameterKind::NonNull => is_reference(known, e),
-        ParameterKind::ClassObject => is_reference(known, e),
-        ParameterKind::AnyArray => is_reference(known, e),
-        ParameterKind::ObjectArray => is_reference(known, e),
-        ParameterKind::StringObject => is_reference(known, e),
-        ParameterKind::NumberArray(_) => is_reference(known, e),
+        _ => is_reference(known, e),
     }
 }
 

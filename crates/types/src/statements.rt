@@ -12,7 +12,7 @@ ghost use Rattle.jni.specs.Table.{function_value};
 ghost use Rattle.sorts.specs.Sorts.{sort_in, is_unknown, sort_of, has_elements, is_index, is_jint, call_arguments_fit};
 ghost use Rattle.sorts.specs.SortRules.{is_formed, value_sets, right_side_sets, buffer_begins, test_fits, return_fits, statement_fits, copies_reference, sort_rules, UnknownName, DeclaredTwice, SortMisfit, UnknownFunction, ArgumentCount, ReferenceCopied, BadMode, ReadOnlyWrite, breaks_sort_rule};
 ghost use Rattle.sorts.specs.BuiltCalls.{calls_unbuilt, refused_at};
-ghost use Rattle.types.specs.Called.{function_in, call_of_test};
+ghost use Rattle.types.specs.Called.{function_in, call_of_test, declared};
 ghost use Rattle.types.specs.Faults.{scope_of, sort_value, Finds, statement_place, refused_of};
 ghost use Rattle.sorts.specs.Uses.{right_uses, test_uses, uses};
 
@@ -66,21 +66,17 @@ fn uses_unknown(known: &Known<'_, Sort>, form: &Form) -> bool
     ensures { (line : ℕ) → result ≡ uses (is_unknown (scope_of known.now)) (form_tree line form.now) }
 {
     match form {
-        Form::Declare(_, _, r) => right_unknown(known, r),
-        Form::DeclareBuffer(_, _, r) => right_unknown(known, r),
-        Form::DeclareChars(_, r) => right_unknown(known, r),
-        Form::DeclareArray(..) => false,
-        Form::Assign(_, r) => right_unknown(known, r),
+        Form::Declare(_, _, r)
+        | Form::DeclareBuffer(_, _, r)
+        | Form::DeclareChars(_, r)
+        | Form::Assign(_, r) => right_unknown(known, r),
         Form::AssignElement(x, i, e) => {
             is_unknown(known, x) || has_unknown(known, i) || has_unknown(known, e)
         }
         Form::Perform(c) => call_unknown(known, c),
-        Form::PutJint(e) => has_unknown(known, e),
-        Form::If(test, _) => test_unknown(known, test),
-        Form::IfElse(test, _, _) => test_unknown(known, test),
-        Form::While(e, _) => has_unknown(known, e),
-        Form::Return(None) => false,
-        Form::Return(Some(e)) => has_unknown(known, e),
+        Form::If(test, _) | Form::IfElse(test, _, _) => test_unknown(known, test),
+        Form::PutJint(e) | Form::While(e, _) | Form::Return(Some(e)) => has_unknown(known, e),
+        _ => false,
     }
 }
 
@@ -90,18 +86,7 @@ fn assigns_unknown(known: &Known<'_, Sort>, form: &Form) -> bool
 {
     match form {
         Form::Assign(x, _) => is_unknown(known, x),
-        Form::Declare(..) => false,
-        Form::DeclareBuffer(..) => false,
-        Form::DeclareChars(..) => false,
-        Form::DeclareArray(..) => false,
-        Form::AssignElement(..) => false,
-        Form::Perform(_) => false,
-        Form::PutJint(_) => false,
-        Form::If(..) => false,
-        Form::IfElse(..) => false,
-        Form::While(..) => false,
-        Form::Return(None) => false,
-        Form::Return(Some(_)) => false,
+        _ => false,
     }
 }
 
@@ -118,24 +103,26 @@ fn names_unknown(known: &Known<'_, Sort>, returns: ResultType, form: &Form, misf
     uses_unknown(known, form) || assigns_unknown(known, form)
 }
 
+/// The name that a statement declares, and its sort.
+pub(crate) fn declared(form: &Form) -> Option<(&Name, Sort)>
+    ensures { (line : ℕ) → option_map (λ d. (d.0.now, sort_value d.1)) result ≡ declared (form_tree line form.now) }
+{
+    match form {
+        Form::Declare(t, x, _) => Some((x, variable_sort(*t))),
+        Form::DeclareBuffer(t, x, _) => Some((x, Sort::Buffer(*t, true))),
+        Form::DeclareChars(x, _) => Some((x, Sort::Buffer(ElementType::Jchar, false))),
+        Form::DeclareArray(t, x, size) => Some((x, Sort::Array(*t, *size))),
+        _ => None,
+    }
+}
+
 /// Whether a statement declares a name that is taken.
 fn declares_taken(taken: &[Name], form: &Form) -> bool
     ensures { (line : ℕ) → result ≡ breaks_sort_rule DeclaredTwice [] taken.now Void (form_tree line form.now) }
 {
-    match form {
-        Form::Declare(_, x, _) => has_name(taken, x),
-        Form::DeclareBuffer(_, x, _) => has_name(taken, x),
-        Form::DeclareChars(x, _) => has_name(taken, x),
-        Form::DeclareArray(_, x, _) => has_name(taken, x),
-        Form::Assign(..) => false,
-        Form::AssignElement(..) => false,
-        Form::Perform(_) => false,
-        Form::PutJint(_) => false,
-        Form::If(..) => false,
-        Form::IfElse(..) => false,
-        Form::While(..) => false,
-        Form::Return(None) => false,
-        Form::Return(Some(_)) => false,
+    match declared(form) {
+        Some((x, _)) => has_name(taken, x),
+        None => false,
     }
 }
 
@@ -148,12 +135,8 @@ fn value_sets(known: &Known<'_, Sort>, sort: Option<Sort>, e: &Expr) -> bool
         Some(Sort::Jint) => is_jint(sort_of(known, e)),
         Some(Sort::Flag) => is_flag(sort_of(known, e)),
         Some(Sort::Ref) => is_null(e) || name_sort(known, e).is_some(),
-        Some(Sort::Global) => is_null(e),
-        Some(Sort::FieldId) => is_null(e),
-        Some(Sort::Truth) => false,
-        Some(Sort::Buffer(..)) => false,
-        Some(Sort::Array(..)) => false,
-        None => false,
+        Some(Sort::Global | Sort::FieldId) => is_null(e),
+        _ => false,
     }
 }
 
@@ -318,18 +301,8 @@ fn copies_reference(known: &Known<'_, Sort>, form: &Form) -> bool
 {
     match form {
         Form::Declare(t, _, r) => copies(known, Some(variable_sort(*t)), r),
-        Form::DeclareBuffer(_, _, r) => copies(known, None, r),
-        Form::DeclareChars(_, r) => copies(known, None, r),
-        Form::DeclareArray(..) => false,
         Form::Assign(x, r) => copies(known, sort_in(known, x), r),
-        Form::AssignElement(..) => false,
-        Form::Perform(_) => false,
-        Form::PutJint(_) => false,
-        Form::If(..) => false,
-        Form::IfElse(..) => false,
-        Form::While(..) => false,
-        Form::Return(None) => false,
-        Form::Return(Some(_)) => false,
+        _ => false,
     }
 }
 
@@ -362,8 +335,7 @@ fn check_uses(
         line,
     )?;
     refuse_if(has_bad_mode(form, function), SortRule::BadMode, line)?;
-    refuse_if(writes_read_only(known, form), SortRule::ReadOnlyWrite, line)?;
-    Ok(())
+    refuse_if(writes_read_only(known, form), SortRule::ReadOnlyWrite, line)
 }
 
 /// The function that a statement calls, the number of its arguments, and the rules after these.

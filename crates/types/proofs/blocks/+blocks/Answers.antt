@@ -1,4 +1,4 @@
-use Rattle.std.proofs.Common.{◌≡◌, ℕ, ◌+◌, List, [], ◌++◌, Result, Ok, Err, OnOk, drop, refl, sym, ap, ap₂, subst, ◌∙◌, append_assoc}
+use Rattle.std.proofs.Common.{◌≡◌, ℕ, ◌+◌, List, [], ◌∷◌, ◌++◌, Result, Ok, Err, OnOk, drop, refl, sym, ap, ap₂, subst, ◌∙◌, append_assoc}
 use Rattle.std.proofs.lemmas.List.Elements.{filter_map-append}
 use Rattle.std.proofs.lemmas.Result.{err_from_is_err_and}
 use Rattle.base.specs.Bytes.{Identifier}
@@ -8,12 +8,12 @@ use Rattle.syntax.specs.Tree.{Test, Block, IfElse}
 use Rattle.syntax.specs.Views.{form_tree, stmt_tree, block_tree, statements_tree, result_tree, test_tree}
 use Rattle.syntax.proofs.Blocks.{block_is}
 use Rattle.types.specs.declared.fault.TypeFault.{TypeFault}
-use Rattle.sorts.specs.SortRules.{places_of}
+use Rattle.sorts.specs.SortRules.{places_of, with_declared}
 use Rattle.sorts.specs.BuiltCalls.{refused_at}
-use Rattle.types.specs.Faults.{Faults, Finds, Refuses, scope_of, found, statement_place}
+use Rattle.types.specs.Faults.{Faults, Finds, Refuses, IsAbove, scope_of, found, statement_place, places_inside}
 use Rattle.types.proofs.FindsLemmas.{Refuses-first}
 use Rattle.types.proofs.PlaceLemmas.{found-none, past}
-use Rattle.types.proofs.BlockLemmas.{found-rest, declared-rest, above-none, above-more}
+use Rattle.types.proofs.BlockLemmas.{found-rest, declared-rest, alone, none-inside, above-none, above-more}
 use Rattle.types.proofs.blocks.+blocks.Goals as goal
 
 nothing : (here inside rest : Faults) → here ≡ [] → inside ≡ [] → (here ++ inside) ++ rest ≡ rest
@@ -110,3 +110,68 @@ check_inside-returns-in_ok-check_block-in-IfElse-clause-taken t c =
     ∙ two_blocks c.args.taken.now.items line (test_tree c.in-IfElse.field-0) (block_tree c.in-IfElse.b) (block_tree c.in-IfElse.d)
     ∙ ap (λ f. c.args.taken.now.items ++ names_declared (statements_within (form_tree line f))) (sym c.in-IfElse.is))
     c.check_block-in-IfElse-2.ensures.taken
+
+pub check_inside-returns-in_default-clause-finds : goal.check_inside-returns-in_default-clause-finds
+check_inside-returns-in_default-clause-finds t c line =
+    subst (λ broken. Finds c.declare.result broken)
+    (sym (none-inside (result_tree c.args.returns) (scope_of c.args.known.now) c.args.taken.now.items line c.args.form.now c.in_default.not-If c.in_default.not-IfElse c.in_default.not-While))
+    c.declare.ensures.finds
+
+pub check_inside-returns-in_default-clause-scope : goal.check_inside-returns-in_default-clause-scope
+check_inside-returns-in_default-clause-scope t c = c.declare.ensures.scope
+
+pub check_inside-returns-in_default-clause-above : goal.check_inside-returns-in_default-clause-above
+check_inside-returns-in_default-clause-above t c = c.declare.ensures.above
+
+pub check_inside-returns-in_default-clause-taken : goal.check_inside-returns-in_default-clause-taken
+check_inside-returns-in_default-clause-taken t c =
+    on_ok c.declare.result _ _
+    (λ (e : (line : ℕ) → c.declare.new.taken.items ≡ c.args.taken.now.items ++ names_declared (form_tree line c.args.form.now ∷ [])) line.
+    e line ∙ ap (λ all. c.args.taken.now.items ++ names_declared all) (sym (alone line c.args.form.now c.in_default.not-If c.in_default.not-IfElse c.in_default.not-While)))
+    c.declare.ensures.taken
+
+pub check_inside-returns-in-If-clause-finds : goal.check_inside-returns-in-If-clause-finds
+check_inside-returns-in-If-clause-finds t c line =
+    subst (λ f. Finds c.check_block.result (found (places_inside (result_tree c.args.returns) (scope_of c.args.known.now) c.args.taken.now.items (form_tree line f)))) (sym c.in-If.is) c.check_block.ensures.finds
+
+pub check_inside-returns-in-If-clause-scope : goal.check_inside-returns-in-If-clause-scope
+check_inside-returns-in-If-clause-scope t c =
+    on_ok c.check_block.result _ _
+    (λ (e : c.check_block.new.known ≡ c.args.known.now) line. ap scope_of e ∙ ap (λ f. with_declared (scope_of c.args.known.now) (form_tree line f)) (sym c.in-If.is))
+    c.check_block.ensures.restored
+
+pub check_inside-returns-in-If-clause-above : goal.check_inside-returns-in-If-clause-above
+check_inside-returns-in-If-clause-above t c =
+    on_ok c.check_block.result _ _
+    (λ (e : c.check_block.new.known ≡ c.args.known.now). subst (λ known. IsAbove known c.args.known.now) (sym e) (above-none c.args.known.now))
+    c.check_block.ensures.restored
+
+pub check_inside-returns-in-If-clause-taken : goal.check_inside-returns-in-If-clause-taken
+check_inside-returns-in-If-clause-taken t c =
+    on_ok c.check_block.result _ _
+    (λ (e : c.check_block.new.taken.items ≡ c.args.taken.now.items ++ names_declared (statements_of (block_tree c.in-If.b))) line.
+    e ∙ ap (λ f. c.args.taken.now.items ++ names_declared (statements_within (form_tree line f))) (sym c.in-If.is))
+    c.check_block.ensures.taken
+
+pub check_inside-returns-in-While-clause-finds : goal.check_inside-returns-in-While-clause-finds
+check_inside-returns-in-While-clause-finds t c line =
+    subst (λ f. Finds c.check_block-in-While.result (found (places_inside (result_tree c.args.returns) (scope_of c.args.known.now) c.args.taken.now.items (form_tree line f)))) (sym c.in-While.is) c.check_block-in-While.ensures.finds
+
+pub check_inside-returns-in-While-clause-scope : goal.check_inside-returns-in-While-clause-scope
+check_inside-returns-in-While-clause-scope t c =
+    on_ok c.check_block-in-While.result _ _
+    (λ (e : c.check_block-in-While.new.known ≡ c.args.known.now) line. ap scope_of e ∙ ap (λ f. with_declared (scope_of c.args.known.now) (form_tree line f)) (sym c.in-While.is))
+    c.check_block-in-While.ensures.restored
+
+pub check_inside-returns-in-While-clause-above : goal.check_inside-returns-in-While-clause-above
+check_inside-returns-in-While-clause-above t c =
+    on_ok c.check_block-in-While.result _ _
+    (λ (e : c.check_block-in-While.new.known ≡ c.args.known.now). subst (λ known. IsAbove known c.args.known.now) (sym e) (above-none c.args.known.now))
+    c.check_block-in-While.ensures.restored
+
+pub check_inside-returns-in-While-clause-taken : goal.check_inside-returns-in-While-clause-taken
+check_inside-returns-in-While-clause-taken t c =
+    on_ok c.check_block-in-While.result _ _
+    (λ (e : c.check_block-in-While.new.taken.items ≡ c.args.taken.now.items ++ names_declared (statements_of (block_tree c.in-While.b))) line.
+    e ∙ ap (λ f. c.args.taken.now.items ++ names_declared (statements_within (form_tree line f))) (sym c.in-While.is))
+    c.check_block-in-While.ensures.taken
