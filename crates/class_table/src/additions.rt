@@ -146,10 +146,7 @@ impl ClassTable {
         let Some(class) = class else {
             return Err(FieldError::NoClass);
         };
-        let alloc = *self.classes.allocator();
-        let name = Vec::from_slice(alloc, name)?;
-        let field = Field { name, field_type };
-        put_field(&mut self.classes, class - 1, field, is_static)?;
+        put_field(&mut self.classes, class - 1, name, field_type, is_static)?;
         Ok(())
     }
 }
