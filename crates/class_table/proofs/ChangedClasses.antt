@@ -67,6 +67,11 @@ module _ (es : List (Vec ℕ × Entry)) (i : ℕ) (e : Entry) (more : Vec FieldI
   field_put true h is = changed (λ d. record d { fields = d.fields ++ field ∷ [] }) es i e (record e { fields = more }) h (λ name. ap (λ xs. record (class_view (name, e)) { fields = xs }) is)
   field_put false h is = unchanged es i e (record e { fields = more }) h (λ name. ap (λ xs. record (class_view (name, e)) { fields = xs }) is)
 
+-- what holds of the tables after success and after a refusal
+pub after_either : (P : Classes → Type 0) (b : Bool) (more kept : Classes) → P more → P kept → P (if b then more else kept)
+after_either P true more kept holds_more holds_kept = holds_more
+after_either P false more kept holds_more holds_kept = holds_kept
+
 -- the names stay as they are
 pub names-kept : (change : Class → Class) → ((d : Class) → (change d).name ≡ d.name) → (c n : ℕ) (T : Classes) (name : Identifier) → has_name (from change c n T) name ≡ has_name T name
 names-kept change same c n [] name = refl

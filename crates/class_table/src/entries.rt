@@ -48,7 +48,7 @@ pub(crate) fn array_name(alloc: Global, element: &[u8]) -> Result<Vec<u8>, Alloc
 {
     let mut name = Vec::from_slice(alloc, b"[L")?;
     name.extend_from_slice(element)?;
-    name.push(b';')?;
+    name.extend_from_slice(b";")?;
     Ok(name)
 }
 
