@@ -1,12 +1,13 @@
 -- A table with the class of one place changed.
 use Rattle.std.proofs.Common.{◌≡◌, ℕ, zero, suc, ◌+◌, ◌<◌, Bool, true, false, cond, List, [], ◌∷◌, ◌++◌, map, Option, Some, slice_get, refl, sym, ap, ◌∙◌, arith}
-use Rattle.std.specs.Prelude.{◌==◌, ◌||◌, unwrap_or, Result, Ok, Err, is_ok, IsErr, if◌then◌else◌}
+use Rattle.std.specs.Prelude.{◌==◌, ◌||◌, unwrap_or, if◌then◌else◌}
 use Rattle.std.specs.List.{enumerate_from}
 use Rattle.std.specs.Map.{values_of}
 use Rattle.std.specs.Global.{Vec}
 use Rattle.std.proofs.lemmas.Bool.Decides.{nat_tests}
 use Rattle.indexmap.specs.IndexMap.{set_value_at}
 use Rattle.class_table.specs.declared.class.Entry.{Entry}
+use Rattle.class_table.specs.declared.class.Field.{Field as FieldInMemory}
 use Rattle.classes.specs.Class.{Field, Class, Classes, array_name}
 use Rattle.classes.specs.Additions.{with_changed_class}
 use Rattle.std.specs.Str.{bytes_eq}
@@ -14,7 +15,7 @@ use Rattle.base.specs.Bytes.{Identifier}
 use Rattle.class_table.specs.FieldViews.{with_declared}
 use Rattle.class_table.specs.Tables.{ArraysHaveElements}
 use Rattle.class_table.proofs.DistinctNames.{has_name}
-use Rattle.class_table.specs.Views.{class_view, classes_view}
+use Rattle.class_table.specs.Views.{class_view, classes_view, field_view}
 
 module _ (change : Class → Class) where
   abbrev pub from : ℕ → ℕ → Classes → Classes
@@ -53,10 +54,23 @@ unchanged (x ∷ es) zero e new h is =
     ap (λ d. d ∷ classes_view es) (is x.0 ∙ ap (λ v. class_view (x.0, v)) (sym own))
 unchanged (x ∷ es) (suc i) e new h is = ap (λ T. class_view x ∷ T) (unchanged es i e new h is)
 
--- what stays as it is after a refusal
-pub refused : {A E : Type 0} (r : Result A E) (more kept : Classes) → IsErr r → kept ≡ (if is_ok r then more else kept)
-refused (Ok x) more kept h = absurd (cc)
-refused (Err e) more kept h = refl
+module _ (es : List (Vec ℕ × Entry)) (i : ℕ) (e : Entry) (more : Vec FieldInMemory) (field : Field) where
+  -- a class gets a static more, unless memory ran out
+  pub static_put : (b : Bool) → slice_get (values_of es) i ≡ Some e → map field_view more.items ≡ (if b then map field_view e.statics.items ++ field ∷ [] else map field_view e.statics.items)
+      → classes_view (set_value_at es i (record e { statics = more })) ≡ (if b then with_declared (classes_view es) (Some (i + 1)) field true else classes_view es)
+  static_put true h is = changed (λ d. record d { statics = d.statics ++ field ∷ [] }) es i e (record e { statics = more }) h (λ name. ap (λ xs. record (class_view (name, e)) { statics = xs }) is)
+  static_put false h is = unchanged es i e (record e { statics = more }) h (λ name. ap (λ xs. record (class_view (name, e)) { statics = xs }) is)
+
+  -- a class gets a field more, unless memory ran out
+  pub field_put : (b : Bool) → slice_get (values_of es) i ≡ Some e → map field_view more.items ≡ (if b then map field_view e.fields.items ++ field ∷ [] else map field_view e.fields.items)
+      → classes_view (set_value_at es i (record e { fields = more })) ≡ (if b then with_declared (classes_view es) (Some (i + 1)) field false else classes_view es)
+  field_put true h is = changed (λ d. record d { fields = d.fields ++ field ∷ [] }) es i e (record e { fields = more }) h (λ name. ap (λ xs. record (class_view (name, e)) { fields = xs }) is)
+  field_put false h is = unchanged es i e (record e { fields = more }) h (λ name. ap (λ xs. record (class_view (name, e)) { fields = xs }) is)
+
+-- what holds of the tables after success and after a refusal
+pub after_either : (P : Classes → Type 0) (b : Bool) (more kept : Classes) → P more → P kept → P (if b then more else kept)
+after_either P true more kept holds_more holds_kept = holds_more
+after_either P false more kept holds_more holds_kept = holds_kept
 
 -- the names stay as they are
 pub names-kept : (change : Class → Class) → ((d : Class) → (change d).name ≡ d.name) → (c n : ℕ) (T : Classes) (name : Identifier) → has_name (from change c n T) name ≡ has_name T name

@@ -19,6 +19,7 @@ use crate::class::{Field, FieldType};
 use crate::entries::{put_class, put_field};
 use crate::fault::{ClassError, ClassRule, FieldError};
 use crate::table::ClassTable;
+use std::alloc::AllocError;
 
 /// The most classes that a table may have.
 const MOST_CLASSES: usize = 256;
@@ -75,8 +76,10 @@ impl ClassTable {
     {
         let above = self.superclass_for(name, superclass)?;
         let class = self.classes.len() + 1;
-        put_class(&mut self.classes, name, above)?;
-        Ok(class)
+        match put_class(&mut self.classes, name, above) {
+            Ok(()) => Ok(class),
+            Err(AllocError) => Err(ClassError::Memory),
+        }
     }
 
     /// Whether the class declares a field or static of this name.
@@ -146,11 +149,10 @@ impl ClassTable {
         let Some(class) = class else {
             return Err(FieldError::NoClass);
         };
-        let alloc = *self.classes.allocator();
-        let name = Vec::from_slice(alloc, name)?;
-        let field = Field { name, field_type };
-        put_field(&mut self.classes, class - 1, field, is_static)?;
-        Ok(())
+        match put_field(&mut self.classes, class - 1, name, field_type, is_static) {
+            Ok(()) => Ok(()),
+            Err(AllocError) => Err(FieldError::Memory),
+        }
     }
 }
 

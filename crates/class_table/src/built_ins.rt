@@ -8,7 +8,7 @@ ghost use Rattle.classes.specs.Class.{class_named};
 ghost use Rattle.class_table.specs.Views.{element_view, field_view, kind_view, classes_view};
 
 use crate::class::{ClassKind, ElementType, Entry, Field, FieldType};
-use crate::entries::{Entries, array_name, put};
+use crate::entries::{Entries, array_name, push_field, put};
 use indexmap::IndexMap;
 use std::alloc::{AllocError, Global};
 
@@ -204,9 +204,7 @@ fn copied_fields(alloc: Global, fields: &[BuiltInField]) -> Result<Vec<Field>, A
 {
     let mut copies = Vec::new(alloc);
     for field in fields {
-        let name = Vec::from_slice(alloc, field.name)?;
-        let field_type = field.field_type;
-        copies.push(Field { name, field_type })?;
+        push_field(&mut copies, field.name, field.field_type)?;
     }
     Ok(copies)
 }
@@ -217,8 +215,8 @@ fn put_built_in(alloc: Global, classes: &mut Entries, built_in: &BuiltIn) -> Res
     ensures { OnOk result (classes_view classes.new.entries ≡ classes_view classes.old.entries ++ listed_class built_in.now ∷ []) }
 {
     classes.reserve(1)?;
-    let fields = copied_fields(alloc, built_in.fields)?;
     let name = Vec::from_slice(alloc, built_in.name)?;
+    let fields = copied_fields(alloc, built_in.fields)?;
     let entry = Entry {
         superclass: built_in.superclass,
         kind: ClassKind::Plain,
@@ -291,14 +289,23 @@ fn put_object_arrays(
     Ok(())
 }
 
+/// Puts the classes of the list, in order, and the classes of arrays after them.
+fn put_listed(alloc: Global, classes: &mut Entries, built_ins: &[BuiltIn]) -> Result<(), AllocError>
+    requires empty { classes_view classes.old.entries ≡ [] }
+    requires list { IsTrue (is_class_list built_ins.now) }
+    ensures { OnOk result (classes_view classes.new.entries ≡ listed_classes built_ins.now) }
+{
+    put_built_ins(alloc, classes, built_ins)?;
+    put_number_arrays(alloc, classes, &NUMBER_ARRAYS)?;
+    put_object_arrays(alloc, classes, built_ins)
+}
+
 /// The classes of the list, in order, with the classes of arrays after them.
 pub(crate) fn listed(alloc: Global, built_ins: &[BuiltIn]) -> Result<Entries, AllocError>
     requires { IsTrue (is_class_list built_ins.now) }
     ensures { IfOk result (λ classes. classes_view classes.entries ≡ listed_classes built_ins.now) }
 {
     let mut classes: Entries = IndexMap::new(alloc);
-    put_built_ins(alloc, &mut classes, built_ins)?;
-    put_number_arrays(alloc, &mut classes, &NUMBER_ARRAYS)?;
-    put_object_arrays(alloc, &mut classes, built_ins)?;
+    put_listed(alloc, &mut classes, built_ins)?;
     Ok(classes)
 }

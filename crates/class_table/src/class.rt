@@ -40,7 +40,7 @@ pub struct Field {
 
 /// A field or static, by the class that declares it and its place, counted from 0, among the fields, or the statics, that
 /// the class declares.
-#[derive(Clone, Copy, PartialEq, Eq)]
+#[derive(Clone, Copy)]
 pub struct FieldHandle {
     pub class: usize,
     pub place: usize,

@@ -1,15 +1,15 @@
 //! The classes of a table as its map holds them.
 
-ghost use Rattle.std.specs.Prelude.{◌≡◌, ◌+◌, ◌<◌, ◌≤◌, ◌++◌, ◌∷◌, [], Some, None, IfOk, is_ok, if◌then◌else◌};
+ghost use Rattle.std.specs.Prelude.{◌≡◌, ◌+◌, ◌<◌, ◌≤◌, ◌++◌, ◌∷◌, [], map, Some, None, IfOk, is_ok, if◌then◌else◌};
 ghost use Rattle.indexmap.specs.IndexMap.{spare, index_map_len};
 ghost use Rattle.classes.specs.Additions.{new_class, with_class};
 ghost use Rattle.classes.specs.BuiltIns.{array_class};
 ghost use Rattle.classes.specs.Class.{class_named, array_name};
 ghost use Rattle.class_table.specs.FieldViews.{with_declared};
-ghost use Rattle.class_table.specs.Views.{class_view, classes_view, field_view, kind_view};
+ghost use Rattle.class_table.specs.Views.{class_view, classes_view, field_view, field_type_view, kind_view};
 
 use crate::built_ins::OBJECT;
-use crate::class::{ClassKind, Entry, Field};
+use crate::class::{ClassKind, Entry, Field, FieldType};
 use indexmap::IndexMap;
 use std::alloc::{AllocError, Global};
 
@@ -48,7 +48,7 @@ pub(crate) fn array_name(alloc: Global, element: &[u8]) -> Result<Vec<u8>, Alloc
 {
     let mut name = Vec::from_slice(alloc, b"[L")?;
     name.extend_from_slice(element)?;
-    name.push(b';')?;
+    name.extend_from_slice(b";")?;
     Ok(name)
 }
 
@@ -86,21 +86,34 @@ pub(crate) fn put_class(
     Ok(())
 }
 
+/// Puts a field after the others. After a refusal the fields are what they were.
+pub(crate) fn push_field(
+    fields: &mut Vec<Field>,
+    name: &[u8],
+    field_type: FieldType,
+) -> Result<(), AllocError>
+    ensures { map field_view fields.new.items ≡ (if is_ok result then map field_view fields.old.items ++ record { name = name.now; type = field_type_view field_type } ∷ [] else map field_view fields.old.items) }
+{
+    let name = Vec::from_slice(*fields.allocator(), name)?;
+    fields.push(Field { name, field_type })?;
+    Ok(())
+}
+
 /// Puts a field, or a static, after the others of the class at this place. After a refusal the classes are what they were.
 pub(crate) fn put_field(
     classes: &mut Entries,
     place: usize,
-    field: Field,
+    name: &[u8],
+    field_type: FieldType,
     is_static: bool,
 ) -> Result<(), AllocError>
     requires { place < index_map_len classes.old }
-    ensures { classes_view classes.new.entries ≡ (if is_ok result then with_declared (classes_view classes.old.entries) (Some (place + 1)) (field_view field) is_static else classes_view classes.old.entries) }
+    ensures { classes_view classes.new.entries ≡ (if is_ok result then with_declared (classes_view classes.old.entries) (Some (place + 1)) (record { name = name.now; type = field_type_view field_type }) is_static else classes_view classes.old.entries) }
 {
     let entry = &mut classes[place];
     if is_static {
-        entry.statics.push(field)?;
+        push_field(&mut entry.statics, name, field_type)
     } else {
-        entry.fields.push(field)?;
+        push_field(&mut entry.fields, name, field_type)
     }
-    Ok(())
 }

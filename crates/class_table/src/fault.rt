@@ -33,11 +33,9 @@ impl ClassRule {
 }
 
 /// A class or a field is not added.
-#[derive(Clone, Copy, Debug, PartialEq, Eq, Error)]
+#[derive(Clone, Copy, PartialEq, Eq)]
 pub enum ClassError {
-    #[error("out of memory")]
     Memory,
-    #[error("fault {}", .0.number())]
     Refused(ClassRule),
 }
 

@@ -1,25 +1,23 @@
 -- Terms: how they begin, and what a step of one does.
-use Rattle.std.proofs.Common.{◌≡◌, None, refl, ap}
-use Rattle.base.specs.Bytes.{Identifier}
+use Rattle.std.proofs.Common.{◌≡◌, None, refl, ap, sym, ◌∙◌}
 use Rattle.syntax.specs.declared.expr.BinaryOp.{BinaryOp}
 use Rattle.syntax.specs.declared.expr.BinaryOp.TheVariants as binary
-use Rattle.syntax.specs.declared.expr.Constant.{Constant}
-use Rattle.syntax.specs.declared.expr.Constant.TheVariants as constant
-use Rattle.syntax.specs.declared.expr.Expr.{Expr as ExprInMemory}
-use Rattle.syntax.specs.declared.expr.Expr.TheVariants as expr
 use Rattle.syntax.specs.Parts.{null_tested}
-use Rattle.syntax.specs.Tree.{Expr, Variable, Binary}
-use Rattle.syntax.specs.Views.{expr_tree, binary_tree}
+use Rattle.syntax.specs.Tree.{Expr, Binary}
+use Rattle.syntax.specs.Views.{binary_tree}
 use Rattle.source.specs.Heap.{Heap}
 use Rattle.source.specs.Sight.{seen}
 use Rattle.source.specs.Term as tree
 use Rattle.source.specs.Term.{Reduction, binary_term, with_part, done, reduce}
+use Rattle.source.specs.Value.{Value, Gives, outcome_map}
 use Rattle.source.specs.Variable.{Variables, Statics}
 use Rattle.terms.specs.declared.reduction.Reduction.{Reduction as ReductionInMemory}
+use Rattle.terms.specs.declared.reduction.Reduction.TheVariants as reduction
 use Rattle.terms.specs.declared.term.Term.{Term}
+use Rattle.terms.specs.declared.term.Term.TheVariants as term
 use Rattle.terms.specs.declared.value.Evaluated.{Evaluated}
 use Rattle.terms.specs.declared.value.Evaluated.TheVariants as evaluated
-use Rattle.terms.specs.Views.{evaluated_view, term_view, IsReplaced, Reduces}
+use Rattle.terms.specs.Views.{evaluated_view, term_view, IsReplaced, IsValue, Reduces}
 
 -- ---- comparisons with NULL
 
@@ -43,56 +41,6 @@ not_compared binary.Subtract no_equal no_other a b = refl
 not_compared binary.Multiply no_equal no_other a b = refl
 not_compared binary.Divide no_equal no_other a b = refl
 not_compared binary.Remainder no_equal no_other a b = refl
-
-equal_to_no_name : (a : ExprInMemory) (b : Expr) → ((x : Identifier) → a ≡ expr.Variable x → ⊥) → null_tested (Binary (binary_tree binary.Equal) (expr_tree a) b) ≡ None
-equal_to_no_name (expr.Number n u) b h = refl
-equal_to_no_name (expr.Named c) b h = refl
-equal_to_no_name (expr.Variable x) b h = absurd (h x refl)
-equal_to_no_name (expr.Element' x p i) b h = refl
-equal_to_no_name (expr.Prefix' op p a) b h = refl
-equal_to_no_name (expr.Binary' op p a c) b h = refl
-equal_to_no_name (expr.Paren' p a) b h = refl
-
-equal_to_constant : (x : Identifier) (c : Constant) → (c ≡ constant.Null → ⊥) → null_tested (Binary (binary_tree binary.Equal) (Variable x) (expr_tree (expr.Named c))) ≡ None
-equal_to_constant x constant.True h = refl
-equal_to_constant x constant.False h = refl
-equal_to_constant x constant.Commit h = refl
-equal_to_constant x constant.Abort h = refl
-equal_to_constant x constant.Null h = absurd (h refl)
-
-equal_to_no_null : (x : Identifier) (b : ExprInMemory) → (b ≡ expr.Named constant.Null → ⊥) → null_tested (Binary (binary_tree binary.Equal) (Variable x) (expr_tree b)) ≡ None
-equal_to_no_null x (expr.Number n u) h = refl
-equal_to_no_null x (expr.Named c) h = equal_to_constant x c (λ e. h (ap expr.Named e))
-equal_to_no_null x (expr.Variable y) h = refl
-equal_to_no_null x (expr.Element' y p i) h = refl
-equal_to_no_null x (expr.Prefix' op p a) h = refl
-equal_to_no_null x (expr.Binary' op p a c) h = refl
-equal_to_no_null x (expr.Paren' p a) h = refl
-
-unequal_to_no_name : (a : ExprInMemory) (b : Expr) → ((x : Identifier) → a ≡ expr.Variable x → ⊥) → null_tested (Binary (binary_tree binary.NotEqual) (expr_tree a) b) ≡ None
-unequal_to_no_name (expr.Number n u) b h = refl
-unequal_to_no_name (expr.Named c) b h = refl
-unequal_to_no_name (expr.Variable x) b h = absurd (h x refl)
-unequal_to_no_name (expr.Element' x p i) b h = refl
-unequal_to_no_name (expr.Prefix' op p a) b h = refl
-unequal_to_no_name (expr.Binary' op p a c) b h = refl
-unequal_to_no_name (expr.Paren' p a) b h = refl
-
-unequal_to_constant : (x : Identifier) (c : Constant) → (c ≡ constant.Null → ⊥) → null_tested (Binary (binary_tree binary.NotEqual) (Variable x) (expr_tree (expr.Named c))) ≡ None
-unequal_to_constant x constant.True h = refl
-unequal_to_constant x constant.False h = refl
-unequal_to_constant x constant.Commit h = refl
-unequal_to_constant x constant.Abort h = refl
-unequal_to_constant x constant.Null h = absurd (h refl)
-
-unequal_to_no_null : (x : Identifier) (b : ExprInMemory) → (b ≡ expr.Named constant.Null → ⊥) → null_tested (Binary (binary_tree binary.NotEqual) (Variable x) (expr_tree b)) ≡ None
-unequal_to_no_null x (expr.Number n u) h = refl
-unequal_to_no_null x (expr.Named c) h = unequal_to_constant x c (λ e. h (ap expr.Named e))
-unequal_to_no_null x (expr.Variable y) h = refl
-unequal_to_no_null x (expr.Element' y p i) h = refl
-unequal_to_no_null x (expr.Prefix' op p a) h = refl
-unequal_to_no_null x (expr.Binary' op p a c) h = refl
-unequal_to_no_null x (expr.Paren' p a) h = refl
 
 pub ruleset comparison_rules = (not_compared)
 
@@ -123,6 +71,19 @@ pub ruleset operator_rules = (operator_term)
 
 -- ---- steps
 
+-- a part that has no value yet takes its step inside the whole
+pub unfinished : (part : Term) → (IsValue part → ⊥) → (use_value : Value → Reduction) (whole : tree.Term → tree.Term) (step : Reduction) → with_part use_value whole (term_view part) step ≡ outcome_map whole step
+unfinished (term.Done v) none_yet use_value whole step = absurd (none_yet tt)
+unfinished (term.Number n unsigned) none_yet use_value whole step = refl
+unfinished (term.Named c) none_yet use_value whole step = refl
+unfinished (term.Read x) none_yet use_value whole step = refl
+unfinished (term.Element' x p i) none_yet use_value whole step = refl
+unfinished (term.IsNull wanted x) none_yet use_value whole step = refl
+unfinished (term.Prefix' op p t) none_yet use_value whole step = refl
+unfinished (term.And' p s q t) none_yet use_value whole step = refl
+unfinished (term.Or' p s q t) none_yet use_value whole step = refl
+unfinished (term.Binary' op p s q t) none_yet use_value whole step = refl
+
 module _ (vs : Variables) (ss : Statics) where
   -- the value takes its place
   pub replaced : (old new : Term) (value : Evaluated) (took : ReductionInMemory) → IsReplaced old value took new
@@ -130,3 +91,15 @@ module _ (vs : Variables) (ss : Statics) where
   replaced old new (evaluated.Gives v) took is value = rw (is.0, is.1) value
   replaced old new (evaluated.Traps trap) took is value = rw (is.0, is.1) (value, refl)
   replaced old new evaluated.Stuck took is value = rw is.0 value
+
+  -- what a step makes of a part, it makes of the whole
+  pub inside : (part lent changed old : Term) (took : ReductionInMemory) (remade : Term → Term) (whole : tree.Term → tree.Term)
+      → ((heap : Heap) → reduce (seen vs ss heap) (term_view (remade part)) ≡ outcome_map whole (reduce (seen vs ss heap) (term_view part)))
+      → ((t : Term) → term_view (remade t) ≡ whole (term_view t)) → old ≡ remade part → lent ≡ part
+      → Reduces vs ss lent took changed → Reduces vs ss old took (remade changed)
+  inside part lent changed old reduction.Reduced remade whole step view is same took =
+      λ heap. ap (λ t. reduce (seen vs ss heap) (term_view t)) is ∙ step heap ∙ ap (outcome_map whole) (ap (λ t. reduce (seen vs ss heap) (term_view t)) (sym same) ∙ took heap) ∙ ap Gives (sym (view changed))
+  inside part lent changed old (reduction.Trapped trap) remade whole step view is same took =
+      (λ heap. ap (λ t. reduce (seen vs ss heap) (term_view t)) is ∙ step heap ∙ ap (outcome_map whole) (ap (λ t. reduce (seen vs ss heap) (term_view t)) (sym same) ∙ took.0 heap), ap remade (took.1 ∙ same) ∙ sym is)
+  inside part lent changed old reduction.Stuck remade whole step view is same took =
+      λ heap. ap (λ t. reduce (seen vs ss heap) (term_view t)) is ∙ step heap ∙ ap (outcome_map whole) (ap (λ t. reduce (seen vs ss heap) (term_view t)) (sym same) ∙ took heap)

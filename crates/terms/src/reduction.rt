@@ -121,10 +121,8 @@ fn value_of(statics: &Statics<'_>, variables: &Variables<'_>, term: &Term<'_>) -
             _ => None,
         },
         Term::Binary(op, a, b) => operator_value(*op, a, b),
-        Term::Done(_) | Term::Number { .. } | Term::Named(_) => Some(leaf_value(
-            statics, variables, term,
-        )),
-        Term::Read(_) | Term::IsNull(_, _) => Some(leaf_value(statics, variables, term)),
+        Term::Done(_) | Term::Number { .. } | Term::Named(_) | Term::Read(_) | Term::IsNull(_, _) =>
+            Some(leaf_value(statics, variables, term)),
     }
 }
 
@@ -176,10 +174,8 @@ fn has_values(term: &Term<'_>) -> bool
     ensures { IsTrue result ↔ HasValues term.now }
 {
     match term {
-        Term::Element(_, i) => is_value(i),
-        Term::Prefix(_, a) => is_value(a),
-        Term::And(a, _) => is_value(a),
-        Term::Or(a, _) => is_value(a),
+        Term::Element(_, a) | Term::Prefix(_, a) => is_value(a),
+        Term::And(a, _) | Term::Or(a, _) => is_value(a),
         Term::Binary(_, a, b) => is_value(a) && is_value(b),
         _ => true,
     }

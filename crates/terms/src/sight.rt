@@ -24,8 +24,10 @@ pub fn number_in(variables: &Variables<'_>, name: &Name) -> Evaluated
         None => Evaluated::Stuck,
         Some(content) => match content {
             Content::Number(value) => Evaluated::Gives(*value),
-            Content::Reference(_, _) | Content::Field(_) => Evaluated::Stuck,
-            Content::Buffer(_) | Content::Array(_, _) => Evaluated::Stuck,
+            Content::Reference(_, _)
+            | Content::Field(_)
+            | Content::Buffer(_)
+            | Content::Array(_, _) => Evaluated::Stuck,
         },
     }
 }

@@ -13,8 +13,5 @@ returns-in-Done-deref c = λ values heap.
     ap term_view c.in-Element.is ∙ ap (λ (u : Term). tree.Element c.in-Element.name.now (term_view u)) (sym c.deref.ensures ∙ c.in-Done-deref.is) in
     ap (tree.reduce (seen (variables_view c.args.variables.now) ss heap)) shape ∙ ap done (sym (c.element_in.ensures ss heap))
 
-pub returns-in-Read : goal.returns-in-Read
-returns-in-Read c = λ values heap. c.leaf_value.ensures (search rules) heap
-
 pub returns-in-Done : goal.returns-in-Done
-returns-in-Done c = λ values heap. c.leaf_value-in-Done.ensures (search rules) heap
+returns-in-Done c = λ values heap. c.leaf_value.ensures (search rules) heap

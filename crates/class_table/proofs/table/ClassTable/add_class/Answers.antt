@@ -1,4 +1,5 @@
 use Rattle.std.proofs.Common.{◌≡◌, ◌∙◌, ap, sym, subst, None}
+use Rattle.std.specs.Prelude.{is_ok}
 use Rattle.classes.specs.Class.{class_named}
 use Rattle.classes.specs.Additions.{class_breaks}
 use Rattle.classes.specs.Grown.{IsGrown}
@@ -6,6 +7,7 @@ use Rattle.class_table.specs.Refusals.{first_broken}
 use Rattle.class_table.specs.Tables.{IsTable}
 use Rattle.class_table.specs.Views.{classes_view}
 use Rattle.class_table.proofs.AddedClasses.{not_taken, new-array}
+use Rattle.class_table.proofs.ChangedClasses.{after_either}
 use Rattle.class_table.proofs.KeptTables.{added-table, grown-added}
 use Rattle.class_table.proofs.table.ClassTable.add_class.Goals as goal
 
@@ -15,15 +17,18 @@ put_class-requires-clause-new_arrays c =
     let new : class_named T c.args.name.now ≡ None = ap (λ t. class_named t c.args.name.now) c.self.view_is ∙ not_taken _ _ c.in_ok-above.ensures.0 in
     new-array T c.args.name.now new c.self.invariant.elements
 
-pub invariant_of-self-2 : goal.invariant_of-self-2
-invariant_of-self-2 c =
+pub invariant_of-self : goal.invariant_of-self
+invariant_of-self c =
     let T = classes_view c.self.inside.classes.entries in
     let right = ap (λ t. first_broken (λ rule. class_breaks rule t c.args.name.now c.args.superclass.now)) c.self.view_is ∙ c.in_ok-above.ensures.0 in
-    subst IsTable (sym c.in_ok-put_class.ensures) (added-table T c.args.name.now c.args.superclass.now c.in_ok-above.above c.requires right c.self.invariant)
+    subst IsTable (sym c.put_class.ensures)
+    (after_either IsTable (is_ok c.put_class.result) _ T (added-table T c.args.name.now c.args.superclass.now c.in_ok-above.above c.requires right c.self.invariant) c.self.invariant)
 
 pub returns-clause-grown : goal.returns-clause-grown
 returns-clause-grown c = λ g.
     let T = classes_view c.self.inside.classes.entries in
     let right = ap (λ t. first_broken (λ rule. class_breaks rule t c.args.name.now c.args.superclass.now)) c.self.view_is ∙ c.in_ok-above.ensures.0 in
     let above = ap (λ t. class_named t c.args.superclass.now) c.self.view_is ∙ c.in_ok-above.ensures.1 in
-    subst IsGrown (sym c.in_ok-put_class.ensures) (grown-added T c.args.name.now c.args.superclass.now c.in_ok-above.above right above (subst IsGrown (sym c.self.view_is) g))
+    let before = subst IsGrown (sym c.self.view_is) g in
+    subst IsGrown (sym c.put_class.ensures)
+    (after_either IsGrown (is_ok c.put_class.result) _ T (grown-added T c.args.name.now c.args.superclass.now c.in_ok-above.above right above before) before)

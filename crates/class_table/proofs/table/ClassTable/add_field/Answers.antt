@@ -1,24 +1,31 @@
-use Rattle.std.proofs.Common.{◌≡◌, ◌+◌, ◌-◌, ◌<◌, ◌∙◌, Some, Option, ℕ, ap, sym, subst, arith}
+use Rattle.std.proofs.Common.{◌≡◌, ◌+◌, ◌-◌, ◌<◌, ◌∙◌, Some, Option, ℕ, ap, sym, subst, refl, arith}
+use Rattle.std.specs.Prelude.{is_ok}
 use Rattle.classes.specs.Additions.{field_breaks}
 use Rattle.classes.specs.Class.{Classes}
 use Rattle.classes.specs.Grown.{IsGrown}
 use Rattle.class_table.specs.Refusals.{first_broken}
 use Rattle.class_table.specs.Tables.{IsTable}
-use Rattle.class_table.specs.Views.{classes_view, field_view}
+use Rattle.class_table.specs.Views.{classes_view, field_type_view}
+use Rattle.class_table.proofs.ChangedClasses.{after_either}
 use Rattle.class_table.proofs.KeptTables.{declared-table, grown-declared, named-low}
 use Rattle.class_table.proofs.table.ClassTable.add_field.Goals as goal
 
-pub invariant_of-self-2 : goal.invariant_of-self-2
-invariant_of-self-2 c =
+pub invariant_of-self : goal.invariant_of-self
+invariant_of-self c =
     let T = classes_view c.self.inside.classes.entries in
     let low : 0 < c.in-Some.class = named-low _ c.in-Some.class (sym c.in-Some.ensures) in
     let place : (c.in-Some.class - 1) + 1 ≡ c.in-Some.class = omega arith in
     let broken = λ (t : Classes) (o : Option ℕ). first_broken (λ rule. field_breaks rule t o c.args.name.now c.args.signature.now) in
     let right = ap (λ t. broken t (Some ((c.in-Some.class - 1) + 1))) c.self.view_is ∙ ap (λ n. broken c.args.self.now (Some n)) place ∙ ap (broken c.args.self.now) (sym c.in-Some.is) ∙ c.in_ok-field_type.ensures.0 in
-    subst IsTable (sym c.in_ok-put_field.ensures)
-    (declared-table T ((c.in-Some.class - 1) + 1) (field_view (record { name = c.in_ok-name.name; field_type = c.in_ok-field_type.field_type })) c.args.name.now c.args.signature.now c.args.is_static (omega arith) c.in_ok-name.ensures.items right c.self.invariant)
+    subst IsTable (sym c.put_field.ensures)
+    (after_either IsTable (is_ok c.put_field.result) _ T
+    (declared-table T ((c.in-Some.class - 1) + 1) (record { name = c.args.name.now; type = field_type_view c.in_ok-field_type.field_type }) c.args.name.now c.args.signature.now c.args.is_static (omega arith) refl right c.self.invariant)
+    c.self.invariant)
 
 pub returns-clause-grown : goal.returns-clause-grown
 returns-clause-grown c = λ g.
-    subst IsGrown (sym c.in_ok-put_field.ensures)
-    (grown-declared (classes_view c.self.inside.classes.entries) (Some ((c.in-Some.class - 1) + 1)) (field_view (record { name = c.in_ok-name.name; field_type = c.in_ok-field_type.field_type })) c.args.is_static (subst IsGrown (sym c.self.view_is) g))
+    let before = subst IsGrown (sym c.self.view_is) g in
+    subst IsGrown (sym c.put_field.ensures)
+    (after_either IsGrown (is_ok c.put_field.result) _ (classes_view c.self.inside.classes.entries)
+    (grown-declared (classes_view c.self.inside.classes.entries) (Some ((c.in-Some.class - 1) + 1)) (record { name = c.args.name.now; type = field_type_view c.in_ok-field_type.field_type }) c.args.is_static before)
+    before)
