@@ -33,9 +33,11 @@ impl ClassRule {
 }
 
 /// A class or a field is not added.
-#[derive(Clone, Copy, PartialEq, Eq)]
+#[derive(Clone, Copy, Debug, PartialEq, Eq, Error)]
 pub enum ClassError {
+    #[error("out of memory")]
     Memory,
+    #[error("fault {}", .0.number())]
     Refused(ClassRule),
 }
 

@@ -16,9 +16,9 @@ ghost use Rattle.terms.specs.Views.{variables_view};
 
 use call_answers::carry_out::{carry_out, makes_object, put_local, refuse};
 use call_answers::work_out;
+use call_checks::Shared;
 use call_checks::actual::{Actual, actuals};
 use call_checks::check::check;
-use call_checks::Shared;
 use class_table::table::ClassTable;
 use object_store::Frames;
 use plain_steps::reduced;

@@ -5,8 +5,8 @@ ghost use Rattle.syntax.specs.Views.{variable_type_tree};
 ghost use Rattle.source.specs.Task.{kind_of};
 ghost use Rattle.tasks.specs.Outcomes.{kind_view};
 
-use terms::{Given, Trap, Value};
 use syntax::{Block, ElementType, Expr, Name, Stmt, VariableType};
+use terms::{Given, Trap, Value};
 
 /// What a declaration makes.
 #[derive(Clone, Copy)]

@@ -14,12 +14,12 @@ ghost use Rattle.terms.specs.Views.{operand_view};
 ghost use Rattle.tasks.specs.Tasks.{task_view, ArgumentsInRange, OperandInRange, OperandsInRange, ExprInRange, RightSideInRange, TestInRange, BlockInRange, PurposeInRange, ElseInRange, StatementInRange, TaskInRange};
 
 use crate::outcome::{Purpose, Target, VariableKind, kind_of};
-use terms::{Operand, Term, term_of};
 use jni::{JniFunction, ParameterKind, function_named};
 use std::alloc::{AllocError, Global};
 use syntax::{
     Argument, Block, Call, Constant, ElementType, Expr, Form, Name, RightSide, Stmt, Test,
 };
+use terms::{Operand, Term, term_of};
 
 /// A call that is to do.
 #[derive(Drop)]

@@ -58,4 +58,4 @@ returns-in-Err-clause-too_long c =
     let next = next_item items c.loop-item.item-index c.item-item.result c.loop-item-test.true c.item-item.is in
     let left = subst (λ rest. AreLeft (map item_tree items) c.loop-item.names.known rest c.loop-item.codes.items) next c.loop-item.invariant in
     λ is. subst (λ (all : List ItemInMemory). IsTooLong (unit_tree all)) c.items-item-items.ensures.same
-        (item_long (map item_tree items) c.loop-item.names.known (item_tree c.item-item.result) (map item_tree (drop (c.loop-item.item-index + 1) items)) c.loop-item.codes.items left (c.in-Err.ensures.too_long (same_fault _ _ is)))
+    (item_long (map item_tree items) c.loop-item.names.known (item_tree c.item-item.result) (map item_tree (drop (c.loop-item.item-index + 1) items)) c.loop-item.codes.items left (c.in-Err.ensures.too_long (same_fault _ _ is)))
