@@ -8,7 +8,6 @@ use Rattle.heap.specs.Heap.{Space, IsLaidOut, end_of, name_at}
 use Rattle.source.specs.Object.{sizes}
 use Rattle.source.specs.World.{World, loaded_objects}
 use Rattle.source.specs.Reachable.{IsName}
-use Rattle.source.specs.Thread as source
 use Rattle.source.specs.Thread.{Shared}
 use Rattle.source.specs.Variable.{StaticReference, Empty, Live, Deleted, Statics, assign}
 use Rattle.lowered.specs.Lowered.{Lowered}

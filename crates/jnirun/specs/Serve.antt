@@ -1,10 +1,10 @@
 -- What the commands do with files, standard output and standard error.
-use Rattle.std.specs.Prelude.{◌≡◌, ◌⊎◌, ℕ, List, ◌++◌, Option, Some, None, codes, decimal}
+use Rattle.std.specs.Prelude.{◌≡◌, ℕ, List, Option, Some, None, codes}
 use Rattle.report.specs.Sink.{Written, AppendsText, StopsWithin}
 use Rattle.commands.specs.declared.command.Command.{Command}
 use Rattle.commands.specs.declared.command.Command.TheVariants.{Check, Run, Replay}
 use Rattle.commands.specs.declared.place.Place.{Place}
-use Rattle.commands.specs.declared.place.Place.TheVariants.{Line, Entry}
+use Rattle.commands.specs.declared.place.Place.TheVariants.{Line}
 use Rattle.pipeline.specs.Checks.{PassesCheck, FailsCheck}
 use Rattle.commands.specs.Commands.{name_of, text_of, text_at}
 use Rattle.commands.specs.Files.{OfFiles}

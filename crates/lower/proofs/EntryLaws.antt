@@ -11,14 +11,14 @@ use Rattle.sorts.specs.Sorts.{Sort, Jint, Ref, Global}
 use Rattle.source.specs.Object.{ObjectValue, Number, Refers, Reference}
 use Rattle.source.specs.World.{Invocation}
 use Rattle.source.specs.Activation.{entered, parameter_variables}
-use Rattle.source.specs.Sight.{scalar, held_reference, holds_null, static_is_null}
+use Rattle.source.specs.Sight.{scalar, held_reference, holds_null}
 use Rattle.source.specs.Thread.{Shared, Thread}
-use Rattle.source.specs.Value.{Int, Gives}
-use Rattle.source.specs.Variable.{Variable, Scalar, LocalRef, StaticReference, Empty, Live, Deleted}
+use Rattle.source.specs.Value.{Int}
+use Rattle.source.specs.Variable.{Variable, Scalar, LocalRef, StaticReference}
 use Rattle.code.specs.Depth.{Listing}
 use Rattle.code.proofs.Arrays.{get_replicate}
 use Rattle.lowered.specs.Layout.{Slot, Known, parameter_slot, parameter_slots, numbers_after, references_after, numbers_of, references_of, entry_names, entry_layout}
-use Rattle.lowered.specs.Slots.{visible_to, type_of_array, kind_of_variable, is_empty, Slots, ShowsSlot, Shows, ArgumentFits, ArgumentsFit, argument_word, argument_reference, EntrySlots, AreShared, AreOfLowest}
+use Rattle.lowered.specs.Slots.{visible_to, type_of_array, kind_of_variable, Slots, ShowsSlot, Shows, ArgumentFits, ArgumentsFit, argument_word, argument_reference, EntrySlots, AreShared, AreOfLowest}
 use Rattle.lowered.specs.Fits.{AreStatics}
 use Rattle.lowered.proofs.StaticLaws.{null_of}
 use Rattle.lower.proofs.CodePlaces.{get-append_seam}

@@ -1,5 +1,5 @@
 -- What a step of a task that is no call does.
-use Rattle.std.specs.Prelude.{◌≡◌, ℕ, List, [], ◌∷◌, ◌++◌}
+use Rattle.std.specs.Prelude.{◌≡◌, ℕ, [], ◌∷◌, ◌++◌}
 use Rattle.syntax.specs.Views.{element_tree}
 use Rattle.source.specs.Effect.{Effect, Becomes, Sets, SetsNull, SetsElement, MakesArray, Prints, Returns, TrapsAt, NoEffect, effect_of}
 use Rattle.source.specs.Heap.{Heap}

@@ -1,13 +1,12 @@
 -- A task that is no call does to a thread what its effect does.
 use Rattle.std.proofs.Common.{◌≡◌, ℕ, true, false, List, ◌∷◌, Option, Some, refl, sym, ap, ◌∙◌}
-use Rattle.source.specs.Effect.{Sets, SetsElement, effect_of}
+use Rattle.source.specs.Effect.{effect_of}
 use Rattle.source.specs.Heap.{Heap}
 use Rattle.source.specs.Sight.{Sight, seen}
 use Rattle.source.specs.Task.{Task}
 use Rattle.source.specs.Object.{Reference}
 use Rattle.source.specs.Thread.{Frame, Thread, Shared, BuffersInUse, sight_of, Trapped, Advances, NoAdvance}
 use Rattle.source.specs.ThreadStep.{after_effect, after_refused_effect, with_tasks}
-use Rattle.source.specs.Value.{Gives}
 use Rattle.source.specs.Variable.{Variables}
 use Rattle.tasks.specs.declared.outcome.Outcome.{Outcome}
 use Rattle.tasks.specs.declared.outcome.Outcome.TheVariants as outcome

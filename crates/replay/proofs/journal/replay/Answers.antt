@@ -1,4 +1,4 @@
-use Rattle.std.proofs.Common.{List, ◌∙◌, subst, sym}
+use Rattle.std.proofs.Common.{List, ◌∙◌, subst}
 use Rattle.std.specs.Prelude.{IfErr}
 use Rattle.syntax.specs.declared.unit.Item.{Item}
 use Rattle.syntax.specs.Views.{unit_tree}

@@ -1,4 +1,3 @@
-use Rattle.std.proofs.Common.{◌∙◌}
 use Rattle.syntax.specs.Views.{unit_tree}
 use Rattle.replay.proofs.RunLemmas.{unwritten, from_outside, ends}
 use Rattle.replay.proofs.journal.replay_with.Goals as goal
