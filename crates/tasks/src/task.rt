@@ -74,7 +74,6 @@ pub struct ElementAssignment<'a> {
 }
 
 /// A statement still to do, with its line.
-#[derive(Drop)]
 pub enum Task<'a> {
     Print(Evaluation<'a>),
     Set(Assignment<'a>),
@@ -86,6 +85,21 @@ pub enum Task<'a> {
     Loop(Iteration<'a>),
     Return,
     ReturnValue(Evaluation<'a>),
+}
+
+// Written out, and not derived, so that a crate above drops one by a call and doesn't prove it anew.
+impl Drop for Task<'_> {
+    fn drop(self) {
+        match self {
+            Task::Print(e) | Task::ReturnValue(e) => drop(e),
+            Task::Set(a) => drop(a),
+            Task::SetElement(a) => drop(a),
+            Task::Invoke(i) => drop(i),
+            Task::Branch(c) => drop(c),
+            Task::Loop(i) => drop(i),
+            Task::SetNull(_) | Task::MakeArray(_, _, _) | Task::Return => {}
+        }
+    }
 }
 
 /// The task that gives a variable the value of an expression.
