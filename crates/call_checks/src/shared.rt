@@ -4,9 +4,22 @@ use object_store::{Names, Store};
 use terms::Statics;
 
 /// The objects, the statics, and the global references.
-#[derive(Drop)]
 pub struct Shared<'a> {
     pub store: Store,
     pub statics: Statics<'a>,
     pub globals: Names,
+}
+
+// Written out, and not derived, so that a crate above drops it by a call and doesn't prove it anew.
+impl Drop for Shared<'_> {
+    fn drop(self) {
+        let Shared {
+            store,
+            statics,
+            globals,
+        } = self;
+        drop(store);
+        drop(statics);
+        drop(globals);
+    }
 }

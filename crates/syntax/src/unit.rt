@@ -57,9 +57,16 @@ pub enum ResultType {
 }
 
 /// A program's items, in the order of the text. Its tree follows the operators' precedence and keeps the limits.
-#[derive(Drop)]
 pub struct Unit {
     items: Vec<Item>,
+}
+
+// Written out, and not derived, so that a crate above drops one by a call and doesn't prove it anew.
+impl Drop for Unit {
+    fn drop(self) {
+        let Unit { items } = self;
+        drop(items);
+    }
 }
 
 impl Model for Unit {
