@@ -15,7 +15,8 @@ use Rattle.texts.specs.declared.fault.ReadError.{ReadError}
 use Rattle.texts.specs.declared.fault.Rule.TheVariants as held
 use Rattle.texts.specs.declared.fault.TextFault.{TextFault}
 use Rattle.texts.specs.Reading.{◌>>=◌, refused, Fails}
-use Rattle.world_text.specs.ReadingLines.{line_of}
+use Rattle.world_lines.specs.LineContents.{written_values, name_given, cells_added, is_number}
+use Rattle.world_lines.specs.ReadingLines.{line_of}
 use Rattle.world_text.specs.ReadingWorlds.{ruled, lines_read, last_number, world_read}
 use Rattle.texts.specs.LineRules.{LineRule, OfClass, LineForm, WrongName, OutOfLimit, HeapFull}
 use Rattle.world.specs.WorldLines.{WorldValue, NumberValue, NullValue, NamedObject, NamedClass, WorldLine, ClassLine, FieldLine, StaticLine, ObjectLine, ObjectsLine, ArrayLine, StringLine, ThreadLine, CallLine, Lines}
@@ -56,25 +57,8 @@ comes_in_order g line = nat_le g.part (part_of line) && (not (is_call_line line)
 abbrev pub broken_class_rule : Classes → WorldLine → Option ClassRule
 broken_class_rule classes line = first_broken (λ rule. breaks_class_rule rule classes line)
 
--- the values that it writes; a string writes none
-abbrev pub written_values : WorldLine → List WorldValue
-written_values (ObjectLine x class values) = values
-written_values (ObjectsLine x class values) = values
-written_values (ArrayLine x t values) = values
-written_values (ThreadLine function arguments) = arguments
-written_values (CallLine function arguments) = arguments
-written_values line = []
-
 abbrev pub is_formed : Classes → WorldLine → Bool
 is_formed classes line = is_well_formed classes line && list_all is_formed_value (written_values line)
-
--- the name that it gives its object
-abbrev pub name_given : WorldLine → Option Identifier
-name_given (ObjectLine x class values) = Some x
-name_given (ObjectsLine x class values) = Some x
-name_given (ArrayLine x t values) = Some x
-name_given (StringLine x text) = Some x
-name_given line = None
 
 -- whether a value's object or class is known
 abbrev pub is_known : Classes → ByName ℕ → WorldValue → Bool
@@ -88,11 +72,6 @@ refers_to classes names c (NumberValue z) = false
 refers_to classes names c NullValue = true
 refers_to classes names c (NamedObject x) = assignable classes (unwrap_or (lookup x names) 0) c
 refers_to classes names c (NamedClass name) = assignable classes class_class c
-
--- whether it is a number
-abbrev pub is_number : WorldValue → Bool
-is_number (NumberValue z) = true
-is_number value = false
 
 -- whether a place of a type can hold a value, its range aside
 abbrev pub can_hold : Classes → ByName ℕ → FieldType → WorldValue → Bool
@@ -123,16 +102,6 @@ abbrev pub has_place : Gathered → WorldLine → Bool
 has_place g (ThreadLine function arguments) = length g.threads == 0
 has_place g (CallLine function arguments) = list_all (λ calls. nat_lt (length calls) 256) g.threads
 has_place g line = nat_lt (length g.names + length (option_to_list (name_given line))) 65537
-
--- the cells that it adds at load: of two class objects, of a static, or of an object
-abbrev pub cells_added : WorldLine → ℕ
-cells_added (ClassLine name superclass) = 6
-cells_added (StaticLine class name signature) = 1
-cells_added (ObjectLine x class values) = 3 + length values
-cells_added (ObjectsLine x class values) = 3 + length values
-cells_added (ArrayLine x t values) = 3 + length values
-cells_added (StringLine x text) = 3 + length text
-cells_added line = 0
 
 -- the first that is broken
 abbrev pub least_broken : Option ClassRule → (form names limits room : Bool) → Option LineRule

@@ -12,23 +12,25 @@ ghost use Rattle.class_table.specs.Refusals.{rule_view, first_broken};
 ghost use Rattle.class_table.specs.Views.{element_view, field_type_view};
 ghost use Rattle.texts.specs.LineRules.{OfClass};
 ghost use Rattle.texts.specs.Rule.{rule_of};
-ghost use Rattle.world_text.specs.Gathered.{comes_in_order, broken_class_rule, written_values, name_given, is_formed, is_known, refers_to, is_number, can_hold, each_can_hold, is_place_in_range, is_named, has_place, cells_added, least_rule};
+ghost use Rattle.world_text.specs.Gathered.{comes_in_order, broken_class_rule, is_formed, is_known, refers_to, can_hold, each_can_hold, is_place_in_range, is_named, has_place, least_rule};
+ghost use Rattle.world_lines.specs.LineContents.{written_values, name_given, is_number, cells_added};
 ghost use Rattle.world_text.specs.GatheredViews.{gathered_of};
-ghost use Rattle.world_text.specs.LineViews.{value_view, line_view};
+ghost use Rattle.world_lines.specs.LineViews.{value_view, line_view};
 ghost use Rattle.world.specs.WorldLines.{ObjectLine};
 ghost use Rattle.world.specs.WorldMeaning.{class_number};
 ghost use Rattle.world.specs.WorldRules.{part_of, is_call_line, is_formed_value, is_object_class, is_world_class, is_well_formed, is_class_allowed, layout_types, types_of_line, is_in_range, value_in_range, each_in_range};
 
 use crate::builder::WorldBuilder;
-use crate::line::{Line, ObjectWords};
 use crate::names::ObjectNames;
-use crate::value::Value;
-use crate::words::{is_class_name, is_simple_name};
 use class_table::built_ins::{CLASS, is_after_built_ins};
 use class_table::class::{ElementType, FieldType};
 use class_table::fault::ClassRule;
 use class_table::table::ClassTable;
 use texts::Rule;
+use world_lines::{
+    Line, ObjectWords, Value, are_in_range, cells_added, has_formed_values, is_call, is_class_name,
+    is_number, is_simple_name, is_string_formed, is_value_in_range, name_given, part_of, values_of,
+};
 
 /// The most objects of a world.
 const MOST_OBJECTS: usize = 65_536;
@@ -37,23 +39,6 @@ const MOST_OBJECTS: usize = 65_536;
 const MOST_CALLS: usize = 256;
 
 // ---- order
-
-/// Class and field lines come first, then objects, then threads.
-pub fn part_of(line: &Line) -> u8
-    ensures { result ≡ part_of (line_view line.now) }
-{
-    match line {
-        Line::Class(..) | Line::Field(_) | Line::Static(_) => 0,
-        Line::Thread(_) | Line::Call(_) => 2,
-        _ => 1,
-    }
-}
-
-fn is_call(line: &Line) -> bool
-    ensures { result ≡ is_call_line (line_view line.now) }
-{
-    matches!(line, Line::Call(_))
-}
 
 // ---- classes
 
@@ -90,20 +75,6 @@ fn held_rule(rule: ClassRule) -> Rule
 }
 
 // ---- form
-
-/// The values that a line writes.
-pub fn values_of<'l, 'a>(line: &'l Line<'a>) -> &'l [Value<'a>]
-    ensures { map value_view result.now ≡ written_values (line_view line.now) }
-{
-    match line {
-        Line::Object(object) => &object.values,
-        Line::Objects(object) => &object.values,
-        Line::Array(array) => &array.values,
-        Line::Thread(call) => &call.arguments,
-        Line::Call(call) => &call.arguments,
-        _ => &[],
-    }
-}
 
 /// The number of the class of this name, and 0 where there is none.
 pub fn class_number(classes: &ClassTable, name: &[u8]) -> usize
@@ -142,27 +113,6 @@ fn is_element_class(classes: &ClassTable, name: &[u8]) -> bool
     }
 }
 
-fn is_formed_value(value: Value) -> bool
-    ensures { result ≡ is_formed_value (value_view value.entry) }
-{
-    match value {
-        Value::Object(name) => is_simple_name(name),
-        _ => true,
-    }
-}
-
-fn is_text_byte(byte: u8) -> bool
-    ensures { result ≡ is_from_to 32 126 byte }
-{
-    matches!(byte, 32..=126)
-}
-
-fn is_text(text: &[u8]) -> bool
-    ensures { result ≡ list_all (is_from_to 32 126) text.now }
-{
-    text.iter().all(|byte| is_text_byte(*byte))
-}
-
 /// Whether an object of a class has as many values as the class has fields, where it is a class of which objects are made.
 fn has_values(classes: &ClassTable, class: &[u8], count: usize) -> bool
     ensures { result ≡ (not (is_object_class classes.now class.now) || (count == length (layout_types classes.now (class_number classes.now class.now)))) }
@@ -174,12 +124,6 @@ fn is_object_formed(classes: &ClassTable, object: &ObjectWords) -> bool
     ensures { result ≡ is_well_formed classes.now (ObjectLine object.now.name.now object.now.class.now (map value_view object.now.values.items)) }
 {
     is_simple_name(object.name) && has_values(classes, object.class, object.values.len())
-}
-
-fn is_string_formed(name: &[u8], text: &[u8]) -> bool
-    ensures { result ≡ (is_simple_name name.now && list_all (is_from_to 32 126) text.now) }
-{
-    is_simple_name(name) && is_text(text)
 }
 
 fn is_well_formed(classes: &ClassTable, line: &Line) -> bool
@@ -197,18 +141,6 @@ fn is_well_formed(classes: &ClassTable, line: &Line) -> bool
     }
 }
 
-fn are_formed(values: &[Value]) -> bool
-    ensures { result ≡ list_all (λ value. is_formed_value (value_view value)) values.now }
-{
-    values.iter().all(|value| is_formed_value(*value))
-}
-
-fn has_formed_values(line: &Line) -> bool
-    ensures { result ≡ list_all is_formed_value (written_values (line_view line.now)) }
-{
-    are_formed(values_of(line))
-}
-
 fn is_formed(classes: &ClassTable, line: &Line) -> bool
     ensures { result ≡ is_formed classes.now (line_view line.now) }
 {
@@ -216,19 +148,6 @@ fn is_formed(classes: &ClassTable, line: &Line) -> bool
 }
 
 // ---- names
-
-/// The name that a line gives its object.
-fn name_given<'a>(line: &Line<'a>) -> Option<&'a [u8]>
-    ensures { option_map (λ x. x.now) result ≡ name_given (line_view line.now) }
-{
-    match line {
-        Line::Object(object) => Some(object.name),
-        Line::Objects(object) => Some(object.name),
-        Line::Array(array) => Some(array.name),
-        Line::String(name, _) => Some(*name),
-        _ => None,
-    }
-}
 
 fn is_name_taken(names: &ObjectNames, line: &Line) -> bool
     ensures { result ≡ some_passes (λ x. is_some (lookup x names.now)) (name_given (line_view line.now)) }
@@ -283,12 +202,6 @@ fn refers_to(classes: &ClassTable, names: &ObjectNames, class: usize, value: Val
         Value::Object(name) => classes.assignable(names.class_of(name).unwrap_or(0), class),
         Value::Class(_) => classes.assignable(CLASS, class),
     }
-}
-
-fn is_number(value: Value) -> bool
-    ensures { result ≡ is_number (value_view value.entry) }
-{
-    matches!(value, Value::Number(_))
 }
 
 /// Whether a place of a type can hold a value, its range aside.
@@ -383,35 +296,6 @@ fn is_named(classes: &ClassTable, names: &ObjectNames, line: &Line) -> bool
 
 // ---- ranges and limits
 
-fn is_in_range(element: ElementType, number: i64) -> bool
-    ensures { result ≡ is_in_range (element_view element) number }
-{
-    match element {
-        ElementType::Int => number >= -2_147_483_648 && number <= 2_147_483_647,
-        ElementType::Short => number >= -32_768 && number <= 32_767,
-        ElementType::Byte => number >= -128 && number <= 127,
-        ElementType::Char => number >= 0 && number <= 65_535,
-    }
-}
-
-/// The same of a value that is a number.
-fn is_value_in_range(element: ElementType, value: Value) -> bool
-    ensures { result ≡ value_in_range (element_view element) (value_view value.entry) }
-{
-    match value {
-        Value::Number(number) => is_in_range(element, number),
-        _ => true,
-    }
-}
-
-fn are_in_range(element: ElementType, values: &[Value]) -> bool
-    ensures { result ≡ list_all (λ value. value_in_range (element_view element) (value_view value)) values.now }
-{
-    values
-        .iter()
-        .all(|value| is_value_in_range(element, *value))
-}
-
 /// Whether a number is in the range of its place's type, or in that of `jint`.
 fn is_place_in_range(field_type: Option<FieldType>, value: Value) -> bool
     ensures { result ≡ is_place_in_range (option_map field_type_view field_type) (value_view value.entry) }
@@ -448,21 +332,6 @@ fn each_in_range(classes: &ClassTable, line: &Line) -> bool
         Line::Call(call) => are_in_range(ElementType::Int, &call.arguments),
         Line::Objects(_) => true,
         Line::Class(..) | Line::Field(_) | Line::Static(_) | Line::String(..) => true,
-    }
-}
-
-/// The cells that a line adds at load.
-fn cells_added(line: &Line) -> usize
-    ensures { result ≡ cells_added (line_view line.now) }
-{
-    match line {
-        Line::Class(..) => 6,
-        Line::Static(_) => 1,
-        Line::Object(object) => 3 + object.values.len(),
-        Line::Objects(object) => 3 + object.values.len(),
-        Line::Array(array) => 3 + array.values.len(),
-        Line::String(_, text) => 3 + text.len(),
-        Line::Field(_) | Line::Thread(_) | Line::Call(_) => 0,
     }
 }
 

@@ -1,8 +1,8 @@
 use Rattle.std.proofs.Common.{sym, ap, ◌∙◌, map}
 use Rattle.class_table.specs.Views.{element_view}
-use Rattle.world_text.specs.declared.line.Line.{Line}
-use Rattle.world_text.specs.Gathered.{written_values}
-use Rattle.world_text.specs.LineViews.{value_view, line_view}
+use Rattle.world_lines.specs.declared.line.Line.{Line}
+use Rattle.world_lines.specs.LineContents.{written_values}
+use Rattle.world_lines.specs.LineViews.{value_view, line_view}
 use Rattle.world.specs.WorldMeaning.{class_number}
 use Rattle.world.specs.WorldRules.{types_of_line, each_in_range}
 use Rattle.world_text.proofs.PlacesOfValues.{numbers_in_range, arguments_in_range, all_references}

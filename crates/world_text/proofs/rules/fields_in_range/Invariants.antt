@@ -1,5 +1,5 @@
 use Rattle.std.proofs.Common.{◌≡◌, map, drop}
-use Rattle.world_text.specs.LineViews.{value_view}
+use Rattle.world_lines.specs.LineViews.{value_view}
 use Rattle.world.specs.WorldRules.{layout_types, each_in_range}
 use Rattle.world_text.proofs.rules.fields_in_range.Given as goal
 

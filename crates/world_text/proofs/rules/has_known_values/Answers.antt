@@ -2,7 +2,7 @@ use Rattle.std.proofs.Common.{sym, ap, ◌∙◌}
 use Rattle.std.specs.List.{list_all}
 use Rattle.std.proofs.lemmas.List.Folds.{list_all-map}
 use Rattle.world_text.specs.Gathered.{is_known}
-use Rattle.world_text.specs.LineViews.{value_view}
+use Rattle.world_lines.specs.LineViews.{value_view}
 use Rattle.world_text.proofs.rules.has_known_values.Goals as goal
 
 pub returns : goal.returns

@@ -1,0 +1,5 @@
+pub mod ReadingValues
+pub mod LineViews
+pub mod ReadingLines
+pub mod LineKinds
+pub mod LineContents
