@@ -3,7 +3,7 @@ use Rattle.std.proofs.Common.{◌≡◌, ℕ, zero, suc, ◌+◌, ◌<◌, ◌�
 use Rattle.std.specs.Prelude.{◌&&◌, slice_get}
 use Rattle.std.specs.List.{list_all}
 use Rattle.std.proofs.Math.ListN.{drop_of_length-le}
-use Rattle.std.proofs.lemmas.List.{drop_more}
+use Rattle.std.proofs.lemmas.List.{drop_more, at_drop_more}
 use Rattle.std.proofs.lemmas.List.Folds.{list_all-map}
 use Rattle.base.specs.Bytes.{ByName}
 use Rattle.base.specs.Element.{JInt}
@@ -31,6 +31,14 @@ drop_none [] (suc i) e = refl
 drop_none (x ∷ xs) zero e = absurd (cc)
 drop_none (x ∷ xs) (suc i) e = drop_none xs i e
 
+-- what all from here on pass, the first and all after it pass
+pub next_passes : {X Y : Type 0} (p : Y → Bool) (f : X → Y) (xs : List X) (i : ℕ) (d : X) (b : Bool) → i < length xs → b ≡ p (f (get_or xs i d)) → (b && list_all p (map f (drop (i + 1) xs))) ≡ list_all p (map f (drop i xs))
+next_passes p f xs i d b h e = ap (λ t. t && list_all p (map f (drop (i + 1) xs))) e ∙ sym (at_drop_more (λ ys. list_all p (map f ys)) xs i d h)
+
+-- and at the end all have passed
+pub all_passed : {X Y : Type 0} (p : Y → Bool) (f : X → Y) (xs : List X) (i : ℕ) → length xs ≤ i → true ≡ list_all p (map f (drop i xs))
+all_passed p f xs i h = ap (λ ys. list_all p (map f ys)) (sym (drop_of_length-le xs h))
+
 -- ---- places that can hold values
 
 module _ (classes : Classes) (names : ByName ℕ) where
@@ -44,11 +52,8 @@ module _ (classes : Classes) (names : ByName ℕ) where
   all_alike t (v ∷ values) = ap (λ b. can_hold classes names t v && b) (all_alike t values)
 
   -- the same of values in memory
-  pub held_alike : {X : Type 0} (view : X → WorldValue) (t : FieldType) (values held : List X) → held ≡ values → list_all (λ x. can_hold classes names t (view x)) held ≡ each_can_hold classes names (map (λ v. t) (map view values)) (map view values)
-  held_alike view t values held e =
-      ap (list_all (λ x. can_hold classes names t (view x))) e
-      ∙ sym (list_all-map (can_hold classes names t) view values)
-      ∙ sym (all_alike t (map view values))
+  pub held_alike : {X : Type 0} (view : X → WorldValue) (t : FieldType) (values held : List X) → held ≡ values → list_all (can_hold classes names t) (map view held) ≡ each_can_hold classes names (map (λ v. t) (map view values)) (map view values)
+  held_alike view t values held e = ap (λ vs. list_all (can_hold classes names t) (map view vs)) e ∙ sym (all_alike t (map view values))
 
   module _ {X : Type 0} (view : X → WorldValue) (types : List FieldType) (values : List X) (i : ℕ) where
     -- whether the values from here on can be held

@@ -180,16 +180,16 @@ fn is_known(classes: &ClassTable, names: &ObjectNames, value: Value) -> bool
     }
 }
 
-fn are_known(classes: &ClassTable, names: &ObjectNames, values: &[Value]) -> bool
-    ensures { result ≡ list_all (λ value. is_known classes.now names.now (value_view value)) values.now }
-{
-    values.iter().all(|value| is_known(classes, names, *value))
-}
-
 fn has_known_values(classes: &ClassTable, names: &ObjectNames, line: &Line) -> bool
     ensures { result ≡ list_all (is_known classes.now names.now) (written_values (line_view line.now)) }
 {
-    are_known(classes, names, values_of(line))
+    let values = values_of(line);
+    for value in values {
+        if !is_known(classes, names, *value) {
+            return false;
+        }
+    }
+    true
 }
 
 /// Whether references to objects of a class can be this value.
@@ -253,11 +253,14 @@ fn all_can_hold(
     field_type: FieldType,
     values: &[Value],
 ) -> bool
-    ensures { result ≡ list_all (λ value. can_hold classes.now names.now (field_type_view field_type) (value_view value)) values.now }
+    ensures { result ≡ list_all (can_hold classes.now names.now (field_type_view field_type)) (map value_view values.now) }
 {
-    values
-        .iter()
-        .all(|value| can_hold(classes, names, field_type, *value))
+    for value in values {
+        if !can_hold(classes, names, field_type, *value) {
+            return false;
+        }
+    }
+    true
 }
 
 /// Whether each place can hold its value.
@@ -344,9 +347,14 @@ impl WorldBuilder {
 
     /// Whether each thread may have one more call.
     fn may_call(&self) -> bool
-        ensures { result ≡ list_all (λ calls. nat_lt (length calls.items) 256) self.now.threads.items }
+        ensures { result ≡ list_all (λ calls. nat_lt (length calls) 256) (gathered_of self.now).threads }
     {
-        self.threads.iter().all(|calls| calls.len() < MOST_CALLS)
+        for calls in &self.threads {
+            if calls.len() >= MOST_CALLS {
+                return false;
+            }
+        }
+        true
     }
 
     /// Whether there may be one more object, thread or call.
