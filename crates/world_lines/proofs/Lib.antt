@@ -6,3 +6,4 @@ pub mod LineWords
 pub mod ReadLines
 pub mod WrittenLines
 pub mod HeapLines
+pub mod NumbersInRange

@@ -3,3 +3,4 @@ pub mod LineViews
 pub mod ReadingLines
 pub mod LineKinds
 pub mod LineContents
+pub mod ClassRules

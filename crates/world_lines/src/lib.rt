@@ -1,6 +1,7 @@
-//! The lines of the texts of worlds, word by word: what one line says by itself.
+//! The lines of the texts of worlds, word by word: what one line says by itself, and the rules on it that ask the classes alone.
 #![tactic(auto)]
 
+mod class_rules;
 mod contents;
 mod form;
 mod heap;
@@ -9,10 +10,11 @@ mod ranges;
 mod value;
 mod words;
 
+pub use class_rules::{
+    broken_class_rule, class_number, each_in_range, is_class_allowed, is_formed, type_at,
+};
 pub use contents::{cells_added, is_call, name_given, part_of, values_of};
-pub use form::{has_formed_values, is_string_formed};
 pub use heap::heap_of_line;
 pub use line::{ArrayWords, CallWords, FieldWords, Line, ObjectWords, read_line};
-pub use ranges::{are_in_range, is_number, is_value_in_range};
+pub use ranges::is_number;
 pub use value::Value;
-pub use words::{is_class_name, is_simple_name};

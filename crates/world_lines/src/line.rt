@@ -1,15 +1,14 @@
 //! The lines of a world after that of the heap, by their words.
 
-ghost use Rattle.std.specs.Prelude.{◌≡◌, ◌∷◌, IfOk, length, map, drop, if◌then◌else◌};
+ghost use Rattle.std.specs.Prelude.{◌≡◌, ◌∷◌, IfOk, map, drop, if◌then◌else◌};
 ghost use Rattle.std.specs.Option.{option_map};
 ghost use Rattle.std.specs.List.{list_all};
 ghost use Rattle.base.specs.Bytes.{is_some_byte};
-ghost use Rattle.class_table.specs.Views.{element_view};
 ghost use Rattle.texts.specs.Split.{parts_of};
-ghost use Rattle.world_lines.specs.LineViews.{value_view, line_view};
+ghost use Rattle.world_lines.specs.LineViews.{line_view};
 ghost use Rattle.world_lines.specs.LineKinds.{calls_by_kind, objects_by_kind};
 ghost use Rattle.world_lines.specs.ReadingLines.{class_by_words, field_by_words, object_by_words, array_by_words, call_by_words, string_by_words, words_by_kind, line_by_words, line_of};
-ghost use Rattle.world.specs.WorldLines.{FieldLine as DeclaredField, StaticLine, ObjectLine as WrittenObject, ObjectsLine, StringLine, ThreadLine, CallLine as FurtherCall, spaced};
+ghost use Rattle.world.specs.WorldLines.{FieldLine as DeclaredField, StaticLine, ObjectLine as WrittenObject, ObjectsLine, ThreadLine, CallLine as FurtherCall};
 
 use crate::value::{Value, object_name, read_element, read_values};
 use class_table::class::ElementType;

@@ -14,7 +14,8 @@ use Rattle.classes.specs.Mangling.{is_simple_name}
 use Rattle.classes.specs.Class.{FieldType, NumberField, ReferenceField, Classes}
 use Rattle.source.specs.World.{Invocation}
 use Rattle.texts.specs.LineRules.{LineRule, OfClass, LineForm, WrongName, OutOfLimit, HeapFull, line_rules}
-use Rattle.world_text.specs.Gathered.{Gathered, gather, broken_class_rule, is_formed, is_known, can_hold, each_can_hold, is_named, has_place, least_broken, least_rule}
+use Rattle.world_text.specs.Gathered.{Gathered, gather, is_known, can_hold, each_can_hold, is_named, has_place, least_broken, least_rule}
+use Rattle.world_lines.specs.ClassRules.{broken_class_rule, is_formed}
 use Rattle.world_lines.specs.LineContents.{written_values, name_given, cells_added}
 use Rattle.world_text.specs.ReadingWorlds.{is_second_thread, rule_broken, least_rule as least_of}
 use Rattle.world.specs.WorldLines.{WorldValue, NumberValue, NullValue, NamedObject, NamedClass, WorldLine, ClassLine, FieldLine, StaticLine, ObjectLine, ObjectsLine, ArrayLine, StringLine, ThreadLine, CallLine, Lines}

@@ -1,6 +1,6 @@
 //! The next line is taken, where it breaks no rule.
 
-ghost use Rattle.std.specs.Prelude.{◌≡◌, ◌∷◌, [], None, map, OnOk, IfOk, IsTrue};
+ghost use Rattle.std.specs.Prelude.{◌≡◌, None, map, OnOk, IfOk, IsTrue};
 ghost use Rattle.std.specs.List.{list_all};
 ghost use Rattle.std.specs.Option.{option_map};
 ghost use Rattle.base.specs.Element.{JInt};
@@ -13,11 +13,10 @@ ghost use Rattle.world.specs.WorldRules.{value_in_range};
 
 use crate::additions::units;
 use crate::builder::WorldBuilder;
-use crate::rules::class_number;
 use class_table::built_ins::{STRING, number_array};
 use std::alloc::{AllocError, Global};
 use world::Call;
-use world_lines::{ArrayWords, CallWords, FieldWords, Line, ObjectWords};
+use world_lines::{ArrayWords, CallWords, FieldWords, Line, ObjectWords, class_number};
 
 impl WorldBuilder {
     fn take_class(&mut self, name: &[u8], superclass: Option<&[u8]>) -> Result<(), AllocError>

@@ -1,6 +1,6 @@
 //! Reading the text of a world.
 
-ghost use Rattle.std.specs.Prelude.{◌≡◌, ◌∷◌, ◌+◌, ◌<◌, ◌≤◌, ◌^◌, [], IfOk, MatchOption, map, length};
+ghost use Rattle.std.specs.Prelude.{◌≡◌, ◌∷◌, ◌+◌, ◌<◌, ◌≤◌, ◌^◌, [], IfOk, MatchOption, length};
 ghost use Rattle.classes.specs.BuiltIns.{built_ins};
 ghost use Rattle.texts.specs.Reading.{Gives};
 ghost use Rattle.texts.specs.Split.{parts_left};
@@ -9,7 +9,7 @@ ghost use Rattle.world_text.specs.GatheredViews.{gathered_of};
 ghost use Rattle.world_text.specs.LinesLeft.{lines_left};
 ghost use Rattle.world_lines.specs.LineViews.{line_view};
 ghost use Rattle.world_lines.specs.ReadingLines.{heap_of_line, line_of};
-ghost use Rattle.world_text.specs.ReadingWorlds.{heap_read, ruled, world_of_text};
+ghost use Rattle.world_text.specs.ReadingWorlds.{heap_read, world_of_text};
 ghost use Rattle.world.specs.SoundWorlds.{IsSound};
 ghost use Rattle.world.specs.WorldMeaning.{cells_of};
 ghost use Rattle.world.specs.WorldRules.{IsWorldText};

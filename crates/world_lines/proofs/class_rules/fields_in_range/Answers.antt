@@ -2,8 +2,8 @@ use Rattle.std.proofs.Common.{sym, ap, ◌∙◌, drop, map, ◌+◌}
 use Rattle.std.specs.Prelude.{◌&&◌}
 use Rattle.world_lines.specs.LineViews.{value_view}
 use Rattle.world.specs.WorldRules.{layout_types, each_in_range}
-use Rattle.world_text.proofs.PlacesOfValues.{in_range_more, all_in_range}
-use Rattle.world_text.proofs.rules.fields_in_range.Goals as goal
+use Rattle.world_lines.proofs.NumbersInRange.{in_range_more, all_in_range}
+use Rattle.world_lines.proofs.class_rules.fields_in_range.Goals as goal
 
 pub returns-then-not-is_place_in_range : goal.returns-then-not-is_place_in_range
 returns-then-not-is_place_in_range c =

@@ -5,8 +5,8 @@ use Rattle.world_lines.specs.LineContents.{written_values}
 use Rattle.world_lines.specs.LineViews.{value_view, line_view}
 use Rattle.world.specs.WorldMeaning.{class_number}
 use Rattle.world.specs.WorldRules.{types_of_line, each_in_range}
-use Rattle.world_text.proofs.PlacesOfValues.{numbers_in_range, arguments_in_range, all_references}
-use Rattle.world_text.proofs.rules.each_in_range.Goals as goal
+use Rattle.world_lines.proofs.NumbersInRange.{numbers_in_range, arguments_in_range, all_references}
+use Rattle.world_lines.proofs.class_rules.each_in_range.Goals as goal
 
 pub returns-in-Array : goal.returns-in-Array
 returns-in-Array c =

@@ -1,7 +1,7 @@
 use Rattle.std.proofs.Common.{◌≡◌, map, drop}
 use Rattle.world_lines.specs.LineViews.{value_view}
 use Rattle.world.specs.WorldRules.{layout_types, each_in_range}
-use Rattle.world_text.proofs.rules.fields_in_range.Given as goal
+use Rattle.world_lines.proofs.class_rules.fields_in_range.Given as goal
 
 -- the values so far are in range
 abbrev pub invariant-loop-place : goal.invariant-loop-place
