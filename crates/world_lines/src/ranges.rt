@@ -10,6 +10,7 @@ ghost use Rattle.world.specs.WorldRules.{is_in_range, value_in_range};
 use crate::value::Value;
 use class_table::class::ElementType;
 
+/// Whether a value is a number.
 pub fn is_number(value: Value) -> bool
     ensures { result ≡ is_number (value_view value.entry) }
 {
