@@ -21,9 +21,9 @@ use Rattle.source.specs.Journal.{Journal}
 use Rattle.texts.specs.JournalMeaning.{IsJournalText, has_thread}
 use Rattle.source.specs.JournalText.{entry_text, journal_line}
 use Rattle.source.specs.Object.{Object, sizes}
-use Rattle.world_text.specs.ReadingValues.{value_named}
+use Rattle.world_lines.specs.ReadingValues.{value_named}
 use Rattle.texts.specs.ReadingWords.{lines_words, allowed_words}
-use Rattle.world_text.specs.ReadingLines.{heap_of_line, line_of}
+use Rattle.world_lines.specs.ReadingLines.{heap_of_line, line_of}
 use Rattle.world_text.specs.ReadingWorlds.{line_read, lines_read, heap_read, world_read, numbered_read}
 use Rattle.report.specs.ReportText.{report_text}
 use Rattle.source.specs.Schedule.{Schedule}

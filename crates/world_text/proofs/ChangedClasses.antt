@@ -6,7 +6,7 @@ use Rattle.std.proofs.lemmas.List.Sums.{sum_by-cons}
 use Rattle.std.proofs.lemmas.Bool.Decides.{nat_tests}
 use Rattle.classes.specs.Additions.{with_changed_class}
 use Rattle.classes.specs.Class.{Class, Classes, class_at}
-use Rattle.world_text.proofs.Tests.{other_number, later_number, same_number}
+use Rattle.world_lines.proofs.Tests.{other_number, later_number, same_number}
 
 module _ (change : Class → Class) (number : ℕ) where
   abbrev pub changed : ℕ → Classes → Classes

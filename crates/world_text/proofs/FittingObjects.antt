@@ -25,7 +25,7 @@ use Rattle.world_text.proofs.GrownClasses.{named_open}
 use Rattle.world_text.proofs.GrownLines.{objects_of, is_called}
 use Rattle.world_text.proofs.KeptLines.{IsKept}
 use Rattle.world_text.proofs.Places.{found, position-found}
-use Rattle.world_text.proofs.Tests.{both, neither, not_false, there, at_most, at_most_so, less_so, same_number, bytes_eq-sym}
+use Rattle.world_lines.proofs.Tests.{both, neither, not_false, there, at_most, at_most_so, less_so, same_number, bytes_eq-sym}
 use Rattle.world_text.proofs.WorldTables.{IsWorldTable, named, get_seam}
 
 -- ---- places

@@ -14,7 +14,9 @@ use Rattle.classes.specs.Mangling.{is_simple_name}
 use Rattle.classes.specs.Class.{FieldType, NumberField, ReferenceField, Classes}
 use Rattle.source.specs.World.{Invocation}
 use Rattle.texts.specs.LineRules.{LineRule, OfClass, LineForm, WrongName, OutOfLimit, HeapFull, line_rules}
-use Rattle.world_text.specs.Gathered.{Gathered, gather, broken_class_rule, written_values, name_given, is_formed, is_known, can_hold, each_can_hold, is_named, has_place, cells_added, least_broken, least_rule}
+use Rattle.world_text.specs.Gathered.{Gathered, gather, is_known, can_hold, each_can_hold, is_named, has_place, least_broken, least_rule}
+use Rattle.world_lines.specs.ClassRules.{broken_class_rule, is_formed}
+use Rattle.world_lines.specs.LineContents.{written_values, name_given, cells_added}
 use Rattle.world_text.specs.ReadingWorlds.{is_second_thread, rule_broken, least_rule as least_of}
 use Rattle.world.specs.WorldLines.{WorldValue, NumberValue, NullValue, NamedObject, NamedClass, WorldLine, ClassLine, FieldLine, StaticLine, ObjectLine, ObjectsLine, ArrayLine, StringLine, ThreadLine, CallLine, Lines}
 use Rattle.world.specs.WorldMeaning.{table_of, object_defined, objects_defined, values_of_line, invocation_of_line, with_last, threads_with, threads_of, cells_of}
@@ -22,7 +24,7 @@ use Rattle.world.specs.WorldRules.{part_of, is_thread_line, is_in_order, is_form
 use Rattle.world_text.proofs.GrownLines.{defined_grow, threads_grow, no_thread}
 use Rattle.world_text.proofs.OrderedLines.{AreOrdered, order_told}
 use Rattle.world_text.proofs.Soundness.{AreSound}
-use Rattle.world_text.proofs.Tests.{both, at_most, at_most_so, less_so}
+use Rattle.world_lines.proofs.Tests.{both, at_most, at_most_so, less_so}
 use Rattle.world_text.proofs.WorldCells.{cells_grow}
 
 -- what is known of lines that keep the rules

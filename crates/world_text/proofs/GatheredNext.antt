@@ -12,7 +12,8 @@ use Rattle.classes.specs.Class.{Class, Classes, class_at, class_named, array_nam
 use Rattle.source.specs.Object.{ObjectValue, Number}
 use Rattle.source.specs.World.{Invocation}
 use Rattle.texts.specs.LineRules.{LineRule}
-use Rattle.world_text.specs.Gathered.{Gathered, gather, cells_added, value_at, with_object, with_line}
+use Rattle.world_text.specs.Gathered.{Gathered, gather, value_at, with_object, with_line}
+use Rattle.world_lines.specs.LineContents.{cells_added}
 use Rattle.world_text.specs.ReadingWorlds.{is_second_thread, rule_broken, least_rule as least_of}
 use Rattle.world.specs.WorldLines.{WorldValue, NumberValue, NullValue, NamedObject, NamedClass, WorldLine, ClassLine, FieldLine, StaticLine, ObjectLine, ObjectsLine, ArrayLine, StringLine, ThreadLine, CallLine, Lines}
 use Rattle.world.specs.WorldMeaning.{class_number, superclass_number, table_with, table_of, object_defined, objects_defined, value_of, object_of, invocation_of_line, with_last, threads_with, threads_of, cells_of}
@@ -24,7 +25,7 @@ use Rattle.world_text.proofs.KeptLines.{IsKept, kept_line}
 use Rattle.world_text.proofs.Places.{position-found}
 use Rattle.world_text.proofs.OrderedLines.{order_told, more_ordered}
 use Rattle.world_text.proofs.Soundness.{line_sound}
-use Rattle.world_text.proofs.Tests.{both, same_number, later_number, not_false}
+use Rattle.world_lines.proofs.Tests.{both, same_number, later_number, not_false}
 use Rattle.world_text.proofs.WorldCells.{cells_grow}
 
 -- ---- the superclass of a new class

@@ -10,7 +10,7 @@ use Rattle.classes.specs.Grown.{IsGrown, BuiltIns, WithClass, WithField, WithSta
 use Rattle.world.specs.WorldLines.{WorldLine, ClassLine, FieldLine, StaticLine, ObjectLine, ObjectsLine, ArrayLine, StringLine, ThreadLine, CallLine}
 use Rattle.world.specs.WorldMeaning.{class_number, superclass_number, field_of, table_with}
 use Rattle.world.specs.WorldRules.{is_well_formed, breaks_class_rule}
-use Rattle.world_text.proofs.Tests.{not_false, not_true}
+use Rattle.world_lines.proofs.Tests.{not_false, not_true}
 use Rattle.world_text.proofs.WorldTables.{IsWorldTable, built_ins_table, class_table, changed_table, named}
 
 pub record IsGrownTable (T : Classes) : Type 0 where

@@ -16,7 +16,7 @@ use Rattle.world.specs.WorldLines.{WorldValue, NumberValue, NullValue, NamedObje
 use Rattle.world.specs.WorldMeaning.{table_with, table_of, object_defined, objects_defined, class_of_object, object_number, value_of, values_of_line, object_of, with_last, threads_with, threads_of}
 use Rattle.world.specs.WorldRules.{part_of, is_thread_line, is_call_line, is_in_order, is_known_value}
 use Rattle.world_text.proofs.Places.{found, position-found, kept_place}
-use Rattle.world_text.proofs.Tests.{both, at_most, at_most_so, there, bytes_eq-sym}
+use Rattle.world_lines.proofs.Tests.{both, at_most, at_most_so, there, bytes_eq-sym}
 
 -- the objects that lines make
 abbrev pub objects_of : Lines → List Object

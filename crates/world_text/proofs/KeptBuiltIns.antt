@@ -12,7 +12,7 @@ use Rattle.world.specs.WorldLines.{WorldLine, ClassLine, FieldLine, StaticLine, 
 use Rattle.world.specs.WorldMeaning.{class_number, superclass_number, field_of, table_with}
 use Rattle.world.specs.WorldRules.{is_world_class, is_class_allowed}
 use Rattle.world_text.proofs.ChangedClasses.{changed-length, unchanged_at}
-use Rattle.world_text.proofs.Tests.{both, less}
+use Rattle.world_lines.proofs.Tests.{both, less}
 use Rattle.world_text.proofs.WorldTables.{at_front, named}
 
 pub record KeepsBuiltIns (T : Classes) : Type 0 where

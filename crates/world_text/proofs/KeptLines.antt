@@ -7,7 +7,7 @@ use Rattle.texts.specs.LineRules.{LineRule, OfClass, LineForm, WrongName, OutOfL
 use Rattle.world.specs.WorldLines.{WorldLine, Lines}
 use Rattle.world.specs.WorldMeaning.{table_of, objects_defined, values_of_line, threads_of, cells_of}
 use Rattle.world.specs.WorldRules.{part_of, is_in_order, is_formed_value, is_well_formed, is_class_allowed, is_name_taken, is_known_value, types_of_line, each_holds, each_in_range, is_within_limits, breaks_class_rule, line_breaks, broken_by_line, broken_after}
-use Rattle.world_text.proofs.Tests.{both, neither, not_false, filter_none, at_most, not_less, less_so}
+use Rattle.world_lines.proofs.Tests.{both, neither, not_false, filter_none, at_most, not_less, less_so}
 
 -- a line that is in its order, and what each rule asks of it
 pub record IsKept (cells : ℕ) (earlier : Lines) (line : ℕ × WorldLine) : Type 0 where

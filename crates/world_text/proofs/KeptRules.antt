@@ -9,10 +9,12 @@ use Rattle.base.specs.Options.{some_passes}
 use Rattle.classes.specs.Additions.{ClassRule}
 use Rattle.classes.specs.Class.{FieldType, NumberField, ReferenceField, Classes}
 use Rattle.texts.specs.LineRules.{LineRule, LineForm}
-use Rattle.world_text.specs.Gathered.{Gathered, comes_in_order, broken_class_rule, is_formed, is_named, has_place, name_given, written_values, is_known, each_can_hold, can_hold, cells_added, least_broken, least_rule}
+use Rattle.world_text.specs.Gathered.{Gathered, comes_in_order, is_named, has_place, is_known, each_can_hold, can_hold, least_broken, least_rule}
+use Rattle.world_lines.specs.ClassRules.{broken_class_rule, is_formed}
+use Rattle.world_lines.specs.LineContents.{name_given, written_values, cells_added}
 use Rattle.world.specs.WorldLines.{WorldValue, NumberValue, NullValue, NamedObject, NamedClass, WorldLine}
 use Rattle.world.specs.WorldRules.{is_class_allowed, is_between, is_in_range, types_of_line, value_in_range, each_in_range}
-use Rattle.world_text.proofs.Tests.{both, not_true, at_most, at_most_so, less, less_so}
+use Rattle.world_lines.proofs.Tests.{both, not_true, at_most, at_most_so, less, less_so}
 
 -- what each rule asks
 pub record Keeps (g : Gathered) (line : WorldLine) : Type 0 where

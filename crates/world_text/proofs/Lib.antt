@@ -1,4 +1,3 @@
-pub mod Tests
 pub mod KeptLines
 pub mod Places
 pub mod GrownLines
@@ -10,17 +9,10 @@ pub mod WorldCells
 pub mod GrownClasses
 pub mod FittingObjects
 pub mod Soundness
-pub mod WordsOfLines
 pub mod NamesInMemory
 pub mod PlacesOfValues
 pub mod ValuesInMemory
 pub mod KeptRules
-pub mod ReadValues
-pub mod WrittenValues
-pub mod LineWords
-pub mod ReadLines
-pub mod WrittenLines
-pub mod HeapLines
 pub mod ReadWorlds
 pub mod GatheredLines
 pub mod GatheredNext

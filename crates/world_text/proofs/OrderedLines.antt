@@ -7,7 +7,7 @@ use Rattle.std.proofs.lemmas.List.Folds.{list_all-append, list_any-append}
 use Rattle.world.specs.WorldLines.{WorldLine, ClassLine, FieldLine, StaticLine, ObjectLine, ObjectsLine, ArrayLine, StringLine, ThreadLine, CallLine, Lines}
 use Rattle.world.specs.WorldRules.{part_of, is_thread_line, is_call_line, is_in_order}
 use Rattle.world_text.proofs.GrownLines.{are_within}
-use Rattle.world_text.proofs.Tests.{both, at_most, at_most_so}
+use Rattle.world_lines.proofs.Tests.{both, at_most, at_most_so}
 
 -- what the part of the last line says of lines in their order; of no line it is 0
 pub record AreOrdered (lines : Lines) (part : ℕ) : Type 0 where

@@ -1,16 +1,13 @@
 -- Values that are looked at one after the other, each with the type of its place.
-use Rattle.std.proofs.Common.{◌≡◌, ℕ, zero, suc, ◌+◌, ◌<◌, ◌≤◌, Bool, true, List, [], ◌∷◌, length, map, drop, get_or, Option, Some, None, refl, sym, ap, ◌∙◌, add-one}
+use Rattle.std.proofs.Common.{◌≡◌, ℕ, zero, suc, ◌+◌, ◌<◌, ◌≤◌, Bool, true, List, [], ◌∷◌, length, map, drop, get_or, Some, None, refl, sym, ap, ◌∙◌, add-one}
 use Rattle.std.specs.Prelude.{◌&&◌, slice_get}
 use Rattle.std.specs.List.{list_all}
 use Rattle.std.proofs.Math.ListN.{drop_of_length-le}
-use Rattle.std.proofs.lemmas.List.{drop_more}
-use Rattle.std.proofs.lemmas.List.Folds.{list_all-map}
+use Rattle.std.proofs.lemmas.List.{drop_more, at_drop_more}
 use Rattle.base.specs.Bytes.{ByName}
-use Rattle.base.specs.Element.{JInt}
-use Rattle.classes.specs.Class.{FieldType, NumberField, ReferenceField, Classes}
-use Rattle.world_text.specs.Gathered.{can_hold, each_can_hold, is_place_in_range}
+use Rattle.classes.specs.Class.{FieldType, Classes}
+use Rattle.world_text.specs.Gathered.{can_hold, each_can_hold}
 use Rattle.world.specs.WorldLines.{WorldValue}
-use Rattle.world.specs.WorldRules.{value_in_range, each_in_range}
 
 -- ---- what a list begins with after some places
 
@@ -31,6 +28,14 @@ drop_none [] (suc i) e = refl
 drop_none (x ∷ xs) zero e = absurd (cc)
 drop_none (x ∷ xs) (suc i) e = drop_none xs i e
 
+-- what all from here on pass, the first and all after it pass
+pub next_passes : {X Y : Type 0} (p : Y → Bool) (f : X → Y) (xs : List X) (i : ℕ) (d : X) (b : Bool) → i < length xs → b ≡ p (f (get_or xs i d)) → (b && list_all p (map f (drop (i + 1) xs))) ≡ list_all p (map f (drop i xs))
+next_passes p f xs i d b h e = ap (λ t. t && list_all p (map f (drop (i + 1) xs))) e ∙ sym (at_drop_more (λ ys. list_all p (map f ys)) xs i d h)
+
+-- and at the end all have passed
+pub all_passed : {X Y : Type 0} (p : Y → Bool) (f : X → Y) (xs : List X) (i : ℕ) → length xs ≤ i → true ≡ list_all p (map f (drop i xs))
+all_passed p f xs i h = ap (λ ys. list_all p (map f ys)) (sym (drop_of_length-le xs h))
+
 -- ---- places that can hold values
 
 module _ (classes : Classes) (names : ByName ℕ) where
@@ -44,11 +49,8 @@ module _ (classes : Classes) (names : ByName ℕ) where
   all_alike t (v ∷ values) = ap (λ b. can_hold classes names t v && b) (all_alike t values)
 
   -- the same of values in memory
-  pub held_alike : {X : Type 0} (view : X → WorldValue) (t : FieldType) (values held : List X) → held ≡ values → list_all (λ x. can_hold classes names t (view x)) held ≡ each_can_hold classes names (map (λ v. t) (map view values)) (map view values)
-  held_alike view t values held e =
-      ap (list_all (λ x. can_hold classes names t (view x))) e
-      ∙ sym (list_all-map (can_hold classes names t) view values)
-      ∙ sym (all_alike t (map view values))
+  pub held_alike : {X : Type 0} (view : X → WorldValue) (t : FieldType) (values held : List X) → held ≡ values → list_all (can_hold classes names t) (map view held) ≡ each_can_hold classes names (map (λ v. t) (map view values)) (map view values)
+  held_alike view t values held e = ap (λ vs. list_all (can_hold classes names t) (map view vs)) e ∙ sym (all_alike t (map view values))
 
   module _ {X : Type 0} (view : X → WorldValue) (types : List FieldType) (values : List X) (i : ℕ) where
     -- whether the values from here on can be held
@@ -65,47 +67,3 @@ module _ (classes : Classes) (names : ByName ℕ) where
 
     pub all_held : length values ≤ i → from_here ≡ true
     all_held h = ap (λ vs. each_can_hold classes names (drop i types) (map view vs)) (drop_of_length-le values h) ∙ no_values (drop i types)
-
--- ---- numbers in range
-
-no_numbers : (types : List FieldType) → each_in_range types [] ≡ true
-no_numbers [] = refl
-no_numbers (NumberField t ∷ types) = refl
-no_numbers (ReferenceField c ∷ types) = refl
-
-first_in_range : (types : List FieldType) (i : ℕ) (v : WorldValue) (values : List WorldValue) → each_in_range (drop i types) (v ∷ values) ≡ (is_place_in_range (slice_get types i) v && each_in_range (drop (suc i) types) values)
-first_in_range [] zero v values = refl
-first_in_range [] (suc i) v values = refl
-first_in_range (NumberField t ∷ types) zero v values = refl
-first_in_range (ReferenceField c ∷ types) zero v values = refl
-first_in_range (t ∷ types) (suc i) v values = first_in_range types i v values
-
-all_numbers : (t : _) (values : List WorldValue) → each_in_range (map (λ v. NumberField t) values) values ≡ list_all (value_in_range t) values
-all_numbers t [] = refl
-all_numbers t (v ∷ values) = ap (λ b. value_in_range t v && b) (all_numbers t values)
-
--- the numbers of an array, as they are held in memory
-pub numbers_in_range : {X : Type 0} (view : X → WorldValue) (t : _) (values held : List X) → held ≡ values → list_all (λ x. value_in_range t (view x)) held ≡ each_in_range (map (λ v. NumberField t) (map view values)) (map view values)
-numbers_in_range view t values held e =
-    ap (list_all (λ x. value_in_range t (view x))) e ∙ sym (list_all-map (value_in_range t) view values) ∙ sym (all_numbers t (map view values))
-
--- what a call is given, as it is held in memory
-pub arguments_in_range : {X : Type 0} (view : X → WorldValue) (values held : List X) → held ≡ values → list_all (λ x. value_in_range JInt (view x)) held ≡ each_in_range [] (map view values)
-arguments_in_range view values held e = ap (list_all (λ x. value_in_range JInt (view x))) e ∙ sym (list_all-map (value_in_range JInt) view values)
-
--- references are no numbers
-pub all_references : (c : ℕ) (values : List WorldValue) → each_in_range (map (λ v. ReferenceField c) values) values ≡ true
-all_references c [] = refl
-all_references c (v ∷ values) = all_references c values
-
-module _ {X : Type 0} (view : X → WorldValue) (types : List FieldType) (values : List X) (i : ℕ) where
-  pub in_range_more : (t : Option FieldType) (d : X) → t ≡ slice_get types i → i < length values
-      → each_in_range (drop i types) (map view (drop i values)) ≡ (is_place_in_range t (view (get_or values i d)) && each_in_range (drop (i + 1) types) (map view (drop (i + 1) values)))
-  in_range_more t d e h =
-      ap (λ vs. each_in_range (drop i types) (map view vs)) (drop_more values i d h)
-      ∙ first_in_range types i (view (get_or values i d)) (map view (drop (i + 1) values))
-      ∙ ap (λ o. is_place_in_range o (view (get_or values i d)) && each_in_range (drop (suc i) types) (map view (drop (i + 1) values))) (sym e)
-      ∙ ap (λ k. is_place_in_range t (view (get_or values i d)) && each_in_range (drop k types) (map view (drop (i + 1) values))) (sym (add-one i))
-
-  pub all_in_range : length values ≤ i → each_in_range (drop i types) (map view (drop i values)) ≡ true
-  all_in_range h = ap (λ vs. each_in_range (drop i types) (map view vs)) (drop_of_length-le values h) ∙ no_numbers (drop i types)

@@ -10,19 +10,19 @@ use Rattle.texts.specs.LineRules.{LineRule}
 use Rattle.texts.specs.Reading.{◌>>=◌, refused}
 use Rattle.texts.specs.declared.fault.Rule.TheVariants as held
 use Rattle.texts.proofs.WordLaws.{and_then_ok}
-use Rattle.world_text.specs.ReadingLines.{heap_of_line, line_of}
+use Rattle.world_lines.specs.ReadingLines.{heap_of_line, line_of}
 use Rattle.world_text.specs.ReadingWorlds.{is_second_thread, least_rule, rule_broken, ruled, line_read, lines_read, heap_read, last_number, world_read, numbered_read, world_of_text}
 use Rattle.world_text.specs.TextLaws.{IsReadWorldText, WorldsAreRead}
 use Rattle.world.specs.WorldLines.{WorldValue, NumberValue, NullValue, NamedObject, NamedClass, WorldLine, ClassLine, FieldLine, StaticLine, ObjectLine, ObjectsLine, ArrayLine, StringLine, ThreadLine, CallLine, Lines, text_lines}
 use Rattle.world.specs.WorldMeaning.{invocation_of_line, with_last, threads_with, threads_of, world_of}
 use Rattle.world.specs.WorldRules.{is_thread_line, holds_value, each_holds, value_in_range, each_in_range, broken_by_line, broken_after, IsNumberedLine, MeansOneWorld}
-use Rattle.world_text.proofs.HeapLines.{heap_is_read, heap_is_written}
+use Rattle.world_lines.proofs.HeapLines.{heap_is_read, heap_is_written}
 use Rattle.world_text.proofs.KeptLines.{IsKept, kept_line, each_keeps, none_breaks}
-use Rattle.world_text.specs.Gathered.{written_values}
-use Rattle.world_text.proofs.ReadLines.{line_is_read}
-use Rattle.world_text.proofs.Tests.{both, neither, at_most, at_most_so}
-use Rattle.world_text.proofs.WrittenLines.{line_is_written}
-use Rattle.world_text.proofs.WrittenValues.{value_in_jint}
+use Rattle.world_lines.specs.LineContents.{written_values}
+use Rattle.world_lines.proofs.ReadLines.{line_is_read}
+use Rattle.world_lines.proofs.Tests.{both, neither, at_most, at_most_so}
+use Rattle.world_lines.proofs.WrittenLines.{line_is_written}
+use Rattle.world_lines.proofs.WrittenValues.{value_in_jint}
 
 -- ---- numbers of lines that keep the rules
 

@@ -18,7 +18,7 @@ use Rattle.texts.specs.Rule.{rule_of}
 use Rattle.world_text.specs.Gathered.{Gathered, gather, gathered_read, gathered_world, whole_read, all_read, world_left, least_rule, with_line}
 use Rattle.world_text.specs.LinesLeft.{lines_left}
 use Rattle.world.specs.declared.world.World.{World as InMemory}
-use Rattle.world_text.specs.ReadingLines.{heap_of_line, line_of}
+use Rattle.world_lines.specs.ReadingLines.{heap_of_line, line_of}
 use Rattle.world_text.specs.ReadingWorlds.{held_rule, rule_broken, ruled, line_read, lines_read, heap_read, last_number, world_read, numbered_read, world_of_text}
 use Rattle.world.specs.SoundWorlds.{IsSound}
 use Rattle.world.specs.WorldLines.{WorldLine, Lines, text_lines}

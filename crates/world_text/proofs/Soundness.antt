@@ -25,7 +25,7 @@ use Rattle.world_text.proofs.GrownLines.{objects_of, are_known, table_grows, tab
 use Rattle.world_text.proofs.KeptBuiltIns.{KeepsBuiltIns, built_ins_kept, line_kept}
 use Rattle.world_text.proofs.KeptLines.{IsKept, all_keep}
 use Rattle.world_text.proofs.ReadWorlds.{lines_were_read}
-use Rattle.world_text.proofs.Tests.{both, at_most_so}
+use Rattle.world_lines.proofs.Tests.{both, at_most_so}
 
 -- ---- objects one after another
 

@@ -12,7 +12,7 @@ use Rattle.classes.specs.Class.{Field, Class, Classes, class_at, superclass, abo
 use Rattle.classes.specs.Fields.{FieldId, own_fields, own_statics, layout}
 use Rattle.source.specs.Object.{Object, size, sizes}
 use Rattle.source.specs.World.{initial, fresh_object, class_object, class_objects}
-use Rattle.world_text.specs.Gathered.{cells_added}
+use Rattle.world_lines.specs.LineContents.{cells_added}
 use Rattle.world.specs.WorldLines.{WorldValue, NumberValue, WorldLine, ClassLine, FieldLine, StaticLine, ObjectLine, ObjectsLine, ArrayLine, StringLine, ThreadLine, CallLine, Lines}
 use Rattle.world.specs.WorldMeaning.{class_number, superclass_number, field_of, table_with, table_of, value_of, values_of_line, object_of, cells_of}
 use Rattle.world.specs.WorldRules.{is_in_order, is_known_value, is_class_allowed}

@@ -12,7 +12,7 @@ use Rattle.class_table.proofs.Layouts.{get-front}
 use Rattle.classes.proofs.MangledNames.{array_name-no_class}
 use Rattle.world_text.proofs.ChangedClasses.{changed, changed-length}
 use Rattle.world_text.proofs.Places.{found, position-found, found_below, kept_place, later_place}
-use Rattle.world_text.proofs.Tests.{both, mapped, same_number, same_bytes, are_same_bytes}
+use Rattle.world_lines.proofs.Tests.{both, mapped, same_number, same_bytes, are_same_bytes}
 
 -- ---- classes by name and number
 

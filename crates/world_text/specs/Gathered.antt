@@ -3,24 +3,24 @@ use Rattle.std.specs.Prelude.{◌≡◌, ℕ, ◌+◌, Bool, true, false, not, �
 use Rattle.std.specs.Option.{option_map, option_to_list}
 use Rattle.std.specs.List.{list_all}
 use Rattle.base.specs.Bytes.{Identifier, ByName, lookup}
-use Rattle.base.specs.Element.{JInt}
 use Rattle.base.specs.Options.{some_passes}
 use Rattle.classes.specs.Additions.{ClassRule, new_class, with_class, with_field, with_static}
 use Rattle.classes.specs.BuiltIns.{class_class, string_class, number_array}
 use Rattle.classes.specs.Class.{FieldType, NumberField, ReferenceField, Classes, class_named, array_name, assignable}
-use Rattle.class_table.specs.Refusals.{first_broken}
 use Rattle.source.specs.Object.{ObjectValue, Number, Refers, Object}
 use Rattle.source.specs.World.{Invocation, World}
 use Rattle.texts.specs.declared.fault.ReadError.{ReadError}
 use Rattle.texts.specs.declared.fault.Rule.TheVariants as held
 use Rattle.texts.specs.declared.fault.TextFault.{TextFault}
 use Rattle.texts.specs.Reading.{◌>>=◌, refused, Fails}
-use Rattle.world_text.specs.ReadingLines.{line_of}
+use Rattle.world_lines.specs.ClassRules.{broken_class_rule, is_formed}
+use Rattle.world_lines.specs.LineContents.{written_values, name_given, cells_added, is_number}
+use Rattle.world_lines.specs.ReadingLines.{line_of}
 use Rattle.world_text.specs.ReadingWorlds.{ruled, lines_read, last_number, world_read}
 use Rattle.texts.specs.LineRules.{LineRule, OfClass, LineForm, WrongName, OutOfLimit, HeapFull}
 use Rattle.world.specs.WorldLines.{WorldValue, NumberValue, NullValue, NamedObject, NamedClass, WorldLine, ClassLine, FieldLine, StaticLine, ObjectLine, ObjectsLine, ArrayLine, StringLine, ThreadLine, CallLine, Lines}
 use Rattle.world.specs.WorldMeaning.{class_number, field_of, table_of, objects_defined, object_of, with_last, threads_of, cells_of}
-use Rattle.world.specs.WorldRules.{part_of, is_call_line, is_formed_value, is_well_formed, is_class_allowed, types_of_line, value_in_range, each_in_range, breaks_class_rule}
+use Rattle.world.specs.WorldRules.{part_of, is_call_line, is_class_allowed, types_of_line, each_in_range}
 
 pub record Gathered : Type 0 where
   pub cells : ℕ
@@ -52,30 +52,6 @@ gather cells part lines = record {
 abbrev pub comes_in_order : Gathered → WorldLine → Bool
 comes_in_order g line = nat_le g.part (part_of line) && (not (is_call_line line) || (g.part == 2))
 
--- the least rule on classes and fields that it breaks
-abbrev pub broken_class_rule : Classes → WorldLine → Option ClassRule
-broken_class_rule classes line = first_broken (λ rule. breaks_class_rule rule classes line)
-
--- the values that it writes; a string writes none
-abbrev pub written_values : WorldLine → List WorldValue
-written_values (ObjectLine x class values) = values
-written_values (ObjectsLine x class values) = values
-written_values (ArrayLine x t values) = values
-written_values (ThreadLine function arguments) = arguments
-written_values (CallLine function arguments) = arguments
-written_values line = []
-
-abbrev pub is_formed : Classes → WorldLine → Bool
-is_formed classes line = is_well_formed classes line && list_all is_formed_value (written_values line)
-
--- the name that it gives its object
-abbrev pub name_given : WorldLine → Option Identifier
-name_given (ObjectLine x class values) = Some x
-name_given (ObjectsLine x class values) = Some x
-name_given (ArrayLine x t values) = Some x
-name_given (StringLine x text) = Some x
-name_given line = None
-
 -- whether a value's object or class is known
 abbrev pub is_known : Classes → ByName ℕ → WorldValue → Bool
 is_known classes names (NamedObject x) = is_some (lookup x names)
@@ -89,11 +65,6 @@ refers_to classes names c NullValue = true
 refers_to classes names c (NamedObject x) = assignable classes (unwrap_or (lookup x names) 0) c
 refers_to classes names c (NamedClass name) = assignable classes class_class c
 
--- whether it is a number
-abbrev pub is_number : WorldValue → Bool
-is_number (NumberValue z) = true
-is_number value = false
-
 -- whether a place of a type can hold a value, its range aside
 abbrev pub can_hold : Classes → ByName ℕ → FieldType → WorldValue → Bool
 can_hold classes names (NumberField t) value = is_number value
@@ -103,12 +74,6 @@ can_hold classes names (ReferenceField c) value = refers_to classes names c valu
 abbrev pub each_can_hold : Classes → ByName ℕ → List FieldType → List WorldValue → Bool
 each_can_hold classes names (t ∷ types) (v ∷ values) = can_hold classes names t v && each_can_hold classes names types values
 each_can_hold classes names types values = true
-
--- whether a number is in the range of its place's type; an argument is in that of jint
-abbrev pub is_place_in_range : Option FieldType → WorldValue → Bool
-is_place_in_range (Some (NumberField t)) v = value_in_range t v
-is_place_in_range (Some (ReferenceField c)) v = true
-is_place_in_range None v = value_in_range JInt v
 
 -- whether its names are free, allowed and known, and its values are held
 abbrev pub is_named : Classes → ByName ℕ → WorldLine → Bool
@@ -123,16 +88,6 @@ abbrev pub has_place : Gathered → WorldLine → Bool
 has_place g (ThreadLine function arguments) = length g.threads == 0
 has_place g (CallLine function arguments) = list_all (λ calls. nat_lt (length calls) 256) g.threads
 has_place g line = nat_lt (length g.names + length (option_to_list (name_given line))) 65537
-
--- the cells that it adds at load: of two class objects, of a static, or of an object
-abbrev pub cells_added : WorldLine → ℕ
-cells_added (ClassLine name superclass) = 6
-cells_added (StaticLine class name signature) = 1
-cells_added (ObjectLine x class values) = 3 + length values
-cells_added (ObjectsLine x class values) = 3 + length values
-cells_added (ArrayLine x t values) = 3 + length values
-cells_added (StringLine x text) = 3 + length text
-cells_added line = 0
 
 -- the first that is broken
 abbrev pub least_broken : Option ClassRule → (form names limits room : Bool) → Option LineRule

@@ -1,8 +1,4 @@
-pub mod ReadingValues
-pub mod LineViews
 pub mod NameViews
-pub mod ReadingLines
-pub mod LineKinds
 pub mod ReadingWorlds
 pub mod TextLaws
 pub mod Gathered

@@ -8,7 +8,7 @@ use Rattle.texts.specs.declared.fault.Rule.{Rule}
 use Rattle.texts.specs.declared.fault.Rule.TheVariants as held
 use Rattle.texts.specs.declared.fault.TextFault.{TextFault}
 use Rattle.source.specs.World.{World}
-use Rattle.world_text.specs.ReadingLines.{heap_of_line, line_of}
+use Rattle.world_lines.specs.ReadingLines.{heap_of_line, line_of}
 use Rattle.world.specs.WorldLines.{WorldLine, Lines, text_lines}
 use Rattle.world.specs.WorldMeaning.{world_of}
 use Rattle.world.specs.WorldRules.{is_thread_line, broken_by_line}

@@ -12,16 +12,15 @@ ghost use Rattle.class_table.specs.FieldViews.{with_declared, declared_field};
 ghost use Rattle.source.specs.Object.{Number};
 ghost use Rattle.world_text.specs.Gathered.{object_at, value_at, with_object};
 ghost use Rattle.world_text.specs.GatheredViews.{gathered_of};
-ghost use Rattle.world_text.specs.LineViews.{value_view};
+ghost use Rattle.world_lines.specs.LineViews.{value_view};
 ghost use Rattle.world.specs.Views.{object_value_view};
 ghost use Rattle.world.specs.WorldMeaning.{with_last};
 ghost use Rattle.world.specs.WorldRules.{value_in_range};
 
 use crate::builder::WorldBuilder;
-use crate::line::FieldWords;
-use crate::value::Value;
 use std::alloc::{AllocError, Global};
 use world::{Call, Object, ObjectValue};
+use world_lines::{FieldWords, Value};
 
 /// The unit that a byte is.
 fn unit(byte: u8) -> ObjectValue

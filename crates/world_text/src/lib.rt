@@ -4,13 +4,10 @@
 mod additions;
 mod builder;
 mod laws;
-mod line;
 mod names;
 mod next_line;
 mod rules;
 mod text;
-mod value;
-mod words;
 
 pub use laws::{texts_mean_one_world, worlds_are_read};
 pub use text::read_world;

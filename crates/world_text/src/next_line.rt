@@ -1,23 +1,22 @@
 //! The next line is taken, where it breaks no rule.
 
-ghost use Rattle.std.specs.Prelude.{◌≡◌, ◌∷◌, [], None, map, OnOk, IfOk, IsTrue};
+ghost use Rattle.std.specs.Prelude.{◌≡◌, None, map, OnOk, IfOk, IsTrue};
 ghost use Rattle.std.specs.List.{list_all};
 ghost use Rattle.std.specs.Option.{option_map};
 ghost use Rattle.base.specs.Element.{JInt};
 ghost use Rattle.class_table.specs.Views.{element_view};
 ghost use Rattle.world_text.specs.Gathered.{least_rule, with_line, call_with};
 ghost use Rattle.world_text.specs.GatheredViews.{gathered_of};
-ghost use Rattle.world_text.specs.LineViews.{value_view, line_view};
+ghost use Rattle.world_lines.specs.LineViews.{value_view, line_view};
 ghost use Rattle.world.specs.WorldLines.{ClassLine, FieldLine, StaticLine, ObjectLine, ObjectsLine, ArrayLine, StringLine, ThreadLine, CallLine};
 ghost use Rattle.world.specs.WorldRules.{value_in_range};
 
 use crate::additions::units;
 use crate::builder::WorldBuilder;
-use crate::line::{ArrayWords, CallWords, FieldWords, Line, ObjectWords};
-use crate::rules::class_number;
 use class_table::built_ins::{STRING, number_array};
 use std::alloc::{AllocError, Global};
 use world::Call;
+use world_lines::{ArrayWords, CallWords, FieldWords, Line, ObjectWords, class_number};
 
 impl WorldBuilder {
     fn take_class(&mut self, name: &[u8], superclass: Option<&[u8]>) -> Result<(), AllocError>

@@ -1,73 +1,27 @@
 //! Reading the text of a world.
 
-ghost use Rattle.std.specs.Prelude.{◌≡◌, ◌∷◌, ◌+◌, ◌<◌, ◌≤◌, ◌^◌, [], IfOk, MatchOption, map, length};
+ghost use Rattle.std.specs.Prelude.{◌≡◌, ◌∷◌, ◌+◌, ◌<◌, ◌≤◌, ◌^◌, [], IfOk, MatchOption, length};
 ghost use Rattle.classes.specs.BuiltIns.{built_ins};
-ghost use Rattle.texts.specs.Numbers.{natural_of};
 ghost use Rattle.texts.specs.Reading.{Gives};
 ghost use Rattle.texts.specs.Split.{parts_left};
 ghost use Rattle.world_text.specs.Gathered.{gather, gathered_read, gathered_world, whole_read, all_read, world_left, OnGathered};
 ghost use Rattle.world_text.specs.GatheredViews.{gathered_of};
 ghost use Rattle.world_text.specs.LinesLeft.{lines_left};
-ghost use Rattle.world_text.specs.LineViews.{line_view};
-ghost use Rattle.world_text.specs.ReadingLines.{below_zero, cells_named, heap_by_words, heap_of_line, line_of};
-ghost use Rattle.world_text.specs.ReadingWorlds.{heap_read, ruled, world_of_text};
+ghost use Rattle.world_lines.specs.LineViews.{line_view};
+ghost use Rattle.world_lines.specs.ReadingLines.{heap_of_line, line_of};
+ghost use Rattle.world_text.specs.ReadingWorlds.{heap_read, world_of_text};
 ghost use Rattle.world.specs.SoundWorlds.{IsSound};
 ghost use Rattle.world.specs.WorldMeaning.{cells_of};
 ghost use Rattle.world.specs.WorldRules.{IsWorldText};
 
 use crate::builder::WorldBuilder;
-use crate::line::{Line, read_line, split_words};
 use crate::names::ObjectNames;
 use class_table::built_ins::OUT_OF_MEMORY_ERROR;
 use class_table::table::ClassTable;
 use std::alloc::{AllocError, Global};
-use texts::{ReadError, Rule, Split, TextFault, natural};
+use texts::{ReadError, Rule, Split, TextFault};
 use world::World;
-
-/// The number below 0 that the digits spell, as a number of cells; none where it isn't below 0.
-fn below_zero(digits: &[u8]) -> Option<u64>
-    ensures { result ≡ below_zero (natural_of digits.now) }
-{
-    match natural(digits) {
-        None | Some(0) => None,
-        Some(_) => Some(0),
-    }
-}
-
-/// The number of cells that a word spells; a negative one is as far below each limit as 0 is.
-fn read_cells(word: &[u8]) -> Option<u64>
-    ensures { result ≡ cells_named word.now }
-{
-    match word {
-        [b'-', digits @ ..] => below_zero(digits),
-        _ => natural(word),
-    }
-}
-
-/// `heap N`, by its words.
-fn heap_by_words(words: &[&[u8]]) -> Option<u64>
-    ensures { result ≡ heap_by_words (map (λ w. w.now) words.now) }
-{
-    match words {
-        [word, number] => {
-            if *word == b"heap".as_slice() {
-                read_cells(*number)
-            } else {
-                None
-            }
-        }
-        _ => None,
-    }
-}
-
-/// The number of cells that a line of the heap gives it.
-#[tactic(auto, unfolding(crate::specs::ReadingLines::heap_of_line))]
-fn heap_of_line(alloc: Global, line: &[u8]) -> Result<Option<u64>, AllocError>
-    ensures { IfOk result (λ cells. cells ≡ heap_of_line line.now) }
-{
-    let words = split_words(alloc, line)?;
-    Ok(heap_by_words(&words))
-}
+use world_lines::{Line, heap_of_line, read_line};
 
 /// The size of the heap, by the first line.
 #[tactic(auto, unfolding(crate::specs::ReadingWorlds::heap_read))]

@@ -1,9 +1,10 @@
 use Rattle.std.proofs.Common.{sym, ap, ◌∙◌, map}
 use Rattle.classes.specs.Class.{NumberField, ReferenceField}
 use Rattle.class_table.specs.Views.{element_view}
-use Rattle.world_text.specs.declared.line.Line.{Line}
-use Rattle.world_text.specs.Gathered.{each_can_hold, written_values}
-use Rattle.world_text.specs.LineViews.{value_view, line_view}
+use Rattle.world_lines.specs.declared.line.Line.{Line}
+use Rattle.world_text.specs.Gathered.{each_can_hold}
+use Rattle.world_lines.specs.LineContents.{written_values}
+use Rattle.world_lines.specs.LineViews.{value_view, line_view}
 use Rattle.world.specs.WorldRules.{types_of_line}
 use Rattle.world_text.proofs.PlacesOfValues.{held_alike}
 use Rattle.world_text.proofs.rules.each_can_hold.Goals as goal

@@ -1,7 +1,7 @@
 use Rattle.std.proofs.Common.{sym, ap, ◌∙◌, drop, map, ◌+◌}
 use Rattle.std.specs.Prelude.{◌&&◌}
 use Rattle.world_text.specs.Gathered.{each_can_hold}
-use Rattle.world_text.specs.LineViews.{value_view}
+use Rattle.world_lines.specs.LineViews.{value_view}
 use Rattle.world.specs.WorldRules.{layout_types}
 use Rattle.world_text.proofs.PlacesOfValues.{held_more, no_place, all_held}
 use Rattle.world_text.proofs.rules.fields_can_hold.Goals as goal

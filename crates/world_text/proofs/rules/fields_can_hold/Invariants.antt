@@ -1,6 +1,6 @@
 use Rattle.std.proofs.Common.{◌≡◌, map, drop}
 use Rattle.world_text.specs.Gathered.{each_can_hold}
-use Rattle.world_text.specs.LineViews.{value_view}
+use Rattle.world_lines.specs.LineViews.{value_view}
 use Rattle.world.specs.WorldRules.{layout_types}
 use Rattle.world_text.proofs.rules.fields_can_hold.Given as goal
 

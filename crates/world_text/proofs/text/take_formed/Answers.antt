@@ -1,7 +1,7 @@
 use Rattle.std.proofs.Common.{ap, sym, ◌∙◌, Ok, Err}
 use Rattle.world_text.specs.Gathered.{gathered_read, with_line}
 use Rattle.world_text.specs.GatheredViews.{gathered_of}
-use Rattle.world_text.specs.LineViews.{line_view}
+use Rattle.world_lines.specs.LineViews.{line_view}
 use Rattle.world_text.specs.ReadingWorlds.{ruled}
 use Rattle.world_text.proofs.ReadingGathered.{held_same}
 use Rattle.world_text.proofs.text.take_formed.Goals as goal

@@ -2,7 +2,7 @@ use Rattle.std.proofs.Common.{ap, sym, ◌∙◌}
 use Rattle.std.specs.Option.{option_map}
 use Rattle.world_text.specs.Gathered.{gathered_read}
 use Rattle.world_text.specs.GatheredViews.{gathered_of}
-use Rattle.world_text.specs.LineViews.{line_view}
+use Rattle.world_lines.specs.LineViews.{line_view}
 use Rattle.world_text.proofs.text.take_line.Goals as goal
 
 pub returns-in-None : goal.returns-in-None

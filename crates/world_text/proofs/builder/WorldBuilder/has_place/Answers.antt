@@ -1,13 +1,9 @@
-use Rattle.std.proofs.Common.{sym, ap, ◌∙◌, length, nat_lt}
-use Rattle.std.proofs.lemmas.List.Folds.{list_all-map}
-use Rattle.world_text.specs.declared.line.Line.{Line}
+use Rattle.std.proofs.Common.{sym, ap, ◌∙◌}
+use Rattle.world_lines.specs.declared.line.Line.{Line}
 use Rattle.world_text.specs.Gathered.{has_place}
 use Rattle.world_text.specs.GatheredViews.{gathered_of}
-use Rattle.world_text.specs.LineViews.{line_view}
+use Rattle.world_lines.specs.LineViews.{line_view}
 use Rattle.world_text.proofs.builder.WorldBuilder.has_place.Goals as goal
 
 pub returns-in-Call : goal.returns-in-Call
-returns-in-Call c =
-    c.may_call.ensures
-    ∙ sym (list_all-map (λ calls. nat_lt (length calls) 256) (λ t. t.items) c.args.self.now.threads.items)
-    ∙ ap (λ (l : Line). has_place (gathered_of c.args.self.now) (line_view l)) (sym c.in-Call.is)
+returns-in-Call c = c.may_call.ensures ∙ ap (λ (l : Line). has_place (gathered_of c.args.self.now) (line_view l)) (sym c.in-Call.is)

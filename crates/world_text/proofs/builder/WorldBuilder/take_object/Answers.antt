@@ -3,7 +3,7 @@ use Rattle.std.specs.List.{list_all}
 use Rattle.std.proofs.lemmas.List.{length-map}
 use Rattle.base.specs.Element.{JInt}
 use Rattle.world_text.specs.GatheredViews.{gathered_of}
-use Rattle.world_text.specs.LineViews.{value_view}
+use Rattle.world_lines.specs.LineViews.{value_view}
 use Rattle.world.specs.WorldLines.{ObjectLine}
 use Rattle.world.specs.WorldRules.{value_in_range}
 use Rattle.world_text.proofs.KeptRules.{keeps, all_in_jint}

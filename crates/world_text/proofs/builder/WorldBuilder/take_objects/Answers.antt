@@ -2,10 +2,10 @@ use Rattle.std.proofs.Common.{◌≡◌, ℕ, List, Option, OnOk, unwrap_or, len
 use Rattle.std.specs.List.{list_all}
 use Rattle.std.proofs.Math.ListN.{length-map}
 use Rattle.base.specs.Element.{JInt}
-use Rattle.world_text.specs.declared.value.Value.{Value}
+use Rattle.world_lines.specs.declared.value.Value.{Value}
 use Rattle.world_text.specs.Gathered.{value_at, with_object}
 use Rattle.world_text.specs.GatheredViews.{gathered_of}
-use Rattle.world_text.specs.LineViews.{value_view}
+use Rattle.world_lines.specs.LineViews.{value_view}
 use Rattle.world.specs.WorldLines.{ObjectsLine}
 use Rattle.world.specs.WorldRules.{value_in_range}
 use Rattle.world_text.proofs.KeptRules.{keeps, all_in_jint}

@@ -1,9 +1,9 @@
 use Rattle.std.proofs.Common.{map, ap, ◌∙◌, pos}
 use Rattle.std.proofs.lemmas.List.{map-append, take_all}
 use Rattle.base.specs.Element.{JInt}
-use Rattle.world_text.specs.declared.value.Value.TheVariants.{Number}
+use Rattle.world_lines.specs.declared.value.Value.TheVariants.{Number}
 use Rattle.world_text.specs.Gathered.{value_at}
-use Rattle.world_text.specs.LineViews.{value_view}
+use Rattle.world_lines.specs.LineViews.{value_view}
 use Rattle.world.specs.Views.{object_value_view}
 use Rattle.world.specs.WorldRules.{value_in_range}
 use Rattle.world_text.proofs.ValuesInMemory.{each_passes, map_more}

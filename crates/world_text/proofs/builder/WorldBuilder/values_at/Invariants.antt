@@ -1,6 +1,6 @@
 use Rattle.std.proofs.Common.{◌≡◌, map, take}
 use Rattle.world_text.specs.Gathered.{value_at}
-use Rattle.world_text.specs.LineViews.{value_view}
+use Rattle.world_lines.specs.LineViews.{value_view}
 use Rattle.world.specs.Views.{object_value_view}
 use Rattle.world_text.proofs.builder.WorldBuilder.values_at.Given as goal
 

@@ -1,0 +1,68 @@
+-- The line of the heap is read as the number that it says.
+use Rattle.std.proofs.Common.{◌≡◌, ℕ, ◌-◌, ◌^◌, ◌<◌, ◌≤◌, Bool, true, false, cond, List, [], ◌∷◌, get_or, min, Option, Some, None, refl, sym, ap, ◌∙◌, arith}
+use Rattle.std.specs.Prelude.{codes, decimal, ◌==◌, bytes_eq}
+use Rattle.std.specs.Option.{option_map}
+use Rattle.std.proofs.lemmas.Bool.{and_from}
+use Rattle.std.proofs.lemmas.Fmt.{first_decimal}
+use Rattle.texts.specs.Numbers.{natural_of}
+use Rattle.texts.specs.Split.{parts_of}
+use Rattle.world_lines.specs.ReadingLines.{below_zero, cells_named, heap_by_words, heap_of_line}
+use Rattle.world.specs.WorldLines.{has_no_space, spaced}
+use Rattle.base.specs.Bytes.{is_some_byte}
+use Rattle.texts.proofs.MeantSchedules.{natural_of-decimal}
+use Rattle.texts.proofs.ScheduleLaws.{decimal-natural_of}
+use Rattle.world_lines.proofs.LineWords.{spaced_parts, parts_spaced}
+use Rattle.world_lines.proofs.ReadValues.{decimal_word}
+use Rattle.world_lines.proofs.Tests.{both, mapped, same_bytes, later_number}
+
+-- the line of a heap of this number of cells
+abbrev pub heap_text : ℕ → List ℕ
+heap_text cells = spaced (codes "heap" ∷ decimal cells ∷ [])
+
+cells_are : (bytes : List ℕ) (n : ℕ) → 48 < get_or bytes 0 0 → natural_of bytes ≡ Some n → n ≤ 1048576 → cells_named bytes ≡ Some n
+cells_are [] n first h high = absurd (cc)
+cells_are (sign ∷ digits) n first h high =
+    let small : min n (2 ^ 64 - 1) ≡ n = omega (arith, high) in
+    ap (λ t. cond t (below_zero (natural_of digits)) (option_map (λ m. min m (2 ^ 64 - 1)) (natural_of (sign ∷ digits)))) (later_number sign 45 (omega (arith, first)))
+    ∙ ap (option_map (λ m. min m (2 ^ 64 - 1))) h
+    ∙ ap (λ m. Some m) small
+
+pub heap_is_read : (cells : ℕ) → 512 ≤ cells → cells ≤ 1048576 → heap_of_line (heap_text cells) ≡ Some cells
+unfolding heap_of_line
+heap_is_read cells low high =
+    let word = both (is_some_byte (decimal cells)) (has_no_space (decimal cells)) (decimal_word cells (omega (arith, high))) in
+    ap heap_by_words (spaced_parts (codes "heap") (decimal cells ∷ []) refl (and_from (has_no_space (decimal cells)) true word.1 refl))
+    ∙ cells_are (decimal cells) cells (first_decimal cells (omega (arith, low)) (omega (arith, high))) (natural_of-decimal cells (omega (arith, low)) (omega (arith, high))) high
+
+zero_below : (o : Option ℕ) (cells : ℕ) → below_zero o ≡ Some cells → cells ≡ 0
+zero_below None cells h = absurd (cc)
+zero_below (Some n) cells h = by_zero (n == 0) h
+  where
+    by_zero : (b : Bool) → cond b None (Some 0) ≡ Some cells → cells ≡ 0
+    by_zero true h = absurd (cc)
+    by_zero false h = cc
+
+cells_written : (bytes : List ℕ) (cells : ℕ) → cells_named bytes ≡ Some cells → 512 ≤ cells → cells ≤ 1048576 → bytes ≡ decimal cells
+cells_written [] cells h low high = absurd (cc)
+cells_written (sign ∷ digits) cells h low high = by_sign (sign == 45) h
+  where
+    by_sign : (b : Bool) → cond b (below_zero (natural_of digits)) (option_map (λ n. min n (2 ^ 64 - 1)) (natural_of (sign ∷ digits))) ≡ Some cells → sign ∷ digits ≡ decimal cells
+    by_sign true h = let z = zero_below (natural_of digits) cells h in absurd (omega (arith, z, low))
+    by_sign false h =
+        let n = mapped (λ n. min n (2 ^ 64 - 1)) (natural_of (sign ∷ digits)) cells h in
+        let same : n.0 ≡ cells = omega (arith, n.2, high) in
+        sym (decimal-natural_of (sign ∷ digits) n.0 n.1 (omega (arith, same, high))) ∙ ap decimal same
+
+pub heap_is_written : (bytes : List ℕ) (cells : ℕ) → heap_of_line bytes ≡ Some cells → 512 ≤ cells → cells ≤ 1048576 → bytes ≡ heap_text cells
+unfolding heap_of_line
+heap_is_written bytes cells h low high = sym (parts_spaced bytes) ∙ by_parts (parts_of 32 bytes) h
+  where
+    by_parts : (parts : List (List ℕ)) → heap_by_words parts ≡ Some cells → spaced parts ≡ heap_text cells
+    by_parts [] k = absurd (cc)
+    by_parts (word ∷ []) k = absurd (cc)
+    by_parts (word ∷ number ∷ []) k = by_test (bytes_eq word (codes "heap")) refl k
+      where
+        by_test : (b : Bool) → bytes_eq word (codes "heap") ≡ b → cond b (cells_named number) None ≡ Some cells → spaced (word ∷ number ∷ []) ≡ heap_text cells
+        by_test false e j = absurd (cc)
+        by_test true e j = (λ i. spaced (same_bytes word (codes "heap") e i ∷ cells_written number cells j low high i ∷ []))
+    by_parts (word ∷ number ∷ more ∷ words) k = absurd (cc)

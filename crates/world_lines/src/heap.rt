@@ -1,0 +1,54 @@
+//! The line of the heap, by its words.
+
+ghost use Rattle.std.specs.Prelude.{◌≡◌, IfOk, map};
+ghost use Rattle.texts.specs.Numbers.{natural_of};
+ghost use Rattle.world_lines.specs.ReadingLines.{below_zero, cells_named, heap_by_words, heap_of_line};
+
+use crate::line::split_words;
+use std::alloc::{AllocError, Global};
+use texts::natural;
+
+/// The number below 0 that the digits spell, as a number of cells; none where it isn't below 0.
+fn below_zero(digits: &[u8]) -> Option<u64>
+    ensures { result ≡ below_zero (natural_of digits.now) }
+{
+    match natural(digits) {
+        None | Some(0) => None,
+        Some(_) => Some(0),
+    }
+}
+
+/// The number of cells that a word spells; a negative one is as far below each limit as 0 is.
+fn read_cells(word: &[u8]) -> Option<u64>
+    ensures { result ≡ cells_named word.now }
+{
+    match word {
+        [b'-', digits @ ..] => below_zero(digits),
+        _ => natural(word),
+    }
+}
+
+/// `heap N`, by its words.
+fn heap_by_words(words: &[&[u8]]) -> Option<u64>
+    ensures { result ≡ heap_by_words (map (λ w. w.now) words.now) }
+{
+    match words {
+        [word, number] => {
+            if *word == b"heap".as_slice() {
+                read_cells(*number)
+            } else {
+                None
+            }
+        }
+        _ => None,
+    }
+}
+
+/// The number of cells that a line of the heap gives it.
+#[tactic(auto, unfolding(crate::specs::ReadingLines::heap_of_line))]
+pub fn heap_of_line(alloc: Global, line: &[u8]) -> Result<Option<u64>, AllocError>
+    ensures { IfOk result (λ cells. cells ≡ heap_of_line line.now) }
+{
+    let words = split_words(alloc, line)?;
+    Ok(heap_by_words(&words))
+}

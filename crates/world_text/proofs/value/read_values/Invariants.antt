@@ -1,9 +1,0 @@
-use Rattle.std.proofs.Common.{◌≡◌, map, drop}
-use Rattle.texts.proofs.WordLemmas.{after}
-use Rattle.world_text.specs.LineViews.{value_view}
-use Rattle.world_text.specs.ReadingValues.{values_named}
-use Rattle.world_text.proofs.value.read_values.Given as goal
-
--- the values so far and those of the words that are left are all of them
-abbrev pub invariant-loop-word : goal.invariant-loop-word
-invariant-loop-word l = after (map value_view l.values.items) (values_named (map (λ w. w.now) (drop l.word-index l.words))) ≡ values_named (map (λ w. w.now) l.words)
