@@ -1,8 +1,8 @@
-use Rattle.std.proofs.Common.{◌≡◌, ℕ, List, Option, Some, None, Result, Ok, Err, Bor, length, refl, sym, ap, ◌∙◌}
+use Rattle.std.proofs.Common.{◌≡◌, ℕ, List, Option, Some, None, Result, Ok, Err, Bor, refl, sym, ap, ◌∙◌}
 use Rattle.std.specs.Prelude.{slice_get}
 use Rattle.std.specs.Option.{ok_or, option_map, option_copied}
 use Rattle.std.specs.Slice.{IsItemAt}
-use Rattle.std.proofs.lemmas.Option.{slice_get_past, slice_get_read, slice_get-map}
+use Rattle.std.proofs.lemmas.Option.{slice_get-map}
 use Rattle.tables.specs.declared.fault.TableFault.{TableFault}
 use Rattle.tables.specs.declared.fault.TableFault.TheVariants.{Dead}
 use Rattle.tables.specs.References.{address_at}
@@ -10,11 +10,8 @@ use Rattle.jni_calls.specs.Statics.{References, all_held, held, held_at, held_or
 use Rattle.jni_calls.specs.declared.references.Held.{Held}
 use Rattle.jni_calls.specs.declared.references.Held.TheVariants.{Empty, At}
 use Rattle.jni_calls.specs.declared.statics.StaticReference.{StaticReference}
+use Rattle.jni_calls.proofs.LookUps.{copied_found}
 use Rattle.jni_calls.proofs.references.References.held.Goals as goal
-
-copied_found : (statics : List StaticReference) (slot : ℕ) (found : Option (Bor StaticReference)) → IsItemAt statics slot found → option_copied found ≡ slice_get statics slot
-copied_found statics slot None h = sym (slice_get_past statics slot h.3)
-copied_found statics slot (Some s) h = sym (slice_get_read statics (length statics) slot s.now refl h.3.0 h.1)
 
 -- what is found in a slot tells what its static holds
 held_in_slot : (globals : List (Option ℕ)) (statics : List StaticReference) (slot : ℕ) (found : Option (Bor StaticReference)) (r : References) → IsItemAt statics slot found
