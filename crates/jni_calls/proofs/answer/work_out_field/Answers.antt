@@ -1,13 +1,11 @@
 use Rattle.std.proofs.Common.{◌≡◌, ℕ, Bool, true, false, not, ◌&&◌, Option, refl, sym, ap, ◌∙◌, subst, true≢false}
-use Rattle.heap.specs.declared.value.Value.{Value}
 use Rattle.code.specs.Call.{call_view}
 use Rattle.jni.specs.Table.{function_value}
 use Rattle.jni.specs.declared.function.JniFunction.{JniFunction}
-use Rattle.jni_calls.specs.declared.answer.Answer.{Answer}
 use Rattle.jni_calls.specs.declared.answer.Answer.TheVariants.{Gives}
 use Rattle.jni_calls.specs.declared.answer.Given.TheVariants.{Number, Reference}
 use Rattle.jni_calls.specs.Checked.{fit_together}
-use Rattle.jni_calls.specs.WorkedOut.{IsWorkedOut, address_in, held_reference, word_in, writes_there}
+use Rattle.jni_calls.specs.WorkedOut.{IsWorkedOut, address_in, word_in}
 use Rattle.jni_calls.proofs.answer.work_out_field.Goals as goal
 
 -- the field of a call is no static, or is one
