@@ -19,7 +19,7 @@ use Rattle.std.specs.Prelude.{slice_get, slice_set, nat_le, if◌then◌else◌}
 use Rattle.std.proofs.lemmas.Bool.{le-leb, leb-true}
 use Rattle.std.proofs.lemmas.Option.{slice_get_within}
 use Rattle.classes.specs.Class.{Classes}
-use Rattle.heap.specs.Heap.{with_value}
+use Rattle.heap.specs.Heap.{Space, with_value}
 use Rattle.heap.specs.declared.value.Value.{Value}
 use Rattle.jni.specs.Prototype.{ResultKind, NewLocal, NewGlobal, GivesFlag, GivesInt, GivesField, GivesNothing, GivesBuffer}
 use Rattle.source.specs.CallEffects.{frames_effect, without_local, CallResult, Leaves, NoResult, ReferenceResult, ScalarResult, CallEffect, out_of_memory, refuses_frames, with_capacity}
@@ -49,6 +49,13 @@ use Rattle.jni_calls.proofs.Keeping.{frames_stay, keeps_same, key_stays, referen
 use Rattle.jni_calls.proofs.Makes as making
 use Rattle.jni_calls.proofs.LocalFrames.{frame_ended, frame_made, key_deleted, key_ensured, key_popped, key_pushed, no_frames, reference_deleted, room_ensured, same_capacities}
 use Rattle.jni_calls.proofs.Writes as writing
+
+-- what is carried out, by the answer's case
+module _ (p : Lowered) (w : World) (space : Space) (before : LocalTable) (kind : ResultKind) (shared : Shared) (s : Thread) (effect : CallEffect) where
+  pub by_answer : (a b : Answer) → a ≡ b → (refused : Bool) (store : Store) (pending : Option ℕ) (locals : LocalTable) (g : Given) → (IsAnswer w.classes space before kind shared s b effect → CarriesOut p w space before b kind shared s effect refused store pending locals g)
+      → IsAnswer w.classes space before kind shared s a effect → CarriesOut p w space before a kind shared s effect refused store pending locals g
+  by_answer a b same refused store pending locals g f does =
+      subst (λ (x : Answer). CarriesOut p w space before x kind shared s effect refused store pending locals g) (sym same) (f (subst (λ (x : Answer). IsAnswer w.classes space before kind shared s x effect) same does))
 
 -- a call that fails gives what it gives in the source
 failed_agrees : (classes : Classes) (store : Store) (kind : ResultKind) → can_fail kind ≡ true → ResultAgrees classes store (failed kind) kind (failure kind)

@@ -18,6 +18,7 @@ pub mod KeyLaws
 pub mod Loaded
 pub mod LocalFrames
 pub mod LongTables
+pub mod LookUps
 pub mod Makes
 pub mod ObjectsAtAddresses
 pub mod SetPlaces

@@ -64,6 +64,21 @@ abbrev pub ResultAgrees : Classes → Store → Given → ResultKind → CallRes
 ResultAgrees classes store (given.Global s) kind c = (kind ≡ NewGlobal) × ((r : Reference) × ((c ≡ ReferenceResult r) ⊎ ((c ≡ NullResult) × (r ≡ None))) × HeldAgrees store.heap (held store.globals s) (as_static r) × IsFresh store s)
 ResultAgrees classes store g kind c = GivenAgrees classes store.heap kind g c
 
+-- an answer does nothing but to the frames
+abbrev pub is_of_frames : Answer → Bool
+is_of_frames (answer.Ensures more) = true
+is_of_frames (answer.Pushes capacity) = true
+is_of_frames answer.RefusesFrames = true
+is_of_frames (answer.Pops a) = true
+is_of_frames a = false
+
+-- or to the references that there are
+abbrev pub is_of_references : Answer → Bool
+is_of_references (answer.Deletes key) = true
+is_of_references (answer.MakesGlobal a) = true
+is_of_references (answer.DeletesGlobal slot) = true
+is_of_references a = is_of_frames a
+
 -- an answer leaves a key of this level as it is, where there were this number of frames
 abbrev pub IsLeft : Answer → (frames : ℕ) → (key level : ℕ) → Type 0
 IsLeft (answer.Deletes deleted) frames key level = key ≢ deleted

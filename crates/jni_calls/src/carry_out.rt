@@ -1,6 +1,7 @@
 //! What a call does to the store, and which exception is pending then.
 
 ghost use Rattle.std.specs.Prelude.{◌≡◌, ◌-◌, ◌<◌, ◌≤◌, ◌^◌, ℕ, length, slice_get, true, false, IfOk, OnErr};
+ghost use Rattle.jni.specs.Prototype.{ResultKind as SourceKind};
 ghost use Rattle.jni.specs.Table.{result_value};
 ghost use Rattle.source.specs.CallEffects.{CallEffect};
 ghost use Rattle.source.specs.Thread.{Shared, Thread as SourceThread};
@@ -8,7 +9,7 @@ ghost use Rattle.lowered.specs.Lowered.{Lowered};
 ghost use Rattle.tables.specs.declared.locals.TheConstants.{MOST_LOCALS};
 ghost use Rattle.tables.specs.Locals.{capacities, ensured, popped};
 ghost use Rattle.jni_calls.specs.Answers.{IsAnswer};
-ghost use Rattle.jni_calls.specs.CarriedOut.{CarriesOut, IsPossible, failed};
+ghost use Rattle.jni_calls.specs.CarriedOut.{CarriesOut, IsPossible, failed, is_of_frames, is_of_references};
 ghost use Rattle.jni_calls.specs.declared.answer.Given.TheVariants.{Number};
 
 use crate::answer::{Answer, Given};
@@ -80,6 +81,72 @@ pub fn carry_out(
             }
             None => Ok(refuse(world, store, pending, kind)),
         },
+        _ => carry_out_references(world, store, pending, locals, answer),
+    }
+}
+
+/// Does to the references of the store and of a call what an answer of references or of frames says.
+#[inline(always)]
+fn carry_out_references(
+    world: &World,
+    store: &mut Store,
+    pending: &mut Option<Addr>,
+    locals: &mut Locals,
+    answer: Answer,
+) -> Result<Carried, AllocError>
+    requires of_references { is_of_references answer ≡ true }
+    requires possible { (p : Lowered) × (kind : SourceKind) × (shared : Shared) × (s : SourceThread) × (effect : CallEffect) × IsPossible p world.now store.old pending.old locals.old kind shared s
+        × IsAnswer world.now.classes store.old.heap locals.old kind shared s answer effect }
+    ensures carried { IfOk result (λ carried. (p : Lowered) (kind : SourceKind) (shared : Shared) (s : SourceThread) (effect : CallEffect) → IsPossible p world.now store.old pending.old locals.old kind shared s
+        → IsAnswer world.now.classes store.old.heap locals.old kind shared s answer effect
+        → CarriesOut p world.now store.old.heap locals.old answer kind shared s effect carried.refused store.new pending.new locals.new carried.given) }
+    ensures store { OnErr result (store.new ≡ store.old) }
+    ensures pending { OnErr result (pending.new ≡ pending.old) }
+    ensures locals { OnErr result (locals.new ≡ locals.old) }
+{
+    match answer {
+        Answer::Deletes(key) => {
+            locals.delete(key).unwrap();
+            Ok(Carried {
+                given: Given::Nothing,
+                refused: false,
+            })
+        }
+        Answer::MakesGlobal(reference) => {
+            let held = make_global(&mut store.globals, reference)?;
+            Ok(Carried {
+                given: Given::Global(held),
+                refused: false,
+            })
+        }
+        Answer::DeletesGlobal(slot) => {
+            delete_global(&mut store.statics, &mut store.globals, slot);
+            Ok(Carried {
+                given: Given::Nothing,
+                refused: false,
+            })
+        }
+        _ => carry_out_frames(world, store, pending, locals, answer),
+    }
+}
+
+/// Does to a call's frames what an answer of frames says; the store stays.
+#[inline(always)]
+fn carry_out_frames(
+    world: &World,
+    store: &Store,
+    pending: &mut Option<Addr>,
+    locals: &mut Locals,
+    answer: Answer,
+) -> Result<Carried, AllocError>
+    requires { is_of_frames answer ≡ true }
+    ensures carried { IfOk result (λ carried. (p : Lowered) (kind : SourceKind) (shared : Shared) (s : SourceThread) (effect : CallEffect) → IsPossible p world.now store.now pending.old locals.old kind shared s
+        → IsAnswer world.now.classes store.now.heap locals.old kind shared s answer effect
+        → CarriesOut p world.now store.now.heap locals.old answer kind shared s effect carried.refused store.now pending.new locals.new carried.given) }
+    ensures pending { OnErr result (pending.new ≡ pending.old) }
+    ensures locals { OnErr result (locals.new ≡ locals.old) }
+{
+    match answer {
         Answer::Ensures(more) => {
             if ensure_room(locals, more) {
                 Ok(Carried {
@@ -108,27 +175,7 @@ pub fn carry_out(
                 refused: false,
             })
         }
-        Answer::Deletes(key) => {
-            locals.delete(key).unwrap();
-            Ok(Carried {
-                given: Given::Nothing,
-                refused: false,
-            })
-        }
-        Answer::MakesGlobal(reference) => {
-            let held = make_global(&mut store.globals, reference)?;
-            Ok(Carried {
-                given: Given::Global(held),
-                refused: false,
-            })
-        }
-        Answer::DeletesGlobal(slot) => {
-            delete_global(&mut store.statics, &mut store.globals, slot);
-            Ok(Carried {
-                given: Given::Nothing,
-                refused: false,
-            })
-        }
+        _ => unreachable!(),
     }
 }
 

@@ -13,9 +13,9 @@ use Rattle.jni.specs.Access.{Access}
 use Rattle.source.specs.Variable.{assign}
 use Rattle.indexmap.specs.IndexMap.{insert_entry}
 use Rattle.region_states.specs.declared.states.VariableState.{VariableState as VariableStateInMemory}
-use Rattle.region_states.specs.declared.changes.Change.{Change}
-use Rattle.region_states.specs.declared.changes.Change.TheVariants as change
-use Rattle.region_states.specs.Changes.{change_value}
+use Rattle.region_states.specs.declared.variables.Change.{Change}
+use Rattle.region_states.specs.declared.variables.Change.TheVariants as change
+use Rattle.region_states.specs.VariableChanges.{change_value}
 use Rattle.region_rules.specs.Regions.{made_usable}
 use Rattle.region_rules.specs.RegionStates.{VariableState, ReferenceAt, BufferIn, Free, Untested, Usable, made_free, killed, killed_from}
 use Rattle.region_states.specs.StatesInMemory.{variable_state, held_in, is_holder, one_of, holders, count_of}

@@ -1,11 +1,5 @@
 pub mod ScopeLemmas
 pub mod StateLemmas
 pub mod HolderLemmas
-pub mod ChangeLemmas
-pub mod EffectLemmas
-pub mod ReadLemmas
-pub mod NoneLemmas
-pub mod NameLemmas
-pub mod JudgementLemmas
 pub mod LeaveLemmas
 pub mod Same

@@ -1,9 +1,10 @@
 -- States: what is asked of all held buffers, and what is left of the variables.
-use Rattle.std.proofs.Common.{◌≡◌, ℕ, ◌+◌, ◌<◌, ◌++◌, arith, get_or, nat_lt, cond, position, bytes_eq, Bor, ap₂, Bool, true, false, not, ◌&&◌, ◌||◌, List, [], ◌∷◌, Option, Some, None, length, map, refl, sym, ap, ◌∙◌, filter, if◌then◌else◌}
+use Rattle.std.proofs.Common.{◌≡◌, ℕ, ◌+◌, ◌<◌, ◌++◌, arith, get_or, nat_lt, cond, position, bytes_eq, Bor, ap₂, Bool, true, false, not, ◌&&◌, ◌||◌, List, [], ◌∷◌, Option, Some, None, length, map, refl, sym, ap, ◌∙◌, filter, if◌then◌else◌, take, drop}
 use Rattle.std.specs.Prelude.{filter_map}
 use Rattle.std.specs.Prelude.{reverse}
 use Rattle.std.proofs.Math.ListN.{set}
 use Rattle.std.proofs.lemmas.List.{length-map, map-set, map-append, get_or-map}
+use Rattle.std.proofs.lemmas.List.Edits.{map_over_more}
 use Rattle.std.proofs.lemmas.List.Quantifiers.{position-Some}
 use Rattle.std.proofs.lemmas.Option.{slice_get-get_or}
 use Rattle.indexmap.specs.IndexSet.{insert_key}
@@ -84,6 +85,18 @@ pub pushed_known : (names : List Identifier) (items : List VariableStateInMemory
     → variables_value (names ++ x ∷ []) (items ++ v ∷ []) ≡ (x, variable_state v) ∷ variables_value names items
 pushed_known names items x v h =
     ap (λ (ws : List VariableState). reverse (zip (names ++ x ∷ []) ws)) (map-append variable_state items (v ∷ [])) ∙ pushed names (map variable_state items) x (variable_state v) (length-map items variable_state ∙ h)
+
+-- ---- changes in place
+
+-- a variable more is changed
+pub change_more : (f : VariableState → VariableState) (xs ys : List VariableStateInMemory) (i : ℕ) (d new : VariableStateInMemory) → i < length ys → length ys ≡ length xs
+    → map variable_state ys ≡ map f (take i (map variable_state xs)) ++ drop i (map variable_state xs) → variable_state new ≡ f (variable_state (get_or ys i d))
+    → map variable_state (set ys i new) ≡ map f (take (i + 1) (map variable_state xs)) ++ drop (i + 1) (map variable_state xs)
+change_more f xs ys i d new lt long done is =
+    map-set variable_state ys i new
+    ∙ ap (λ (v : VariableState). set (map variable_state ys) i v) is
+    ∙ map_over_more f (map variable_state xs) (map variable_state ys) i (variable_state (get_or ys i d)) (omega (arith, lt, long, length-map xs variable_state)) done
+    (sym (get_or-map variable_state ys i d (variable_state (get_or ys i d)) lt))
 
 -- ---- names in memory
 

@@ -2,11 +2,6 @@
 
 -- when two states are the same
 pub mod SameStates
--- states, names and calls as they lie in memory
+-- states, and the changes of a variable, as they lie in memory
 pub mod StatesInMemory
-pub mod NewNames
-pub mod Reads
-pub mod StateEffects
--- the rules and the changes, as the code takes them
-pub mod Judgements
-pub mod Changes
+pub mod VariableChanges

@@ -13,7 +13,7 @@ use Rattle.region_states.specs.declared.states.Condition.{Condition}
 use Rattle.region_states.specs.declared.states.Condition.TheVariants as condition
 use Rattle.region_rules.specs.RegionStates.{VariableState, ReferenceAt, BufferIn, Free, Untested, Usable, RegionState, state_of, buffer_of, held_by}
 use Rattle.region_rules.specs.Regions.{has_variable}
-use Rattle.region_rules.specs.RegionRules.{is_dead, is_reference_now, is_untested, is_free, is_held}
+use Rattle.region_rules.specs.RegionRules.{is_dead, is_reference_now, is_untested, is_free, is_held, is_level}
 
 -- what is known of a variable
 abbrev pub variable_state : VariableStateInMemory → VariableState
@@ -73,6 +73,10 @@ holds_critical state = any_holder (λ held. is_critical held.0) state
 -- a buffer that is not of the outer state is held
 abbrev pub holds_other : RegionState → RegionState → Bool
 holds_other outer state = list_any (λ v. not (has_variable outer v.0) && is_held (Some v.1)) state.variables
+
+-- the array variable of a held buffer is of the level of the youngest frame
+abbrev pub has_young_array : RegionState → Bool
+has_young_array state = any_holder (λ held. is_level state.frames (state_of state held.1)) state
 
 -- a buffer of this array variable is held
 abbrev pub holds_of : Identifier → RegionState → Bool

@@ -11,8 +11,7 @@ ghost use Rattle.region_rules.specs.Regions.{left};
 ghost use Rattle.region_rules.specs.RegionRules.{holds_buffer, is_level};
 ghost use lib.Pointwise.{pointwise};
 ghost use Rattle.region_states.specs.SameStates.{same_variable, same_state};
-ghost use Rattle.region_states.specs.StatesInMemory.{any_asked, holds_other, variable_state, names_of, Grows, IsSaved, HasCounts, condition_holds, asks, held_in, is_holder, holds_critical, holds_of};
-ghost use Rattle.region_states.specs.Judgements.{has_young_array};
+ghost use Rattle.region_states.specs.StatesInMemory.{any_asked, holds_other, variable_state, names_of, Grows, IsSaved, HasCounts, condition_holds, asks, held_in, is_holder, holds_critical, holds_of, has_young_array};
 
 use crate::holders::{Holders, counted};
 use crate::scope::Names;

@@ -1,6 +1,6 @@
 use Rattle.std.proofs.Common.{◌≡◌, ℕ, List, Option, Some, None, Result, Ok, Err, refl, sym, ap, ◌∙◌, subst, get_or}
 use Rattle.std.specs.Prelude.{slice_get, IsSome, IsOk, IfErr, OnOk}
-use Rattle.std.proofs.lemmas.Option.{get_or_from_slice_get}
+use Rattle.std.proofs.lemmas.Option.{get_or_from_slice_get, slice_get_within}
 use Rattle.tables.specs.declared.globals.Global.{Global}
 use Rattle.tables.specs.declared.fault.TableFault.{TableFault}
 use Rattle.tables.specs.declared.fault.TableFault.TheVariants.{Dead}
@@ -31,3 +31,14 @@ returns-clause-globals c key there =
     let same = same_key c.args.statics.now c.args.slot c.index-statics-place.result key c.in-Live.key there c.index-statics-place.is c.in-Live.is in
     let done = subst {A = Result (Unit {0}) TableFault} (λ r. OnOk r (c.delete.new.self ≡ without c.args.globals.now c.in-Live.key)) c.unwrap.ensures c.delete.ensures.ok in
     done ∙ ap (without c.args.globals.now) (sym same)
+
+pub unreachable-requires : goal.unreachable-requires
+unreachable-requires c =
+    let r = c.requires in
+    c.in_default.not-Live r.0 (c.index-statics-place.is ∙ get_or_from_slice_get c.args.statics.now c.args.slot (Live r.0) c.index-statics-place.result r.1)
+
+pub bounds-statics-place : goal.bounds-statics-place
+bounds-statics-place c = slice_get_within c.args.statics.now c.args.slot (Live c.requires.0) c.requires.1
+
+pub bounds-statics-place-2 : goal.bounds-statics-place-2
+bounds-statics-place-2 c = slice_get_within c.args.statics.now c.args.slot (Live c.requires.0) c.requires.1

@@ -3,7 +3,7 @@ use Rattle.std.specs.List.{list_any}
 use Rattle.region_rules.specs.RegionRules.{is_level}
 use Rattle.region_rules.specs.RegionStates.{state_of}
 use Rattle.region_states.specs.StatesInMemory.{is_holder, variable_state}
-use Rattle.region_states.specs.Judgements.{has_young_array}
+use Rattle.region_states.specs.StatesInMemory.{has_young_array}
 use Rattle.region_states.proofs.states.has_young_array.Given as goal
 
 abbrev pub invariant-loop-v : goal.invariant-loop-v

@@ -1,0 +1,46 @@
+use Rattle.std.proofs.Common.{◌≡◌, ℕ, Bool, true, false, not, ◌&&◌, Option, refl, sym, ap, ◌∙◌, subst, true≢false}
+use Rattle.code.specs.Call.{call_view}
+use Rattle.jni.specs.Table.{function_value}
+use Rattle.jni.specs.declared.function.JniFunction.{JniFunction}
+use Rattle.jni_calls.specs.declared.answer.Answer.TheVariants.{Gives}
+use Rattle.jni_calls.specs.declared.answer.Given.TheVariants.{Number, Reference}
+use Rattle.jni_calls.specs.Checked.{fit_together}
+use Rattle.jni_calls.specs.WorkedOut.{IsWorkedOut, address_in, word_in}
+use Rattle.jni_calls.proofs.answer.work_out_field.Goals as goal
+
+-- the field of a call is no static, or is one
+is_field : (static there fits : Bool) → ((not static && there) && fits) ≡ true → static ≡ false
+is_field true there fits h = absurd (true≢false (sym h))
+is_field false there fits h = refl
+
+is_static : (static there fits : Bool) → ((static && there) && fits) ≡ true → static ≡ true
+is_static true there fits h = refl
+is_static false there fits h = absurd (true≢false (sym h))
+
+pub returns-in-GetField : goal.returns-in-GetField
+returns-in-GetField c =
+    let Passes = λ (f : JniFunction). fit_together c.args.classes.now c.args.heap.now c.args.references.now c.args.fields.now c.args.function.now.operands.items (function_value f) ≡ true in
+    let known = is_field _ _ _ (subst Passes c.in-GetField.is c.requires.passed) in
+    subst (λ (f : JniFunction). IsWorkedOut c.args.classes.now c.args.heap.now c.args.loaded.now c.args.references.now c.args.fields.now c.args.stack.now (call_view c.args.function.now) (function_value f) (Gives (Number c.word_in.result))) (sym c.in-GetField.is)
+    (ap (λ (n : ℕ). Gives (Number n)) (c.word_in.ensures ∙ ap word_in (c.value_of_field-value.ensures known)))
+
+pub returns-in-GetObjectField : goal.returns-in-GetObjectField
+returns-in-GetObjectField c =
+    let Passes = λ (f : JniFunction). fit_together c.args.classes.now c.args.heap.now c.args.references.now c.args.fields.now c.args.function.now.operands.items (function_value f) ≡ true in
+    let known = is_field _ _ _ (subst Passes c.in-GetObjectField.is c.requires.passed) in
+    subst (λ (f : JniFunction). IsWorkedOut c.args.classes.now c.args.heap.now c.args.loaded.now c.args.references.now c.args.fields.now c.args.stack.now (call_view c.args.function.now) (function_value f) (Gives (Reference c.address_in.result))) (sym c.in-GetObjectField.is)
+    (ap (λ (a : Option ℕ). Gives (Reference a)) (c.address_in.ensures ∙ ap address_in (c.value_of_field-value-in-GetObjectField.ensures known)))
+
+pub returns-in-GetStaticField : goal.returns-in-GetStaticField
+returns-in-GetStaticField c =
+    let Passes = λ (f : JniFunction). fit_together c.args.classes.now c.args.heap.now c.args.references.now c.args.fields.now c.args.function.now.operands.items (function_value f) ≡ true in
+    let known = is_static _ _ _ (subst Passes c.in-GetStaticField.is c.requires.passed) in
+    subst (λ (f : JniFunction). IsWorkedOut c.args.classes.now c.args.heap.now c.args.loaded.now c.args.references.now c.args.fields.now c.args.stack.now (call_view c.args.function.now) (function_value f) (Gives (Number c.word_in-in-GetStaticField.result))) (sym c.in-GetStaticField.is)
+    (ap (λ (n : ℕ). Gives (Number n)) (c.word_in-in-GetStaticField.ensures ∙ ap word_in (c.value_of_static-value.ensures known)))
+
+pub returns-in-GetStaticObjectField : goal.returns-in-GetStaticObjectField
+returns-in-GetStaticObjectField c =
+    let Passes = λ (f : JniFunction). fit_together c.args.classes.now c.args.heap.now c.args.references.now c.args.fields.now c.args.function.now.operands.items (function_value f) ≡ true in
+    let known = is_static _ _ _ (subst Passes c.in-GetStaticObjectField.is c.requires.passed) in
+    subst (λ (f : JniFunction). IsWorkedOut c.args.classes.now c.args.heap.now c.args.loaded.now c.args.references.now c.args.fields.now c.args.stack.now (call_view c.args.function.now) (function_value f) (Gives (Reference c.address_in-in-GetStaticObjectField.result))) (sym c.in-GetStaticObjectField.is)
+    (ap (λ (a : Option ℕ). Gives (Reference a)) (c.address_in-in-GetStaticObjectField.ensures ∙ ap address_in (c.value_of_static-value-in-GetStaticObjectField.ensures known)))
