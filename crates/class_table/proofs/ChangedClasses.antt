@@ -4,7 +4,7 @@ use Rattle.std.specs.Prelude.{◌==◌, ◌||◌, unwrap_or, if◌then◌else◌
 use Rattle.std.specs.List.{enumerate_from}
 use Rattle.std.specs.Map.{values_of}
 use Rattle.std.specs.Global.{Vec}
-use Rattle.std.proofs.lemmas.Bool.Decides.{nat_tests}
+use Rattle.std.proofs.lemmas.Bool.{eq-eqb, ne_eqb}
 use Rattle.indexmap.specs.IndexMap.{set_value_at}
 use Rattle.class_table.specs.declared.class.Entry.{Entry}
 use Rattle.class_table.specs.declared.class.Field.{Field as FieldInMemory}
@@ -24,7 +24,7 @@ module _ (change : Class → Class) where
   past : (c n : ℕ) (T : Classes) → c < n → from c n T ≡ T
   past c n [] h = refl
   past c n (d ∷ T) h =
-      let no : (n == c) ≡ false = grind (arith, nat_tests) in
+      let no : (n == c) ≡ false = ne_eqb n c (λ (e : n ≡ c). omega (arith, h, e)) in
       (λ i. cond (no i) (change d) d ∷ past c (n + 1) T (omega (arith, h)) i)
 
   at : (n i : ℕ) (es : List (Vec ℕ × Entry)) (e new : Entry) → slice_get (values_of es) i ≡ Some e → ((name : Vec ℕ) → class_view (name, new) ≡ change (class_view (name, e)))
@@ -32,11 +32,11 @@ module _ (change : Class → Class) where
   at n i [] e new h is = absurd (cc)
   at n zero (x ∷ es) e new h is =
       let own : x.1 ≡ e = cc in
-      let yes : (n == n + 0) ≡ true = grind (arith, nat_tests) in
+      let yes : (n == n + 0) ≡ true = eq-eqb n (n + 0) (omega arith) in
       ap (λ d. d ∷ classes_view es) (is x.0 ∙ ap (λ v. change (class_view (x.0, v))) (sym own))
       ∙ (λ k. cond (sym yes k) (change (class_view x)) (class_view x) ∷ sym (past (n + 0) (n + 1) (classes_view es) (omega arith)) k)
   at n (suc i) (x ∷ es) e new h is =
-      let no : (n == n + suc i) ≡ false = grind (arith, nat_tests) in
+      let no : (n == n + suc i) ≡ false = ne_eqb n (n + suc i) (λ (e : n ≡ n + suc i). omega (arith, e)) in
       let further : (n + 1) + i ≡ n + suc i = omega arith in
       ap (λ T. class_view x ∷ T) (at (n + 1) i es e new h is ∙ ap (λ c. from c (n + 1) (classes_view es)) further)
       ∙ (λ k. cond (sym no k) (change (class_view x)) (class_view x) ∷ from (n + suc i) (n + 1) (classes_view es))

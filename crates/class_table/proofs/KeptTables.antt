@@ -3,7 +3,7 @@ use Rattle.std.proofs.Common.{not, map, append_assoc, unwrap_or, ◌≡◌, ℕ,
 use Rattle.std.specs.Prelude.{◌==◌, ◌&&◌, ◌||◌}
 use Rattle.std.specs.Option.{option_map, option_map_or}
 use Rattle.std.specs.List.{list_all, list_any, enumerate_from, prefix_len}
-use Rattle.std.proofs.lemmas.Bool.Decides.{nat_tests}
+use Rattle.std.proofs.lemmas.Bool.{ltb-true, ltb-false, lt-ltb, eqb-true}
 use Rattle.std.proofs.lemmas.List.Folds.{list_all-append}
 use Rattle.base.specs.Bytes.{Identifier, first_passes}
 use Rattle.class_table.specs.declared.built_ins.BuiltIn.{BuiltIn}
@@ -41,13 +41,11 @@ chain false false false false h = record { first = refl; second = refl; third = 
 
 few_classes : (T : Classes) (name superclass : Identifier) → first_broken (λ rule. class_breaks rule T name superclass) ≡ None → length T + 2 ≤ 256
 few_classes T name superclass h =
-    let q = (chain (class_breaks NameTaken T name superclass) (class_breaks BadSuperclass T name superclass) false (class_breaks TooMany T name superclass) h).fourth in
-    grind (arith, nat_tests)
+    ltb-false 256 (length T + 2) (chain (class_breaks NameTaken T name superclass) (class_breaks BadSuperclass T name superclass) false (class_breaks TooMany T name superclass) h).fourth
 
 few_declared : (T : Classes) (c : Option ℕ) (name : Identifier) (text : List ℕ) → first_broken (λ rule. field_breaks rule T c name text) ≡ None → length (declared_fields T c) + 1 ≤ 64
 few_declared T c name text h =
-    let q = (chain (field_breaks NameTaken T c name text) false (field_breaks BadSignature T c name text) (field_breaks TooMany T c name text) h).fourth in
-    grind (arith, nat_tests)
+    ltb-false 64 (length (declared_fields T c) + 1) (chain (field_breaks NameTaken T c name text) false (field_breaks BadSignature T c name text) (field_breaks TooMany T c name text) h).fourth
 
 -- ---- the tables of lists
 
@@ -79,7 +77,7 @@ listed-table list h =
     let p = both _ (list_all has_few_fields (listed_classes list)) o.0 in
     let q = both _ (nat_lt (length (listed_classes list)) 257) p.0 in
     let r = both (list_all (λ b. is_class_name b.name.now) list) _ q.0 in
-    record { elements = listed-elements list r.0; differ = all-differ list h; named = listed-named list; few = (let t = q.1 in grind (arith, nat_tests)); few_fields = p.1; declared_once = o.1 }
+    record { elements = listed-elements list r.0; differ = all-differ list h; named = listed-named list; few = omega (arith, ltb-true (length (listed_classes list)) 257 q.1); few_fields = p.1; declared_once = o.1 }
 
 -- ---- a class more
 
@@ -138,7 +136,7 @@ module _ (change : Class → Class) where
     where
       step : (b : Bool) → (n == c) ≡ b → holds d ≡ true → list_all holds (from change c (n + 1) T) ≡ true → (n + 0 ≡ c → holds d ≡ true → holds (change d) ≡ true)
           → (holds (cond b (change d) d) && list_all holds (from change c (n + 1) T)) ≡ true
-      step true e here rest mine = let is : n + 0 ≡ c = grind (arith, nat_tests) in ap (λ b. b && list_all holds (from change c (n + 1) T)) (mine is here) ∙ rest
+      step true e here rest mine = let is : n + 0 ≡ c = omega (arith, eqb-true n c e) in ap (λ b. b && list_all holds (from change c (n + 1) T)) (mine is here) ∙ rest
       step false e here rest mine = ap (λ b. b && list_all holds (from change c (n + 1) T)) here ∙ rest
 
 -- a name that the class doesn't declare
@@ -214,7 +212,7 @@ declared-table T c field name text false low named h t =
         let few = few_declared T (Some c) name text h in
         let some = length-append d.fields d.statics in
         let more = length-append d.fields (field ∷ []) in
-        grind (arith, nat_tests)
+        lt-ltb (length (d.fields ++ field ∷ [])) 65 (omega arith)
 
 -- numbers count from 1
 pub named-low : (o : Option ℕ) (c : ℕ) → option_map (λ i. i + 1) o ≡ Some c → 0 < c
@@ -230,7 +228,7 @@ named-high T name c h = by_test (nat_lt n (length T)) refl h
     n = prefix_len (λ (d : Class). not (bytes_eq d.name name)) T
 
     by_test : (b : Bool) → nat_lt n (length T) ≡ b → option_map (λ i. i + 1) (cond b (Some n) None) ≡ Some c → c ≤ length T
-    by_test true e q = let is : n + 1 ≡ c = cc in let below : n < length T = grind (arith, nat_tests) in omega arith
+    by_test true e q = let is : n + 1 ≡ c = cc in omega (arith, ltb-true n (length T) e)
     by_test false e q = absurd (cc)
 
 pub grown-added : (T : Classes) (name superclass : Identifier) (s : ℕ) → first_broken (λ rule. class_breaks rule T name superclass) ≡ None → class_named T superclass ≡ Some s → IsGrown T → IsGrown (with_class T (new_class name (Some s)))

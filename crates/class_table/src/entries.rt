@@ -46,10 +46,7 @@ impl Entry {
 pub(crate) fn array_name(alloc: Global, element: &[u8]) -> Result<Vec<u8>, AllocError>
     ensures { IfOk result (λ name. name.items ≡ array_name element.now) }
 {
-    let mut name = Vec::from_slice(alloc, b"[L")?;
-    name.extend_from_slice(element)?;
-    name.extend_from_slice(b";")?;
-    Ok(name)
+    [b"[L", element, b";"].concat(alloc)
 }
 
 /// Puts a class after the others.

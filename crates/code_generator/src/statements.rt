@@ -400,7 +400,7 @@ fn emit_prepared(
 {
     let alloc = *code.allocator();
     let mut texts = Vec::new(alloc);
-    push_texts(alloc, &mut texts, arguments)?;
+    push_texts(&mut texts, arguments)?;
     let call = instr::Call::new(line, target, function, operands, texts);
     emit(code, Instr::Call(BoxedCall::of(alloc, call)?))
 }
@@ -526,20 +526,17 @@ fn variable_operand(sort: Sort, index: u32) -> Operand
 }
 
 /// Copies of the texts among the arguments of a call, in order.
-fn push_texts(
-    alloc: Global,
-    texts: &mut Vec<Vec<u8>>,
-    arguments: &[Argument],
-) -> Result<(), AllocError>
+fn push_texts(texts: &mut Vec<Vec<u8>>, arguments: &[Argument]) -> Result<(), AllocError>
     ensures { OnOk result (map (λ text. text.items) texts.new.items ≡ map (λ text. text.items) texts.old.items ++ arguments_texts (map argument_tree arguments.now)) }
 {
     match arguments {
         [] => Ok(()),
         [Argument::Text(bytes), arguments @ ..] => {
-            texts.push(Vec::from_slice(alloc, bytes)?)?;
-            push_texts(alloc, texts, arguments)
+            let text = Vec::from_slice(*texts.allocator(), bytes)?;
+            texts.push(text)?;
+            push_texts(texts, arguments)
         }
-        [_, arguments @ ..] => push_texts(alloc, texts, arguments),
+        [_, arguments @ ..] => push_texts(texts, arguments),
     }
 }
 

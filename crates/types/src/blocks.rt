@@ -11,12 +11,10 @@ use crate::scope::take;
 use crate::sort::Sort;
 use crate::statements::{check_statement, declared};
 use sorts::Known;
-use std::alloc::Global;
 use syntax::{Block, Form, Name, ResultType};
 
 /// The name that a statement declares is known and taken.
 fn declare<'a>(
-    alloc: Global,
     known: &mut Known<'a, Sort>,
     taken: &mut Vec<Name>,
     form: &'a Form,
@@ -29,7 +27,7 @@ fn declare<'a>(
     match declared(form) {
         Some((name, sort)) => {
             known.declare(name, sort)?;
-            take(alloc, taken, name)?;
+            take(taken, name)?;
             Ok(())
         }
         None => Ok(()),
@@ -40,7 +38,6 @@ fn declare<'a>(
 #[tactic(auto, using(crate::proofs::PlaceLemmas::place_rules))]
 #[cycle(blocks)]
 fn check_inside<'a>(
-    alloc: Global,
     known: &mut Known<'a, Sort>,
     taken: &mut Vec<Name>,
     returns: ResultType,
@@ -52,13 +49,13 @@ fn check_inside<'a>(
     ensures taken { OnOk result ((line : ℕ) → taken.new.items ≡ taken.old.items ++ names_declared (statements_within (form_tree line form.now))) }
 {
     match form {
-        Form::If(_, b) => check_block(alloc, known, taken, returns, b),
+        Form::If(_, b) => check_block(known, taken, returns, b),
         Form::IfElse(_, b, d) => {
-            check_block(alloc, known, taken, returns, b)?;
-            check_block(alloc, known, taken, returns, d)
+            check_block(known, taken, returns, b)?;
+            check_block(known, taken, returns, d)
         }
-        Form::While(_, b) => check_block(alloc, known, taken, returns, b),
-        _ => declare(alloc, known, taken, form),
+        Form::While(_, b) => check_block(known, taken, returns, b),
+        _ => declare(known, taken, form),
     }
 }
 
@@ -66,7 +63,6 @@ fn check_inside<'a>(
 /// declares are known no more, and stay taken.
 #[cycle(blocks)]
 pub(crate) fn check_block<'a>(
-    alloc: Global,
     known: &mut Known<'a, Sort>,
     taken: &mut Vec<Name>,
     returns: ResultType,
@@ -79,7 +75,7 @@ pub(crate) fn check_block<'a>(
     let outside = known.len();
     for stmt in &block.statements {
         check_statement(known, taken, returns, stmt)?;
-        check_inside(alloc, known, taken, returns, &stmt.form)?;
+        check_inside(known, taken, returns, &stmt.form)?;
     }
     known.leave(outside);
     Ok(())

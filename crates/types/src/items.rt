@@ -1,9 +1,9 @@
 //! The check of a unit's items.
 
-ghost use Rattle.std.specs.Prelude.{◌≡◌, [], ◌∷◌, OnOk, map};
+ghost use Rattle.std.specs.Prelude.{◌≡◌, [], ◌∷◌, ◌++◌, OnOk, map};
 ghost use Rattle.syntax.specs.Parts.{item_name};
-ghost use Rattle.syntax.specs.Views.{function_tree, item_tree};
-ghost use Rattle.sorts.specs.SortRules.{DeclaredTwice, has_name, function_places, item_places};
+ghost use Rattle.syntax.specs.Views.{block_tree, function_tree, item_tree, result_tree};
+ghost use Rattle.sorts.specs.SortRules.{DeclaredTwice, has_name, places_of, function_places, item_places};
 ghost use Rattle.types.specs.Faults.{Finds, broken_if, scope_of, sort_value, found, head_faults, own_places, with_static};
 
 use crate::blocks::check_block;
@@ -31,6 +31,20 @@ fn check_head(names: &[Name], entry: &[Name], f: &Function) -> Result<(), TypeFa
     )
 }
 
+/// A function after items of these names, where its parameters and the statics are known and have the names that are taken.
+fn check_body<'a>(
+    names: &[Name],
+    known: &mut Known<'a, Sort>,
+    taken: &mut Vec<Name>,
+    f: &'a Function,
+) -> Result<(), TypeFault>
+    ensures finds { Finds result (head_faults names.now taken.old.items f.now ++ found (places_of (result_tree f.now.result) (scope_of known.old) taken.old.items (block_tree f.now.body))) }
+    ensures restored { OnOk result (known.new ≡ known.old) }
+{
+    check_head(names, taken, f)?;
+    check_block(known, taken, f.result, &f.body)
+}
+
 /// A function after items of these names, where these statics are known, as they are again after it.
 fn check_function<'a>(
     alloc: Global,
@@ -44,24 +58,22 @@ fn check_function<'a>(
     let outside = known.len();
     enter(known, f)?;
     let mut taken = known.names(alloc)?;
-    check_head(names, &taken, f)?;
-    let checked: Result<(), TypeFault> = check_block(alloc, known, &mut taken, f.result, &f.body);
+    let checked: Result<(), TypeFault> = check_body(names, known, &mut taken, f);
     known.leave(outside);
     checked
 }
 
 /// One name more, before the others.
-fn put_first(alloc: Global, names: &mut Vec<Name>, name: &Name) -> Result<(), AllocError>
+fn put_first(names: &mut Vec<Name>, name: &Name) -> Result<(), AllocError>
     ensures { OnOk result (names.new.items ≡ name.now ∷ names.old.items) }
 {
-    let first = Name::new(alloc, name.as_bytes())?;
+    let first = Name::new(*names.allocator(), name.as_bytes())?;
     names.insert(0, first)?;
     Ok(())
 }
 
 /// A static after items of these names and these statics, which become more by it.
 fn check_static<'a>(
-    alloc: Global,
     names: &mut Vec<Name>,
     statics: &mut Known<'a, Sort>,
     s: &'a Static,
@@ -72,13 +84,12 @@ fn check_static<'a>(
 {
     refuse_if(has_name(names, &s.name), SortRule::DeclaredTwice, s.line)?;
     statics.declare(&s.name, Sort::Global)?;
-    put_first(alloc, names, &s.name)?;
+    put_first(names, &s.name)?;
     Ok(())
 }
 
 /// A function after items of these names and these statics, whose name is one more of those.
 fn check_named<'a>(
-    alloc: Global,
     names: &mut Vec<Name>,
     statics: &mut Known<'a, Sort>,
     f: &'a Function,
@@ -87,14 +98,13 @@ fn check_named<'a>(
     ensures names { OnOk result (names.new.items ≡ f.now.name ∷ names.old.items) }
     ensures statics { OnOk result (statics.new ≡ statics.old) }
 {
-    check_function(alloc, names, statics, f)?;
-    put_first(alloc, names, &f.name)?;
+    check_function(*names.allocator(), names, statics, f)?;
+    put_first(names, &f.name)?;
     Ok(())
 }
 
 /// An item after items of these names and these statics, which become more by it.
 fn check_item<'a>(
-    alloc: Global,
     names: &mut Vec<Name>,
     statics: &mut Known<'a, Sort>,
     item: &'a Item,
@@ -104,19 +114,28 @@ fn check_item<'a>(
     ensures statics { OnOk result (scope_of statics.new ≡ with_static (scope_of statics.old) (item_tree item.now)) }
 {
     match item {
-        Item::Static(s) => check_static(alloc, names, statics, s),
-        Item::Function(f) => check_named(alloc, names, statics, f),
+        Item::Static(s) => check_static(names, statics, s),
+        Item::Function(f) => check_named(names, statics, f),
     }
+}
+
+/// Items after items of these names and these statics, which become more by each.
+fn check_each<'a>(
+    names: &mut Vec<Name>,
+    statics: &mut Known<'a, Sort>,
+    items: &'a [Item],
+) -> Result<(), TypeFault>
+    ensures { Finds result (found (item_places names.old.items (scope_of statics.old) (map item_tree items.now))) }
+{
+    for item in items {
+        check_item(names, statics, item)?;
+    }
+    Ok(())
 }
 
 /// The items of a unit. Each name is compared with those of the items before it, which are 512 at most.
 pub(crate) fn check_items(alloc: Global, items: &[Item]) -> Result<(), TypeFault>
     ensures { Finds result (found (item_places [] [] (map item_tree items.now))) }
 {
-    let mut names = Vec::new(alloc);
-    let mut statics = Known::new(alloc);
-    for item in items {
-        check_item(alloc, &mut names, &mut statics, item)?;
-    }
-    Ok(())
+    check_each(&mut Vec::new(alloc), &mut Known::new(alloc), items)
 }

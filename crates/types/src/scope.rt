@@ -9,7 +9,7 @@ ghost use Rattle.types.specs.Faults.{IsAbove, scope_of, sort_value, entry_scope}
 
 use crate::sort::{Sort, parameter_sort};
 use sorts::Known;
-use std::alloc::{AllocError, Global};
+use std::alloc::AllocError;
 use syntax::{Function, Name, Parameter};
 
 /// Whether two names are spelled alike.
@@ -53,9 +53,10 @@ pub(crate) fn has_repeated(names: &[Name]) -> bool
 }
 
 /// One name more is taken.
-pub(crate) fn take(alloc: Global, taken: &mut Vec<Name>, name: &Name) -> Result<(), AllocError>
+pub(crate) fn take(taken: &mut Vec<Name>, name: &Name) -> Result<(), AllocError>
     ensures { OnOk result (taken.new.items ≡ taken.old.items ++ name.now ∷ []) }
 {
+    let alloc = *taken.allocator();
     taken.push(Name::new(alloc, name.as_bytes())?)?;
     Ok(())
 }

@@ -1,4 +1,4 @@
-use Rattle.std.proofs.Common.{◌≡◌, ℕ, ◌+◌, List, [], ◌∷◌, ◌++◌, Result, Ok, Err, OnOk, drop, refl, sym, ap, ap₂, subst, ◌∙◌, append_assoc}
+use Rattle.std.proofs.Common.{◌≡◌, ℕ, ◌+◌, ◌-◌, List, [], ◌∷◌, ◌++◌, Result, Ok, Err, OnOk, drop, length, refl, sym, ap, ap₂, subst, ◌∙◌, append_assoc, append-nil}
 use Rattle.std.proofs.lemmas.List.Elements.{filter_map-append}
 use Rattle.std.proofs.lemmas.Result.{err_from_is_err_and}
 use Rattle.base.specs.Bytes.{Identifier}
@@ -13,7 +13,7 @@ use Rattle.sorts.specs.BuiltCalls.{refused_at}
 use Rattle.types.specs.Faults.{Faults, Finds, Refuses, IsAbove, scope_of, found, statement_place, places_inside}
 use Rattle.types.proofs.FindsLemmas.{Refuses-first}
 use Rattle.types.proofs.PlaceLemmas.{found-none, past}
-use Rattle.types.proofs.BlockLemmas.{found-rest, declared-rest, alone, none-inside, above-none, above-more}
+use Rattle.types.proofs.BlockLemmas.{found-rest, declared-rest, alone, none-inside, above-none, above-more, forgotten}
 use Rattle.types.proofs.blocks.+blocks.Goals as goal
 
 nothing : (here inside rest : Faults) → here ≡ [] → inside ≡ [] → (here ++ inside) ++ rest ≡ rest
@@ -32,6 +32,10 @@ on_ok (Err e) P Q f h = h
 
 two_blocks : (taken : List Identifier) (line : ℕ) (test : Test) (b d : Block) → (taken ++ names_declared (statements_of b)) ++ names_declared (statements_of d) ≡ taken ++ names_declared (statements_within (IfElse line test b d))
 two_blocks taken line test b d = append_assoc taken _ _ ∙ ap (λ names. taken ++ names) (sym (filter_map-append declared_name (statements_of b) (statements_of d)))
+
+-- after a fault nothing is said of what is known and taken
+on_err : {A E : Type 0} (r : Result A E) (e : E) (P : Type 0) → r ≡ Err e → OnOk r P
+on_err r e P was = rw was tt
 
 -- ---- the loop over a block's statements
 
@@ -99,6 +103,31 @@ check_block-returns-clause-finds t c =
     ∙ ap (λ items. found (places_of (result_tree c.args.returns) (scope_of c.loop-stmt.known) c.loop-stmt.taken.items (statements_tree items (out-Block c.args.block.now).end_line)))
     (past c.loop-stmt.stmt-index c.deref-stmt-items.result.now c.loop-stmt-test.false)
     ∙ found-none
+
+pub check_block-returns-clause-restored : goal.check_block-returns-clause-restored
+check_block-returns-clause-restored t c =
+    c.leave.ensures ∙ ap (λ n. drop (length c.loop-stmt.known - n) c.loop-stmt.known) c.len-outside.ensures ∙ forgotten c.loop-stmt.known c.args.known.now c.loop-stmt.invariant.above
+
+pub check_block-returns-clause-taken : goal.check_block-returns-clause-taken
+check_block-returns-clause-taken t c =
+    sym
+    (c.loop-stmt.invariant.taken
+    ∙ ap (λ items. c.loop-stmt.taken.items ++ names_declared (statements_of (statements_tree items (out-Block c.args.block.now).end_line))) (past c.loop-stmt.stmt-index c.deref-stmt-items.result.now c.loop-stmt-test.false)
+    ∙ append-nil c.loop-stmt.taken.items)
+
+pub check_block-returns-in_err-check_statement-clause-restored : goal.check_block-returns-in_err-check_statement-clause-restored
+check_block-returns-in_err-check_statement-clause-restored t c = on_err c.from_residual.result _ _ (err_from_is_err_and c.from_residual.result c.from_residual.ensures.1).1
+
+pub check_block-returns-in_err-check_statement-clause-taken : goal.check_block-returns-in_err-check_statement-clause-taken
+check_block-returns-in_err-check_statement-clause-taken t c = on_err c.from_residual.result _ _ (err_from_is_err_and c.from_residual.result c.from_residual.ensures.1).1
+
+pub check_block-returns-in_err-check_inside-clause-restored : goal.check_block-returns-in_err-check_inside-clause-restored
+check_block-returns-in_err-check_inside-clause-restored t c =
+    on_err c.from_residual-in_err-check_inside.result _ _ (err_from_is_err_and c.from_residual-in_err-check_inside.result c.from_residual-in_err-check_inside.ensures.1).1
+
+pub check_block-returns-in_err-check_inside-clause-taken : goal.check_block-returns-in_err-check_inside-clause-taken
+check_block-returns-in_err-check_inside-clause-taken t c =
+    on_err c.from_residual-in_err-check_inside.result _ _ (err_from_is_err_and c.from_residual-in_err-check_inside.result c.from_residual-in_err-check_inside.ensures.1).1
 
 -- ---- what is inside a statement
 
