@@ -45,3 +45,10 @@ returns-in-Err c =
     ∙ ap (held globals) (sym c.in-Some-Live.field-0-is)
     ∙ ap (λ (o : Option (Bor StaticReference)). held_or_null (option_map (held globals) (option_copied o))) (sym c.in-Some-Live.is)
     ∙ held_in_slot globals c.self.inside.statics.now c.args.slot c.get.result c.args.self.now c.get.ensures.lookup (ap (λ (r : References). r.statics) c.self.view_is)
+
+pub returns-in-Some-Deleted : goal.returns-in-Some-Deleted
+returns-in-Some-Deleted c =
+    let globals = c.self.inside.globals.now in
+    ap (held globals) (sym c.in-Some-Deleted.field-0-is)
+    ∙ ap (λ (o : Option (Bor StaticReference)). held_or_null (option_map (held globals) (option_copied o))) (sym c.in-Some-Deleted.is)
+    ∙ held_in_slot globals c.self.inside.statics.now c.args.slot c.get.result c.args.self.now c.get.ensures.lookup (ap (λ (r : References). r.statics) c.self.view_is)
