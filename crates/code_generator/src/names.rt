@@ -181,13 +181,7 @@ fn parameter_sort(kind: ParameterType) -> Sort
     }
 }
 
-/// One more, where it can be counted.
-fn one_more(count: u32) -> Result<u32, AllocError>
-    ensures { IfOk result (λ n. n ≡ count + 1) }
-{
-    more(count, 1)
-}
-
+/// So many more, where they can be counted.
 fn more(count: u32, by: u32) -> Result<u32, AllocError>
     ensures { IfOk result (λ n. n ≡ count + by) }
 {
@@ -203,11 +197,11 @@ fn slots_after(slots: SlotCounts, sort: Sort) -> Result<SlotCounts, AllocError>
 {
     let mut after = slots;
     match sort {
-        Sort::Reference => after.references = one_more(slots.references)?,
-        Sort::Static => after.statics = one_more(slots.statics)?,
-        Sort::FieldId => after.field_ids = one_more(slots.field_ids)?,
-        Sort::Buffer(..) => after.buffers = one_more(slots.buffers)?,
-        Sort::Word | Sort::Jint | Sort::Flag => after.numbers = one_more(slots.numbers)?,
+        Sort::Reference => after.references = more(slots.references, 1)?,
+        Sort::Static => after.statics = more(slots.statics, 1)?,
+        Sort::FieldId => after.field_ids = more(slots.field_ids, 1)?,
+        Sort::Buffer(..) => after.buffers = more(slots.buffers, 1)?,
+        Sort::Word | Sort::Jint | Sort::Flag => after.numbers = more(slots.numbers, 1)?,
         Sort::Array(_, len) => after.numbers = more(slots.numbers, len)?,
     }
     Ok(after)

@@ -1,6 +1,6 @@
 //! The check of a unit's items.
 
-ghost use Rattle.std.specs.Prelude.{◌≡◌, [], ◌∷◌, ◌++◌, OnOk, map};
+ghost use Rattle.std.specs.Prelude.{◌≡◌, ◌∷◌, ◌++◌, OnOk, map};
 ghost use Rattle.syntax.specs.Parts.{item_name};
 ghost use Rattle.syntax.specs.Views.{block_tree, function_tree, item_tree, result_tree};
 ghost use Rattle.sorts.specs.SortRules.{DeclaredTwice, has_name, places_of, function_places, item_places};
@@ -119,8 +119,9 @@ fn check_item<'a>(
     }
 }
 
-/// Items after items of these names and these statics, which become more by each.
-fn check_each<'a>(
+/// Items after items of these names and these statics, which become more by each. Each name is compared with those of the
+/// items before it, which are 512 at most.
+pub(crate) fn check_items<'a>(
     names: &mut Vec<Name>,
     statics: &mut Known<'a, Sort>,
     items: &'a [Item],
@@ -131,11 +132,4 @@ fn check_each<'a>(
         check_item(names, statics, item)?;
     }
     Ok(())
-}
-
-/// The items of a unit. Each name is compared with those of the items before it, which are 512 at most.
-pub(crate) fn check_items(alloc: Global, items: &[Item]) -> Result<(), TypeFault>
-    ensures { Finds result (found (item_places [] [] (map item_tree items.now))) }
-{
-    check_each(&mut Vec::new(alloc), &mut Known::new(alloc), items)
 }

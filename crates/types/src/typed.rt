@@ -8,14 +8,14 @@ ghost use Rattle.types.specs.Faults.{Finds, IfBroken, fault_of, rule_of};
 
 use crate::fault::TypeFault;
 use crate::items::check_items;
-use sorts::Typed;
+use sorts::{Known, Typed};
 use std::alloc::Global;
 use syntax::Unit;
 
 fn check_unit(alloc: Global, unit: &Unit) -> Result<(), TypeFault>
     ensures { Finds result (refused (unit_tree unit.now)) }
 {
-    check_items(alloc, unit.items())
+    check_items(&mut Vec::new(alloc), &mut Known::new(alloc), unit.items())
 }
 
 /// The unit, where it keeps the rules on names and sorts, and calls functions that can be called today. A statement's

@@ -8,7 +8,7 @@ use Rattle.types.specs.Faults.{Faults, Finds, Refuses, found, scope_of, with_sta
 use Rattle.types.proofs.FindsLemmas.{Refuses-first}
 use Rattle.types.proofs.PlaceLemmas.{found-none, past}
 use Rattle.types.proofs.ItemLemmas.{found-item}
-use Rattle.types.proofs.items.check_each.Goals as goal
+use Rattle.types.proofs.items.check_items.Goals as goal
 
 of_item : {A : Type 0} (r : Result A TypeFault) (e : TypeFault) (all own rest : Faults) → r ≡ Err e → all ≡ own ++ rest → Refuses e own → Finds r all
 of_item r e all own rest was is h = rw (was, is) (Refuses-first e own rest h)

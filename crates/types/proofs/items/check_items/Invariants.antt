@@ -2,7 +2,7 @@ use Rattle.std.proofs.Common.{◌≡◌, drop, map}
 use Rattle.syntax.specs.Views.{item_tree}
 use Rattle.sorts.specs.SortRules.{item_places}
 use Rattle.types.specs.Faults.{found, scope_of}
-use Rattle.types.proofs.items.check_each.Given as goal
+use Rattle.types.proofs.items.check_items.Given as goal
 
 abbrev pub invariant-loop-item : goal.invariant-loop-item
 invariant-loop-item l =
