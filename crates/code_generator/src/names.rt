@@ -181,7 +181,7 @@ fn parameter_sort(kind: ParameterType) -> Sort
     }
 }
 
-/// So many more, where they can be counted.
+/// The count with `by` more, where that can be counted.
 fn more(count: u32, by: u32) -> Result<u32, AllocError>
     ensures { IfOk result (λ n. n ≡ count + by) }
 {
