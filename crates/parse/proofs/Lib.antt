@@ -1,13 +1,9 @@
 pub mod Forms
 pub mod Commas
-pub mod Sentences
-pub mod Declared
-pub mod Nested
-pub mod Blocks
 pub mod Programs
+pub mod Items
 pub mod Again
 pub mod Ranges
 pub mod Trees
 pub mod Whole
 pub mod Regrouped
-pub mod Ways

@@ -13,13 +13,16 @@ use Rattle.lexemes.specs.Results.{◌>>=◌}
 use Rattle.lexemes.specs.Meaning.{Fixed', Name'}
 use Rattle.lexemes.specs.Lexemes.{Lexed, line_at, expect, name_at}
 use Rattle.lexemes.specs.Spelling.{Spelled, Anywhere, OnLine, mark, word, reference_word, result_word, parameter_word}
-use Rattle.parse.specs.Spelling.{inside, parameter, function, item}
+use Rattle.statements.specs.Spelling.{inside}
+use Rattle.parse.specs.Spelling.{parameter, function, item}
 use Rattle.lexemes.specs.Reading.{starts_with, rest_of, found, reference_type_at, result_type_at, parameter_type_at}
-use Rattle.parse.specs.Reading.{parameter_at, parameters_at, head_at, body_at, block_at, signature_at, function_at, static_at, ReadItem, item_at, items_at}
-use Rattle.parse.proofs.Forms.{names_in, IsBlock, IsFunction, AreItems}
+use Rattle.statements.specs.Reading.{block_at}
+use Rattle.parse.specs.Reading.{parameter_at, parameters_at, head_at, body_at, signature_at, function_at, static_at, ReadItem, item_at, items_at}
+use Rattle.statements.proofs.Forms.{names_in, IsBlock}
+use Rattle.parse.proofs.Forms.{IsFunction, AreItems}
 use Rattle.lexemes.proofs.Singles.{Begins, bind_ok, ok_is, chosen, begins_append, first_takes, starts_takes, expect_takes, then_takes, name_takes, shortens}
 use Rattle.lexemes.proofs.TypeWords.{reference_type_takes, result_type_takes, parameter_type_takes}
-use Rattle.parse.proofs.Nested.{block_takes}
+use Rattle.statements.proofs.Nested.{block_takes}
 
 -- the parameters that each function has, up to the name of its class
 abbrev pub parameters_head : List Spelled

@@ -14,14 +14,16 @@ use Rattle.lexemes.specs.declared.first.Fixed.TheVariants as fixed
 use Rattle.lexemes.specs.Meaning.{Fixed', Number'}
 use Rattle.lexemes.specs.Spelling.{Spelled, Anywhere, OnLine, mark, word}
 use Rattle.expressions.specs.Spelling.{expression, call, right, test_tokens}
-use Rattle.parse.specs.Spelling.{statement, inside, parameters, function, item, spell}
-use Rattle.parse.specs.Reading.{is_return}
+use Rattle.statements.specs.Spelling.{statement, inside}
+use Rattle.parse.specs.Spelling.{parameters, function, item, spell}
+use Rattle.statements.specs.Reading.{is_return}
 use Rattle.expressions.proofs.Forms.{IsLevelled, IsExpr, AreArguments, IsRight, IsTest}
-use Rattle.parse.proofs.Forms.{IsForm, MayFollow, IsBlock, names_in, IsFunction, AreItems}
+use Rattle.statements.proofs.Forms.{IsForm, MayFollow, IsBlock, names_in}
+use Rattle.parse.proofs.Forms.{IsFunction, AreItems}
 use Rattle.expressions.proofs.Table.{level_small}
 use Rattle.parse.proofs.Ranges.{AreInRange, range_left, range_right, numbers_of}
 use Rattle.expressions.proofs.JniCalls.{argument_tokens}
-use Rattle.parse.proofs.Nested.{tested_tail}
+use Rattle.statements.proofs.Nested.{tested_tail}
 use Rattle.parse.proofs.Programs.{functions_in, statics_in}
 
 false_true : false ≡ true → ⊥

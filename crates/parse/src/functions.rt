@@ -11,13 +11,13 @@ ghost use Rattle.parse.specs.Steps.{exported_at, function_item_at, static_head_a
 ghost use Rattle.parse.specs.Reading.{head_at, body_at, signature_at, function_at, static_at, item_at, items_at, unit_at};
 
 use crate::parameters::{NAMES, parameters};
-use crate::statements::block;
 use expressions::expect_two;
 use lexemes::{
     Cursor, Fault, Fixed, ParseFault, Source, expect, fault_at, line_at, name_at, reference_type,
     rest_of, result_type, start, starts_with, unexpected,
 };
 use scan::{Mark, Token, Word, one_spelling};
+use statements::block;
 use std::alloc::{AllocError, Global};
 use syntax::{Block, Function, Item, Name, Parameter, ReferenceType, ResultType, Static, Unit};
 

@@ -4,7 +4,7 @@ use Rattle.std.proofs.lemmas.List.{map_push}
 use Rattle.lexemes.specs.Lexemes.{views}
 use Rattle.syntax.specs.Views.{item_tree}
 use Rattle.parse.specs.Reading.{items_at}
-use Rattle.parse.proofs.Blocks.{unit_start, unit_done, unit_fails, unit_on}
+use Rattle.parse.proofs.Items.{unit_start, unit_done, unit_fails, unit_on}
 use Rattle.parse.proofs.Programs.{item_takes}
 use Rattle.parse.proofs.functions.items.Goals as goal
 

@@ -2,7 +2,7 @@ use Rattle.std.proofs.Common.{◌+◌, length, map}
 use Rattle.lexemes.specs.Lexemes.{views}
 use Rattle.syntax.specs.Views.{item_tree}
 use Rattle.parse.specs.Reading.{items_at}
-use Rattle.parse.proofs.Blocks.{FillsUnit}
+use Rattle.parse.proofs.Items.{FillsUnit}
 use Rattle.parse.proofs.functions.items.Given as goal
 
 abbrev pub invariant-items : goal.invariant-items

@@ -1,0 +1,8 @@
+pub mod Steps
+pub mod Forms
+pub mod Sentences
+pub mod Declared
+pub mod Nested
+pub mod Blocks
+pub mod Regrouped
+pub mod Ways
