@@ -49,6 +49,12 @@ HasWays (task.Branch c) = Unit {0}
 HasWays (task.Loop i) = Unit {0}
 HasWays t = ⊥
 
+-- it prints a value or returns it
+abbrev pub IsEvaluation : TaskInMemory → Type 0
+IsEvaluation (task.Print e) = Unit {0}
+IsEvaluation (task.ReturnValue e) = Unit {0}
+IsEvaluation t = ⊥
+
 -- with these variables and statics, what a step in memory did is the effect of the task, which is no call
 abbrev pub HasEffect : Variables → Statics → TaskInMemory → Outcome → TaskInMemory → Type 0
 HasEffect vs ss old (outcome.Gives to g) new = ⊥

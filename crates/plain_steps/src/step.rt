@@ -7,7 +7,7 @@ ghost use Rattle.source.specs.Variable.{Statics as StaticsOfUnit};
 ghost use Rattle.tasks.specs.declared.task.Task.TheVariants as task;
 ghost use Rattle.terms.specs.declared.term.Term.TheVariants as term;
 ghost use Rattle.tasks.specs.Outcomes.{else_tree};
-ghost use Rattle.plain_steps.specs.Effects.{HasEffect, HasWays, IsAssignment, reduced};
+ghost use Rattle.plain_steps.specs.Effects.{HasEffect, HasWays, IsAssignment, IsEvaluation, reduced};
 ghost use Rattle.tasks.specs.Tasks.{element_task, tasks_of_statements, ExprInRange, BlockInRange, ElseInRange, StatementsInRange, TaskInRange, OutcomeInRange, IsPlain};
 ghost use Rattle.terms.specs.Views.{NumbersInRange, variables_view};
 
@@ -212,6 +212,26 @@ fn return_value<'a>(
     }
 }
 
+/// Lets a task that prints or returns a value take its next step.
+#[inline]
+fn evaluate<'a>(
+    statics: &Statics<'_>,
+    variables: &Variables<'a>,
+    task: &mut Task<'a>,
+) -> Outcome<'a>
+    requires range { TaskInRange task.old }
+    requires kind { IsEvaluation task.old }
+    ensures step { HasEffect (variables_view variables.now) statics.now task.old result task.new }
+    ensures task { TaskInRange task.new }
+    ensures range { OutcomeInRange result }
+{
+    match task {
+        Task::Print(e) => print(statics, variables, e),
+        Task::ReturnValue(e) => return_value(statics, variables, e),
+        _ => unreachable!(),
+    }
+}
+
 /// Lets a task that sets a variable or an element to a value take its next step.
 #[inline]
 fn assign<'a>(statics: &Statics<'_>, variables: &Variables<'a>, task: &mut Task<'a>) -> Outcome<'a>
@@ -261,13 +281,12 @@ pub fn plain_step<'a>(
     ensures range { OutcomeInRange result }
 {
     match task {
-        Task::Print(e) => print(statics, variables, e),
+        Task::Print(_) | Task::ReturnValue(_) => evaluate(statics, variables, task),
         Task::Set(_) | Task::SetElement(_) => assign(statics, variables, task),
         Task::SetNull(target) => Outcome::SetsNull(*target),
         Task::MakeArray(kind, name, size) => Outcome::Makes(*kind, name, *size),
         Task::Branch(_) | Task::Loop(_) => take_way(statics, variables, task),
         Task::Return => Outcome::Returned,
-        Task::ReturnValue(e) => return_value(statics, variables, e),
         Task::Invoke(_) => unreachable!(),
     }
 }
