@@ -7,6 +7,7 @@ ghost use Rattle.source.specs.Thread.{Shared as SharedOfThreads};
 ghost use Rattle.steps.specs.Activations.{tasks_left, IsInRange, AreSet, IsApplied, HasBegun, HasTurned, StepsTask, Advances, KeepsScene};
 ghost use Rattle.call_checks.specs.Shares.{shared_view};
 ghost use Rattle.syntax.specs.Views.{expr_tree, block_tree};
+ghost use Rattle.tasks.specs.declared.outcome.Outcome.TheVariants as outcome;
 ghost use Rattle.tasks.specs.Tasks.{branch_task, BlockInRange, ExprInRange, StatementInRange, OutcomeInRange};
 ghost use Rattle.terms.specs.declared.term.Term.TheVariants as term;
 ghost use Rattle.terms.specs.declared.value.Value.TheVariants as value;
@@ -167,18 +168,29 @@ fn leave_block<'a>(
     }
 }
 
+/// Begins a block of these statements, with what comes at its end.
+#[inline]
+fn enter_block<'a>(
+    activation: &mut Activation<'a>,
+    statements: &'a [Stmt],
+    end: End<'a>,
+) -> Result<(), AllocError>
+    ensures { IfOk result (λ _. AreSet activation.old (outcome.Enters statements.entry end.entry) activation.new) }
+{
+    let rest = activation.rest;
+    activation.outer.push(Outer { end, rest })?;
+    activation.rest = statements;
+    put_task(&mut activation.task, None);
+    Ok(())
+}
+
 /// Does what a step did to the tasks.
 fn set_tasks<'a>(activation: &mut Activation<'a>, outcome: Outcome<'a>) -> Result<(), AllocError>
     ensures { IfOk result (λ _. AreSet activation.old outcome.entry activation.new) }
 {
     match outcome {
         Outcome::Stays | Outcome::Returned | Outcome::Trapped(_, _) | Outcome::Impossible => {}
-        Outcome::Enters(statements, end) => {
-            let rest = activation.rest;
-            activation.outer.push(Outer { end, rest })?;
-            activation.rest = statements;
-            put_task(&mut activation.task, None);
-        }
+        Outcome::Enters(statements, end) => enter_block(activation, statements, end)?,
         Outcome::Printed(_) | Outcome::Sets(_, _) | Outcome::SetsNull(_) => {
             put_task(&mut activation.task, None);
         }
