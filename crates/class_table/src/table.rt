@@ -14,9 +14,16 @@ use std::alloc::{AllocError, Global};
 use std::marker::Model;
 
 /// The classes, each at its number, which is its place counted from 1. A class is found by its name or its number in constant time.
-#[derive(Drop)]
 pub struct ClassTable {
     pub(crate) classes: Entries,
+}
+
+// Written out, and not derived, so that crates above needn't prove it again.
+impl Drop for ClassTable {
+    fn drop(self) {
+        let ClassTable { classes } = self;
+        drop(classes);
+    }
 }
 
 impl Model for ClassTable {

@@ -14,10 +14,17 @@ use std::marker::Model;
 /// Instructions of which none finds too few words on the stack, too many, or no slot, and none leads past the end.
 ///
 /// Seen as the list of its instructions, so that a place of the code is an index into that list, with the numbers of slots.
-#[derive(Drop)]
 pub struct Code {
     instrs: Vec<Instr>,
     slots: SlotCounts,
+}
+
+// Written out, and not derived, so that crates above needn't prove it again.
+impl Drop for Code {
+    fn drop(self) {
+        let Code { instrs, slots: _ } = self;
+        drop(instrs);
+    }
 }
 
 impl Model for Code {

@@ -1,7 +1,7 @@
 -- What the program answers, by what its words ask for.
 use Rattle.std.specs.Prelude.{◌≡◌, ℕ, List, Option, Some, None, codes, string_bytes}
 use Rattle.report.specs.Sink.{Written}
-use Rattle.pipeline.specs.Runs.{AppendsRun, StopsRun}
+use Rattle.jnirun.specs.Runs.{AppendsRun, StopsRun}
 use Rattle.commands.specs.Saying.{Tells}
 use Rattle.jnirun.specs.Serve.{Serves}
 use Rattle.explanations.specs.declared.Explanation.{Explanation}

@@ -15,13 +15,26 @@ pub enum Ending {
 }
 
 /// A thread: the calls that it has still to make, and the call in progress.
-#[derive(Drop)]
 pub struct Thread {
     pub calls: VecDeque<PendingCall>,
     pub call: Option<Activation>,
     /// The pending exception.
     pub pending: Option<Addr>,
     pub ending: Ending,
+}
+
+// Written out, and not derived, so that crates above needn't prove it again.
+impl Drop for Thread {
+    fn drop(self) {
+        let Thread {
+            calls,
+            call,
+            pending: _,
+            ending: _,
+        } = self;
+        drop(calls);
+        drop(call);
+    }
 }
 
 /// A call that a thread has still to make: its function and the function's class by their numbers, and what the function

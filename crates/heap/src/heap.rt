@@ -31,7 +31,6 @@ pub struct NoRoom;
 ///
 /// A block takes three cells and one a value. `new` takes all of the host's memory that the heap ever needs: no
 /// other call allocates.
-#[derive(Drop)]
 pub struct Heap {
     cells: Cells,
     /// The addresses of the blocks, rising.
@@ -40,6 +39,21 @@ pub struct Heap {
     end: usize,
     /// At a block's address the number of its pins.
     pins: Vec<u8>,
+}
+
+// Written out, and not derived, so that crates above needn't prove it again.
+impl Drop for Heap {
+    fn drop(self) {
+        let Heap {
+            cells,
+            starts,
+            end: _,
+            pins,
+        } = self;
+        drop(cells);
+        drop(starts);
+        drop(pins);
+    }
 }
 
 impl Model for Heap {

@@ -5,7 +5,6 @@ use heap::{Addr, Heap};
 use tables::Globals;
 
 /// The objects, and what else all threads share.
-#[derive(Drop)]
 pub struct Store {
     pub heap: Heap,
     /// The addresses of the objects made at load, by their names, counted from 1. These objects stay for ever.
@@ -16,4 +15,21 @@ pub struct Store {
     pub statics: Vec<StaticReference>,
     /// The global references, of which a static that is live has one of its own.
     pub globals: Globals,
+}
+
+// Written out, and not derived, so that crates above needn't prove it again.
+impl Drop for Store {
+    fn drop(self) {
+        let Store {
+            heap,
+            loaded,
+            births: _,
+            statics,
+            globals,
+        } = self;
+        drop(heap);
+        drop(loaded);
+        drop(statics);
+        drop(globals);
+    }
 }

@@ -1,1 +1,4 @@
+mod RunLemmas
+mod ReplayLemmas
+mod ReplayLaws
 mod ServeLemmas

@@ -5,16 +5,16 @@ use Rattle.commands.specs.declared.command.Command.{Command}
 use Rattle.commands.specs.declared.command.Command.TheVariants.{Check, Run, Replay}
 use Rattle.commands.specs.declared.place.Place.{Place}
 use Rattle.commands.specs.declared.place.Place.TheVariants.{Line}
-use Rattle.pipeline.specs.Checks.{PassesCheck, FailsCheck}
+use Rattle.program_text.specs.Checks.{PassesCheck, FailsCheck}
 use Rattle.commands.specs.Commands.{name_of, text_of, text_at}
 use Rattle.commands.specs.Files.{OfFiles}
 use Rattle.replay.specs.declared.trap_at.TrapAt.{TrapAt}
 use Rattle.commands.specs.declared.place.Text.TheVariants as which
-use Rattle.pipeline.specs.Replays.{EndsReplay, AreRefusedReplays}
-use Rattle.pipeline.specs.Runs.{EndsRun, AppendsRun, StopsRun}
+use Rattle.jnirun.specs.Replays.{EndsReplay, AreRefusedReplays}
+use Rattle.jnirun.specs.Runs.{EndsRun, AppendsRun, StopsRun}
 use Rattle.commands.specs.Saying.{Tells, fault_line}
 use Rattle.commands.specs.Telling.{told}
-use Rattle.pipeline.specs.Texts.{AreRefused}
+use Rattle.jnirun.specs.Texts.{AreRefused}
 
 -- ---- standard output
 

@@ -1,12 +1,17 @@
-//! Native methods from their texts, as `pipeline` checks, runs and replays them; and the same of files, with what is said of them on
-//! standard output and standard error.
+//! Native methods from their texts: a program is checked, run over a heap by a schedule, or replayed by a journal; and the same of
+//! files, with what is said of them on standard output and standard error.
 #![tactic(auto)]
 
+mod replaying;
+mod run;
 mod serving;
 
 pub use commands::{
     COMMAND_LINE, Command, DONE, FAILED, FileFault, FileSystem, Files, MOST_BYTES, Place, REFUSED,
     Text, fail, say,
 };
-pub use pipeline::{RunError, TrapAt, check_text, replay_text, run_text, runs_are_replayed};
+pub use program_text::{RunError, check_text};
+pub use replay::TrapAt;
+pub use replaying::{replay_text, runs_are_replayed};
+pub use run::run_text;
 pub use serving::serve;

@@ -2,15 +2,18 @@
 
 ghost use Rattle.std.specs.Prelude.{◌≡◌, None};
 ghost use Rattle.report.specs.Sink.{CanFail};
-ghost use Rattle.pipeline.specs.Checks.{PassesCheck, FailsCheck};
-ghost use Rattle.pipeline.specs.Runs.{RunsTexts};
+ghost use Rattle.program_text.specs.Checks.{PassesCheck, FailsCheck};
+ghost use Rattle.jnirun.specs.Runs.{RunsTexts};
 ghost use Rattle.jnirun.specs.Serve.{TextsWrite, TextsEarn, passed, TellsTrap, ServesTexts, Serves};
 
+use crate::replaying::replay_text;
+use crate::run::run_text;
 use commands::{
     Command, DONE, FileFault, Files, Place, REFUSED, Text, Texts, fail, read_texts, say, say_fault,
     tell,
 };
-use pipeline::{RunError, TrapAt, check_text, replay_text, run_text};
+use program_text::{RunError, check_text};
+use replay::TrapAt;
 use report::Sink;
 use std::alloc::Global;
 
@@ -144,8 +147,6 @@ fn serve_texts<O: Sink, E: Sink>(
         Err(RunError::Fault(number, place)) => refuse(command, texts, number, place, out, err),
         Err(RunError::Memory) => fail(err, b"memory\n"),
         Err(RunError::Writer) => fail(err, b"writer\n"),
-        // No file is read there.
-        Err(RunError::File) => unreachable!(),
     }
 }
 

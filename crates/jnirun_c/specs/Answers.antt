@@ -2,7 +2,7 @@
 use Rattle.std.specs.Prelude.{◌≡◌, ℕ, ℤ, pos, List}
 use Rattle.commands.specs.declared.place.Place.TheVariants.{Line}
 use Rattle.commands.specs.declared.place.Text.TheVariants.{Program}
-use Rattle.pipeline.specs.Checks.{PassesCheck, FailsCheck}
+use Rattle.program_text.specs.Checks.{PassesCheck, FailsCheck}
 use Rattle.jnirun_c.specs.declared.Fault.{Fault}
 
 -- there is no fault

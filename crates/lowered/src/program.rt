@@ -6,10 +6,17 @@ use std::marker::Model;
 use syntax::Item;
 
 /// A checked program, and the code of its functions in their order.
-#[derive(Drop)]
 pub struct Program<'a> {
     checked: &'a Checked,
     codes: Vec<Code>,
+}
+
+// Written out, and not derived, so that crates above needn't prove it again.
+impl Drop for Program<'_> {
+    fn drop(self) {
+        let Program { checked: _, codes } = self;
+        drop(codes);
+    }
 }
 
 impl<'a> Model for Program<'a> {

@@ -39,7 +39,6 @@ use world::{Entry, Printed, Schedule, ScheduleWord, Sink, ThreadStatus, World, w
 pub const MOST_ENTRIES: usize = 1_000_000;
 
 /// A lowered program on a world, with the steps that were taken. It stands for the replay of its journal.
-#[derive(Drop)]
 pub struct Machine<'a> {
     program: Program<'a>,
     world: World,
@@ -48,6 +47,27 @@ pub struct Machine<'a> {
     printed: Vec<Printed>,
     stop: Option<Stop>,
     journal: Vec<Entry>,
+}
+
+// Written out, and not derived, so that crates above needn't prove it again.
+impl Drop for Machine<'_> {
+    fn drop(self) {
+        let Machine {
+            program,
+            world,
+            store,
+            threads,
+            printed,
+            stop: _,
+            journal,
+        } = self;
+        drop(program);
+        drop(world);
+        drop(store);
+        drop(threads);
+        drop(printed);
+        drop(journal);
+    }
 }
 
 impl<'a> Model for Machine<'a> {

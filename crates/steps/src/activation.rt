@@ -42,7 +42,7 @@ pub struct Activation<'a> {
     pub pending: Option<usize>,
 }
 
-// Written out, and not derived, so that a crate above drops one by a call and doesn't prove it anew.
+// Written out, and not derived, so that crates above needn't prove it again.
 impl Drop for Activation<'_> {
     fn drop(self) {
         let Activation {

@@ -31,11 +31,18 @@ impl Model for Global {
 /// slots. A slot that was freed is used again, so there are never more slots than there were references at one time.
 ///
 /// None but `make` takes host memory. Each call takes constant time, but for a vector's growth in `make`.
-#[derive(Drop)]
 pub struct Globals {
     /// All of one group, 0.
     slots: Vec<Slot>,
     free: Free,
+}
+
+// Written out, and not derived, so that crates above needn't prove it again.
+impl Drop for Globals {
+    fn drop(self) {
+        let Globals { slots, free: _ } = self;
+        drop(slots);
+    }
 }
 
 impl Model for Globals {

@@ -45,12 +45,20 @@ struct Level {
 ///
 /// None but `new` and `push` takes host memory. Each call takes constant time, but for `pop`, which takes time for the
 /// slots of one frame, and for a vector's growth in `push`.
-#[derive(Drop)]
 pub struct Locals {
     levels: Vec<Level>,
     slots: Vec<Slot>,
     /// The capacities of all frames together.
     total: u32,
+}
+
+// Written out, and not derived, so that crates above needn't prove it again.
+impl Drop for Locals {
+    fn drop(self) {
+        let Locals { levels, slots, total: _ } = self;
+        drop(levels);
+        drop(slots);
+    }
 }
 
 impl Model for Locals {

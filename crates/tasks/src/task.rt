@@ -87,7 +87,7 @@ pub enum Task<'a> {
     ReturnValue(Evaluation<'a>),
 }
 
-// Written out, and not derived, so that a crate above drops one by a call and doesn't prove it anew.
+// Written out, and not derived, so that crates above needn't prove it again.
 impl Drop for Task<'_> {
     fn drop(self) {
         match self {

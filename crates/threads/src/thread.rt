@@ -53,7 +53,7 @@ pub struct Thread<'a> {
     pub ending: Ending,
 }
 
-// Written out, and not derived, so that a crate above drops one by a call and doesn't prove it anew.
+// Written out, and not derived, so that crates above needn't prove it again.
 impl Drop for Thread<'_> {
     fn drop(self) {
         let Thread {

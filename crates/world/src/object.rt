@@ -16,10 +16,17 @@ pub enum ObjectValue {
 }
 
 /// An object that a world begins with.
-#[derive(Drop)]
 pub struct Object {
     class: usize,
     values: Vec<ObjectValue>,
+}
+
+// Written out, and not derived, so that crates above needn't prove it again.
+impl Drop for Object {
+    fn drop(self) {
+        let Object { class: _, values } = self;
+        drop(values);
+    }
 }
 
 impl Model for Object {

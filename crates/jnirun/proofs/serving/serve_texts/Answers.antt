@@ -15,6 +15,3 @@ returns-in-Err-Memory g c = let h = rw c.in-Err-Memory.field-0-is at c.in-Err-Me
 
 pub returns-in-Err-Writer : goal.returns-in-Err-Writer
 returns-in-Err-Writer g c = let h = rw c.in-Err-Writer.field-0-is at c.in-Err-Writer.ensures in rw c.fail-in-Err-Writer.ensures.status (loses_text h c.fail-in-Err-Writer.ensures.tells)
-
-pub unreachable-requires : goal.unreachable-requires
-unreachable-requires g c = rw c.in-Err-File.field-0-is at c.in-Err-File.ensures

@@ -1,0 +1,34 @@
+-- The faults of other texts, of loading, of a report and of a replay, as errors of a run.
+use Rattle.texts.specs.declared.fault.ReadError.{ReadError}
+use Rattle.texts.specs.declared.fault.ReadError.TheVariants as reading
+use Rattle.texts.specs.Rule.{rule_number}
+use Rattle.loading.specs.declared.fault.LoadFault.{LoadFault}
+use Rattle.loading.specs.declared.fault.LoadFault.TheVariants as loading
+use Rattle.machine.specs.declared.fault.ReportFault.{ReportFault}
+use Rattle.machine.specs.declared.fault.ReportFault.TheVariants as reporting
+use Rattle.replay.specs.declared.fault.ReplayFault.{ReplayFault}
+use Rattle.replay.specs.declared.fault.ReplayFault.TheVariants as replaying
+use Rattle.commands.specs.declared.place.Place.TheVariants.{Line, Entry}
+use Rattle.program_text.specs.declared.fault.RunError.{RunError}
+use Rattle.program_text.specs.declared.fault.RunError.TheVariants.{Memory, Fault, Writer}
+use Rattle.commands.specs.declared.place.Text.{Text}
+use Rattle.commands.specs.declared.place.Text.TheVariants as which
+
+-- the same of the text that was read
+abbrev pub of_reading : Text → ReadError → RunError
+of_reading text reading.Memory = Memory
+of_reading text (reading.Fault fault) = Fault (rule_number fault.rule) (Line text fault.line)
+
+abbrev pub of_load : LoadFault → RunError
+of_load loading.Memory = Memory
+of_load (loading.DoesNotFit line) = Fault 82 (Line which.World line)
+
+abbrev pub of_report : ReportFault → RunError
+of_report reporting.Memory = Memory
+of_report reporting.Sink = Writer
+
+abbrev pub of_replay : ReplayFault → RunError
+of_replay replaying.Memory = Memory
+of_replay (replaying.DoesNotFit line) = Fault 82 (Line which.World line)
+of_replay (replaying.Impossible entry) = Fault 91 (Entry entry)
+of_replay replaying.Writer = Writer

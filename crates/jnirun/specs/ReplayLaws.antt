@@ -1,0 +1,14 @@
+-- A law: the journal that a run wrote can be replayed, and its replay writes what the run wrote.
+use Rattle.std.specs.Prelude.{◌≡◌, List, ℕ, length, Ok}
+use Rattle.texts.specs.ReadingJournals.{journal_of}
+use Rattle.jnirun.specs.Runs.{IsRun}
+use Rattle.jnirun.specs.Replays.{IsReplay, IsPossible}
+
+-- the text of a journal is read as the journal of a run
+abbrev pub IsJournalOf : {program world schedule written : List ℕ} → IsRun program world schedule written → (journal : List ℕ) → Type 0
+IsJournalOf run journal = journal_of journal (length run.meaning.world.threads) ≡ Ok run.journal
+
+abbrev pub RunsAreReplayed : Type 0
+RunsAreReplayed =
+    (program world schedule journal written : List ℕ) (run : IsRun program world schedule written) → IsJournalOf run journal
+    → IsPossible program world journal × ((again : List ℕ) → IsReplay program world journal again → again ≡ written)

@@ -1,0 +1,32 @@
+-- Private to a run: what is known on its way.
+use Rattle.std.specs.Prelude.{◌≡◌, ℕ, List, length, None, Ok}
+use Rattle.syntax.specs.declared.unit.Item.{Item}
+use Rattle.syntax.specs.Tree.{SourceUnit}
+use Rattle.syntax.specs.Views.{unit_tree}
+use Rattle.lowered.specs.Length.{IsTooLong}
+use Rattle.texts.specs.ReadingSchedules.{schedule_of}
+use Rattle.texts.specs.ScheduleText.{IsScheduleText}
+use Rattle.world.specs.WorldRules.{IsWorldText}
+use Rattle.world_text.specs.ReadingWorlds.{world_of_text}
+use Rattle.source.specs.World.{World}
+use Rattle.source.specs.Schedule.{Schedule}
+use Rattle.source.specs.Load.{first_load_fault}
+use Rattle.machine.specs.Run.{Run, IsUnstarted}
+use Rattle.program_text.specs.Programs.{IsProgram}
+
+-- the texts of a program and a world are not refused
+pub record IsPassed (program text : List ℕ) (unit : SourceUnit) (world : World) : Type 0 where
+  pub of_program : IsProgram program unit
+  pub short : IsTooLong unit → ⊥
+  pub of_world : world_of_text text ≡ Ok world
+  pub means : IsWorldText text world
+
+-- three texts are loaded, and no step is taken
+pub record IsLoaded (program text order : List ℕ) (begun : Run) (words : Schedule) : Type 0 where
+  pub items : List Item
+  pub world : World
+  pub passed : IsPassed program text (unit_tree items) world
+  pub of_schedule : schedule_of order (length world.threads) ≡ Ok words
+  pub means : IsScheduleText (length world.threads) order words
+  pub loads : first_load_fault (unit_tree items) world ≡ None
+  pub unstarted : IsUnstarted items world begun

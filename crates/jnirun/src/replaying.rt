@@ -1,0 +1,109 @@
+//! A replay, from its texts to its report.
+
+ghost use Rattle.std.specs.Prelude.{◌≡◌, ℕ, List, Ok};
+ghost use Rattle.syntax.specs.Views.{unit_tree};
+ghost use Rattle.report.specs.Sink.{CanFail};
+ghost use Rattle.jnirun.specs.Errors.{of_replay};
+ghost use Rattle.program_text.specs.Programs.{IsProgram};
+ghost use Rattle.jnirun.specs.Runs.{RunsTexts};
+ghost use Rattle.jnirun.specs.ReplayLaws.{RunsAreReplayed};
+ghost use Rattle.jnirun.specs.Replays.{EndsReplay, AreRefusedReplays, IsPossible, IsReplayOrFails};
+ghost use Rattle.world.specs.WorldRules.{IsWorldText};
+ghost use Rattle.world_text.specs.ReadingWorlds.{world_of_text};
+
+use crate::run::{of_reading, thread_count};
+use commands::{Place, Text};
+use parse::one_unit;
+use program_text::{RunError, read_program};
+use region_rules::Checked;
+use replay::{ReplayFault, TrapAt, replay};
+use std::alloc::Global;
+use world::{Sink, World, read_journal};
+use world_text::read_world;
+
+fn of_replay(fault: ReplayFault) -> RunError
+    ensures { result ≡ of_replay fault }
+{
+    match fault {
+        ReplayFault::DoesNotFit(line) => RunError::Fault(82, Place::Line(Text::World, line)),
+        ReplayFault::Impossible(entry) => RunError::Fault(91, Place::Entry(entry)),
+        ReplayFault::Memory => RunError::Memory,
+        ReplayFault::Writer => RunError::Writer,
+    }
+}
+
+/// Replays the journal of an accepted program in the world of a text.
+fn replay_checked<W: Sink>(
+    alloc: Global,
+    checked: &Checked,
+    world_text: &[u8],
+    journal_text: &[u8],
+    out: &mut W,
+) -> Result<Option<TrapAt>, RunError>
+    requires { CanFail (W.written out.old) }
+    ensures replay { (program : List ℕ) → IsProgram program (unit_tree checked.now)
+        → RunsTexts (W.written out.old) (W.written out.new) result (EndsReplay program world_text.now journal_text.now) (AreRefusedReplays program world_text.now journal_text.now) }
+    ensures accepted { (program : List ℕ) (p : IsPossible program world_text.now journal_text.now) → unit_tree checked.now ≡ p.meaning.unit → IsReplayOrFails result }
+{
+    match read_world(alloc, world_text) {
+        Ok(world) => replay_world(alloc, checked, &world, journal_text, out),
+        Err(error) => Err(of_reading(Text::World, error)),
+    }
+}
+
+/// Replays the journal of an accepted program in a world.
+fn replay_world<W: Sink>(
+    alloc: Global,
+    checked: &Checked,
+    world: &World,
+    journal_text: &[u8],
+    out: &mut W,
+) -> Result<Option<TrapAt>, RunError>
+    requires { CanFail (W.written out.old) }
+    ensures replay { (program text : List ℕ) → IsProgram program (unit_tree checked.now) → world_of_text text ≡ Ok world.now → IsWorldText text world.now
+        → RunsTexts (W.written out.old) (W.written out.new) result (EndsReplay program text journal_text.now) (AreRefusedReplays program text journal_text.now) }
+    ensures accepted { (program text : List ℕ) → world_of_text text ≡ Ok world.now → (p : IsPossible program text journal_text.now) → unit_tree checked.now ≡ p.meaning.unit
+        → IsReplayOrFails result }
+{
+    let threads = thread_count(world);
+    match read_journal(alloc, journal_text, threads) {
+        Ok(journal) => match replay(alloc, checked, world, &journal, out) {
+            Ok(trap) => Ok(trap),
+            Err(fault) => Err(of_replay(fault)),
+        },
+        Err(error) => Err(of_reading(Text::Journal, error)),
+    }
+}
+
+/// Replays the journal of the program in the world, and writes the report of its run and the journal. Answers the trap that stopped
+/// the run, if one did.
+///
+/// On `Ok` what was written is what a run with this journal writes, and none of it waits in the sink. A fault is one that the texts earn, and nothing is
+/// written then: 91 has the number of the first entry that isn't possible, counted from 1. The texts are read in their
+/// order: the program is scanned, parsed, and checked for sorts and regions, then the world and the journal are read, then
+/// they are loaded and the entries taken. No code is made, so no function is too long.
+pub fn replay_text<W: Sink>(
+    alloc: Global,
+    program_text: &[u8],
+    world_text: &[u8],
+    journal_text: &[u8],
+    out: &mut W,
+) -> Result<Option<TrapAt>, RunError>
+    requires { CanFail (W.written out.old) }
+    ensures replay { RunsTexts (W.written out.old) (W.written out.new) result
+        (EndsReplay program_text.now world_text.now journal_text.now) (AreRefusedReplays program_text.now world_text.now journal_text.now) }
+    // Texts whose journal is possible are refused for memory or by the writer alone.
+    ensures accepted { IsPossible program_text.now world_text.now journal_text.now → IsReplayOrFails result }
+{
+    match read_program(alloc, program_text) {
+        Ok(checked) => replay_checked(alloc, &checked, world_text, journal_text, out),
+        Err(error) => Err(error),
+    }
+}
+
+/// The journal that a run wrote can be replayed, and its replay writes what the run wrote: a law, which computes nothing.
+pub fn runs_are_replayed()
+    ensures { RunsAreReplayed }
+{
+    one_unit();
+}

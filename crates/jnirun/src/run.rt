@@ -1,0 +1,194 @@
+//! A run, from its texts to its report.
+
+ghost use Rattle.std.specs.Prelude.{◌≡◌, ◌≤◌, ℕ, List, [], length, Ok};
+ghost use Rattle.syntax.specs.Views.{unit_tree};
+ghost use Rattle.report.specs.Sink.{CanFail};
+ghost use Rattle.jnirun.specs.Errors.{of_reading, of_load, of_report};
+ghost use Rattle.program_text.specs.Programs.{IsProgram};
+ghost use Rattle.jnirun.specs.Texts.{Meaning, AreRefused};
+ghost use Rattle.jnirun.specs.Running.{IsPassed, IsLoaded};
+ghost use Rattle.jnirun.specs.Runs.{RunsTexts, EndsRun, IsRunOrFails};
+ghost use Rattle.std.specs.Option.{option_map};
+ghost use Rattle.machine.specs.Stops.{stop_view};
+ghost use Rattle.texts.specs.ReadingSchedules.{schedule_of};
+ghost use Rattle.texts.specs.ScheduleText.{IsScheduleText};
+ghost use Rattle.world_text.specs.ReadingWorlds.{world_of_text};
+ghost use Rattle.replay.specs.TrapAt.{trap_at};
+
+use commands::{Place, Text};
+use lower::{Program, lower};
+use machine::{LoadFault, Machine, ReportFault, RunFault, Stop};
+use program_text::{RunError, of_lower, read_program};
+use region_rules::Checked;
+use replay::TrapAt;
+use std::alloc::Global;
+use world::{ReadError, Schedule, Sink, World, read_schedule};
+use world_text::read_world;
+
+/// The fault of a world, a schedule or a journal.
+pub(crate) fn of_reading(text: Text, error: ReadError) -> RunError
+    ensures { result ≡ of_reading text error }
+{
+    match error {
+        ReadError::Memory => RunError::Memory,
+        ReadError::Fault(fault) => RunError::Fault(
+            u32::from(fault.rule.number()),
+            Place::Line(text, fault.line),
+        ),
+    }
+}
+
+fn of_load(fault: LoadFault) -> RunError
+    ensures { result ≡ of_load fault }
+{
+    match fault {
+        LoadFault::Memory => RunError::Memory,
+        LoadFault::DoesNotFit(line) => RunError::Fault(82, Place::Line(Text::World, line)),
+    }
+}
+
+fn of_report(fault: ReportFault) -> RunError
+    ensures { result ≡ of_report fault }
+{
+    match fault {
+        ReportFault::Memory => RunError::Memory,
+        ReportFault::Sink => RunError::Writer,
+    }
+}
+
+/// The number of threads of a world, which are at most 8.
+pub(crate) fn thread_count(world: &World) -> u8
+    ensures { result ≡ length world.now.threads }
+{
+    world.threads().len() as u8
+}
+
+/// Where a trap stopped the machine.
+fn trap_at(stop: Option<Stop>) -> Option<TrapAt>
+    ensures { result ≡ option_map (λ s. trap_at (stop_view s)) stop }
+{
+    match stop {
+        Some(stop) => Some(TrapAt {
+            number: stop.trap.number(),
+            line: stop.line,
+        }),
+        None => None,
+    }
+}
+
+/// Runs a machine that has taken no step, and writes the report.
+fn run_loaded<W: Sink>(
+    alloc: Global,
+    machine: &mut Machine<'_>,
+    schedule: &Schedule,
+    out: &mut W,
+) -> Result<Option<TrapAt>, RunError>
+    requires can_fail { CanFail (W.written out.old) }
+    requires unstarted { machine.old.journal ≡ [] }
+    requires few { length schedule.now ≤ 1000000 }
+    ensures run { (program world order : List ℕ) → IsLoaded program world order machine.old schedule.now
+        → RunsTexts (W.written out.old) (W.written out.new) result (EndsRun program world order) (AreRefused program world order) }
+    ensures accepted { IsRunOrFails result }
+{
+    match machine.run(schedule) {
+        Ok(()) => {}
+        Err(RunFault::Memory) => return Err(RunError::Memory),
+        // A schedule has no more words than a journal may have entries.
+        Err(RunFault::Full) => unreachable!(),
+    }
+    let trap = trap_at(machine.stop());
+    match machine.report(alloc, out) {
+        Ok(()) => Ok(trap),
+        Err(fault) => Err(of_report(fault)),
+    }
+}
+
+/// Runs a program in a world by a schedule.
+fn run_by<W: Sink>(
+    alloc: Global,
+    lowered: Program<'_>,
+    world: World,
+    schedule: &Schedule,
+    out: &mut W,
+) -> Result<Option<TrapAt>, RunError>
+    requires can_fail { CanFail (W.written out.old) }
+    requires few { length schedule.now ≤ 1000000 }
+    ensures run { (program text order : List ℕ) → IsPassed program text (unit_tree lowered.entry.unit) world
+        → schedule_of order (length world.threads) ≡ Ok schedule.now → IsScheduleText (length world.threads) order schedule.now
+        → RunsTexts (W.written out.old) (W.written out.new) result (EndsRun program text order) (AreRefused program text order) }
+    ensures accepted { (program text order : List ℕ) → world_of_text text ≡ Ok world → (m : Meaning program text order) → unit_tree lowered.entry.unit ≡ m.unit → IsRunOrFails result }
+{
+    match Machine::load(alloc, lowered, world) {
+        Ok(mut machine) => run_loaded(alloc, &mut machine, schedule, out),
+        Err(fault) => Err(of_load(fault)),
+    }
+}
+
+/// Runs a program in a world by the schedule of a text.
+fn run_world<W: Sink>(
+    alloc: Global,
+    lowered: Program<'_>,
+    world: World,
+    schedule_text: &[u8],
+    out: &mut W,
+) -> Result<Option<TrapAt>, RunError>
+    requires { CanFail (W.written out.old) }
+    ensures run { (program text : List ℕ) → IsPassed program text (unit_tree lowered.entry.unit) world
+        → RunsTexts (W.written out.old) (W.written out.new) result (EndsRun program text schedule_text.now) (AreRefused program text schedule_text.now) }
+    ensures accepted { (program text : List ℕ) → world_of_text text ≡ Ok world → (m : Meaning program text schedule_text.now) → unit_tree lowered.entry.unit ≡ m.unit
+        → IsRunOrFails result }
+{
+    let threads = thread_count(&world);
+    match read_schedule(alloc, schedule_text, threads) {
+        Ok(schedule) => run_by(alloc, lowered, world, &schedule, out),
+        Err(error) => Err(of_reading(Text::Schedule, error)),
+    }
+}
+
+/// Runs an accepted program in the world by the schedule.
+fn run_checked<W: Sink>(
+    alloc: Global,
+    checked: &Checked,
+    world_text: &[u8],
+    schedule_text: &[u8],
+    out: &mut W,
+) -> Result<Option<TrapAt>, RunError>
+    requires { CanFail (W.written out.old) }
+    ensures run { (program : List ℕ) → IsProgram program (unit_tree checked.now)
+        → RunsTexts (W.written out.old) (W.written out.new) result (EndsRun program world_text.now schedule_text.now) (AreRefused program world_text.now schedule_text.now) }
+    ensures accepted { (program : List ℕ) (m : Meaning program world_text.now schedule_text.now) → unit_tree checked.now ≡ m.unit → IsRunOrFails result }
+{
+    match lower(alloc, checked) {
+        Ok(lowered) => match read_world(alloc, world_text) {
+            Ok(world) => run_world(alloc, lowered, world, schedule_text, out),
+            Err(error) => Err(of_reading(Text::World, error)),
+        },
+        Err(fault) => Err(of_lower(fault)),
+    }
+}
+
+/// Runs the program in the world by the schedule, and writes the report of the run and its journal. Answers the trap that
+/// stopped the run, if one did.
+///
+/// On `Ok` what was written is the report of the source run that the journal names, and that journal, which follows the
+/// schedule; none of it waits in the sink. A fault is one that the texts earn, and nothing is written then. The texts are read in their order: the program is
+/// scanned, parsed, checked for sorts and regions and lowered, then the world and the schedule are read, then they are
+/// loaded.
+pub fn run_text<W: Sink>(
+    alloc: Global,
+    program_text: &[u8],
+    world_text: &[u8],
+    schedule_text: &[u8],
+    out: &mut W,
+) -> Result<Option<TrapAt>, RunError>
+    requires { CanFail (W.written out.old) }
+    ensures run { RunsTexts (W.written out.old) (W.written out.new) result
+        (EndsRun program_text.now world_text.now schedule_text.now) (AreRefused program_text.now world_text.now schedule_text.now) }
+    // Texts that mean a run are refused for memory, for length or by the writer alone.
+    ensures accepted { Meaning program_text.now world_text.now schedule_text.now → IsRunOrFails result }
+{
+    match read_program(alloc, program_text) {
+        Ok(checked) => run_checked(alloc, &checked, world_text, schedule_text, out),
+        Err(error) => Err(error),
+    }
+}

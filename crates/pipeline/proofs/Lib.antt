@@ -1,6 +1,0 @@
-mod Refusals
-mod Acceptances
-mod CheckLemmas
-mod RunLemmas
-mod ReplayLemmas
-mod ReplayLaws

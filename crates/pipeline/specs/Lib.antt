@@ -1,9 +1,0 @@
-pub mod Errors
-pub mod Programs
-pub mod Passes
-pub mod Checks
-pub mod Texts
-pub mod Runs
-pub mod Running
-pub mod Replays
-pub mod ReplayLaws

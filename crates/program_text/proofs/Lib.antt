@@ -1,0 +1,3 @@
+mod Refusals
+mod Acceptances
+pub mod CheckLemmas

@@ -1,0 +1,4 @@
+pub mod Errors
+pub mod Programs
+pub mod Passes
+pub mod Checks

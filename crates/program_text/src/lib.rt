@@ -1,0 +1,10 @@
+//! Programs from their texts: a text is scanned, parsed, and checked for sorts, regions and the length of functions.
+#![tactic(auto)]
+
+mod checking;
+mod fault;
+mod program;
+
+pub use checking::check_text;
+pub use fault::{RunError, of_lower};
+pub use program::read_program;
