@@ -20,3 +20,9 @@ pub mod EntryTables
 pub mod EntryKeys
 pub mod Threads
 pub mod Entries
+pub mod Lists
+pub mod LoadLemmas
+pub mod FilledObjects
+pub mod MadeInOrder
+pub mod WaitingThreads
+pub mod ThreadLoads

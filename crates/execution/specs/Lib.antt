@@ -6,3 +6,5 @@ pub mod Invoked
 pub mod Entry
 pub mod ThreadAgrees
 pub mod Advances
+pub mod Held
+pub mod Loading

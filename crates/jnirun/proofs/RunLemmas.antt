@@ -25,11 +25,11 @@ use Rattle.source.specs.Start.{start}
 use Rattle.lower.specs.declared.fault.LowerFault.{LowerFault}
 use Rattle.lower.specs.declared.fault.LowerFault.TheVariants as lowering
 use Rattle.lowered.specs.Length.{IsTooLong}
-use Rattle.loading.specs.declared.fault.LoadFault.{LoadFault}
-use Rattle.loading.specs.declared.fault.LoadFault.TheVariants as loading
+use Rattle.execution.specs.declared.fault.LoadFault.{LoadFault}
+use Rattle.execution.specs.declared.fault.LoadFault.TheVariants as loading
 use Rattle.machine.specs.declared.fault.ReportFault.{ReportFault}
 use Rattle.machine.specs.declared.fault.ReportFault.TheVariants as reporting
-use Rattle.loading.specs.Loading.{IsLoadFault}
+use Rattle.execution.specs.Loading.{IsLoadFault}
 use Rattle.machine.specs.Run.{Run, IsUnstarted, RunsAlong, RunsInto, ReportsRun, StoppedBy, replay_of}
 use Rattle.machine.specs.declared.stop.Stop.{Stop}
 use Rattle.machine.specs.Stops.{stop_view}

@@ -2,8 +2,8 @@
 use Rattle.texts.specs.declared.fault.ReadError.{ReadError}
 use Rattle.texts.specs.declared.fault.ReadError.TheVariants as reading
 use Rattle.texts.specs.Rule.{rule_number}
-use Rattle.loading.specs.declared.fault.LoadFault.{LoadFault}
-use Rattle.loading.specs.declared.fault.LoadFault.TheVariants as loading
+use Rattle.execution.specs.declared.fault.LoadFault.{LoadFault}
+use Rattle.execution.specs.declared.fault.LoadFault.TheVariants as loading
 use Rattle.machine.specs.declared.fault.ReportFault.{ReportFault}
 use Rattle.machine.specs.declared.fault.ReportFault.TheVariants as reporting
 use Rattle.replay.specs.declared.fault.ReplayFault.{ReplayFault}

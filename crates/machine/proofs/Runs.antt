@@ -25,7 +25,7 @@ use Rattle.source.specs.Step.{can_step, is_live, is_waiting, world_step}
 use Rattle.source.proofs.RunLaws.{replay_from-append, follows-replay, follows-append}
 use Rattle.machine.specs.declared.turn.Turn.{Turn as Answer}
 use Rattle.machine.specs.declared.turn.Turn.TheVariants as turn
-use Rattle.loading.proofs.Lists.{take_next}
+use Rattle.execution.proofs.Lists.{take_next}
 use Rattle.machine.specs.Run.{Run, replay_of, can_turn, HasEnded, TurnHolds, GivesNoStep, GivesStep, RunsAlong, RunsInto}
 
 -- the walk from a state of a run along these words

@@ -7,7 +7,7 @@ use Rattle.safety.specs.StepSafe.{has_calls}
 use Rattle.source.specs.Load.{call_loads}
 use Rattle.source.specs.World.{Invocation}
 use Rattle.world.specs.SoundWorlds.{has_call}
-use Rattle.loading.specs.Loading.{refused_calls}
+use Rattle.execution.specs.Loading.{refused_calls}
 
 -- where none is refused, each loads
 calls_load : (unit : SourceUnit) (classes : Classes) (calls : List Invocation) → refused_calls unit classes calls ≡ [] → list_all (call_loads unit classes) calls ≡ true

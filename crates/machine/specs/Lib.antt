@@ -5,4 +5,4 @@ pub mod Run
 -- why the machine stops
 pub use Rattle.jni_calls.specs.Traps
 -- what loading answers
-pub use Rattle.loading.specs.Loading
+pub use Rattle.execution.specs.Loading

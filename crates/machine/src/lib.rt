@@ -10,7 +10,7 @@ mod turn;
 
 pub use fault::{ReportFault, RunFault};
 pub use jni_calls::trap::Trap;
-pub use loading::fault::LoadFault;
+pub use execution::fault::LoadFault;
 pub use machine::{MOST_ENTRIES, Machine};
 pub use stop::Stop;
 pub use turn::Turn;

@@ -3,3 +3,9 @@ pub mod StateLemmas
 pub mod HolderLemmas
 pub mod LeaveLemmas
 pub mod Same
+pub mod ChangeLemmas
+pub mod EffectLemmas
+pub mod ReadLemmas
+pub mod NoneLemmas
+pub mod NameLemmas
+pub mod JudgementLemmas

@@ -1,7 +1,11 @@
-//! What is known of buffers, references and frames at a point of a function, as it lies in memory, and the changes of one variable.
+//! What is known of buffers, references and frames at a point of a function, as it lies in memory, and what statements and tests do
+//! to it, with the names that they use.
 #![tactic(auto)]
 
+pub mod calls;
+pub mod changes;
 pub mod holders;
+pub mod names;
 pub mod scope;
 pub mod states;
 pub mod variables;

@@ -10,7 +10,7 @@ ghost use Rattle.regions.specs.Findings.{rule_of};
 ghost use Rattle.regions.specs.Walks.{WayOrFault, way_value, Goes, Branches};
 
 use crate::fault::{CheckFault, RegionFault, RegionRule};
-use region_statements::changes::{take_false, take_true};
+use region_states::changes::{take_false, take_true};
 use region_states::states::{Facts, StaticState, exchange, is_as_saved, save};
 use std::alloc::{AllocError, Global};
 use syntax::Test;

@@ -9,15 +9,15 @@ ghost use Rattle.region_rules.specs.FirstFaults.{first_broken};
 ghost use Rattle.region_rules.specs.RegionRules.{CallWhileCritical, ReturnWithBuffer, HeldBuffer, UntestedBuffer, WrongBuffer, ReturnInFrame, PopLastFrame, DeadReference, ArrayInUse, WrongLevel, is_return, is_put_jint, is_level, is_mismatched};
 ghost use Rattle.region_rules.specs.RegionStates.{state_of};
 ghost use Rattle.region_states.specs.StatesInMemory.{variable_state, asks};
-ghost use Rattle.region_statements.specs.StateEffects.{made_value, release_value, got};
+ghost use Rattle.region_states.specs.StateEffects.{made_value, release_value, got};
 ghost use Rattle.regions.specs.Findings.{rule_of};
-ghost use Rattle.region_statements.specs.Judgements.{judged, first_judged, is_wrong_release, is_other_level, frames_after, pops_array, gets_elsewhere};
+ghost use Rattle.region_states.specs.Judgements.{judged, first_judged, is_wrong_release, is_other_level, frames_after, pops_array, gets_elsewhere};
 
 use crate::fault::RegionRule;
-use region_statements::calls::{
+use region_states::calls::{
     MadeCall, Release, called, deleted, got, is_forbidden, popped, released,
 };
-use region_statements::names::{reads, uses};
+use region_states::names::{reads, uses};
 use region_states::states::{
     Condition, StaticState, VariableState, frames, has_young_array, holds_buffer, holds_critical,
     is_level, is_same, is_some_in_use, known_of, meets, some_meets,

@@ -8,14 +8,14 @@ ghost use Rattle.region_rules.specs.RegionStates.{RegionState, state_at_entry, s
 ghost use Rattle.region_rules.specs.Regions.{On, where_true, where_false};
 ghost use Rattle.regions.specs.Ways.{join_ways, turn_way, way_of, way_of_block};
 ghost use Rattle.region_states.specs.StatesInMemory.{names_of, Grows};
-ghost use Rattle.region_statements.specs.NewNames.{own_names, AreNew, DeclaresNew, DeclareNew, DeclaresOnce, ItemOnce};
+ghost use Rattle.region_states.specs.NewNames.{own_names, AreNew, DeclaresNew, DeclareNew, DeclaresOnce, ItemOnce};
 ghost use Rattle.regions.specs.Findings.{Finds, function_fault, item_fault, items_fault};
 ghost use Rattle.regions.specs.Walks.{way_value, Goes, Branches, go_on, plain_way, inner_way};
 
 use crate::fault::{CheckFault, RegionFault, RegionRule};
 use crate::joins::{Branch, Way, join, refuse, take_else, take_then};
 use crate::rules::{first_broken, is_return};
-use region_statements::changes::pass;
+use region_states::changes::pass;
 use region_states::states::{
     StaticState, VariableState, add, clear, count, holds_own, leave, nothing, save,
 };

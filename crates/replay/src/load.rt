@@ -6,14 +6,14 @@ ghost use Rattle.sorts.specs.SortRules.{IsSorted};
 ghost use Rattle.world.specs.Views.{object_value_view};
 ghost use Rattle.source.specs.Load.{call_loads, fits_parameter, fit_parameters, is_callable, first_load_fault};
 ghost use Rattle.source.specs.Start.{start};
-ghost use Rattle.call_checks.specs.Shares.{shared_view};
+ghost use Rattle.replay_calls.specs.Shares.{shared_view};
 ghost use Rattle.threads.specs.States.{AreInRange, Stands};
 ghost use Rattle.threads.specs.Threads.{WorkInRange};
 ghost use Rattle.replay.specs.Loading.{refused_calls, first_line, AreWaiting, IsWaiting};
 ghost use Rattle.replay.specs.Replays.{IsLoadFault};
 
 use crate::fault::ReplayFault;
-use call_checks::Shared;
+use replay_calls::Shared;
 use functions::Functions;
 use object_store::{Names, loaded_store};
 use std::alloc::{AllocError, Global};

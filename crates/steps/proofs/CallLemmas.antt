@@ -33,15 +33,15 @@ use Rattle.tasks.specs.declared.outcome.Purpose.TheVariants as purposes
 use Rattle.tasks.specs.declared.outcome.Target.TheVariants as target
 use Rattle.tasks.specs.declared.task.Task.{Task as TaskInMemory}
 use Rattle.terms.specs.declared.trap.Trap.{Trap as TrapInMemory}
-use Rattle.call_answers.specs.Answers.{Answer, Gives, Writes, Makes, Raises, Ensures, Pushes, RefusesFrames, Pops, DeletesLocal, MakesGlobal, DeletesGlobal, effect_as, frames_after, frames_with, given_after, makes_object, pending_after, shared_after, without_global, zero_result}
+use Rattle.replay_calls.specs.Answers.{Answer, Gives, Writes, Makes, Raises, Ensures, Pushes, RefusesFrames, Pops, DeletesLocal, MakesGlobal, DeletesGlobal, effect_as, frames_after, frames_with, given_after, makes_object, pending_after, shared_after, without_global, zero_result}
 use Rattle.terms.specs.Views.{given_view, Contents, trap_view, variables_view}
 use Rattle.steps.specs.Calls.{MakesCall}
-use Rattle.call_checks.specs.Checked.{fit_together, trap_found}
+use Rattle.replay_calls.specs.Checked.{fit_together, trap_found}
 use Rattle.object_store.specs.Frames.{new_frame}
 use Rattle.tasks.specs.Outcomes.{outcome_for, purpose_view}
 use Rattle.steps.specs.Steps.{Scene, Sees, in_frames, left_by, scene_with}
 use Rattle.tasks.specs.Tasks.{task_view}
-use Rattle.call_answers.specs.WorkedOut.{ensured, found_class, found_field, global_deleted, local_deleted, made_global, pushed, worked_out}
+use Rattle.replay_calls.specs.WorkedOut.{ensured, found_class, found_field, global_deleted, local_deleted, made_global, pushed, worked_out}
 use Rattle.steps.proofs.TaskLemmas.{same_frames, same_thread}
 
 -- ---- checks

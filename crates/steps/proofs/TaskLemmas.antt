@@ -14,7 +14,7 @@ use Rattle.tasks.specs.declared.task.Task.{Task as TaskInMemory}
 use Rattle.plain_steps.specs.Effects.{effect_by, HasEffect}
 use Rattle.steps.specs.Steps.{Scene, Sees, in_frames, left_by, Does}
 use Rattle.tasks.specs.Tasks.{task_view}
-use Rattle.call_checks.specs.Shares.{sight_in}
+use Rattle.replay_calls.specs.Shares.{sight_in}
 use Rattle.terms.specs.Views.{trap_view, variables_view}
 
 -- what a thread can see, where it is so

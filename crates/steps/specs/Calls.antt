@@ -21,7 +21,7 @@ use Rattle.terms.specs.declared.reduction.Reduction.TheVariants as reduction
 use Rattle.tasks.specs.Outcomes.{purpose_view}
 use Rattle.steps.specs.Steps.{Scene, Sees, in_frames, left_by}
 use Rattle.terms.specs.Views.{operand_view, trap_view}
-use Rattle.call_checks.specs.Shares.{sight_in}
+use Rattle.replay_calls.specs.Shares.{sight_in}
 use Rattle.tasks.specs.Tasks.{task_view}
 
 -- With these variables and statics, each number is worked out already, or what was done is the step of the first that isn't.

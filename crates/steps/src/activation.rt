@@ -5,7 +5,7 @@ ghost use Rattle.classes.specs.Class.{Classes};
 ghost use Rattle.classes.specs.Grown.{IsGrown};
 ghost use Rattle.source.specs.Thread.{Shared as SharedOfThreads};
 ghost use Rattle.steps.specs.Activations.{tasks_left, IsInRange, AreSet, IsApplied, HasBegun, HasTurned, StepsTask, Advances, KeepsScene};
-ghost use Rattle.call_checks.specs.Shares.{shared_view};
+ghost use Rattle.replay_calls.specs.Shares.{shared_view};
 ghost use Rattle.syntax.specs.Views.{expr_tree, block_tree};
 ghost use Rattle.tasks.specs.declared.outcome.Outcome.TheVariants as outcome;
 ghost use Rattle.tasks.specs.Tasks.{branch_task, BlockInRange, ExprInRange, StatementInRange, OutcomeInRange};
@@ -13,7 +13,7 @@ ghost use Rattle.terms.specs.declared.term.Term.TheVariants as term;
 ghost use Rattle.terms.specs.declared.value.Value.TheVariants as value;
 
 use crate::step::step;
-use call_checks::Shared;
+use replay_calls::Shared;
 use class_table::table::ClassTable;
 use object_store::Frames;
 use plain_steps::set_variables;

@@ -3,11 +3,11 @@
 ghost use Rattle.std.specs.Prelude.{IfOk};
 ghost use Rattle.classes.specs.Grown.{IsGrown};
 ghost use Rattle.steps.specs.Steps.{Does, scene_with};
-ghost use Rattle.call_checks.specs.Shares.{shared_view};
+ghost use Rattle.replay_calls.specs.Shares.{shared_view};
 ghost use Rattle.tasks.specs.Tasks.{TaskInRange, OutcomeInRange};
 
 use crate::invoke::invoke;
-use call_checks::Shared;
+use replay_calls::Shared;
 use class_table::table::ClassTable;
 use object_store::Frames;
 use plain_steps::plain_step;

@@ -15,7 +15,7 @@ use Rattle.source.specs.World.{World}
 use Rattle.source.specs.Value.{trap_number}
 use Rattle.report.specs.declared.thread_status.ThreadStatus.{ThreadStatus}
 use Rattle.source.specs.ReportOf.{report, standing_by_ending, standing_of}
-use Rattle.call_checks.specs.Shares.{shared_view}
+use Rattle.replay_calls.specs.Shares.{shared_view}
 use Rattle.source.specs.State.{State, thread_at, set_thread, lent, with_event, advanced}
 use Rattle.source.specs.Step.{world_step, can_step, step_of, is_blocked, is_live, is_unfinished, is_waiting}
 use Rattle.source.specs.Thread.{Ending, Thread, Shared, Unfinished, Ended, Uncaught, Quiet, PrintedNumber, Trapped, Advance}

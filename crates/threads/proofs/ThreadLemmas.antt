@@ -24,8 +24,8 @@ use Rattle.tasks.specs.declared.outcome.Outcome.TheVariants as outcome
 use Rattle.steps.specs.Activations.{IsInRange, tasks_from, tasks_after, tasks_left, thread_in, scene_of, advance_by, Advances}
 use Rattle.tasks.specs.Tasks.{tasks_of_statements}
 use Rattle.plain_steps.proofs.EffectLemmas.{block_tasks}
-use Rattle.call_checks.specs.Shares.{shared_view}
-use Rattle.call_checks.specs.declared.shared.Shared.{Shared as SharedInMemory}
+use Rattle.replay_calls.specs.Shares.{shared_view}
+use Rattle.replay_calls.specs.declared.shared.Shared.{Shared as SharedInMemory}
 use Rattle.steps.specs.Steps.{Sees}
 use Rattle.terms.specs.Views.{variables_view, trap_view}
 use Rattle.source.specs.Variable.{LocalRef}

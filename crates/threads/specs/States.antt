@@ -20,7 +20,7 @@ use Rattle.threads.specs.declared.state.State.{State as StateInMemory}
 use Rattle.threads.specs.declared.state.Stop.{Stop as StopInMemory}
 use Rattle.terms.specs.Views.{trap_view}
 use Rattle.threads.specs.Threads.{ThreadStands, WorkInRange, ending_view}
-use Rattle.call_checks.specs.Shares.{shared_view}
+use Rattle.replay_calls.specs.Shares.{shared_view}
 
 -- each thread in memory stands for the one of the same number
 abbrev pub ThreadsStand : SourceUnit → Classes → List ThreadInMemory → List Thread → Type 0

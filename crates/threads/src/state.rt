@@ -13,7 +13,7 @@ ghost use Rattle.report.specs.ThreadStatus.{standing_view};
 ghost use Rattle.source.specs.ReportOf.{standing_by_ending};
 
 use crate::thread::{Ending, Step, Thread, is_unfinished, take_step};
-use call_checks::Shared;
+use replay_calls::Shared;
 use class_table::table::ClassTable;
 use functions::Functions;
 use std::alloc::{AllocError, Global};

@@ -12,10 +12,10 @@ ghost use Rattle.source.specs.Step.{is_unfinished};
 ghost use Rattle.source.specs.Thread.{Shared as SharedOfThreads};
 ghost use Rattle.source.specs.Variable.{LocalRef};
 ghost use Rattle.threads.specs.Threads.{argument_content, ending_view, IsBegun, EndsStep, TakesStep, WorkInRange, step_of};
-ghost use Rattle.call_checks.specs.Shares.{shared_view};
+ghost use Rattle.replay_calls.specs.Shares.{shared_view};
 ghost use Rattle.terms.specs.Views.{assign_all, content_view, variables_view};
 
-use call_checks::Shared;
+use replay_calls::Shared;
 use classes::mangling::unmangle;
 use functions::Functions;
 use object_store::{Frames, Names, Store};

@@ -6,7 +6,7 @@ use Rattle.syntax.specs.Views.{unit_tree}
 use Rattle.source.specs.Start.{start, waiting_thread}
 use Rattle.std.proofs.lemmas.List.{length-map}
 use Rattle.jni_calls.proofs.Classed.{classed_loaded}
-use Rattle.loading.proofs.ThreadLoads.{agree_length}
+use Rattle.execution.proofs.ThreadLoads.{agree_length}
 use Rattle.syntax.specs.Parts.{statics_of}
 use Rattle.syntax.specs.declared.unit.Item.{Item}
 use Rattle.jni_calls.specs.StoreAgrees.{StaticsAgree}

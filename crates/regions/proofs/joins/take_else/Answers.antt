@@ -7,7 +7,7 @@ use Rattle.region_rules.specs.RegionStates.{RegionState}
 use Rattle.region_rules.specs.Regions.{where_false}
 use Rattle.region_states.specs.StatesInMemory.{names_of}
 use Rattle.regions.specs.Walks.{Goes}
-use Rattle.region_statements.proofs.NameLemmas.{where_false_names}
+use Rattle.region_states.proofs.NameLemmas.{where_false_names}
 use Rattle.regions.proofs.joins.take_else.Goals as goal
 
 pub returns : goal.returns

@@ -1,7 +1,7 @@
 use Rattle.std.proofs.Common.{sym, ap, ◌∙◌}
 use Rattle.syntax.specs.Views.{form_tree}
-use Rattle.region_statements.specs.Judgements.{first_judged}
-use Rattle.region_statements.proofs.JudgementLemmas.{first_is}
+use Rattle.region_states.specs.Judgements.{first_judged}
+use Rattle.region_states.proofs.JudgementLemmas.{first_is}
 use Rattle.regions.proofs.rules.first_broken.Goals as goal
 
 pub returns : goal.returns

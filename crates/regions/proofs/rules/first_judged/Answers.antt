@@ -1,10 +1,10 @@
 use Rattle.std.proofs.Common.{[], ◌∷◌, Bool, ◌∙◌}
 use Rattle.std.specs.Option.{option_map}
 use Rattle.syntax.specs.Views.{form_tree}
-use Rattle.region_statements.specs.StateEffects.{made_value}
-use Rattle.region_statements.specs.Judgements.{judged}
+use Rattle.region_states.specs.StateEffects.{made_value}
+use Rattle.region_states.specs.Judgements.{judged}
 use Rattle.region_rules.specs.RegionRules.{RegionRule, CallWhileCritical, ReturnWithBuffer, HeldBuffer, UntestedBuffer, WrongBuffer, ReturnInFrame, PopLastFrame, DeadReference, ArrayInUse, WrongLevel}
-use Rattle.region_statements.proofs.JudgementLemmas.{skip, hit}
+use Rattle.region_states.proofs.JudgementLemmas.{skip, hit}
 use Rattle.regions.proofs.rules.first_judged.Goals as goal
 
 pub returns-then-breaks_critical : goal.returns-then-breaks_critical

@@ -9,13 +9,13 @@ use Rattle.syntax.specs.Views.{block_tree, stmt_tree, statements_tree, test_tree
 use Rattle.syntax.proofs.Blocks.{block_is}
 use Rattle.regions.specs.declared.joins.Way.{Way as WayInMemory}
 use Rattle.regions.specs.Findings.{rule_of}
-use Rattle.region_statements.specs.NewNames.{own_names, DeclareNew}
+use Rattle.region_states.specs.NewNames.{own_names, DeclareNew}
 use Rattle.region_rules.specs.RegionStates.{RegionState}
 use Rattle.region_rules.specs.Regions.{On, where_true, where_false}
 use Rattle.region_states.specs.StatesInMemory.{names_of}
 use Rattle.regions.specs.Walks.{WayOrFault, way_value, go_on}
 use Rattle.regions.specs.Ways.{join_ways, way_of_block}
-use Rattle.region_statements.proofs.NameLemmas.{where_true_names, where_false_names}
+use Rattle.region_states.proofs.NameLemmas.{where_true_names, where_false_names}
 use Rattle.regions.proofs.WayLemmas.{Goes-along, if_ok_weaker, stmt_fault, stmt_next, go_rest, go_step, after_line, turn_is_join}
 use Rattle.regions.proofs.walk.+walk.Goals as goal
 

@@ -5,7 +5,7 @@ use Rattle.syntax.specs.declared.stmt.Block.{out-Block, size-Block}
 use Rattle.syntax.specs.Views.{block_tree, statements_tree}
 use Rattle.region_rules.specs.RegionStates.{RegionState}
 use Rattle.region_states.specs.StatesInMemory.{names_of, Grows}
-use Rattle.region_statements.specs.NewNames.{DeclareNew}
+use Rattle.region_states.specs.NewNames.{DeclareNew}
 use Rattle.regions.specs.Walks.{way_value, go_on}
 use Rattle.regions.specs.Ways.{way_of_block}
 use Rattle.regions.proofs.walk.+walk.Given as goal

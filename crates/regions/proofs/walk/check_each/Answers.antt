@@ -4,7 +4,7 @@ use Rattle.std.specs.Option.{option_or}
 use Rattle.syntax.specs.declared.unit.Item.{Item as ItemInMemory}
 use Rattle.syntax.specs.Views.{item_tree}
 use Rattle.regions.specs.Findings.{items_fault}
-use Rattle.region_statements.specs.NewNames.{ItemOnce}
+use Rattle.region_states.specs.NewNames.{ItemOnce}
 use Rattle.regions.specs.Ways.{Fault}
 use Rattle.regions.proofs.WayLemmas.{item_next}
 use Rattle.regions.proofs.walk.check_each.Goals as goal

@@ -1,7 +1,7 @@
 use Rattle.std.proofs.Common.{◌≡◌, drop, map}
 use Rattle.std.specs.List.{AllByRecursion}
 use Rattle.syntax.specs.Views.{item_tree}
-use Rattle.region_statements.specs.NewNames.{ItemOnce}
+use Rattle.region_states.specs.NewNames.{ItemOnce}
 use Rattle.regions.specs.Findings.{items_fault}
 use Rattle.regions.proofs.walk.check_each.Given as goal
 

@@ -1,7 +1,7 @@
 use Rattle.std.proofs.Common.{ap, ◌∙◌}
 use Rattle.syntax.specs.Views.{form_tree}
 use Rattle.region_states.specs.StatesInMemory.{names_of}
-use Rattle.region_statements.proofs.NameLemmas.{after_names}
+use Rattle.region_states.proofs.NameLemmas.{after_names}
 use Rattle.regions.proofs.walk.plain_way.Goals as goal
 
 pub returns-clause-names : goal.returns-clause-names

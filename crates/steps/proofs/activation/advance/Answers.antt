@@ -1,4 +1,4 @@
-use Rattle.call_checks.specs.Shares.{shared_view}
+use Rattle.replay_calls.specs.Shares.{shared_view}
 use Rattle.steps.proofs.ActivationLemmas.{begun_before}
 use Rattle.std.proofs.lemmas.Result.{IfOk-weaker}
 use Rattle.steps.proofs.activation.advance.Goals as goal

@@ -1,5 +1,5 @@
 use Rattle.std.proofs.Common.{Bool, true, false, refl, sym, subst}
-use Rattle.call_checks.specs.Shares.{shared_view}
+use Rattle.replay_calls.specs.Shares.{shared_view}
 use Rattle.steps.specs.declared.activation.Activation.{Activation}
 use Rattle.steps.specs.Activations.{IsApplied, IsInRange, KeepsScene}
 use Rattle.steps.proofs.ActivationLemmas.{fails, advances, range_after}

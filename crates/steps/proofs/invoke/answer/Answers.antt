@@ -1,14 +1,14 @@
 use Rattle.std.proofs.Common.{sym, ap, ◌∙◌, subst, map}
 use Rattle.jni.specs.Table.{Facts, function_value, result_value}
 use Rattle.tasks.specs.declared.outcome.Outcome.TheVariants as outcome
-use Rattle.call_checks.specs.Actuals.{actual_view}
-use Rattle.call_answers.specs.Answers.{FitsFrames, answer_view}
+use Rattle.replay_calls.specs.Actuals.{actual_view}
+use Rattle.replay_calls.specs.Answers.{FitsFrames, answer_view}
 use Rattle.steps.specs.Calls.{MakesCall}
-use Rattle.call_checks.specs.Shares.{shared_view}
+use Rattle.replay_calls.specs.Shares.{shared_view}
 use Rattle.steps.specs.Steps.{Scene, scene_with}
 use Rattle.terms.specs.Views.{variables_view}
 use Rattle.steps.proofs.CallLemmas.{call_made_so, none_refused, object_refused_so}
-use Rattle.call_answers.proofs.FittingFrames.{answer_fits}
+use Rattle.replay_calls.proofs.FittingFrames.{answer_fits}
 use Rattle.steps.proofs.invoke.answer.Goals as goal
 
 pub carry_out-requires : goal.carry_out-requires

@@ -2,10 +2,10 @@ use Rattle.std.proofs.Common.{sym, ap, ◌∙◌, subst, map}
 use Rattle.std.specs.Option.{option_map}
 use Rattle.jni.specs.Table.{function_value}
 use Rattle.tasks.specs.declared.outcome.Outcome.TheVariants as outcome
-use Rattle.call_checks.specs.Actuals.{actual_view}
+use Rattle.replay_calls.specs.Actuals.{actual_view}
 use Rattle.steps.specs.Calls.{MakesCall}
-use Rattle.call_checks.specs.Checked.{trap_found}
-use Rattle.call_checks.specs.Shares.{shared_view}
+use Rattle.replay_calls.specs.Checked.{trap_found}
+use Rattle.replay_calls.specs.Shares.{shared_view}
 use Rattle.steps.specs.Steps.{Scene, scene_with}
 use Rattle.terms.specs.Views.{trap_view}
 use Rattle.steps.proofs.CallLemmas.{call_traps, trap_refuses}

@@ -2,9 +2,9 @@ use Rattle.std.proofs.Common.{List, IfOk, map, ap, ◌∙◌, subst}
 use Rattle.jni.specs.Table.{function_value}
 use Rattle.source.specs.Arguments.{Actual, actuals}
 use Rattle.terms.specs.declared.operand.Operand.{Operand}
-use Rattle.call_checks.specs.Actuals.{actual_view}
+use Rattle.replay_calls.specs.Actuals.{actual_view}
 use Rattle.terms.specs.Views.{operand_view}
-use Rattle.call_checks.specs.Shares.{shared_view, sight_in}
+use Rattle.replay_calls.specs.Shares.{shared_view, sight_in}
 use Rattle.steps.specs.Calls.{MakesCall}
 use Rattle.steps.specs.Steps.{Scene, scene_with}
 use Rattle.steps.proofs.invoke.make_call.Goals as goal

@@ -1,8 +1,8 @@
 use Rattle.std.proofs.Common.{◌≡◌, ℕ, ◌-◌, ◌≤◌, length, get_or, Some, refl, sym, ap, ◌∙◌, subst, arith}
 use Rattle.std.specs.Prelude.{Vec as RawVec, slice_get, vec_len}
 use Rattle.std.specs.Global.{Vec}
-use Rattle.call_checks.specs.declared.shared.Shared.{Shared}
-use Rattle.call_checks.specs.Shares.{shared_view}
+use Rattle.replay_calls.specs.declared.shared.Shared.{Shared}
+use Rattle.replay_calls.specs.Shares.{shared_view}
 use Rattle.source.specs.World.{World}
 use Rattle.std.proofs.lemmas.Option.{slice_get_read}
 use Rattle.syntax.specs.Views.{unit_tree}

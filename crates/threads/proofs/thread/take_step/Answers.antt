@@ -2,7 +2,7 @@ use Rattle.std.proofs.Common.{subst}
 use Rattle.classes.specs.Class.{Classes}
 use Rattle.syntax.specs.Views.{unit_tree}
 use Rattle.steps.specs.Activations.{Advances}
-use Rattle.call_checks.specs.Shares.{shared_view}
+use Rattle.replay_calls.specs.Shares.{shared_view}
 use Rattle.threads.proofs.ThreadLemmas.{ended_range, ended_step}
 use Rattle.threads.proofs.thread.take_step.Goals as goal
 

@@ -1,5 +1,0 @@
-use Rattle.std.proofs.Common.{length}
-use Rattle.call_checks.proofs.actual.+push_actuals.Given as goal
-
-abbrev pub decreases-push_actuals : goal.decreases-push_actuals
-decreases-push_actuals l = length l.parameters.now

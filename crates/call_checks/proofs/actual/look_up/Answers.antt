@@ -1,6 +1,0 @@
-use Rattle.jni.specs.Table.{parameter_value}
-use Rattle.call_checks.specs.Shares.{shared_view, sight_in}
-use Rattle.call_checks.proofs.actual.look_up.Goals as goal
-
-pub returns-in-Number : goal.returns-in-Number
-returns-in-Number c = rw c.in-Number.is (c.number_argument.ensures (sight_in (shared_view c.args.shared.now) c.args.variables.now) (parameter_value c.args.parameter))

@@ -1,7 +1,0 @@
-use Rattle.classes.specs.Fields.{layout, same_field}
-use Rattle.call_checks.specs.Actuals.{given_field}
-use Rattle.call_checks.proofs.FieldLemmas.{NonePasses}
-use Rattle.call_checks.proofs.field.searched_field_place.Given as goal
-
-abbrev pub invariant-loop-place : goal.invariant-loop-place
-invariant-loop-place l = NonePasses (same_field (given_field l.field)) (layout l.classes l.class) l.place

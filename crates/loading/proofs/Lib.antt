@@ -1,6 +1,0 @@
-pub mod Lists
-pub mod LoadLemmas
-pub mod FilledObjects
-pub mod MadeInOrder
-pub mod WaitingThreads
-pub mod ThreadLoads

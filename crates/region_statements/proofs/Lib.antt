@@ -1,6 +1,0 @@
-pub mod ChangeLemmas
-pub mod EffectLemmas
-pub mod ReadLemmas
-pub mod NoneLemmas
-pub mod NameLemmas
-pub mod JudgementLemmas

@@ -1,0 +1,191 @@
+//! The names that a statement uses, and those whose elements it reads or writes.
+
+ghost use Rattle.std.specs.Prelude.{◌≡◌, ℕ};
+ghost use Rattle.syntax.specs.Views.{expr_tree, argument_tree, call_tree, right_side_tree, test_tree, form_tree};
+ghost use Rattle.region_states.specs.StatesInMemory.{asks};
+ghost use Rattle.sorts.specs.Uses.{expr_uses, argument_uses, call_uses, right_uses, test_uses, uses};
+ghost use Rattle.region_states.specs.Reads.{expr_reads, argument_reads, call_reads, right_reads, test_reads, reads};
+
+use crate::states::{Condition, StaticState, is_any, meets};
+use syntax::{Argument, Call, Expr, Form, RightSide, Test};
+
+/// Whether some name of an expression is so.
+fn expr_uses(state: &StaticState, condition: Condition, e: &Expr) -> bool
+    ensures { result ≡ expr_uses (asks condition state.now) (expr_tree e.now) }
+{
+    match e {
+        Expr::Number { .. } | Expr::Named(_) => false,
+        Expr::Variable(x) => meets(state, condition, x.as_bytes()),
+        Expr::Element(x, i) => {
+            meets(state, condition, x.as_bytes()) || expr_uses(state, condition, i)
+        }
+        Expr::Prefix(_, a) | Expr::Paren(a) => expr_uses(state, condition, a),
+        Expr::Binary(_, operands) => {
+            expr_uses(state, condition, &operands.0) || expr_uses(state, condition, &operands.1)
+        }
+    }
+}
+
+/// Whether an argument uses a name that is so.
+fn argument_uses(state: &StaticState, condition: Condition, argument: &Argument) -> bool
+    ensures { result ≡ argument_uses (asks condition state.now) (argument_tree argument.now) }
+{
+    match argument {
+        Argument::Value(e) => expr_uses(state, condition, e),
+        Argument::Text(_) => false,
+        Argument::AddressOf(x) => meets(state, condition, x.as_bytes()),
+    }
+}
+
+/// Whether an argument of a call does.
+fn call_uses(state: &StaticState, condition: Condition, call: &Call) -> bool
+    ensures { result ≡ call_uses (asks condition state.now) (call_tree call.now) }
+{
+    for argument in &call.arguments {
+        if argument_uses(state, condition, argument) {
+            return true;
+        }
+    }
+    false
+}
+
+fn right_uses(state: &StaticState, condition: Condition, right: &RightSide) -> bool
+    ensures { result ≡ right_uses (asks condition state.now) (right_side_tree right.now) }
+{
+    match right {
+        RightSide::Expr(e) => expr_uses(state, condition, e),
+        RightSide::Call(c) => call_uses(state, condition, c),
+    }
+}
+
+fn test_uses(state: &StaticState, condition: Condition, test: &Test) -> bool
+    ensures { result ≡ test_uses (asks condition state.now) (test_tree test.now) }
+{
+    match test {
+        Test::Expr(e) => expr_uses(state, condition, e),
+        Test::Call(c) => call_uses(state, condition, c),
+    }
+}
+
+/// The same, looked for in the statement.
+fn form_uses(state: &StaticState, condition: Condition, form: &Form) -> bool
+    ensures { (line : ℕ) → result ≡ uses (asks condition state.now) (form_tree line form.now) }
+{
+    match form {
+        Form::Declare(_, _, r) => right_uses(state, condition, r),
+        Form::DeclareBuffer(_, _, r) => right_uses(state, condition, r),
+        Form::DeclareChars(_, r) => right_uses(state, condition, r),
+        Form::DeclareArray(..) => false,
+        Form::Assign(_, r) => right_uses(state, condition, r),
+        Form::AssignElement(x, i, e) => {
+            meets(state, condition, x.as_bytes())
+                || expr_uses(state, condition, i)
+                || expr_uses(state, condition, e)
+        }
+        Form::Perform(c) => call_uses(state, condition, c),
+        Form::PutJint(e) => expr_uses(state, condition, e),
+        Form::If(test, _) => test_uses(state, condition, test),
+        Form::IfElse(test, _, _) => test_uses(state, condition, test),
+        Form::While(e, _) => expr_uses(state, condition, e),
+        Form::Return(None) => false,
+        Form::Return(Some(e)) => expr_uses(state, condition, e),
+    }
+}
+
+/// Whether an expression reads an element of a name that is so.
+fn expr_reads(state: &StaticState, condition: Condition, e: &Expr) -> bool
+    ensures { result ≡ expr_reads (asks condition state.now) (expr_tree e.now) }
+{
+    match e {
+        Expr::Number { .. } | Expr::Named(_) | Expr::Variable(_) => false,
+        Expr::Element(x, i) => {
+            meets(state, condition, x.as_bytes()) || expr_reads(state, condition, i)
+        }
+        Expr::Prefix(_, a) | Expr::Paren(a) => expr_reads(state, condition, a),
+        Expr::Binary(_, operands) => {
+            expr_reads(state, condition, &operands.0) || expr_reads(state, condition, &operands.1)
+        }
+    }
+}
+
+fn argument_reads(state: &StaticState, condition: Condition, argument: &Argument) -> bool
+    ensures { result ≡ argument_reads (asks condition state.now) (argument_tree argument.now) }
+{
+    match argument {
+        Argument::Value(e) => expr_reads(state, condition, e),
+        Argument::Text(_) => false,
+        Argument::AddressOf(_) => false,
+    }
+}
+
+fn call_reads(state: &StaticState, condition: Condition, call: &Call) -> bool
+    ensures { result ≡ call_reads (asks condition state.now) (call_tree call.now) }
+{
+    for argument in &call.arguments {
+        if argument_reads(state, condition, argument) {
+            return true;
+        }
+    }
+    false
+}
+
+fn right_reads(state: &StaticState, condition: Condition, right: &RightSide) -> bool
+    ensures { result ≡ right_reads (asks condition state.now) (right_side_tree right.now) }
+{
+    match right {
+        RightSide::Expr(e) => expr_reads(state, condition, e),
+        RightSide::Call(c) => call_reads(state, condition, c),
+    }
+}
+
+fn test_reads(state: &StaticState, condition: Condition, test: &Test) -> bool
+    ensures { result ≡ test_reads (asks condition state.now) (test_tree test.now) }
+{
+    match test {
+        Test::Expr(e) => expr_reads(state, condition, e),
+        Test::Call(c) => call_reads(state, condition, c),
+    }
+}
+
+/// The same, looked for in the statement.
+fn form_reads(state: &StaticState, condition: Condition, form: &Form) -> bool
+    ensures { (line : ℕ) → result ≡ reads (asks condition state.now) (form_tree line form.now) }
+{
+    match form {
+        Form::Declare(_, _, r) => right_reads(state, condition, r),
+        Form::DeclareBuffer(_, _, r) => right_reads(state, condition, r),
+        Form::DeclareChars(_, r) => right_reads(state, condition, r),
+        Form::DeclareArray(..) => false,
+        Form::Assign(_, r) => right_reads(state, condition, r),
+        Form::AssignElement(x, i, e) => {
+            expr_reads(state, condition, i)
+                || expr_reads(state, condition, e)
+                || meets(state, condition, x.as_bytes())
+        }
+        Form::Perform(c) => call_reads(state, condition, c),
+        Form::PutJint(e) => expr_reads(state, condition, e),
+        Form::If(test, _) => test_reads(state, condition, test),
+        Form::IfElse(test, _, _) => test_reads(state, condition, test),
+        Form::While(e, _) => expr_reads(state, condition, e),
+        Form::Return(None) => false,
+        Form::Return(Some(e)) => expr_reads(state, condition, e),
+    }
+}
+
+/// Whether a statement uses a name that is so. A name that it declares or sets is not used.
+/// Where no name is so, the statement isn't looked at.
+#[tactic(auto, using(crate::proofs::NoneLemmas::none_uses))]
+pub fn uses(state: &StaticState, condition: Condition, form: &Form) -> bool
+    ensures { (line : ℕ) → result ≡ uses (asks condition state.now) (form_tree line form.now) }
+{
+    is_any(state, condition) && form_uses(state, condition, form)
+}
+
+/// Whether a statement reads or writes an element of a name that is so.
+/// Where no name is so, the statement isn't looked at.
+#[tactic(auto, using(crate::proofs::NoneLemmas::none_reads))]
+pub fn reads(state: &StaticState, condition: Condition, form: &Form) -> bool
+    ensures { (line : ℕ) → result ≡ reads (asks condition state.now) (form_tree line form.now) }
+{
+    is_any(state, condition) && form_reads(state, condition, form)
+}

@@ -1,0 +1,64 @@
+-- What is worked out of a call asks the frames for no more than they can have.
+use Rattle.std.proofs.Common.{◌≡◌, ℕ, Bool, true, false, List, ◌∷◌, Option, Some, None, refl}
+use Rattle.std.specs.Prelude.{ℤ, pos, negsuc, nat_le, if◌then◌else◌}
+use Rattle.base.specs.Bytes.{Identifier}
+use Rattle.classes.specs.Class.{Classes}
+use Rattle.classes.specs.Fields.{FieldId}
+use Rattle.jni.specs.JniFunction.{JniFunction, FindClass, NewGlobalRef, DeleteLocalRef, DeleteGlobalRef, EnsureLocalCapacity, PushLocalFrame, GetFieldID, GetStaticFieldID}
+use Rattle.source.specs.Arguments.{Actual, variable_given, reference_given, number_given}
+use Rattle.source.specs.CallEffects.{with_capacity}
+use Rattle.source.specs.Heap.{Heap}
+use Rattle.source.specs.Object.{Reference}
+use Rattle.source.specs.Thread.{Frame, capacities}
+use Rattle.source.specs.Variable.{Variables}
+use Rattle.replay_calls.specs.Answers.{Ensures, Pushes, RefusesFrames, FitsFrames}
+use Rattle.object_store.specs.Frames.{new_frame}
+use Rattle.replay_calls.specs.WorkedOut.{ensured, found_class, found_field, global_deleted, local_deleted, made_global, pushed, worked_out}
+
+module _ (frames : List Frame) where
+  class_fits : (c : Option ℕ) → FitsFrames frames (found_class c)
+  class_fits None = tt
+  class_fits (Some c) = tt
+
+  field_fits : (f : Option FieldId) → FitsFrames frames (found_field f)
+  field_fits None = tt
+  field_fits (Some f) = tt
+
+  room_fits : (n : ℕ) (b : Bool) → nat_le (capacities (with_capacity n frames)) 1024 ≡ b → FitsFrames frames (if b then Ensures n else RefusesFrames)
+  room_fits n true fits = fits
+  room_fits n false fits = tt
+
+  ensured_fits : (z : ℤ) → FitsFrames frames (ensured frames z)
+  ensured_fits (pos n) = room_fits n (nat_le (capacities (with_capacity n frames)) 1024) refl
+  ensured_fits (negsuc n) = tt
+
+  frame_fits : (n : ℕ) (b : Bool) → nat_le (capacities (new_frame n ∷ frames)) 1024 ≡ b → FitsFrames frames (if b then Pushes n else RefusesFrames)
+  frame_fits n true fits = fits
+  frame_fits n false fits = tt
+
+  pushed_fits : (z : ℤ) → FitsFrames frames (pushed frames z)
+  pushed_fits (pos n) = frame_fits n (nat_le (capacities (new_frame n ∷ frames)) 1024) refl
+  pushed_fits (negsuc n) = tt
+
+  local_fits : (level : ℕ) (r : Reference) → FitsFrames frames (local_deleted level r)
+  local_fits level None = tt
+  local_fits level (Some n) = tt
+
+  global_fits : (r : Reference) → FitsFrames frames (made_global r)
+  global_fits None = tt
+  global_fits (Some n) = tt
+
+  deleted_fits : (x : Identifier) (r : Reference) → FitsFrames frames (global_deleted x r)
+  deleted_fits x None = tt
+  deleted_fits x (Some n) = tt
+
+  pub answer_fits : (classes : Classes) (heap : Heap) (vs : Variables) (args : List Actual) (f : JniFunction) → FitsFrames frames (worked_out classes heap vs frames args f)
+  answer_fits classes heap vs args FindClass = class_fits _
+  answer_fits classes heap vs args NewGlobalRef = global_fits (reference_given args 0)
+  answer_fits classes heap vs args DeleteLocalRef = local_fits _ (reference_given args 0)
+  answer_fits classes heap vs args DeleteGlobalRef = deleted_fits (variable_given args 0) (reference_given args 0)
+  answer_fits classes heap vs args EnsureLocalCapacity = ensured_fits (number_given args 0)
+  answer_fits classes heap vs args PushLocalFrame = pushed_fits (number_given args 0)
+  answer_fits classes heap vs args GetFieldID = field_fits _
+  answer_fits classes heap vs args GetStaticFieldID = field_fits _
+  answer_fits classes heap vs args f = tt

@@ -1,0 +1,40 @@
+-- Arguments that lie in memory, as those of the language.
+use Rattle.std.specs.Prelude.{false, [], Option, Some, None}
+use Rattle.std.specs.Option.{option_map}
+use Rattle.std.specs.Borrow.{Bor}
+use Rattle.base.specs.Bytes.{Identifier}
+use Rattle.base.specs.Element.{JInt}
+use Rattle.class_table.specs.FieldViews.{field_id_view}
+use Rattle.class_table.specs.declared.fields.FieldId.{FieldId as IdInMemory}
+use Rattle.classes.specs.Class.{NumberField}
+use Rattle.classes.specs.Fields.{FieldId}
+use Rattle.source.specs.Arguments.{Actual, ReferenceActual, FieldActual, NumberActual, TextActual, VariableActual, ModeActual, NothingActual, ReleaseMode, CopyBackAndFree, CopyBack, FreeUncopied}
+use Rattle.replay_calls.specs.declared.actual.Actual.{Actual as InMemory}
+use Rattle.replay_calls.specs.declared.actual.Actual.TheVariants as actual
+use Rattle.replay_calls.specs.declared.actual.ReleaseMode.{ReleaseMode as ModeInMemory}
+use Rattle.replay_calls.specs.declared.actual.ReleaseMode.TheVariants as mode
+use Rattle.terms.specs.Views.{held_view}
+
+-- a name, which is empty where there is none
+abbrev pub name_view : Option (Bor Identifier) → Identifier
+name_view None = []
+name_view (Some x) = x.now
+
+abbrev pub mode_view : ModeInMemory → ReleaseMode
+mode_view mode.CopyBackAndFree = CopyBackAndFree
+mode_view mode.CopyBack = CopyBack
+mode_view mode.FreeUncopied = FreeUncopied
+
+abbrev pub actual_view : InMemory → Actual
+actual_view (actual.Reference x r) = ReferenceActual (name_view x) (held_view r)
+actual_view (actual.Field f) = FieldActual (option_map field_id_view f)
+actual_view (actual.Number z) = NumberActual z
+actual_view (actual.Text bytes) = TextActual bytes.now
+actual_view (actual.Variable x) = VariableActual (name_view x)
+actual_view (actual.Mode m) = ModeActual (mode_view m)
+actual_view actual.Nothing = NothingActual
+
+-- the field of a field ID that isn't NULL
+abbrev pub given_field : Option IdInMemory → FieldId
+given_field None = record { class = 0; is_static = false; field = record { name = []; type = NumberField JInt } }
+given_field (Some f) = field_id_view f

@@ -1,0 +1,126 @@
+-- What calls do, as data, and what that leaves.
+use Rattle.std.specs.Prelude.{ℕ, pos, negsuc, Bool, true, false, List, [], ◌∷◌, ◌++◌, drop, nat_le, IsTrue, Some}
+use Rattle.base.specs.Bytes.{Identifier}
+use Rattle.classes.specs.Class.{Classes}
+use Rattle.jni.specs.Prototype.{ResultKind, NewLocal}
+use Rattle.source.specs.CallEffects.{CallResult, NoResult, ScalarResult, ReferenceResult, CallEffect, Throws, Leaves, heap_effect, new_effect, out_of_memory, refuses_frames, with_capacity, with_local, without_local, without_one}
+use Rattle.source.specs.CallStep.{failure}
+use Rattle.source.specs.Heap.{Heap, next_name, with_value_at}
+use Rattle.source.specs.Object.{ObjectValue, Reference}
+use Rattle.source.specs.Thread.{Frame, Shared, Thread, capacities}
+use Rattle.source.specs.Value.{Int}
+use Rattle.source.specs.Variable.{Deleted, assign}
+use Rattle.source.specs.World.{fresh_object}
+use Rattle.replay_calls.specs.declared.answer.Answer.{Answer as InMemory}
+use Rattle.replay_calls.specs.declared.answer.Answer.TheVariants as answer
+use Rattle.object_store.specs.Frames.{new_frame}
+use Rattle.terms.specs.Views.{given_view}
+use Rattle.world.specs.Views.{object_value_view}
+
+-- What a call does: nothing changes and this is given, a value of an object is written, an object of a class is made and given,
+-- an exception of a class is made, the current frame gets room for so many more and 0 is given, a frame of this capacity is made
+-- and 0 is given, the OutOfMemoryError object is pending and -4 is given, the current frame is dropped and this is given, a local
+-- reference in the frame of a level is deleted, a global reference is made and given, or the one of a static is deleted.
+pub data Answer : Type 0 where
+  Gives : CallResult → Answer
+  Writes : (object place : ℕ) → ObjectValue → Answer
+  Makes : (class : ℕ) → Answer
+  Raises : (class : ℕ) → Answer
+  Ensures : (more : ℕ) → Answer
+  Pushes : (capacity : ℕ) → Answer
+  RefusesFrames : Answer
+  Pops : Reference → Answer
+  DeletesLocal : (level object : ℕ) → Answer
+  MakesGlobal : (object : ℕ) → Answer
+  DeletesGlobal : Identifier → (object : ℕ) → Answer
+
+abbrev pub answer_view : InMemory → Answer
+answer_view (answer.Gives g) = Gives (given_view g)
+answer_view (answer.Writes n i v) = Writes n i (object_value_view v)
+answer_view (answer.Makes c) = Makes c
+answer_view (answer.Raises c) = Raises c
+answer_view (answer.Ensures n) = Ensures n
+answer_view (answer.Pushes n) = Pushes n
+answer_view answer.RefusesFrames = RefusesFrames
+answer_view (answer.Pops r) = Pops r
+answer_view (answer.DeletesLocal l n) = DeletesLocal l n
+answer_view (answer.MakesGlobal n) = MakesGlobal n
+answer_view (answer.DeletesGlobal x n) = DeletesGlobal x.now n
+
+-- these frames can have what it asks for
+abbrev pub FitsFrames : List Frame → Answer → Type 0
+FitsFrames frames (Ensures n) = IsTrue (nat_le (capacities (with_capacity n frames)) 1024)
+FitsFrames frames (Pushes n) = IsTrue (nat_le (capacities (new_frame n ∷ frames)) 1024)
+FitsFrames frames a = Unit {0}
+
+-- 0
+abbrev pub zero_result : CallResult
+zero_result = ScalarResult (Int (pos 0))
+
+-- what is shared without a global reference, the static of which is marked
+abbrev pub without_global : Identifier → ℕ → Shared → Shared
+without_global x n s = record s { globals = without_one n s.globals; statics = assign x Deleted s.statics }
+
+-- the same as the effect of a call
+abbrev pub effect_as : Classes → Shared → Thread → Answer → CallEffect
+effect_as classes s t (Gives g) = Leaves [] s t g
+effect_as classes s t (Writes n i v) = heap_effect s t (with_value_at s.heap n i v)
+effect_as classes s t (Makes c) = new_effect s t (fresh_object classes c)
+effect_as classes s t (Raises c) = Throws c
+effect_as classes s t (Ensures n) = Leaves [] s (record t { frames = with_capacity n t.frames }) zero_result
+effect_as classes s t (Pushes n) = Leaves [] s (record t { frames = new_frame n ∷ t.frames }) zero_result
+effect_as classes s t RefusesFrames = refuses_frames classes s t
+effect_as classes s t (Pops r) = Leaves [] s (record t { frames = drop 1 t.frames }) (ReferenceResult r)
+effect_as classes s t (DeletesLocal l n) = Leaves [] s (record t { frames = without_local l n t.frames }) NoResult
+effect_as classes s t (MakesGlobal n) = Leaves [] (record s { globals = n ∷ s.globals }) t (ReferenceResult (Some n))
+effect_as classes s t (DeletesGlobal x n) = Leaves [] (without_global x n s) t NoResult
+
+-- ---- what it leaves
+
+-- whether there is an object to refuse
+abbrev pub makes_object : Answer → Bool
+makes_object (Makes c) = true
+makes_object (Raises c) = true
+makes_object a = false
+
+-- what is shared after it
+abbrev pub shared_after : Classes → Shared → Answer → Shared
+shared_after classes s (Writes n i v) = record s { heap = with_value_at s.heap n i v }
+shared_after classes s (Makes c) = record s { heap = s.heap ++ fresh_object classes c ∷ [] }
+shared_after classes s (Raises c) = record s { heap = s.heap ++ fresh_object classes c ∷ [] }
+shared_after classes s (MakesGlobal n) = record s { globals = n ∷ s.globals }
+shared_after classes s (DeletesGlobal x n) = without_global x n s
+shared_after classes s a = s
+
+-- the frames after it, without what it gives
+abbrev pub frames_after : List Frame → Answer → List Frame
+frames_after frames (Ensures n) = with_capacity n frames
+frames_after frames (Pushes n) = new_frame n ∷ frames
+frames_after frames (Pops r) = drop 1 frames
+frames_after frames (DeletesLocal l n) = without_local l n frames
+frames_after frames a = frames
+
+-- the pending exception after it
+abbrev pub pending_after : Classes → Heap → Reference → Answer → Reference
+pending_after classes heap pending (Raises c) = Some (next_name heap)
+pending_after classes heap pending RefusesFrames = Some (out_of_memory classes)
+pending_after classes heap pending a = pending
+
+-- what a call of this kind of result gives
+abbrev pub given_after : Heap → ResultKind → Answer → CallResult
+given_after heap kind (Gives g) = g
+given_after heap kind (Writes n i v) = NoResult
+given_after heap kind (Makes c) = ReferenceResult (Some (next_name heap))
+given_after heap kind (Raises c) = failure kind
+given_after heap kind (Ensures n) = zero_result
+given_after heap kind (Pushes n) = zero_result
+given_after heap kind RefusesFrames = ScalarResult (Int (negsuc 3))
+given_after heap kind (Pops r) = ReferenceResult r
+given_after heap kind (DeletesLocal l n) = NoResult
+given_after heap kind (MakesGlobal n) = ReferenceResult (Some n)
+given_after heap kind (DeletesGlobal x n) = NoResult
+
+-- the frames with what a call of this kind of result gave
+abbrev pub frames_with : ResultKind → CallResult → List Frame → List Frame
+frames_with NewLocal (ReferenceResult (Some n)) frames = with_local n frames
+frames_with kind given frames = frames

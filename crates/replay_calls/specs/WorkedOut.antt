@@ -1,0 +1,131 @@
+-- What is worked out of a call, its arguments being looked up and its checks passed.
+use Rattle.std.specs.Prelude.{ℕ, nat_le, if◌then◌else◌, ℤ, pos, negsuc, List, ◌∷◌, length, Option, Some, None}
+use Rattle.base.specs.Bytes.{Identifier, lookup}
+use Rattle.classes.specs.BuiltIns.{no_class_def_found_error, no_such_field_error}
+use Rattle.classes.specs.Class.{Classes, class_named, superclass, assignable}
+use Rattle.classes.specs.Fields.{FieldId, find_field, find_static}
+use Rattle.jni.specs.JniFunction.{JniFunction, FindClass, GetSuperclass, GetObjectClass, IsInstanceOf, IsAssignableFrom, AllocObject, NewLocalRef, NewGlobalRef, DeleteLocalRef, DeleteGlobalRef, IsSameObject, EnsureLocalCapacity, PushLocalFrame, PopLocalFrame, GetFieldID, GetStaticFieldID, GetField, SetField, GetStaticField, SetStaticField, GetObjectField, SetObjectField, GetStaticObjectField, SetStaticObjectField, GetArrayLength}
+use Rattle.source.specs.Arguments.{Actual, reference_given, object_given, number_given, text_given, field_given, variable_given}
+use Rattle.source.specs.CallEffects.{NoResult, ScalarResult, ReferenceResult, FieldResult, level_of, same_reference, with_capacity}
+use Rattle.source.specs.Heap.{Heap, class_of, values_of, value_at, number_in, reference_in, field_place, static_place, fits_class}
+use Rattle.source.specs.Object.{Number, Refers, Reference}
+use Rattle.source.specs.Thread.{Frame, capacities}
+use Rattle.source.specs.Value.{Int, Flag, convert}
+use Rattle.source.specs.Variable.{Variables}
+use Rattle.replay_calls.specs.Answers.{Answer, Gives, Writes, Makes, Raises, Ensures, Pushes, RefusesFrames, Pops, DeletesLocal, MakesGlobal, DeletesGlobal}
+use Rattle.replay_calls.specs.declared.answer.Subject.{Subject}
+use Rattle.replay_calls.specs.declared.answer.Subject.TheVariants as subject
+use Rattle.object_store.specs.Frames.{new_frame}
+
+-- what a function works on
+abbrev pub subject_of : JniFunction → Subject
+subject_of NewLocalRef = subject.References
+subject_of NewGlobalRef = subject.References
+subject_of DeleteLocalRef = subject.References
+subject_of DeleteGlobalRef = subject.References
+subject_of IsSameObject = subject.References
+subject_of EnsureLocalCapacity = subject.References
+subject_of PushLocalFrame = subject.References
+subject_of PopLocalFrame = subject.References
+subject_of (GetField T) = subject.Fields
+subject_of (SetField T) = subject.Fields
+subject_of GetObjectField = subject.Fields
+subject_of SetObjectField = subject.Fields
+subject_of GetArrayLength = subject.Fields
+subject_of (GetStaticField T) = subject.Statics
+subject_of (SetStaticField T) = subject.Statics
+subject_of GetStaticObjectField = subject.Statics
+subject_of SetStaticObjectField = subject.Statics
+subject_of f = subject.Classes
+
+-- a class that was found, or else an exception
+abbrev pub found_class : Option ℕ → Answer
+found_class None = Raises no_class_def_found_error
+found_class (Some c) = Gives (ReferenceResult (Some c))
+
+-- a field that was found, or else an exception
+abbrev pub found_field : Option FieldId → Answer
+found_field None = Raises no_such_field_error
+found_field (Some f) = Gives (FieldResult (Some f))
+
+-- these capacities may be had, or else no frames are
+abbrev pub if_they_fit : List Frame → Answer → Answer
+if_they_fit frames a = if nat_le (capacities frames) 1024 then a else RefusesFrames
+
+-- room for this number of references more in the current frame
+abbrev pub ensured : List Frame → ℤ → Answer
+ensured frames (pos n) = if_they_fit (with_capacity n frames) (Ensures n)
+ensured frames (negsuc n) = RefusesFrames
+
+-- a frame of this capacity
+abbrev pub pushed : List Frame → ℤ → Answer
+pushed frames (pos n) = if_they_fit (new_frame n ∷ frames) (Pushes n)
+pushed frames (negsuc n) = RefusesFrames
+
+-- one local reference less in the frame of this level; NULL: nothing
+abbrev pub local_deleted : (level : ℕ) → Reference → Answer
+local_deleted level None = Gives NoResult
+local_deleted level (Some n) = DeletesLocal level n
+
+-- one global reference more; NULL: nothing
+abbrev pub made_global : Reference → Answer
+made_global None = Gives (ReferenceResult None)
+made_global (Some n) = MakesGlobal n
+
+-- one global reference less, that of this static; NULL: nothing
+abbrev pub global_deleted : Identifier → Reference → Answer
+global_deleted x None = Gives NoResult
+global_deleted x (Some n) = DeletesGlobal x n
+
+module _ (classes : Classes) (heap : Heap) (variables : Variables) (frames : List Frame) (args : List Actual) where
+  abbrev pub reference : ℕ → Option ℕ
+  reference i = reference_given args i
+
+  abbrev pub object : ℕ → ℕ
+  object i = object_given args i
+
+  abbrev pub number : ℕ → ℤ
+  number i = number_given args i
+
+  abbrev pub text : ℕ → List ℕ
+  text i = text_given args i
+
+  -- the place of the field of argument 1 in the object of argument 0
+  abbrev pub place : ℕ
+  place = field_place classes heap (object 0) (field_given args 1)
+
+  -- the class that declares the static of argument 1, and its place there
+  abbrev pub declaring : ℕ
+  declaring = (field_given args 1).class
+
+  abbrev pub place_of_static : ℕ
+  place_of_static = static_place classes (field_given args 1)
+
+  -- the functions that can be called
+  abbrev pub worked_out : JniFunction → Answer
+  worked_out FindClass = found_class (class_named classes (text 0))
+  worked_out GetSuperclass = Gives (ReferenceResult (superclass classes (object 0)))
+  worked_out GetObjectClass = Gives (ReferenceResult (Some (class_of heap (object 0))))
+  worked_out IsInstanceOf = Gives (ScalarResult (Flag (fits_class classes heap (reference 0) (object 1))))
+  worked_out IsAssignableFrom = Gives (ScalarResult (Flag (assignable classes (object 0) (object 1))))
+  worked_out AllocObject = Makes (object 0)
+  worked_out NewLocalRef = Gives (ReferenceResult (reference 0))
+  worked_out NewGlobalRef = made_global (reference 0)
+  worked_out DeleteLocalRef = local_deleted (level_of (lookup (variable_given args 0) variables)) (reference 0)
+  worked_out DeleteGlobalRef = global_deleted (variable_given args 0) (reference 0)
+  worked_out IsSameObject = Gives (ScalarResult (Flag (same_reference (reference 0) (reference 1))))
+  worked_out EnsureLocalCapacity = ensured frames (number 0)
+  worked_out PushLocalFrame = pushed frames (number 0)
+  worked_out PopLocalFrame = Pops (reference 0)
+  worked_out GetFieldID = found_field (find_field classes (object 0) (text 1) (text 2))
+  worked_out GetStaticFieldID = found_field (find_static classes (object 0) (text 1) (text 2))
+  worked_out (GetField T) = Gives (ScalarResult (Int (number_in (value_at heap (object 0) place))))
+  worked_out (SetField T) = Writes (object 0) place (Number (convert T (number 2)))
+  worked_out GetObjectField = Gives (ReferenceResult (reference_in (value_at heap (object 0) place)))
+  worked_out SetObjectField = Writes (object 0) place (Refers (reference 2))
+  worked_out (GetStaticField T) = Gives (ScalarResult (Int (number_in (value_at heap declaring place_of_static))))
+  worked_out (SetStaticField T) = Writes declaring place_of_static (Number (convert T (number 2)))
+  worked_out GetStaticObjectField = Gives (ReferenceResult (reference_in (value_at heap declaring place_of_static)))
+  worked_out SetStaticObjectField = Writes declaring place_of_static (Refers (reference 2))
+  worked_out GetArrayLength = Gives (ScalarResult (Int (pos (length (values_of heap (object 0))))))
+  worked_out f = Gives NoResult

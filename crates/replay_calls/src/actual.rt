@@ -1,0 +1,319 @@
+//! The arguments of a call, looked up in its own step.
+
+ghost use Rattle.std.specs.Prelude.{◌≡◌, ◌++◌, IfOk, map, slice_get, zip};
+ghost use Rattle.std.specs.Option.{option_map};
+ghost use Rattle.base.specs.Bytes.{lookup};
+ghost use Rattle.syntax.specs.Views.{argument_tree, expr_tree};
+ghost use Rattle.class_table.specs.FieldViews.{field_id_view};
+ghost use Rattle.jni.specs.Prototype.{ParameterKind as Kind};
+ghost use Rattle.jni.specs.Table.{function_value, parameter_value};
+ghost use Rattle.source.specs.Arguments.{actuals, field_argument, field_given, look_up, look_up_expression, mode_of, named_variable, number_given, number_in_actual, object_given, name_or_zero, reference_argument, reference_given, reference_in_actual, text_given, text_in_actual, field_in_actual, variable_given, variable_in_actual};
+ghost use Rattle.source.specs.CallEffects.{level_of};
+ghost use Rattle.source.specs.Sight.{Sight, held_field, held_reference};
+ghost use Rattle.source.specs.Task.{Given, NumberOperand};
+ghost use Rattle.source.specs.Thread.{Shared as SharedOfThreads};
+ghost use Rattle.replay_calls.specs.Actuals.{actual_view, mode_view, name_view, given_field};
+ghost use Rattle.terms.specs.Views.{operand_view, held_view, term_view, variables_view};
+ghost use Rattle.replay_calls.specs.Shares.{shared_view, sight_in};
+
+use crate::shared::Shared;
+use class_table::fields::FieldId;
+use jni::{JniFunction, ParameterKind};
+use std::alloc::{AllocError, Global};
+use syntax::{Argument, Constant, Expr, Name};
+use terms::{Content, Operand, StaticReference, Term, Value, Variables};
+
+/// How a buffer of copied elements is released (JNI Specification, chapter 4, "Release<PrimitiveType>ArrayElements
+/// Routines").
+#[derive(Clone, Copy)]
+pub enum ReleaseMode {
+    CopyBackAndFree,
+    CopyBack,
+    FreeUncopied,
+}
+
+/// An argument of a call, looked up.
+#[derive(Clone, Copy)]
+pub enum Actual<'a> {
+    /// What a variable or a static holds, and its name.
+    Reference(Option<&'a Name>, StaticReference),
+    Field(Option<FieldId<'a>>),
+    Number(i32),
+    Text(&'a [u8]),
+    /// A variable that is meant itself.
+    Variable(Option<&'a Name>),
+    Mode(ReleaseMode),
+    Nothing,
+}
+
+// ---- looking up
+
+/// The arguments of a call, its numbers being worked out.
+pub fn actuals<'a>(
+    alloc: Global,
+    shared: &Shared<'_>,
+    variables: &Variables<'a>,
+    function: JniFunction,
+    operands: &[Operand<'a>],
+) -> Result<Vec<Actual<'a>>, AllocError>
+    ensures { IfOk result (λ args. map actual_view args.items ≡ actuals (sight_in (shared_view shared.now) variables.now) (function_value function) (map operand_view operands.now)) }
+{
+    let mut actuals = Vec::new(alloc);
+    push_actuals(
+        &mut actuals,
+        shared,
+        variables,
+        function.prototype().parameters,
+        operands,
+    )?;
+    Ok(actuals)
+}
+
+/// Looks up the arguments for these parameters.
+fn push_actuals<'a>(
+    actuals: &mut Vec<Actual<'a>>,
+    shared: &Shared<'_>,
+    variables: &Variables<'a>,
+    parameters: &[ParameterKind],
+    operands: &[Operand<'a>],
+) -> Result<(), AllocError>
+    ensures { IfOk result (λ _. map actual_view actuals.new.items
+        ≡ map actual_view actuals.old.items ++ map (look_up (sight_in (shared_view shared.now) variables.now)) (zip (map parameter_value parameters.entry.now) (map operand_view operands.entry.now))) }
+{
+    match parameters {
+        [] => Ok(()),
+        [parameter, parameters @ ..] => match operands {
+            [] => Ok(()),
+            [operand, operands @ ..] => {
+                actuals.push(look_up(shared, variables, *parameter, operand))?;
+                push_actuals(actuals, shared, variables, parameters, operands)
+            }
+        },
+    }
+}
+
+/// What an argument for this parameter is.
+fn look_up<'a>(
+    shared: &Shared<'_>,
+    variables: &Variables<'a>,
+    parameter: ParameterKind,
+    operand: &Operand<'a>,
+) -> Actual<'a>
+    ensures { actual_view result ≡ look_up (sight_in (shared_view shared.now) variables.now) (parameter_value parameter, operand_view operand.now) }
+{
+    match operand {
+        Operand::Number(t) => number_argument(t),
+        Operand::Given(argument) => given_argument(shared, variables, parameter, argument),
+    }
+}
+
+/// A number that is worked out.
+fn number_argument<'a>(t: &Term<'_>) -> Actual<'a>
+    ensures { (sight : Sight) (p : Kind) → actual_view result ≡ look_up sight (p, NumberOperand (term_view t.now)) }
+{
+    match t {
+        Term::Done(Value::Int(z)) => Actual::Number(*z),
+        _ => Actual::Nothing,
+    }
+}
+
+/// An argument that is given as it is written.
+fn given_argument<'a>(
+    shared: &Shared<'_>,
+    variables: &Variables<'a>,
+    parameter: ParameterKind,
+    argument: &'a Argument,
+) -> Actual<'a>
+    ensures { actual_view result ≡ look_up (sight_in (shared_view shared.now) variables.now) (parameter_value parameter, Given (argument_tree argument.now)) }
+{
+    match argument {
+        Argument::Text(bytes) => Actual::Text(bytes),
+        Argument::AddressOf(name) => Actual::Variable(Some(name)),
+        Argument::Value(e) => look_up_expression(shared, variables, parameter, e),
+    }
+}
+
+/// An argument that is neither number nor text.
+fn look_up_expression<'a>(
+    shared: &Shared<'_>,
+    variables: &Variables<'a>,
+    parameter: ParameterKind,
+    e: &'a Expr,
+) -> Actual<'a>
+    ensures { actual_view result ≡ look_up_expression (sight_in (shared_view shared.now) variables.now) (parameter_value parameter) (expr_tree e.now) }
+{
+    match parameter {
+        ParameterKind::FieldID => field_argument(variables, e),
+        ParameterKind::ArrayVariable(_) => Actual::Variable(named_variable(e)),
+        ParameterKind::BufferVariable(_) => Actual::Variable(named_variable(e)),
+        ParameterKind::Mode => Actual::Mode(mode_of(e)),
+        ParameterKind::IsCopy => Actual::Nothing,
+        _ => reference_argument(shared, variables, e),
+    }
+}
+
+/// The variable that is named.
+fn named_variable(e: &Expr) -> Option<&Name>
+    ensures { name_view result ≡ named_variable (expr_tree e.now) }
+{
+    match e {
+        Expr::Variable(name) => Some(name),
+        _ => None,
+    }
+}
+
+/// The mode that stands for `JNI_COMMIT`, `JNI_ABORT` or 0.
+fn mode_of(e: &Expr) -> ReleaseMode
+    ensures { mode_view result ≡ mode_of (expr_tree e.now) }
+{
+    match e {
+        Expr::Named(Constant::Commit) => ReleaseMode::CopyBack,
+        Expr::Named(Constant::Abort) => ReleaseMode::FreeUncopied,
+        _ => ReleaseMode::CopyBackAndFree,
+    }
+}
+
+/// A name or NULL where a field ID is asked for.
+fn field_argument<'a>(variables: &Variables<'a>, e: &'a Expr) -> Actual<'a>
+    ensures { (shared : SharedOfThreads) → actual_view result ≡ field_argument (sight_in shared variables.now) (expr_tree e.now) }
+{
+    match e {
+        Expr::Variable(name) => Actual::Field(field_of(variables, name)),
+        _ => Actual::Field(None),
+    }
+}
+
+/// What a field ID holds.
+fn field_of<'a>(variables: &Variables<'a>, name: &Name) -> Option<FieldId<'a>>
+    ensures { option_map field_id_view result ≡ held_field (lookup name.now (variables_view variables.now)) }
+{
+    match variables.content_of(name) {
+        None => None,
+        Some(content) => match content {
+            Content::Field(field) => *field,
+            Content::Number(_) | Content::Reference(_, _) => None,
+            Content::Buffer(_) | Content::Array(_, _) => None,
+        },
+    }
+}
+
+/// A name or NULL where a reference is asked for.
+fn reference_argument<'a>(shared: &Shared<'_>, variables: &Variables<'a>, e: &'a Expr) -> Actual<'a>
+    ensures { actual_view result ≡ reference_argument (sight_in (shared_view shared.now) variables.now) (expr_tree e.now) }
+{
+    match e {
+        Expr::Variable(name) => Actual::Reference(Some(name), held_by(shared, variables, name)),
+        _ => Actual::Reference(None, StaticReference::Empty),
+    }
+}
+
+/// What a local reference or a static holds.
+fn held_by(shared: &Shared<'_>, variables: &Variables<'_>, name: &Name) -> StaticReference
+    ensures { held_view result ≡ held_reference (lookup name.now (variables_view variables.now)) (lookup name.now shared.now.statics) }
+{
+    match variables.content_of(name) {
+        None => match shared.statics.held(name) {
+            Some(held) => held,
+            None => StaticReference::Empty,
+        },
+        Some(content) => match content {
+            Content::Reference(_, Some(object)) => StaticReference::Live(*object),
+            Content::Reference(_, None) | Content::Number(_) => StaticReference::Empty,
+            Content::Field(_) | Content::Buffer(_) => StaticReference::Empty,
+            Content::Array(_, _) => StaticReference::Empty,
+        },
+    }
+}
+
+/// The level of the local reference of this name; 0 where there is none.
+pub fn level_of(variables: &Variables<'_>, name: &[u8]) -> usize
+    ensures { result ≡ level_of (lookup name.now (variables_view variables.now)) }
+{
+    match variables.content_named(name) {
+        None => 0,
+        Some(content) => match content {
+            Content::Reference(level, _) => *level,
+            Content::Number(_) | Content::Field(_) => 0,
+            Content::Buffer(_) | Content::Array(_, _) => 0,
+        },
+    }
+}
+
+// ---- an argument by its place after `env`, from 0
+
+/// The argument at a place.
+fn actual_at<'a>(actuals: &[Actual<'a>], place: usize) -> Option<Actual<'a>>
+    ensures { option_map actual_view result ≡ slice_get (map actual_view actuals.now) place }
+{
+    actuals.get(place).copied()
+}
+
+/// The reference at a place.
+pub fn reference_given(actuals: &[Actual<'_>], place: usize) -> Option<usize>
+    ensures { result ≡ reference_given (map actual_view actuals.now) place }
+{
+    match actual_at(actuals, place) {
+        Some(Actual::Reference(_, StaticReference::Live(name))) => Some(name),
+        _ => None,
+    }
+}
+
+/// The bytes of a name, and none where there is none.
+fn bytes_of<'a>(name: Option<&'a Name>) -> &'a [u8]
+    ensures { result.now ≡ name_view name.entry }
+{
+    match name {
+        Some(name) => name.as_bytes(),
+        None => &[],
+    }
+}
+
+/// The name of the variable or static that stands at a place, which is empty where there is none.
+pub fn variable_given<'a>(actuals: &[Actual<'a>], place: usize) -> &'a [u8]
+    ensures { result.now ≡ variable_given (map actual_view actuals.now) place }
+{
+    match actual_at(actuals, place) {
+        Some(Actual::Reference(name, _) | Actual::Variable(name)) => bytes_of(name),
+        _ => &[],
+    }
+}
+
+/// The name of the object at a place, and 0 for NULL.
+pub fn object_given(actuals: &[Actual<'_>], place: usize) -> usize
+    ensures { result ≡ object_given (map actual_view actuals.now) place }
+{
+    match reference_given(actuals, place) {
+        Some(name) => name,
+        None => 0,
+    }
+}
+
+/// The number at a place.
+pub fn number_given(actuals: &[Actual<'_>], place: usize) -> i32
+    ensures { result ≡ number_given (map actual_view actuals.now) place }
+{
+    match actual_at(actuals, place) {
+        Some(Actual::Number(z)) => z,
+        _ => 0,
+    }
+}
+
+/// The text at a place.
+pub fn text_given<'a>(actuals: &[Actual<'a>], place: usize) -> &'a [u8]
+    ensures { result.now ≡ text_given (map actual_view actuals.now) place }
+{
+    match actual_at(actuals, place) {
+        Some(Actual::Text(bytes)) => bytes,
+        _ => &[],
+    }
+}
+
+/// The field ID at a place.
+pub fn field_given<'a>(actuals: &[Actual<'a>], place: usize) -> Option<FieldId<'a>>
+    ensures { given_field result ≡ field_given (map actual_view actuals.now) place }
+{
+    match actual_at(actuals, place) {
+        Some(Actual::Field(field)) => field,
+        _ => None,
+    }
+}

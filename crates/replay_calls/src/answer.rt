@@ -1,0 +1,397 @@
+//! What a function of the JNI does, as data.
+
+ghost use Rattle.std.specs.Prelude.{◌≡◌, IsTrue, List, if◌then◌else◌, map};
+ghost use Rattle.std.specs.Option.{option_map};
+ghost use Rattle.base.specs.Bytes.{lookup};
+ghost use Rattle.class_table.specs.FieldViews.{field_id_view};
+ghost use Rattle.classes.specs.Class.{Classes};
+ghost use Rattle.classes.specs.Fields.{find_field, find_static};
+ghost use Rattle.classes.specs.Grown.{IsGrown};
+ghost use Rattle.jni.specs.JniFunction.{is_built_function};
+ghost use Rattle.jni.specs.Table.{function_value};
+ghost use Rattle.source.specs.CallEffects.{level_of, same_reference};
+ghost use Rattle.source.specs.Heap.{Heap, field_place, fits_class, number_in, reference_in, static_place};
+ghost use Rattle.source.specs.Arguments.{field_given, object_given, reference_given, text_given, variable_given};
+ghost use Rattle.source.specs.Thread.{Frame};
+ghost use Rattle.source.specs.Variable.{Variables as VariablesOfCall};
+ghost use Rattle.replay_calls.specs.Actuals.{actual_view};
+ghost use Rattle.replay_calls.specs.Answers.{answer_view};
+ghost use Rattle.replay_calls.specs.WorkedOut.{ensured, found_class, found_field, global_deleted, local_deleted, made_global, pushed, subject_of, worked_out};
+ghost use Rattle.replay_calls.specs.declared.answer.Subject.TheVariants as subject;
+ghost use Rattle.terms.specs.Views.{variables_view};
+ghost use Rattle.world.specs.Views.{object_value_view};
+
+use crate::actual::{
+    Actual, field_given, level_of, number_given, object_given, reference_given, text_given,
+    variable_given,
+};
+use crate::check::fits_class;
+use crate::field;
+use class_table::built_ins::{NO_CLASS_DEF_FOUND_ERROR, NO_SUCH_FIELD_ERROR};
+use class_table::fields::FieldId;
+use class_table::table::ClassTable;
+use jni::JniFunction;
+use object_store::{Frames, Store};
+use terms::{Given, Variables, convert};
+use world::ObjectValue;
+
+/// What a call does.
+#[derive(Clone, Copy)]
+pub enum Answer<'a> {
+    /// Nothing changes, and this is given.
+    Gives(Given<'a>),
+    /// A value of the object of this name changes, by its place, counted from 0.
+    Writes(usize, usize, ObjectValue),
+    /// An object of the class of this number is made, with zero and null fields, and given.
+    Makes(usize),
+    /// An exception of the class of this number is made and is pending.
+    Raises(usize),
+    /// The current frame gets room for this number of references more, and 0 is given.
+    Ensures(usize),
+    /// A frame of this capacity is made, and 0 is given.
+    Pushes(usize),
+    /// -4 is given, and the OutOfMemoryError object is pending: the frames can't have so large capacities.
+    RefusesFrames,
+    /// The current frame is dropped, and this is given.
+    Pops(Option<usize>),
+    /// A local reference to the object of this name is deleted, in the frame of a level.
+    DeletesLocal(usize, usize),
+    /// A global reference to the object of this name is made, and given.
+    MakesGlobal(usize),
+    /// A global reference to the object of this name is deleted, and the static is marked.
+    DeletesGlobal(&'a [u8], usize),
+}
+
+/// What a function works on.
+#[derive(Clone, Copy)]
+enum Subject {
+    Classes,
+    /// Local and global references, and frames.
+    References,
+    /// The fields of objects, and arrays.
+    Fields,
+    Statics,
+}
+
+/// What a function works on.
+#[inline]
+fn subject_of(function: JniFunction) -> Subject
+    ensures { result ≡ subject_of (function_value function) }
+{
+    match function {
+        JniFunction::NewLocalRef | JniFunction::NewGlobalRef => Subject::References,
+        JniFunction::DeleteLocalRef | JniFunction::DeleteGlobalRef => Subject::References,
+        JniFunction::IsSameObject | JniFunction::EnsureLocalCapacity => Subject::References,
+        JniFunction::PushLocalFrame | JniFunction::PopLocalFrame => Subject::References,
+        JniFunction::GetField(_) | JniFunction::SetField(_) => Subject::Fields,
+        JniFunction::GetObjectField | JniFunction::SetObjectField => Subject::Fields,
+        JniFunction::GetArrayLength => Subject::Fields,
+        JniFunction::GetStaticField(_) | JniFunction::SetStaticField(_) => Subject::Statics,
+        JniFunction::GetStaticObjectField | JniFunction::SetStaticObjectField => Subject::Statics,
+        _ => Subject::Classes,
+    }
+}
+
+/// What a function does, all checks being passed.
+pub fn work_out<'a>(
+    classes: &'a ClassTable,
+    store: &Store,
+    variables: &Variables<'_>,
+    frames: &Frames,
+    function: JniFunction,
+    actuals: &[Actual<'a>],
+) -> Answer<'a>
+    requires built { IsTrue (is_built_function (function_value function)) }
+    requires grown { IsGrown classes.now }
+    ensures { answer_view result ≡ worked_out classes.now store.now (variables_view variables.now) frames.now (map actual_view actuals.now) (function_value function) }
+{
+    match subject_of(function) {
+        Subject::Classes => class_answer(classes, store, function, actuals),
+        Subject::References => reference_answer(variables, frames, function, actuals),
+        Subject::Fields => field_answer(classes, store, function, actuals),
+        Subject::Statics => static_answer(classes, store, function, actuals),
+    }
+}
+
+/// What a function does that works on classes.
+#[inline]
+fn class_answer<'a>(
+    classes: &'a ClassTable,
+    store: &Store,
+    function: JniFunction,
+    actuals: &[Actual<'a>],
+) -> Answer<'a>
+    requires built { IsTrue (is_built_function (function_value function)) }
+    requires subject { subject_of (function_value function) ≡ subject.Classes }
+    ensures { (variables : VariablesOfCall) (frames : List Frame) → answer_view result ≡ worked_out classes.now store.now variables frames (map actual_view actuals.now) (function_value function) }
+{
+    let first = object_given(actuals, 0);
+    let second = object_given(actuals, 1);
+    match function {
+        JniFunction::FindClass => found_class(classes.find(text_given(actuals, 0))),
+        JniFunction::GetSuperclass => { Answer::Gives(Given::Reference(classes.superclass(first))) }
+        JniFunction::GetObjectClass => {
+            Answer::Gives(Given::Reference(Some(store.class_of(first))))
+        }
+        JniFunction::IsInstanceOf => {
+            let reference = reference_given(actuals, 0);
+            Answer::Gives(Given::Flag(fits_class(classes, store, reference, second)))
+        }
+        JniFunction::IsAssignableFrom => {
+            Answer::Gives(Given::Flag(classes.assignable(first, second)))
+        }
+        JniFunction::AllocObject => Answer::Makes(first),
+        JniFunction::GetFieldID => field_named(classes, actuals, false),
+        JniFunction::GetStaticFieldID => field_named(classes, actuals, true),
+        _ => unreachable!(),
+    }
+}
+
+/// What a function does that works on references and frames.
+#[inline]
+fn reference_answer<'a>(
+    variables: &Variables<'_>,
+    frames: &Frames,
+    function: JniFunction,
+    actuals: &[Actual<'a>],
+) -> Answer<'a>
+    requires { subject_of (function_value function) ≡ subject.References }
+    ensures { (classes : Classes) (heap : Heap) → answer_view result ≡ worked_out classes heap (variables_view variables.now) frames.now (map actual_view actuals.now) (function_value function) }
+{
+    match function {
+        JniFunction::NewLocalRef => { Answer::Gives(Given::Reference(reference_given(actuals, 0))) }
+        JniFunction::NewGlobalRef => made_global(reference_given(actuals, 0)),
+        JniFunction::DeleteLocalRef => local_deleted(variables, actuals),
+        JniFunction::DeleteGlobalRef => global_deleted(actuals),
+        JniFunction::IsSameObject => {
+            let same = same_reference(reference_given(actuals, 0), reference_given(actuals, 1));
+            Answer::Gives(Given::Flag(same))
+        }
+        JniFunction::EnsureLocalCapacity => ensured(frames, number_given(actuals, 0)),
+        JniFunction::PushLocalFrame => pushed(frames, number_given(actuals, 0)),
+        JniFunction::PopLocalFrame => Answer::Pops(reference_given(actuals, 0)),
+        _ => unreachable!(),
+    }
+}
+
+/// What a function does that works on the fields of an object, or on an array.
+#[inline]
+fn field_answer<'a>(
+    classes: &ClassTable,
+    store: &Store,
+    function: JniFunction,
+    actuals: &[Actual<'a>],
+) -> Answer<'a>
+    requires subject { subject_of (function_value function) ≡ subject.Fields }
+    requires grown { IsGrown classes.now }
+    ensures { (variables : VariablesOfCall) (frames : List Frame) → answer_view result ≡ worked_out classes.now store.now variables frames (map actual_view actuals.now) (function_value function) }
+{
+    let object = object_given(actuals, 0);
+    if let JniFunction::GetArrayLength = function {
+        return Answer::Gives(Given::Number(store.values_of(object).len() as i32));
+    }
+    let place = place_of_field(classes, store, actuals);
+    match function {
+        JniFunction::GetField(_) => {
+            Answer::Gives(Given::Number(number_in(store.value_at(object, place))))
+        }
+        JniFunction::SetField(element) => {
+            let number = convert(element, number_given(actuals, 2));
+            Answer::Writes(object, place, ObjectValue::Number(number))
+        }
+        JniFunction::GetObjectField => {
+            Answer::Gives(Given::Reference(reference_in(store.value_at(object, place))))
+        }
+        JniFunction::SetObjectField => {
+            Answer::Writes(
+                object,
+                place,
+                ObjectValue::Reference(reference_given(actuals, 2)),
+            )
+        }
+        _ => unreachable!(),
+    }
+}
+
+/// What a function does that works on a static of a class.
+#[inline]
+fn static_answer<'a>(
+    classes: &ClassTable,
+    store: &Store,
+    function: JniFunction,
+    actuals: &[Actual<'a>],
+) -> Answer<'a>
+    requires subject { subject_of (function_value function) ≡ subject.Statics }
+    requires grown { IsGrown classes.now }
+    ensures { (variables : VariablesOfCall) (frames : List Frame) → answer_view result ≡ worked_out classes.now store.now variables frames (map actual_view actuals.now) (function_value function) }
+{
+    let class = declarer(actuals);
+    let place = place_of_static(classes, actuals);
+    match function {
+        JniFunction::GetStaticField(_) => {
+            Answer::Gives(Given::Number(number_in(store.value_at(class, place))))
+        }
+        JniFunction::SetStaticField(element) => {
+            let number = convert(element, number_given(actuals, 2));
+            Answer::Writes(class, place, ObjectValue::Number(number))
+        }
+        JniFunction::GetStaticObjectField => {
+            Answer::Gives(Given::Reference(reference_in(store.value_at(class, place))))
+        }
+        JniFunction::SetStaticObjectField => {
+            Answer::Writes(
+                class,
+                place,
+                ObjectValue::Reference(reference_given(actuals, 2)),
+            )
+        }
+        _ => unreachable!(),
+    }
+}
+
+/// The field or the static of a class with the name and the type of arguments 1 and 2, or else an exception.
+fn field_named<'a>(classes: &'a ClassTable, actuals: &[Actual<'a>], is_static: bool) -> Answer<'a>
+    ensures { answer_view result ≡ found_field (if is_static then find_static classes.now (object_given (map actual_view actuals.now) 0) (text_given (map actual_view actuals.now) 1) (text_given (map actual_view actuals.now) 2)
+        else find_field classes.now (object_given (map actual_view actuals.now) 0) (text_given (map actual_view actuals.now) 1) (text_given (map actual_view actuals.now) 2)) }
+{
+    let (name, text) = (text_given(actuals, 1), text_given(actuals, 2));
+    found_field(classes.field(object_given(actuals, 0), name, text, is_static))
+}
+
+/// A class that was found, or else an exception.
+fn found_class<'a>(class: Option<usize>) -> Answer<'a>
+    ensures { answer_view result ≡ found_class class }
+{
+    match class {
+        Some(class) => Answer::Gives(Given::Reference(Some(class))),
+        None => Answer::Raises(NO_CLASS_DEF_FOUND_ERROR),
+    }
+}
+
+/// A field that was found, or else an exception.
+fn found_field(field: Option<FieldId<'_>>) -> Answer<'_>
+    ensures { answer_view result ≡ found_field (option_map field_id_view field.entry) }
+{
+    match field {
+        Some(field) => Answer::Gives(Given::Field(Some(field))),
+        None => Answer::Raises(NO_SUCH_FIELD_ERROR),
+    }
+}
+
+/// Room for this number of references more in the current frame, if it may have it.
+fn ensured<'a>(frames: &Frames, more: i32) -> Answer<'a>
+    ensures { answer_view result ≡ ensured frames.now more }
+{
+    if more < 0 {
+        return Answer::RefusesFrames;
+    }
+    let more = more as usize;
+    if frames.has_room(more) {
+        Answer::Ensures(more)
+    } else {
+        Answer::RefusesFrames
+    }
+}
+
+/// A frame of this capacity, if it may be had.
+fn pushed<'a>(frames: &Frames, capacity: i32) -> Answer<'a>
+    ensures { answer_view result ≡ pushed frames.now capacity }
+{
+    if capacity < 0 {
+        return Answer::RefusesFrames;
+    }
+    let capacity = capacity as usize;
+    if frames.has_room_for(capacity) {
+        Answer::Pushes(capacity)
+    } else {
+        Answer::RefusesFrames
+    }
+}
+
+/// A global reference to the same object; NULL for NULL.
+fn made_global<'a>(reference: Option<usize>) -> Answer<'a>
+    ensures { answer_view result ≡ made_global reference }
+{
+    match reference {
+        Some(name) => Answer::MakesGlobal(name),
+        None => Answer::Gives(Given::Reference(None)),
+    }
+}
+
+/// The reference of argument 0 is deleted, unless it is NULL.
+fn local_deleted<'a>(variables: &Variables<'_>, actuals: &[Actual<'_>]) -> Answer<'a>
+    ensures { answer_view result ≡ local_deleted (level_of (lookup (variable_given (map actual_view actuals.now) 0) (variables_view variables.now))) (reference_given (map actual_view actuals.now) 0) }
+{
+    match reference_given(actuals, 0) {
+        Some(name) => {
+            Answer::DeletesLocal(level_of(variables, variable_given(actuals, 0)), name)
+        }
+        None => Answer::Gives(Given::Nothing),
+    }
+}
+
+/// The reference of argument 0, a static, is deleted, unless it is NULL.
+fn global_deleted<'a>(actuals: &[Actual<'a>]) -> Answer<'a>
+    ensures { answer_view result ≡ global_deleted (variable_given (map actual_view actuals.now) 0) (reference_given (map actual_view actuals.now) 0) }
+{
+    match reference_given(actuals, 0) {
+        Some(name) => Answer::DeletesGlobal(variable_given(actuals, 0), name),
+        None => Answer::Gives(Given::Nothing),
+    }
+}
+
+/// Whether both are NULL, or one object.
+fn same_reference(first: Option<usize>, second: Option<usize>) -> bool
+    ensures { result ≡ same_reference first second }
+{
+    match (first, second) {
+        (None, None) => true,
+        (Some(first), Some(second)) => first == second,
+        _ => false,
+    }
+}
+
+// ---- fields
+
+/// The place of the field of argument 1 among the values of argument 0.
+fn place_of_field(classes: &ClassTable, store: &Store, actuals: &[Actual<'_>]) -> usize
+    requires { IsGrown classes.now }
+    ensures { result ≡ field_place classes.now store.now (object_given (map actual_view actuals.now) 0) (field_given (map actual_view actuals.now) 1) }
+{
+    let class = store.class_of(object_given(actuals, 0));
+    field::field_place(classes, class, field_given(actuals, 1))
+}
+
+/// The class that declares the static of argument 1.
+fn declarer(actuals: &[Actual<'_>]) -> usize
+    ensures { result ≡ (field_given (map actual_view actuals.now) 1).class }
+{
+    field::declaring(field_given(actuals, 1))
+}
+
+/// The place of the static of argument 1 in that class.
+fn place_of_static(classes: &ClassTable, actuals: &[Actual<'_>]) -> usize
+    ensures { result ≡ static_place classes.now (field_given (map actual_view actuals.now) 1) }
+{
+    field::static_place(classes, field_given(actuals, 1))
+}
+
+/// The number of a value.
+fn number_in(value: ObjectValue) -> i32
+    ensures { result ≡ number_in (object_value_view value) }
+{
+    match value {
+        ObjectValue::Number(number) => number,
+        ObjectValue::Reference(_) => 0,
+    }
+}
+
+/// The reference of a value.
+fn reference_in(value: ObjectValue) -> Option<usize>
+    ensures { result ≡ reference_in (object_value_view value) }
+{
+    match value {
+        ObjectValue::Number(_) => None,
+        ObjectValue::Reference(reference) => reference,
+    }
+}

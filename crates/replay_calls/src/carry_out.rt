@@ -1,0 +1,150 @@
+//! What the answer of a function does to what all threads share, to the frames and to the pending exception.
+
+ghost use Rattle.std.specs.Prelude.{◌≡◌, ◌++◌, ◌∷◌, [], IfOk, Some};
+ghost use Rattle.jni.specs.Table.{result_value};
+ghost use Rattle.source.specs.CallEffects.{out_of_memory};
+ghost use Rattle.source.specs.CallStep.{failure};
+ghost use Rattle.source.specs.Heap.{next_name};
+ghost use Rattle.source.specs.World.{fresh_object};
+ghost use Rattle.replay_calls.specs.Answers.{FitsFrames, answer_view, frames_after, frames_with, given_after, makes_object, pending_after, shared_after};
+ghost use Rattle.terms.specs.Views.{given_view};
+ghost use Rattle.replay_calls.specs.Shares.{shared_view};
+
+use crate::answer::Answer;
+use crate::Shared;
+use class_table::table::ClassTable;
+use jni::ResultKind;
+use object_store::{Frames, Store, fresh_values};
+use std::alloc::{AllocError, Global};
+use terms::{Given, StaticReference};
+
+/// Does what a function of this kind of result answers, and tells what it gives.
+pub fn carry_out<'a>(
+    alloc: Global,
+    classes: &ClassTable,
+    shared: &mut Shared<'a>,
+    frames: &mut Frames,
+    pending: &mut Option<usize>,
+    kind: ResultKind,
+    answer: Answer<'a>,
+) -> Result<Given<'a>, AllocError>
+    requires { FitsFrames frames.old (answer_view answer) }
+    ensures shared { IfOk result (λ _. shared_view shared.new ≡ shared_after classes.now (shared_view shared.old) (answer_view answer.entry)) }
+    ensures frames { IfOk result (λ _. frames.new ≡ frames_after frames.old (answer_view answer.entry)) }
+    ensures pending { IfOk result (λ _. pending.new ≡ pending_after classes.now shared.old.store pending.old (answer_view answer.entry)) }
+    ensures given { IfOk result (λ g. given_view g ≡ given_after shared.old.store (result_value kind) (answer_view answer.entry)) }
+{
+    match answer {
+        Answer::Gives(given) => Ok(given),
+        Answer::Writes(name, place, value) => {
+            shared.store.set(name, place, value);
+            Ok(Given::Nothing)
+        }
+        Answer::Makes(class) => {
+            let name = make(alloc, classes, &mut shared.store, class)?;
+            Ok(Given::Reference(Some(name)))
+        }
+        Answer::Raises(class) => {
+            let name = make(alloc, classes, &mut shared.store, class)?;
+            *pending = Some(name);
+            Ok(failed(kind))
+        }
+        Answer::Ensures(more) => {
+            frames.reserve(more);
+            Ok(Given::Number(0))
+        }
+        Answer::Pushes(capacity) => {
+            frames.push(alloc, capacity)?;
+            Ok(Given::Number(0))
+        }
+        Answer::RefusesFrames => {
+            run_out(classes, pending);
+            Ok(Given::Number(-4))
+        }
+        Answer::Pops(reference) => {
+            frames.pop();
+            Ok(Given::Reference(reference))
+        }
+        Answer::DeletesLocal(level, name) => {
+            frames.remove(level, name);
+            Ok(Given::Nothing)
+        }
+        Answer::MakesGlobal(name) => {
+            shared.globals.push(name)?;
+            Ok(Given::Reference(Some(name)))
+        }
+        Answer::DeletesGlobal(variable, name) => {
+            shared.statics.set(variable, StaticReference::Deleted)?;
+            shared.globals.remove(name);
+            Ok(Given::Nothing)
+        }
+    }
+}
+
+/// Makes an object of a class, with zero and null fields, and tells its name.
+fn make(
+    alloc: Global,
+    classes: &ClassTable,
+    store: &mut Store,
+    class: usize,
+) -> Result<usize, AllocError>
+    ensures store { IfOk result (λ _. store.new ≡ store.old ++ fresh_object classes.now class ∷ []) }
+    ensures name { IfOk result (λ name. name ≡ next_name store.old) }
+{
+    let values = fresh_values(alloc, classes, class)?;
+    store.add(class, values)?;
+    Ok(store.len())
+}
+
+/// Puts what a call of this kind of result gave into the current frame, if it is a new local reference.
+pub fn put_local(frames: &mut Frames, kind: ResultKind, given: Given<'_>) -> Result<(), AllocError>
+    ensures { IfOk result (λ _. frames.new ≡ frames_with (result_value kind) (given_view given.entry) frames.old) }
+{
+    match (kind, given) {
+        (ResultKind::NewLocal, Given::Reference(Some(name))) => frames.receive(name),
+        _ => Ok(()),
+    }
+}
+
+/// Whether a call makes an object, which may be refused.
+pub fn makes_object(answer: Answer<'_>) -> bool
+    ensures { result ≡ makes_object (answer_view answer.entry) }
+{
+    match answer {
+        Answer::Gives(_) | Answer::Writes(_, _, _) => false,
+        Answer::Makes(_) | Answer::Raises(_) => true,
+        Answer::Ensures(_) | Answer::Pushes(_) | Answer::RefusesFrames => false,
+        Answer::Pops(_) | Answer::DeletesLocal(_, _) => false,
+        Answer::MakesGlobal(_) | Answer::DeletesGlobal(_, _) => false,
+    }
+}
+
+/// The object of a call is refused: the OutOfMemoryError object is pending, and the call fails.
+pub fn refuse<'a>(classes: &ClassTable, pending: &mut Option<usize>, kind: ResultKind) -> Given<'a>
+    ensures pending { pending.new ≡ Some (out_of_memory classes.now) }
+    ensures given { given_view result ≡ failure (result_value kind) }
+{
+    run_out(classes, pending);
+    failed(kind)
+}
+
+/// The OutOfMemoryError object, which is made right after the class objects, is pending.
+fn run_out(classes: &ClassTable, pending: &mut Option<usize>)
+    ensures { pending.new ≡ Some (out_of_memory classes.now) }
+{
+    *pending = Some(classes.len() + 1);
+}
+
+/// What a call of this kind of result gives where it fails: NULL, -1 or nothing (JNI Specification, chapter 2, "Exceptions and
+/// Error Codes").
+fn failed<'a>(kind: ResultKind) -> Given<'a>
+    ensures { given_view result ≡ failure (result_value kind) }
+{
+    match kind {
+        ResultKind::NewLocal | ResultKind::NewGlobal => Given::Null,
+        ResultKind::GivesField | ResultKind::GivesBuffer(_) => Given::Null,
+        ResultKind::GivesInt => Given::Number(-1),
+        ResultKind::GivesFlag => Given::Flag(false),
+        ResultKind::GivesNothing => Given::Nothing,
+    }
+}

@@ -1,0 +1,289 @@
+//! What is checked of a call before it does anything, in one order for all functions.
+
+ghost use Rattle.std.specs.Prelude.{◌≡◌, ◌||◌, IsTrue, map, slice_get, zip};
+ghost use Rattle.std.specs.List.{list_any};
+ghost use Rattle.std.specs.Option.{option_map};
+ghost use Rattle.class_table.specs.Views.{element_view, field_type_view};
+ghost use Rattle.jni.specs.Table.{function_value, parameter_value, result_value};
+ghost use Rattle.source.specs.Checks.{frames_after, is_deleted, is_full, is_misfit, is_missing, lacks_room};
+ghost use Rattle.source.specs.Heap.{fits_class, fits_type, holds_number, holds_reference};
+ghost use Rattle.syntax.specs.Views.{element_tree};
+ghost use Rattle.replay_calls.specs.Actuals.{actual_view};
+ghost use Rattle.replay_calls.specs.Checked.{fit_together, has_field, has_static, misfits, trap_found};
+ghost use Rattle.terms.specs.Views.{trap_view};
+
+use crate::actual::{Actual, field_given, object_given, reference_given};
+use crate::field::{declaring, is_static, type_of};
+use class_table::built_ins::{CLASS, STRING, number_array};
+use class_table::class::{ClassKind, ElementType, FieldType};
+use class_table::table::ClassTable;
+use jni::{JniFunction, ParameterKind, ResultKind};
+use object_store::{Frames, Store};
+use terms::{StaticReference, Trap};
+
+/// The trap of a call before it does anything.
+pub fn check(
+    classes: &ClassTable,
+    store: &Store,
+    frames: &Frames,
+    is_pending: bool,
+    function: JniFunction,
+    actuals: &[Actual<'_>],
+) -> Option<Trap>
+    ensures { option_map trap_view result ≡ trap_found classes.now store.now frames.now is_pending (function_value function) (map actual_view actuals.now) }
+{
+    let asked = function.prototype();
+    if is_pending && !asked.pending {
+        return Some(Trap::ExceptionPending);
+    }
+    if some_deleted(actuals) {
+        return Some(Trap::DeletedReference);
+    }
+    if some_missing(asked.parameters, actuals) {
+        return Some(Trap::NullReference);
+    }
+    if some_misfit(classes, store, asked.parameters, actuals)
+        || !fit_together(classes, store, function, actuals)
+    {
+        return Some(Trap::WrongObject);
+    }
+    if lacks_room(function, asked.result, frames) {
+        return Some(Trap::NoCapacity);
+    }
+    None
+}
+
+/// Whether some argument is a static that is marked as deleted.
+fn some_deleted(actuals: &[Actual<'_>]) -> bool
+    ensures { result ≡ list_any is_deleted (map actual_view actuals.now) }
+{
+    match actuals {
+        [] => false,
+        [actual, actuals @ ..] => is_deleted(*actual) || some_deleted(actuals),
+    }
+}
+
+/// Whether an argument is a static that is marked as deleted.
+fn is_deleted(actual: Actual<'_>) -> bool
+    ensures { result ≡ is_deleted (actual_view actual.entry) }
+{
+    matches!(actual, Actual::Reference(_, StaticReference::Deleted))
+}
+
+/// Whether some argument is NULL where that isn't allowed.
+fn some_missing(parameters: &[ParameterKind], actuals: &[Actual<'_>]) -> bool
+    ensures { result ≡ list_any is_missing (zip (map parameter_value parameters.now) (map actual_view actuals.now)) }
+{
+    match parameters {
+        [parameter, parameters @ ..] => match actuals {
+            [actual, actuals @ ..] => {
+                is_missing(*parameter, *actual) || some_missing(parameters, actuals)
+            }
+            [] => false,
+        },
+        [] => false,
+    }
+}
+
+/// Whether an argument is NULL where that isn't allowed.
+fn is_missing(parameter: ParameterKind, actual: Actual<'_>) -> bool
+    ensures { result ≡ is_missing (parameter_value parameter, actual_view actual.entry) }
+{
+    match parameter {
+        ParameterKind::Nullable => false,
+        ParameterKind::LocalVariable => false,
+        ParameterKind::StaticVariable => false,
+        _ => match actual {
+            Actual::Reference(_, held) => matches!(held, StaticReference::Empty),
+            Actual::Field(field) => field.is_none(),
+            _ => false,
+        },
+    }
+}
+
+/// Whether some argument is an object of another kind than its parameter.
+fn some_misfit(
+    classes: &ClassTable,
+    store: &Store,
+    parameters: &[ParameterKind],
+    actuals: &[Actual<'_>],
+) -> bool
+    ensures { result ≡ list_any (is_misfit classes.now store.now) (zip (map parameter_value parameters.now) (map actual_view actuals.now)) }
+{
+    match parameters {
+        [parameter, parameters @ ..] => match actuals {
+            [actual, actuals @ ..] => {
+                is_misfit(classes, store, *parameter, *actual)
+                    || some_misfit(classes, store, parameters, actuals)
+            }
+            [] => false,
+        },
+        [] => false,
+    }
+}
+
+/// Whether an argument is an object of another kind than the parameter.
+fn is_misfit(
+    classes: &ClassTable,
+    store: &Store,
+    parameter: ParameterKind,
+    actual: Actual<'_>,
+) -> bool
+    ensures { result ≡ is_misfit classes.now store.now (parameter_value parameter, actual_view actual.entry) }
+{
+    match actual {
+        Actual::Reference(_, held) => match held {
+            StaticReference::Live(name) => misfits(classes, parameter, store.class_of(name)),
+            StaticReference::Empty | StaticReference::Deleted => false,
+        },
+        _ => false,
+    }
+}
+
+/// Whether an object of this class is of another kind than the parameter.
+fn misfits(classes: &ClassTable, parameter: ParameterKind, class: usize) -> bool
+    ensures { result ≡ misfits classes.now (parameter_value parameter) class }
+{
+    match parameter {
+        ParameterKind::ClassObject => class != CLASS,
+        ParameterKind::NumberArray(element) => class != number_array(element_type(element)),
+        ParameterKind::AnyArray => matches!(classes.kind(class), ClassKind::Plain),
+        ParameterKind::ObjectArray => !matches!(classes.kind(class), ClassKind::ArrayOfObjects(_)),
+        ParameterKind::StringObject => class != STRING,
+        _ => false,
+    }
+}
+
+/// The same type, as classes have it.
+fn element_type(element: syntax::ElementType) -> ElementType
+    ensures { element_view result ≡ element_tree element }
+{
+    match element {
+        syntax::ElementType::Jint => ElementType::Int,
+        syntax::ElementType::Jshort => ElementType::Short,
+        syntax::ElementType::Jbyte => ElementType::Byte,
+        syntax::ElementType::Jchar => ElementType::Char,
+    }
+}
+
+// ---- what a function asks beyond that
+
+/// Whether the arguments of a function, each of its kind, go together.
+fn fit_together(
+    classes: &ClassTable,
+    store: &Store,
+    function: JniFunction,
+    actuals: &[Actual<'_>],
+) -> bool
+    ensures { result ≡ fit_together classes.now store.now (map actual_view actuals.now) (function_value function) }
+{
+    let field = field_given(actuals, 1);
+    match function {
+        JniFunction::AllocObject => !classes.has_own_making(object_given(actuals, 0)),
+        JniFunction::GetField(element) | JniFunction::SetField(element) => {
+            has_field(classes, store, actuals)
+                && holds_number(element_type(element), type_of(field))
+        }
+        JniFunction::GetObjectField => {
+            has_field(classes, store, actuals) && holds_reference(type_of(field))
+        }
+        JniFunction::SetObjectField => {
+            has_field(classes, store, actuals)
+                && fits_type(classes, store, reference_given(actuals, 2), type_of(field))
+        }
+        JniFunction::GetStaticField(element) | JniFunction::SetStaticField(element) => {
+            has_static(classes, actuals) && holds_number(element_type(element), type_of(field))
+        }
+        JniFunction::GetStaticObjectField => {
+            has_static(classes, actuals) && holds_reference(type_of(field))
+        }
+        JniFunction::SetStaticObjectField => {
+            has_static(classes, actuals)
+                && fits_type(classes, store, reference_given(actuals, 2), type_of(field))
+        }
+        _ => true,
+    }
+}
+
+/// Whether argument 0 is an object that has the field of argument 1.
+fn has_field(classes: &ClassTable, store: &Store, actuals: &[Actual<'_>]) -> bool
+    ensures { result ≡ has_field classes.now store.now (map actual_view actuals.now) }
+{
+    let field = field_given(actuals, 1);
+    let class = store.class_of(object_given(actuals, 0));
+    !is_static(field) && classes.assignable(class, declaring(field))
+}
+
+/// Whether argument 0 is a class that has the static of argument 1.
+fn has_static(classes: &ClassTable, actuals: &[Actual<'_>]) -> bool
+    ensures { result ≡ has_static classes.now (map actual_view actuals.now) }
+{
+    let field = field_given(actuals, 1);
+    is_static(field) && classes.assignable(object_given(actuals, 0), declaring(field))
+}
+
+/// Whether a type is that of these numbers.
+fn holds_number(element: ElementType, field_type: FieldType) -> bool
+    ensures { result ≡ holds_number (element_view element) (field_type_view field_type) }
+{
+    match field_type {
+        FieldType::Number(numbers) => match (element, numbers) {
+            (ElementType::Int, ElementType::Int) => true,
+            (ElementType::Short, ElementType::Short) => true,
+            (ElementType::Byte, ElementType::Byte) => true,
+            (ElementType::Char, ElementType::Char) => true,
+            _ => false,
+        },
+        FieldType::Reference(_) => false,
+    }
+}
+
+/// Whether a type is that of references.
+fn holds_reference(field_type: FieldType) -> bool
+    ensures { result ≡ holds_reference (field_type_view field_type) }
+{
+    matches!(field_type, FieldType::Reference(_))
+}
+
+/// Whether a reference fits a class, as NULL does always.
+pub fn fits_class(
+    classes: &ClassTable,
+    store: &Store,
+    reference: Option<usize>,
+    class: usize,
+) -> bool
+    ensures { result ≡ fits_class classes.now store.now reference class }
+{
+    match reference {
+        Some(name) => classes.assignable(store.class_of(name), class),
+        None => true,
+    }
+}
+
+/// Whether a reference may be stored in a field of this type.
+fn fits_type(
+    classes: &ClassTable,
+    store: &Store,
+    reference: Option<usize>,
+    field_type: FieldType,
+) -> bool
+    ensures { result ≡ fits_type classes.now store.now reference (field_type_view field_type) }
+{
+    match field_type {
+        FieldType::Number(_) => false,
+        FieldType::Reference(class) => fits_class(classes, store, reference, class),
+    }
+}
+
+/// Whether a call puts a local reference into a frame that can hold no more.
+fn lacks_room(function: JniFunction, kind: ResultKind, frames: &Frames) -> bool
+    ensures { result ≡ lacks_room (result_value kind) (slice_get (frames_after (function_value function) frames.now) 0) }
+{
+    match kind {
+        ResultKind::NewLocal => match function {
+            JniFunction::PopLocalFrame => frames.is_full_below(),
+            _ => frames.is_full(),
+        },
+        _ => false,
+    }
+}

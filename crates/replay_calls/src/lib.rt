@@ -1,0 +1,13 @@
+//! Calls of the JNI over the names of objects: their arguments, what is checked of them before the call does anything, and what it
+//! does then.
+#![tactic(auto)]
+
+pub mod actual;
+mod answer;
+pub mod carry_out;
+pub mod check;
+pub mod field;
+mod shared;
+
+pub use answer::{Answer, work_out};
+pub use shared::Shared;
