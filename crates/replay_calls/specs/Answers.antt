@@ -75,6 +75,21 @@ effect_as classes s t (DeletesLocal l n) = Leaves [] s (record t { frames = with
 effect_as classes s t (MakesGlobal n) = Leaves [] (record s { globals = n ∷ s.globals }) t (ReferenceResult (Some n))
 effect_as classes s t (DeletesGlobal x n) = Leaves [] (without_global x n s) t NoResult
 
+-- whether it is done to the frames of a call alone
+abbrev pub is_of_frames : Answer → Bool
+is_of_frames (Ensures n) = true
+is_of_frames (Pushes n) = true
+is_of_frames RefusesFrames = true
+is_of_frames (Pops r) = true
+is_of_frames (DeletesLocal l n) = true
+is_of_frames a = false
+
+-- or to the references that there are
+abbrev pub is_of_references : Answer → Bool
+is_of_references (MakesGlobal n) = true
+is_of_references (DeletesGlobal x n) = true
+is_of_references a = is_of_frames a
+
 -- ---- what it leaves
 
 -- whether there is an object to refuse

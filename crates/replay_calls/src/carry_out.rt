@@ -1,12 +1,13 @@
 //! What the answer of a function does to what all threads share, to the frames and to the pending exception.
 
-ghost use Rattle.std.specs.Prelude.{◌≡◌, ◌++◌, ◌∷◌, [], IfOk, Some};
+ghost use Rattle.std.specs.Prelude.{◌≡◌, ◌++◌, ◌∷◌, [], IfOk, Some, true};
+ghost use Rattle.jni.specs.Prototype.{ResultKind as SourceKind};
 ghost use Rattle.jni.specs.Table.{result_value};
 ghost use Rattle.source.specs.CallEffects.{out_of_memory};
 ghost use Rattle.source.specs.CallStep.{failure};
-ghost use Rattle.source.specs.Heap.{next_name};
+ghost use Rattle.source.specs.Heap.{Heap, next_name};
 ghost use Rattle.source.specs.World.{fresh_object};
-ghost use Rattle.replay_calls.specs.Answers.{FitsFrames, answer_view, frames_after, frames_with, given_after, makes_object, pending_after, shared_after};
+ghost use Rattle.replay_calls.specs.Answers.{FitsFrames, answer_view, frames_after, frames_with, given_after, is_of_frames, is_of_references, makes_object, pending_after, shared_after};
 ghost use Rattle.terms.specs.Views.{given_view};
 ghost use Rattle.replay_calls.specs.Shares.{shared_view};
 
@@ -49,6 +50,57 @@ pub fn carry_out<'a>(
             *pending = Some(name);
             Ok(failed(kind))
         }
+        _ => carry_out_references(alloc, classes, shared, frames, pending, answer),
+    }
+}
+
+/// Does to the references of all threads and of a call what an answer of references or of frames says.
+#[inline(always)]
+fn carry_out_references<'a>(
+    alloc: Global,
+    classes: &ClassTable,
+    shared: &mut Shared<'a>,
+    frames: &mut Frames,
+    pending: &mut Option<usize>,
+    answer: Answer<'a>,
+) -> Result<Given<'a>, AllocError>
+    requires of_references { is_of_references (answer_view answer) ≡ true }
+    requires fits { FitsFrames frames.old (answer_view answer) }
+    ensures shared { IfOk result (λ _. shared_view shared.new ≡ shared_after classes.now (shared_view shared.old) (answer_view answer.entry)) }
+    ensures frames { IfOk result (λ _. frames.new ≡ frames_after frames.old (answer_view answer.entry)) }
+    ensures pending { IfOk result (λ _. (heap : Heap) → pending.new ≡ pending_after classes.now heap pending.old (answer_view answer.entry)) }
+    ensures given { IfOk result (λ g. (heap : Heap) (kind : SourceKind) → given_view g ≡ given_after heap kind (answer_view answer.entry)) }
+{
+    match answer {
+        Answer::MakesGlobal(name) => {
+            shared.globals.push(name)?;
+            Ok(Given::Reference(Some(name)))
+        }
+        Answer::DeletesGlobal(variable, name) => {
+            shared.statics.set(variable, StaticReference::Deleted)?;
+            shared.globals.remove(name);
+            Ok(Given::Nothing)
+        }
+        _ => carry_out_frames(alloc, classes, frames, pending, answer),
+    }
+}
+
+/// Does to a call's frames what an answer of frames says.
+#[inline(always)]
+fn carry_out_frames<'a>(
+    alloc: Global,
+    classes: &ClassTable,
+    frames: &mut Frames,
+    pending: &mut Option<usize>,
+    answer: Answer<'a>,
+) -> Result<Given<'a>, AllocError>
+    requires of_frames { is_of_frames (answer_view answer) ≡ true }
+    requires fits { FitsFrames frames.old (answer_view answer) }
+    ensures frames { IfOk result (λ _. frames.new ≡ frames_after frames.old (answer_view answer.entry)) }
+    ensures pending { IfOk result (λ _. (heap : Heap) → pending.new ≡ pending_after classes.now heap pending.old (answer_view answer.entry)) }
+    ensures given { IfOk result (λ g. (heap : Heap) (kind : SourceKind) → given_view g ≡ given_after heap kind (answer_view answer.entry)) }
+{
+    match answer {
         Answer::Ensures(more) => {
             frames.reserve(more);
             Ok(Given::Number(0))
@@ -69,15 +121,7 @@ pub fn carry_out<'a>(
             frames.remove(level, name);
             Ok(Given::Nothing)
         }
-        Answer::MakesGlobal(name) => {
-            shared.globals.push(name)?;
-            Ok(Given::Reference(Some(name)))
-        }
-        Answer::DeletesGlobal(variable, name) => {
-            shared.statics.set(variable, StaticReference::Deleted)?;
-            shared.globals.remove(name);
-            Ok(Given::Nothing)
-        }
+        _ => unreachable!(),
     }
 }
 
