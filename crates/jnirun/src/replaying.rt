@@ -17,8 +17,10 @@ use parse::one_unit;
 use program_text::{RunError, read_program};
 use region_rules::Checked;
 use replay::{ReplayFault, TrapAt, replay};
+use report::Sink;
 use std::alloc::Global;
-use world::{Sink, World, read_journal};
+use texts::read_journal;
+use world::World;
 use world_text::read_world;
 
 fn of_replay(fault: ReplayFault) -> RunError

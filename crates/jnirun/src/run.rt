@@ -21,8 +21,10 @@ use machine::{LoadFault, Machine, ReportFault, RunFault, Stop};
 use program_text::{RunError, of_lower, read_program};
 use region_rules::Checked;
 use replay::TrapAt;
+use report::Sink;
 use std::alloc::Global;
-use world::{ReadError, Schedule, Sink, World, read_schedule};
+use texts::{ReadError, Schedule, read_schedule};
+use world::World;
 use world_text::read_world;
 
 /// The fault of a world, a schedule or a journal.

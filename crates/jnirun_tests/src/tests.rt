@@ -4,10 +4,10 @@ use jnirun::{
     Command, DONE, FAILED, FileFault, Files, REFUSED, TrapAt, check_text, replay_text, run_text,
     serve,
 };
+use report::StdSink;
 use std::alloc::Global;
 use std::io;
 use std::io::{ErrorKind, Write};
-use world::StdSink;
 
 const PROGRAM: &[u8] = b"JNIEXPORT jint JNICALL Java_A_f(JNIEnv *env, jclass cls) { return 0; }";
 

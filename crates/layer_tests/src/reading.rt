@@ -1,10 +1,10 @@
 //! Each public call that reads, once with success, and what it reads.
 
 use classes::mangling::{is_mangled, mangle, unmangle};
+use source::{Entry, ScheduleWord};
 use std::test::Fail;
-use world::{
-    Call, Entry, Object, ObjectValue, Repetition, ScheduleWord, World, read_journal, read_schedule,
-};
+use texts::{Repetition, read_journal, read_schedule};
+use world::{Call, Object, ObjectValue, World};
 use world_text::read_world;
 
 #[test]

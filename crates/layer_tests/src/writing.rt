@@ -1,12 +1,12 @@
 //! Sinks that take few bytes at a time, or fail.
 
+use report::{
+    NoRows, Sink, SinkFailed, StdSink, ThreadStatus, write_journal, write_report, write_run,
+};
+use source::{Entry, Printed};
 use std::io;
 use std::io::{ErrorKind, Write};
 use std::test::Fail;
-use world::{
-    Entry, NoRows, Printed, Sink, SinkFailed, StdSink, ThreadStatus, write_journal, write_report,
-    write_run,
-};
 
 /// A sink that takes one byte a call, and fails after `room` bytes.
 #[derive(Drop)]

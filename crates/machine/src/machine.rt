@@ -23,17 +23,20 @@ use arrayvec::ArrayVec;
 use class_table::table::ClassTable;
 use execution::advance::{Advanced, advance};
 use execution::execute::Event;
-use execution::thread::{Ending, Thread};
-use jni_calls::store::Store;
 use execution::fault::LoadFault;
 use execution::load::load_threads;
 use execution::objects::load_store;
+use execution::thread::{Ending, Thread};
+use jni_calls::store::Store;
 use lowered::Program;
 use reached::reached_rows;
+use report::{Sink, ThreadStatus, write_run};
 use safety::accepted_is_safe;
+use source::{Entry, Printed, ScheduleWord};
 use std::alloc::{AllocError, Global};
 use std::marker::Model;
-use world::{Entry, Printed, Schedule, ScheduleWord, Sink, ThreadStatus, World, write_run};
+use texts::Schedule;
+use world::World;
 
 /// How many entries a journal has at most.
 pub const MOST_ENTRIES: usize = 1_000_000;

@@ -11,7 +11,8 @@ ghost use Rattle.world.specs.Views.{object_value_view};
 
 use crate::objects::Objects;
 use class_table::table::ClassTable;
-use world::{ObjectValue, Shown, Sink, SinkFailed, put_row_end, put_row_head, put_value};
+use report::{Shown, Sink, SinkFailed, put_row_end, put_row_head, put_value};
+use world::ObjectValue;
 
 /// A value as a row shows it: a class object by its class.
 fn shown(classes: &ClassTable, value: ObjectValue) -> Shown<'_>

@@ -10,9 +10,9 @@ use crate::objects::Objects;
 use crate::roots::marked_roots;
 use crate::row::put_row;
 use class_table::table::ClassTable;
+use report::{Rows, Sink, SinkFailed};
 use std::alloc::{AllocError, Global};
 use std::marker::Model;
-use world::{Rows, Sink, SinkFailed};
 
 /// The rows of the objects that can still be reached. Putting them asks for no memory.
 #[derive(Drop)]

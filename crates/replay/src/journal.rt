@@ -18,10 +18,12 @@ use functions::Functions;
 use object_store::made_before;
 use reached::reached_rows;
 use region_rules::Checked;
+use report::{Sink, ThreadStatus, write_run};
+use source::Entry;
 use std::alloc::Global;
 use terms::trap_number;
 use threads::{NamedObjects, State, Stop, root_names, standings_of, take_entry};
-use world::{Entry, Sink, ThreadStatus, World, write_run};
+use world::World;
 
 /// Takes the entries of a journal.
 #[inline]

@@ -13,9 +13,9 @@ ghost use Rattle.replay.specs.Loading.{refused_calls, first_line, AreWaiting, Is
 ghost use Rattle.replay.specs.Replays.{IsLoadFault};
 
 use crate::fault::ReplayFault;
-use replay_calls::Shared;
 use functions::Functions;
 use object_store::{Names, loaded_store};
+use replay_calls::Shared;
 use std::alloc::{AllocError, Global};
 use syntax::{Function, Item, Parameter, ParameterType};
 use terms::null_statics;

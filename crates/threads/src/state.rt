@@ -13,12 +13,14 @@ ghost use Rattle.report.specs.ThreadStatus.{standing_view};
 ghost use Rattle.source.specs.ReportOf.{standing_by_ending};
 
 use crate::thread::{Ending, Step, Thread, is_unfinished, take_step};
-use replay_calls::Shared;
 use class_table::table::ClassTable;
 use functions::Functions;
+use replay_calls::Shared;
+use report::ThreadStatus;
+use source::{Entry, Printed};
 use std::alloc::{AllocError, Global};
 use terms::{Trap, trap_number};
-use world::{Entry, Printed, ThreadStatus, World};
+use world::World;
 
 /// The trap that stopped the machine.
 #[derive(Clone, Copy)]

@@ -15,10 +15,10 @@ ghost use Rattle.threads.specs.Threads.{argument_content, ending_view, IsBegun, 
 ghost use Rattle.replay_calls.specs.Shares.{shared_view};
 ghost use Rattle.terms.specs.Views.{assign_all, content_view, variables_view};
 
-use replay_calls::Shared;
 use classes::mangling::unmangle;
 use functions::Functions;
 use object_store::{Frames, Names, Store};
+use replay_calls::Shared;
 use std::alloc::{AllocError, Global};
 use std::mem;
 use steps::{Activation, advance};

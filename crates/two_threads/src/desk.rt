@@ -5,7 +5,7 @@ ghost use Rattle.machine.specs.Run.{replay_of};
 
 use machine::Machine;
 use std::marker::{Brand, Model, PhantomData};
-use world::Schedule;
+use texts::Schedule;
 
 /// A program and a world, by which a type can be named.
 pub trait Naming {

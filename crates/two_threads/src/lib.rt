@@ -13,7 +13,7 @@ use std::marker::Brand;
 use std::sync::{Mutex, Wait};
 use std::thread;
 use std::thread::Threads;
-use world::Schedule;
+use texts::Schedule;
 
 /// Takes the turns of a schedule, with no other thread's between them.
 fn turns<J: Naming>(rt: &impl Wait, desk: &Mutex<Desk<'_, J>>, schedule: &Schedule) {
