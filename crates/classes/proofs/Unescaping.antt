@@ -10,16 +10,6 @@ pub unescaped-other : (c : ℕ) (rest : List ℕ) → eqb c 95 ≡ false → une
 unescaped-other c [] h = rw h refl
 unescaped-other c (d ∷ rest) h = rw h refl
 
--- an underscore stands for a slash, but before a 1
-pub unescaped-slash : (d : ℕ) (rest : List ℕ) → eqb d 49 ≡ false → unescaped (95 ∷ d ∷ rest) ≡ 47 ∷ unescaped (d ∷ rest)
-unescaped-slash d rest h = rw h refl
-
--- an underscore before a 1 stands for an underscore
-pub unescaped-one : (d : ℕ) (rest : List ℕ) → d ≡ 49 → unescaped (95 ∷ d ∷ rest) ≡ 95 ∷ unescaped rest
-unescaped-one d rest h = rw h refl
-
-pub ruleset unescaping_rules = (unescaped-other, unescaped-slash, unescaped-one)
-
 -- a last slash divides a path
 split-at : (front rest : List ℕ) → split_last rest ≡ None → split_last (front ++ (47 ∷ rest)) ≡ Some (front, rest)
 split-at [] rest h = rw h refl

@@ -1,7 +1,7 @@
 //! The names of the functions that implement native methods, after the JNI Specification, chapter 2,
 //! "Resolving Native Method Names".
 
-ghost use Rattle.std.specs.Prelude.{◌≡◌, ◌<◌, ◌+◌, length, take, drop, IfSome, IfNone, IfOk, OnOk, false, true, ◌++◌, ◌∷◌, [], Some, None, flat_map, is_some};
+ghost use Rattle.std.specs.Prelude.{◌≡◌, ◌<◌, ◌+◌, length, take, drop, IfSome, IfNone, IfOk, OnOk, false, true, ◌++◌, ◌∷◌, [], Some, None, flat_map, is_some, List, ℕ, if◌then◌else◌};
 ghost use Rattle.std.specs.Option.{option_map};
 ghost use Rattle.base.specs.Bytes.{is_letter};
 ghost use Rattle.classes.specs.Mangling.{escaped_byte, mangle, unescaped, split_last, unmangle};
@@ -23,15 +23,26 @@ fn is_word(b: u8) -> bool
     is_letter(b) || matches!(b, b'0'..=b'9')
 }
 
+#[inline]
+fn push_escaped_byte(out: &mut Vec<u8>, b: u8) -> Result<(), AllocError>
+    ensures { OnOk result (out.new.items ≡ out.old.items ++ escaped_byte b) }
+{
+    if b == b'_' {
+        return out.extend_from_slice(b"_1");
+    }
+    if b == b'/' {
+        out.push(b'_')?;
+        return Ok(());
+    }
+    out.push(b)?;
+    Ok(())
+}
+
 fn push_escaped(out: &mut Vec<u8>, path: &[u8]) -> Result<(), AllocError>
     ensures { OnOk result (out.new.items ≡ out.old.items ++ flat_map escaped_byte path.now) }
 {
     for b in path {
-        match *b {
-            b'/' => out.push(b'_')?,
-            b'_' => out.extend_from_slice(b"_1")?,
-            b => out.push(b)?,
-        }
+        push_escaped_byte(out, *b)?;
     }
     Ok(())
 }
@@ -87,30 +98,37 @@ fn reads_name(bytes: &[u8]) -> bool
     separated && !underscore
 }
 
+/// Adds what an underscore and the byte after it stand for, and says whether the byte is an underscore whose next byte is
+/// still to come.
+#[inline]
+fn push_after_underscore(path: &mut Vec<u8>, b: u8) -> Result<bool, AllocError>
+    ensures { IfOk result (λ pending. (rest : List ℕ) → path.new.items ++ (if pending then unescaped (95 ∷ rest) else unescaped rest) ≡ path.old.items ++ unescaped (95 ∷ b ∷ rest)) }
+{
+    if b == b'1' {
+        path.push(b'_')?;
+        return Ok(false);
+    }
+    path.push(b'/')?;
+    if b == b'_' {
+        return Ok(true);
+    }
+    path.push(b)?;
+    Ok(false)
+}
+
 /// The path that an escaped one stands for.
-#[tactic(auto, using(crate::proofs::Unescaping::unescaping_rules))]
 fn unescape(alloc: Global, bytes: &[u8]) -> Result<Vec<u8>, AllocError>
     ensures { IfOk result (λ v. v.items ≡ unescaped bytes.now) }
 {
     let mut path = Vec::new(alloc);
     let mut underscore = false;
     for b in bytes {
-        let b = *b;
         if underscore {
-            if b == b'1' {
-                path.push(b'_')?;
-                underscore = false;
-            } else if b == b'_' {
-                path.push(b'/')?;
-            } else {
-                path.push(b'/')?;
-                path.push(b)?;
-                underscore = false;
-            }
-        } else if b == b'_' {
+            underscore = push_after_underscore(&mut path, *b)?;
+        } else if *b == b'_' {
             underscore = true;
         } else {
-            path.push(b)?;
+            path.push(*b)?;
         }
     }
     if underscore {

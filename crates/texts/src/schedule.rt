@@ -1,10 +1,11 @@
 //! In which order the threads step.
 
-ghost use Rattle.std.specs.Prelude.{◌≡◌, ℕ, List, ◌≤◌, IfOk};
+ghost use Rattle.std.specs.Prelude.{◌≡◌, ℕ, List, ◌≤◌, IfOk, option_and_then};
+ghost use Rattle.texts.specs.Numbers.{natural_of};
 ghost use Rattle.texts.specs.ScheduleText.{IsScheduleText};
 ghost use Rattle.texts.specs.ReadingLaws.{SchedulesAreRead};
 ghost use Rattle.texts.specs.Reading.{Gives};
-ghost use Rattle.texts.specs.ReadingSchedules.{named_turn, schedule_of};
+ghost use Rattle.texts.specs.ReadingSchedules.{named_turn, repetition, schedule_of};
 
 use crate::fault::ReadError;
 use crate::numbers::natural;
@@ -59,16 +60,11 @@ impl Word for Repetition {
     ghost times = { λ r. r.times };
 
     fn read(bytes: &[u8]) -> Option<Repetition> {
-        let (word, times) = match bytes {
-            [name] => (turn_of(*name)?, 1),
-            [name, b'*', digits @ ..] => (turn_of(*name)?, natural(digits)?),
-            _ => return None,
-        };
-        if times < 1 || times > 1_000_000 {
-            return None;
+        match bytes {
+            [name] => repeated(turn_of(*name)?, 1),
+            [name, b'*', digits @ ..] => counted(*name, digits),
+            _ => None,
         }
-        let times = times as u32;
-        Some(Repetition { word, times })
     }
 
     fn is_known(&self, threads: u8) -> bool {
@@ -91,6 +87,26 @@ fn turn_of(name: u8) -> Option<ScheduleWord>
         b'1'..=b'8' => Some(ScheduleWord::Turn(name - b'0')),
         _ => None,
     }
+}
+
+/// The word so many times, from once to a million times.
+#[inline]
+fn repeated(word: ScheduleWord, times: u64) -> Option<Repetition>
+    ensures { result ≡ repetition times word }
+{
+    if times < 1 || times > 1_000_000 {
+        return None;
+    }
+    let times = times as u32;
+    Some(Repetition { word, times })
+}
+
+/// The turn of the thread of this digit, as often as the digits after it say.
+#[inline]
+fn counted(name: u8, digits: &[u8]) -> Option<Repetition>
+    ensures { result ≡ option_and_then (λ word. option_and_then (λ times. repetition times word) (natural_of digits.now)) (named_turn name) }
+{
+    repeated(turn_of(name)?, natural(digits)?)
 }
 
 /// The schedule that the text means, for a world of this number of threads.

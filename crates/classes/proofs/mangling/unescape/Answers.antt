@@ -1,20 +1,30 @@
-use Rattle.std.proofs.Common.{◌≡◌, ◌+◌, ◌∷◌, get_or, drop, arith, ◌∙◌, ap}
-use Rattle.std.proofs.lemmas.Grind.{common_steps}
-use Rattle.classes.specs.Mangling.{unescaped}
-use Rattle.classes.proofs.Unescaping.{unescaped-other, unescaped-slash, unescaping_rules}
-use Rattle.classes.proofs.mangling.unescape.Goals.{then-underscore+then-b-eq49+in_ok-push, then-underscore+else-b-eq49+then-b-eq95+in_ok-push-2, then-underscore+else-b-eq49+else-b-eq95+in_ok-push-3+in_ok-push-4, else-underscore+then-b-eq95-2, else-underscore+else-b-eq95-2+in_ok-push-5}
+use Rattle.std.proofs.Common.{◌≡◌, ◌<◌, ◌+◌, ◌∷◌, length, get_or, drop, drop-cons, add-one, append_assoc, append-nil, [], eqb, false}
+use Rattle.std.proofs.lemmas.List.{drop_all}
+use Rattle.std.proofs.lemmas.Bool.{ne_eqb}
+use Rattle.classes.proofs.Unescaping.{unescaped-other}
+use Rattle.classes.proofs.mangling.unescape.Goals.{then-underscore+in_ok-underscore, else-underscore+then-b-eq95, else-underscore+else-b-eq95+in_ok-push, then-underscore-2+in_ok-push-2, else-underscore-2}
 use Rattle.classes.proofs.mangling.unescape.Goals as goal
 
 pub loop-b-preserved : goal.loop-b-preserved
 loop-b-preserved c =
-    let more : drop c.loop-b.b-index c.args.bytes.now ≡ get_or c.args.bytes.now c.loop-b.b-index 0 ∷ drop (c.loop-b.b-index + 1) c.args.bytes.now = grind (arith, common_steps) in
+    let below : c.loop-b.b-index < length c.args.bytes.now = c.loop-b-test.true in
+    let more : drop c.loop-b.b-index c.args.bytes.now ≡ get_or c.args.bytes.now c.loop-b.b-index 0 ∷ drop (c.loop-b.b-index + 1) c.args.bytes.now = rw (add-one, drop-cons c.args.bytes.now c.loop-b.b-index 0) in
     elim c.if-underscore.branch [
-      | then-underscore+then-b-eq49+in_ok-push w ↦ grind (arith, common_steps, unescaping_rules)
-      | then-underscore+else-b-eq49+then-b-eq95+in_ok-push-2 w ↦ grind (arith, common_steps, unescaping_rules)
-      | then-underscore+else-b-eq49+else-b-eq95+in_ok-push-3+in_ok-push-4 w ↦
-          let slash : unescaped (95 ∷ drop c.loop-b.b-index c.args.bytes.now) ≡ 47 ∷ get_or c.args.bytes.now c.loop-b.b-index 0 ∷ unescaped (drop (c.loop-b.b-index + 1) c.args.bytes.now) =
-          ap (λ xs. unescaped (95 ∷ xs)) more ∙ unescaped-slash (get_or c.args.bytes.now c.loop-b.b-index 0) (drop (c.loop-b.b-index + 1) c.args.bytes.now) (grind (arith, common_steps, w.if-b-eq49)) ∙ ap (λ xs. 47 ∷ xs) (unescaped-other (get_or c.args.bytes.now c.loop-b.b-index 0) (drop (c.loop-b.b-index + 1) c.args.bytes.now) (grind (arith, common_steps, w.if-b-eq95))) in
-          grind (arith, common_steps)
-      | else-underscore+then-b-eq95-2 w ↦ grind (arith, common_steps, unescaped-other)
-      | else-underscore+else-b-eq95-2+in_ok-push-5 w ↦ grind (arith, common_steps, unescaped-other)
+      | then-underscore+in_ok-underscore w ↦
+          rw (w.path-is, w.underscore-is, w.in_ok-underscore.ensures (drop (c.loop-b.b-index + 1) c.args.bytes.now))
+          (rw (w.if-underscore.true, more) at c.loop-b.invariant)
+      | else-underscore+then-b-eq95 w ↦
+          rw (w.path-is, w.underscore-is) (rw (w.if-underscore.false, more, w.if-b-eq95.true) at c.loop-b.invariant)
+      | else-underscore+else-b-eq95+in_ok-push w ↦
+          let other : eqb (get_or c.args.bytes.now c.loop-b.b-index 0) 95 ≡ false = ne_eqb (get_or c.args.bytes.now c.loop-b.b-index 0) 95 w.if-b-eq95.false in
+          rw (w.path-is, w.underscore-is, w.if-underscore.false, w.in_ok-push.ensures.items, append_assoc, ← unescaped-other (get_or c.args.bytes.now c.loop-b.b-index 0) (drop (c.loop-b.b-index + 1) c.args.bytes.now) other)
+          (rw (w.if-underscore.false, more) at c.loop-b.invariant)
+    ]
+
+pub returns : goal.returns
+returns c =
+    let no_more : drop c.loop-b.b-index c.args.bytes.now ≡ [] = drop_all c.loop-b.b-index c.args.bytes.now c.loop-b-test.false in
+    elim c.if-underscore-2.branch [
+      | then-underscore-2+in_ok-push-2 w ↦ rw (w.path-is, w.in_ok-push-2.ensures.items) (rw (w.if-underscore-2.true, no_more) at c.loop-b.invariant)
+      | else-underscore-2 w ↦ rw w.path-is (rw (w.if-underscore-2.false, no_more, append-nil) at c.loop-b.invariant)
     ]
