@@ -89,7 +89,7 @@ fn turn_of(name: u8) -> Option<ScheduleWord>
     }
 }
 
-/// The word so many times, from once to a million times.
+/// The word repeated, from once to a million times.
 #[inline]
 fn repeated(word: ScheduleWord, times: u64) -> Option<Repetition>
     ensures { result ≡ repetition times word }
@@ -101,7 +101,7 @@ fn repeated(word: ScheduleWord, times: u64) -> Option<Repetition>
     Some(Repetition { word, times })
 }
 
-/// The turn of the thread of this digit, as often as the digits after it say.
+/// The turn of the thread of this digit, repeated as often as the digits after it say.
 #[inline]
 fn counted(name: u8, digits: &[u8]) -> Option<Repetition>
     ensures { result ≡ option_and_then (λ word. option_and_then (λ times. repetition times word) (natural_of digits.now)) (named_turn name) }
