@@ -11,7 +11,7 @@ ghost use Rattle.source.specs.Task.{Declared, Loop, Print, ReturnValue, SetEleme
 ghost use Rattle.source.specs.Term.{term_of};
 ghost use Rattle.tasks.specs.Outcomes.{else_tree, kind_view, purpose_view, target_view};
 ghost use Rattle.terms.specs.Views.{operand_view};
-ghost use Rattle.tasks.specs.Tasks.{task_view, ArgumentsInRange, OperandInRange, OperandsInRange, ExprInRange, RightSideInRange, TestInRange, BlockInRange, PurposeInRange, ElseInRange, StatementInRange, TaskInRange};
+ghost use Rattle.tasks.specs.Tasks.{task_view, ArgumentsInRange, OperandInRange, OperandsInRange, ExprInRange, RightSideInRange, TestInRange, BlockInRange, PurposeInRange, ElseInRange, StatementInRange, TaskInRange, IsControl};
 
 use crate::outcome::{Purpose, Target, VariableKind, kind_of};
 use jni::{JniFunction, ParameterKind, function_named};
@@ -356,11 +356,26 @@ pub fn task_of(alloc: Global, s: &Stmt) -> Result<Task<'_>, AllocError>
         Form::Assign(x, right) => set_task(alloc, line, Target::Assigned(x), x, right),
         Form::AssignElement(x, i, e) => element_task(alloc, line, x, i, e),
         Form::Perform(call) => call_task(alloc, line, Purpose::Put(Target::Dropped), call),
+        _ => control_task(alloc, s),
+    }
+}
+
+/// The task of a statement that prints, branches, loops or returns.
+#[inline]
+fn control_task(alloc: Global, s: &Stmt) -> Result<Task<'_>, AllocError>
+    requires numbers { StatementInRange s.now }
+    requires control { IsControl s.now.form }
+    ensures view { IfOk result (λ t. task_view t ≡ task_of (stmt_tree s.now)) }
+    ensures range { IfOk result TaskInRange }
+{
+    let line = s.line;
+    match &s.form {
         Form::PutJint(e) => print_task(alloc, line, e),
         Form::If(test, block) => if_task(alloc, line, test, block, None),
         Form::IfElse(test, block, other) => if_task(alloc, line, test, block, Some(other)),
         Form::While(test, body) => loop_task(alloc, line, test, body),
         Form::Return(None) => Ok(Task::Return),
         Form::Return(Some(e)) => return_task(alloc, line, e),
+        _ => unreachable!(),
     }
 }

@@ -1,4 +1,4 @@
-use Rattle.std.proofs.Common.{List, ◌∷◌, ◌++◌, map, sym, subst, ap, ◌∙◌, arith, get_or}
+use Rattle.std.proofs.Common.{List, ◌∷◌, map, ap, ◌∙◌, arith, get_or}
 use Rattle.std.specs.Prelude.{zip}
 use Rattle.syntax.specs.declared.call.Argument.{Argument}
 use Rattle.syntax.specs.Views.{argument_tree}
@@ -6,11 +6,8 @@ use Rattle.jni.specs.declared.kinds.ParameterKind.{ParameterKind}
 use Rattle.jni.specs.declared.kinds.ParameterKind.TheVariants as kind
 use Rattle.jni.specs.Table.{parameter_value}
 use Rattle.source.specs.Task.{Operand, operand}
-use Rattle.terms.specs.declared.operand.Operand.{Operand as OperandInMemory}
-use Rattle.terms.specs.Views.{operand_view}
-use Rattle.tasks.specs.Tasks.{OperandsInRange}
 use Rattle.std.proofs.lemmas.Result.{IfOk-weaker}
-use Rattle.tasks.proofs.RangeLemmas.{after_first, first_is, operand_first, operands_pushed, rest_in_range, shorter}
+use Rattle.tasks.proofs.RangeLemmas.{after_first, first_is, operand_first, rest_in_range, shorter}
 use Rattle.tasks.proofs.task.+push_operands.Goals as goal
 
 pub push_operands-requires : goal.push_operands-requires
