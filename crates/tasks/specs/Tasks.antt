@@ -6,6 +6,8 @@ use Rattle.base.specs.Bytes.{Identifier}
 use Rattle.base.specs.Options.{some_passes}
 use Rattle.syntax.specs.declared.expr.Expr.{Expr as ExprInMemory}
 use Rattle.syntax.specs.declared.stmt.Block.{Block as BlockInMemory}
+use Rattle.syntax.specs.declared.stmt.Form.{Form as FormInMemory}
+use Rattle.syntax.specs.declared.stmt.Form.TheVariants as form
 use Rattle.syntax.specs.declared.stmt.Stmt.{Stmt as StmtInMemory}
 use Rattle.syntax.specs.Limits.{numbers_in_range}
 use Rattle.syntax.specs.Parts.{argument_expressions, statements_of, own_expressions, right_side_expressions, test_expressions, call_of_right_side}
@@ -88,6 +90,15 @@ has_numbers_in_range s = list_all numbers_in_range (own_expressions s)
 -- a call is of a function that can be called
 abbrev pub calls_built : Stmt → Bool
 calls_built s = not (calls_unbuilt s)
+
+-- a statement that prints, branches, loops or returns
+abbrev pub IsControl : FormInMemory → Type 0
+IsControl (form.PutJint e) = Unit {0}
+IsControl (form.If test b) = Unit {0}
+IsControl (form.IfElse test b d) = Unit {0}
+IsControl (form.While test body) = Unit {0}
+IsControl (form.Return e) = Unit {0}
+IsControl f = ⊥
 
 -- both, of each statement in a block and inside it
 pub record BlockInRange (b : Block) : Type 0 where

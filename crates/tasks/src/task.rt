@@ -1,6 +1,6 @@
 //! Tasks: statements that are begun.
 
-ghost use Rattle.std.specs.Prelude.{◌≡◌, ◌++◌, IfOk, IsTrue, map, zip};
+ghost use Rattle.std.specs.Prelude.{◌≡◌, ◌++◌, ◌∷◌, [], IfOk, IsTrue, map, zip};
 ghost use Rattle.std.specs.List.{list_all};
 ghost use Rattle.jni.specs.Table.{parameter_value};
 ghost use Rattle.syntax.specs.Views.{argument_tree, call_tree, stmt_tree, expr_tree, right_side_tree, test_tree, block_tree};
@@ -11,7 +11,7 @@ ghost use Rattle.source.specs.Task.{Declared, Loop, Print, ReturnValue, SetEleme
 ghost use Rattle.source.specs.Term.{term_of};
 ghost use Rattle.tasks.specs.Outcomes.{else_tree, kind_view, purpose_view, target_view};
 ghost use Rattle.terms.specs.Views.{operand_view};
-ghost use Rattle.tasks.specs.Tasks.{task_view, ArgumentsInRange, OperandInRange, OperandsInRange, ExprInRange, RightSideInRange, TestInRange, BlockInRange, PurposeInRange, ElseInRange, StatementInRange, TaskInRange};
+ghost use Rattle.tasks.specs.Tasks.{task_view, ArgumentsInRange, OperandInRange, OperandsInRange, ExprInRange, RightSideInRange, TestInRange, BlockInRange, PurposeInRange, ElseInRange, StatementInRange, TaskInRange, IsControl};
 
 use crate::outcome::{Purpose, Target, VariableKind, kind_of};
 use jni::{JniFunction, ParameterKind, function_named};
@@ -164,11 +164,30 @@ fn push_operands<'a>(
         [parameter, parameters @ ..] => match arguments {
             [] => Ok(()),
             [argument, arguments @ ..] => {
-                operands.push(operand_of(alloc, *parameter, argument)?)?;
+                push_operand(alloc, operands, *parameter, argument)?;
                 push_operands(alloc, operands, parameters, arguments)
             }
         },
     }
+}
+
+/// Adds the operand of an argument for this parameter.
+#[inline]
+fn push_operand<'a>(
+    alloc: Global,
+    operands: &mut Vec<Operand<'a>>,
+    parameter: ParameterKind,
+    argument: &'a Argument,
+) -> Result<(), AllocError>
+    requires numbers { IsTrue (list_all numbers_in_range (argument_expressions (argument_tree argument.now))) }
+    requires range { OperandsInRange operands.old.items }
+    ensures view { IfOk result (λ _. map operand_view operands.new.items ≡ map operand_view operands.old.items
+        ++ operand (parameter_value parameter, argument_tree argument.entry.now) ∷ []) }
+    ensures range { IfOk result (λ _. OperandsInRange operands.new.items) }
+{
+    let operand = operand_of(alloc, parameter, argument)?;
+    operands.push(operand)?;
+    Ok(())
 }
 
 /// An argument before the call's first step.
@@ -337,11 +356,26 @@ pub fn task_of(alloc: Global, s: &Stmt) -> Result<Task<'_>, AllocError>
         Form::Assign(x, right) => set_task(alloc, line, Target::Assigned(x), x, right),
         Form::AssignElement(x, i, e) => element_task(alloc, line, x, i, e),
         Form::Perform(call) => call_task(alloc, line, Purpose::Put(Target::Dropped), call),
+        _ => control_task(alloc, s),
+    }
+}
+
+/// The task of a statement that prints, branches, loops or returns.
+#[inline]
+fn control_task(alloc: Global, s: &Stmt) -> Result<Task<'_>, AllocError>
+    requires numbers { StatementInRange s.now }
+    requires control { IsControl s.now.form }
+    ensures view { IfOk result (λ t. task_view t ≡ task_of (stmt_tree s.now)) }
+    ensures range { IfOk result TaskInRange }
+{
+    let line = s.line;
+    match &s.form {
         Form::PutJint(e) => print_task(alloc, line, e),
         Form::If(test, block) => if_task(alloc, line, test, block, None),
         Form::IfElse(test, block, other) => if_task(alloc, line, test, block, Some(other)),
         Form::While(test, body) => loop_task(alloc, line, test, body),
         Form::Return(None) => Ok(Task::Return),
         Form::Return(Some(e)) => return_task(alloc, line, e),
+        _ => unreachable!(),
     }
 }
