@@ -1,13 +1,11 @@
 -- What a step of a task that is no call does is the effect of the task.
-use Rattle.std.proofs.Common.{◌≡◌, ℕ, ℤ, List, [], ◌∷◌, ◌++◌, slice_get, Option, refl, sym, ap, ◌∙◌}
+use Rattle.std.proofs.Common.{◌≡◌, ℕ, ℤ, List, [], ◌∷◌, ◌++◌, slice_get, Option, refl, sym, ap, ◌∙◌, Some, None}
 use Rattle.std.specs.Borrow.{Bor}
 use Rattle.base.specs.Bytes.{Identifier, lookup}
 use Rattle.syntax.specs.declared.expr.Constant.{Constant}
 use Rattle.syntax.specs.declared.expr.Constant.TheVariants as constant
 use Rattle.syntax.specs.declared.expr.Expr.{Expr as ExprInMemory}
 use Rattle.syntax.specs.declared.stmt.Block.{Block as BlockInMemory, out-Block}
-use Rattle.syntax.specs.declared.stmt.Stmt.{Stmt as StmtInMemory}
-use Rattle.syntax.specs.Tree.{Block}
 use Rattle.syntax.specs.Views.{constant_tree, expr_tree, block_tree}
 use Rattle.syntax.proofs.Blocks.{block_is}
 use Rattle.source.specs.Effect.{Effect, Becomes, Sets, SetsElement, at_line, goes_on, with_value, print_effect, branch_effect, loop_effect, element_effect, returned_name, return_effect, effect_of}
@@ -27,7 +25,7 @@ use Rattle.terms.specs.declared.value.Value.{Value as ValueInMemory}
 use Rattle.terms.specs.declared.value.Value.TheVariants as value
 use Rattle.tasks.specs.declared.task.Task.{Task as TaskInMemory}
 use Rattle.plain_steps.specs.Effects.{HasEffect, reduced}
-use Rattle.tasks.specs.Tasks.{task_view, branch_task, element_task, loop_task, print_task, return_task, value_task, tasks_of_statements}
+use Rattle.tasks.specs.Tasks.{task_view, branch_task, element_task, loop_task, print_task, return_task, value_task, statements_in, tasks_of_statements}
 use Rattle.tasks.specs.Outcomes.{else_tree}
 use Rattle.terms.specs.Views.{value_view, indexed_view, term_view, place_in, Reduces}
 use Rattle.tasks.proofs.RangeLemmas.{tasks_of-statements}
@@ -84,9 +82,14 @@ written_at vs ss heap line x i number z place is found =
 pub block_tasks : (b : BlockInMemory) → tasks_of_statements (out-Block b).statements.items ≡ tasks_of (block_tree b)
 block_tasks b = tasks_of-statements (out-Block b).statements.items (out-Block b).end_line ∙ ap tasks_of (sym (block_is b))
 
--- a way that is entered
-pub way_entered : (statements : List StmtInMemory) (b : Block) (end' : Task) → tasks_of_statements statements ≡ tasks_of b → Becomes (tasks_of b ++ end' ∷ []) ≡ Becomes (tasks_of_statements statements ++ end' ∷ [])
-way_entered statements b end' same = ap (λ (ts : List Task). Becomes (ts ++ end' ∷ [])) (sym same)
+-- a block that is entered
+pub block_entered : (b : Bor BlockInMemory) (end' : Task) → Becomes (tasks_of (block_tree b.now) ++ end' ∷ []) ≡ Becomes (tasks_of_statements (statements_in (Some b)) ++ end' ∷ [])
+block_entered b end' = ap (λ (ts : List Task). Becomes (ts ++ end' ∷ [])) (sym (block_tasks b.now))
+
+-- the same where an `else` may be missing
+pub else_entered : (line : ℕ) (o : Option (Bor BlockInMemory)) (end' : Task) → Becomes (tasks_of (else_tree line o) ++ end' ∷ []) ≡ Becomes (tasks_of_statements (statements_in o) ++ end' ∷ [])
+else_entered line None end' = refl
+else_entered line (Some b) end' = block_entered b end'
 
 -- a constant is evaluated, or it is NULL
 pub constant_returned : (sight : Sight) (line : ℕ) (c : Constant) → return_effect sight line (tree.Named (constant_tree c)) ≡ returned_name line (tree.constant (constant_tree c))

@@ -12,7 +12,7 @@ use Rattle.terms.specs.declared.reduction.Reduction.TheVariants as reduction
 use Rattle.tasks.specs.declared.task.Task.{Task as TaskInMemory}
 use Rattle.tasks.specs.declared.task.Task.TheVariants as task
 use Rattle.tasks.specs.Outcomes.{target_view}
-use Rattle.tasks.specs.Tasks.{task_view, end_view, tasks_of_statements}
+use Rattle.tasks.specs.Tasks.{task_view, end_view, statements_in, tasks_of_statements}
 use Rattle.terms.specs.Views.{value_view, trap_view}
 
 -- what a step does that reduces a term, which has no value yet
@@ -31,7 +31,7 @@ effect_by (outcome.Gives to g) new = NoEffect
 effect_by (outcome.Tests line zero b other) new = NoEffect
 effect_by (outcome.SetsElement x i z) new = SetsElement x.now i z
 effect_by (outcome.Makes T x n) new = MakesArray (element_tree T) x.now n
-effect_by (outcome.Enters statements e) new = Becomes (tasks_of_statements statements.now ++ end_view e ∷ [])
+effect_by (outcome.Enters block e) new = Becomes (tasks_of_statements (statements_in block) ++ end_view e ∷ [])
 effect_by outcome.Ends new = Becomes []
 effect_by outcome.Returned new = Returns
 effect_by (outcome.Trapped trap line) new = TrapsAt (trap_view trap) line

@@ -1,17 +1,15 @@
 //! Steps of tasks that are no call.
 
-ghost use Rattle.std.specs.Prelude.{◌≡◌, ℕ};
+ghost use Rattle.std.specs.Prelude.{◌≡◌};
 ghost use Rattle.syntax.specs.Views.{expr_tree, block_tree};
-ghost use Rattle.source.specs.Task.{tasks_of};
 ghost use Rattle.source.specs.Variable.{Statics as StaticsOfUnit};
 ghost use Rattle.tasks.specs.declared.task.Task.TheVariants as task;
 ghost use Rattle.terms.specs.declared.term.Term.TheVariants as term;
-ghost use Rattle.tasks.specs.Outcomes.{else_tree};
 ghost use Rattle.plain_steps.specs.Effects.{HasEffect, HasWays, IsAssignment, IsEvaluation, reduced};
-ghost use Rattle.tasks.specs.Tasks.{element_task, tasks_of_statements, ExprInRange, BlockInRange, ElseInRange, StatementsInRange, TaskInRange, OutcomeInRange, IsPlain};
+ghost use Rattle.tasks.specs.Tasks.{element_task, ExprInRange, BlockInRange, ElseInRange, TaskInRange, OutcomeInRange, IsPlain};
 ghost use Rattle.terms.specs.Views.{NumbersInRange, variables_view};
 
-use syntax::{Block, Name, Stmt};
+use syntax::Name;
 use tasks::{Assignment, Choice, ElementAssignment, End, Evaluation, Iteration, Outcome, Task};
 use terms::{
     Evaluated, Indexed, Reduction, Statics, Term, Value, Variables, constant, number_in, place_in,
@@ -123,18 +121,6 @@ fn set_element<'a>(
     }
 }
 
-/// The statements of a block; none where an `else` is missing.
-fn statements_of<'a>(block: Option<&'a Block>) -> &'a [Stmt]
-    requires { ElseInRange block }
-    ensures view { (line : ℕ) → tasks_of_statements result.now ≡ tasks_of (else_tree line block.entry) }
-    ensures range { StatementsInRange result.now }
-{
-    match block {
-        Some(block) => &block.statements,
-        None => &[],
-    }
-}
-
 /// Evaluates the test of an `if` by one step, or takes a way.
 fn branch<'a>(
     statics: &Statics<'_>,
@@ -150,8 +136,8 @@ fn branch<'a>(
 {
     match &mut choice.test {
         Term::Done(v) => match v {
-            Value::Truth(true) => Outcome::Enters(statements_of(Some(choice.block)), End::If),
-            Value::Truth(false) => Outcome::Enters(statements_of(choice.otherwise), End::If),
+            Value::Truth(true) => Outcome::Enters(Some(choice.block), End::If),
+            Value::Truth(false) => Outcome::Enters(choice.otherwise, End::If),
             Value::Word(_) | Value::Int(_) | Value::Flag(_) => Outcome::Impossible,
         },
         t => reduced(choice.line, reduce(statics, variables, t)),
@@ -169,10 +155,7 @@ fn turn<'a>(statics: &Statics<'_>, variables: &Variables<'_>, i: &mut Iteration<
 {
     match &mut i.term {
         Term::Done(v) => match v {
-            Value::Truth(true) => Outcome::Enters(
-                statements_of(Some(i.body)),
-                End::Turn(i.line, i.test, i.body),
-            ),
+            Value::Truth(true) => Outcome::Enters(Some(i.body), End::Turn(i.line, i.test, i.body)),
             Value::Truth(false) => Outcome::Ends,
             Value::Word(_) | Value::Int(_) | Value::Flag(_) => Outcome::Impossible,
         },

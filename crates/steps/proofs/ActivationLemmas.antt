@@ -27,27 +27,28 @@ use Rattle.terms.specs.declared.value.Value.TheVariants as value
 use Rattle.steps.specs.Activations.{tasks_from, tasks_around, tasks_after, tasks_left, thread_in, scene_of, advance_by, Advances, HasBegun, KeepsScene, AreSet, BegunInRange, OuterInRange, IsInRange}
 use Rattle.tasks.specs.Outcomes.{variable_step, Holds, LeavesVariables, LeavesIf}
 use Rattle.steps.specs.Steps.{Scene, Sees, Does, in_frames, left_by, scene_with}
-use Rattle.tasks.specs.Tasks.{branch_task, task_view, end_view, tasks_of_statements, EndInRange, StatementsInRange, TaskInRange, OutcomeInRange}
+use Rattle.tasks.specs.Tasks.{branch_task, task_view, end_view, statements_in, tasks_of_statements, EndInRange, StatementsInRange, TaskInRange, OutcomeInRange}
+use Rattle.tasks.proofs.RangeLemmas.{entered_in_range}
 use Rattle.terms.specs.Views.{Contents, variables_view, trap_view}
 
 -- ---- blocks around the one in progress
 
 -- the innermost is told last
-pub around_more : (rest_of : List Task) (os : List Outer) (o : Outer) → tasks_around rest_of (os ++ o ∷ []) ≡ end_view o.end ∷ tasks_of_statements o.rest.now ++ tasks_around rest_of os
+pub around_more : (rest_of : List Task) (os : List Outer) (o : Outer) → tasks_around rest_of (os ++ o ∷ []) ≡ end_view o.end ∷ tasks_of_statements o.rest ++ tasks_around rest_of os
 around_more rest_of [] o = refl
-around_more rest_of (p ∷ os) o = around_more (end_view p.end ∷ tasks_of_statements p.rest.now ++ rest_of) os o
+around_more rest_of (p ∷ os) o = around_more (end_view p.end ∷ tasks_of_statements p.rest ++ rest_of) os o
 
-pub outer_parts : (os : List Outer) (o : Outer) → OuterInRange (os ++ o ∷ []) → OuterInRange os × EndInRange o.end × StatementsInRange o.rest.now
+pub outer_parts : (os : List Outer) (o : Outer) → OuterInRange (os ++ o ∷ []) → OuterInRange os × EndInRange o.end × StatementsInRange o.rest
 outer_parts [] o h = (tt, h.0, h.1)
 outer_parts (p ∷ os) o h = let parts = outer_parts os o h.2 in ((h.0, h.1, parts.0), parts.1, parts.2)
 
-pub outer_joined : (os : List Outer) (o : Outer) → OuterInRange os → EndInRange o.end → StatementsInRange o.rest.now → OuterInRange (os ++ o ∷ [])
+pub outer_joined : (os : List Outer) (o : Outer) → OuterInRange os → EndInRange o.end → StatementsInRange o.rest → OuterInRange (os ++ o ∷ [])
 outer_joined [] o h e r = (e, r, tt)
 outer_joined (p ∷ os) o h e r = (h.0, h.1, outer_joined os o h.2 e r)
 
-left_is : (a : Activation) (o : Option TaskInMemory) (rest : List Stmt) (os : List Outer) → a.task ≡ o → a.rest.now ≡ rest → a.outer.items ≡ os → tasks_left a ≡ tasks_from o (tasks_after rest os)
+left_is : (a : Activation) (o : Option TaskInMemory) (rest : List Stmt) (os : List Outer) → a.task ≡ o → a.rest ≡ rest → a.outer.items ≡ os → tasks_left a ≡ tasks_from o (tasks_after rest os)
 left_is a o rest os begun rest_of outer =
-    ap (λ (p : Option TaskInMemory). tasks_from p (tasks_after a.rest.now a.outer.items)) begun
+    ap (λ (p : Option TaskInMemory). tasks_from p (tasks_after a.rest a.outer.items)) begun
     ∙ ap (λ (b : List Stmt). tasks_from o (tasks_after b a.outer.items)) rest_of
     ∙ ap (λ (ps : List Outer). tasks_from o (tasks_after rest ps)) outer
 
@@ -80,14 +81,14 @@ seen_begun classes s old begun kept t sees = record {
 }
 
 -- a statement that is begun is the task that it was to begin as
-pub begun_first : (old new : Activation) (first : Stmt) (after : List Stmt) → old.task ≡ None → old.rest.now ≡ first ∷ after → HasBegun first new.task → new.rest.now ≡ after → new.outer.items ≡ old.outer.items → tasks_left new ≡ tasks_left old
+pub begun_first : (old new : Activation) (first : Stmt) (after : List Stmt) → old.task ≡ None → old.rest ≡ first ∷ after → HasBegun first new.task → new.rest ≡ after → new.outer.items ≡ old.outer.items → tasks_left new ≡ tasks_left old
 begun_first old new first after none rest begun left outer =
     left_is new (Some begun.task) after old.outer.items begun.is left outer
     ∙ ap (λ (u : Task). u ∷ tasks_after after old.outer.items) begun.begins
     ∙ sym (left_is old None (first ∷ after) old.outer.items none rest refl)
 
 -- and is in range as it was
-pub begun_range : (old new : Activation) (first : Stmt) (after : List Stmt) → old.rest.now ≡ first ∷ after → IsInRange old → HasBegun first new.task → new.rest.now ≡ after → new.outer.items ≡ old.outer.items → IsInRange new
+pub begun_range : (old new : Activation) (first : Stmt) (after : List Stmt) → old.rest ≡ first ∷ after → IsInRange old → HasBegun first new.task → new.rest ≡ after → new.outer.items ≡ old.outer.items → IsInRange new
 begun_range old new first after rest known begun left outer =
     let parts = subst StatementsInRange rest known.rest in
     record {
@@ -110,7 +111,7 @@ begun_before classes refused s old begun took after new tasks kept does = λ uni
 module _ (classes : Classes) (refused : Bool) (shared stepped' : Shared) (statics : Statics) (old begun : Activation) (begun_task after : TaskInMemory) (variables : Contents) (frames : List Frame) (pending : Option ℕ) (new : Activation)
     (tasks : tasks_left begun ≡ tasks_left old) (kept : KeepsScene old begun) (is : begun.task ≡ Some begun_task) where
   abbrev rest : List Task
-  rest = tasks_after begun.rest.now begun.outer.items
+  rest = tasks_after begun.rest begun.outer.items
 
   -- what is shared when the statics are set too
   abbrev shared' : Shared
@@ -168,7 +169,7 @@ module _ (classes : Classes) (refused : Bool) (shared stepped' : Shared) (static
       by_outcome (outcome.Tests line zero b other) none k t sees = absurd (let bad = none stepped' (with_tasks (within t) rest) (holds t rest sees) in cc)
       by_outcome (outcome.SetsElement x i z) none k t sees = none stepped' (with_tasks (within t) rest) (holds t rest sees)
       by_outcome (outcome.Makes T x n) none k t sees = none stepped' (with_tasks (within t) rest) (holds t rest sees)
-      by_outcome (outcome.Enters statements e) none k t sees = absurd (let bad = none stepped' (with_tasks (within t) rest) (holds t rest sees) in cc)
+      by_outcome (outcome.Enters block e) none k t sees = absurd (let bad = none stepped' (with_tasks (within t) rest) (holds t rest sees) in cc)
       by_outcome outcome.Ends none k t sees = absurd (let bad = none stepped' (with_tasks (within t) rest) (holds t rest sees) in cc)
       by_outcome outcome.Returned none k t sees = absurd (let bad = none stepped' (with_tasks (within t) rest) (holds t rest sees) in cc)
       by_outcome (outcome.Trapped trap line) none k t sees = absurd (let bad = none stepped' (with_tasks (within t) rest) (holds t rest sees) in cc)
@@ -194,14 +195,14 @@ module _ (classes : Classes) (refused : Bool) (shared stepped' : Shared) (static
         ap (λ (s' : Shared). return_step k s' u) (ap (shared_of stepped') (leaves stepped' (with_tasks (within t) rest) (holds t rest sees)))
 
     left_with : (o : Option TaskInMemory) → new.task ≡ o → new.rest ≡ begun.rest → new.outer.items ≡ begun.outer.items → tasks_left new ≡ tasks_from o rest
-    left_with o task' rest' outer' = left_is new o begun.rest.now begun.outer.items task' (ap (λ (b : Bor (List Stmt)). b.now) rest') outer'
+    left_with o task' rest' outer' = left_is new o begun.rest begun.outer.items task' rest' outer'
 
-    entered : (statements : Bor (List Stmt)) (e : End) → new.task ≡ None → new.rest ≡ statements → new.outer.items ≡ begun.outer.items ++ record { end = e; rest = begun.rest } ∷ []
-        → tasks_left new ≡ (tasks_of_statements statements.now ++ end_view e ∷ []) ++ rest
+    entered : (statements : List Stmt) (e : End) → new.task ≡ None → new.rest ≡ statements → new.outer.items ≡ begun.outer.items ++ record { end = e; rest = begun.rest } ∷ []
+        → tasks_left new ≡ (tasks_of_statements statements ++ end_view e ∷ []) ++ rest
     entered statements e task' rest' outer' =
-        left_is new None statements.now (begun.outer.items ++ record { end = e; rest = begun.rest } ∷ []) task' (ap (λ (b : Bor (List Stmt)). b.now) rest') outer'
-        ∙ ap (λ (ts : List Task). tasks_of_statements statements.now ++ ts) (around_more [] begun.outer.items (record { end = e; rest = begun.rest }))
-        ∙ sym (append_assoc (tasks_of_statements statements.now) (end_view e ∷ []) rest)
+        left_is new None statements (begun.outer.items ++ record { end = e; rest = begun.rest } ∷ []) task' rest' outer'
+        ∙ ap (λ (ts : List Task). tasks_of_statements statements ++ ts) (around_more [] begun.outer.items (record { end = e; rest = begun.rest }))
+        ∙ sym (append_assoc (tasks_of_statements statements) (end_view e ∷ []) rest)
 
     left_in : (took : Outcome) → OnVariables took → AreSet stood took new
         → left_by k stepped' (within t) rest took after ≡ advance_by k shared' t new took
@@ -215,7 +216,7 @@ module _ (classes : Classes) (refused : Bool) (shared stepped' : Shared) (static
         left_alone Quiet (task_view choice ∷ rest) leaves (left_with (Some choice) a.task a.rest a.outer) a.kept
     left_in (outcome.SetsElement x i z) leaves a = set (outcome.SetsElement x i z) leaves (left_with None a.task a.rest a.outer) a.kept
     left_in (outcome.Makes T x n) leaves a = set (outcome.Makes T x n) leaves (left_with None a.task a.rest a.outer) a.kept
-    left_in (outcome.Enters statements e) leaves a = left_alone Quiet ((tasks_of_statements statements.now ++ end_view e ∷ []) ++ rest) leaves (entered statements e a.task a.rest a.outer) a.kept
+    left_in (outcome.Enters block e) leaves a = left_alone Quiet ((tasks_of_statements (statements_in block) ++ end_view e ∷ []) ++ rest) leaves (entered (statements_in block) e a.task a.rest a.outer) a.kept
     left_in outcome.Ends leaves a = left_alone Quiet rest leaves (left_with None a.task a.rest a.outer) a.kept
     left_in outcome.Returned leaves a = returned leaves (within t) ∙ ap (λ (r : Reference). let u : Thread = record t { pending = r } in return_step k shared' u) (sym a.kept.pending)
     left_in (outcome.Trapped trap line) leaves a = left_alone (Trapped (trap_view trap) line) (task_view after ∷ rest) leaves (left_with (Some after) a.task a.rest a.outer) a.kept
@@ -232,10 +233,10 @@ module _ (classes : Classes) (refused : Bool) (shared stepped' : Shared) (static
 -- ---- what is known of accepted programs
 
 module _ (begun new : Activation) (after : TaskInMemory) (variables : Contents) (frames : List Frame) (pending : Option ℕ) (known : IsInRange begun) (known_after : TaskInRange after) where
-  built : (o : Option TaskInMemory) (rest_of : Bor (List Stmt)) (os : List Outer) → new.task ≡ o → new.rest ≡ rest_of → new.outer.items ≡ os → BegunInRange o → StatementsInRange rest_of.now → OuterInRange os → IsInRange new
+  built : (o : Option TaskInMemory) (rest_of : List Stmt) (os : List Outer) → new.task ≡ o → new.rest ≡ rest_of → new.outer.items ≡ os → BegunInRange o → StatementsInRange rest_of → OuterInRange os → IsInRange new
   built o rest_of os same_task same_rest same_outer task' rest' outer' = record {
     begun = subst BegunInRange (sym same_task) task';
-    rest = subst (λ (b : Bor (List Stmt)). StatementsInRange b.now) (sym same_rest) rest';
+    rest = subst StatementsInRange (sym same_rest) rest';
     outer = subst OuterInRange (sym same_outer) outer';
   }
 
@@ -249,9 +250,9 @@ module _ (begun new : Activation) (after : TaskInMemory) (variables : Contents) 
   range_after (outcome.Tests line zero b other) h a = built (Some (branch_task line (term.Done (value.Truth zero)) b other)) begun.rest begun.outer.items a.task a.rest a.outer (tt, h.0, h.1) known.rest known.outer
   range_after (outcome.SetsElement x i z) h a = built None begun.rest begun.outer.items a.task a.rest a.outer tt known.rest known.outer
   range_after (outcome.Makes T x n) h a = built None begun.rest begun.outer.items a.task a.rest a.outer tt known.rest known.outer
-  range_after (outcome.Enters statements e) h a =
+  range_after (outcome.Enters block e) h a =
       let o : Outer = record { end = e; rest = begun.rest } in
-      built None statements (begun.outer.items ++ o ∷ []) a.task a.rest a.outer tt h.0 (outer_joined begun.outer.items o known.outer h.1 known.rest)
+      built None (statements_in block) (begun.outer.items ++ o ∷ []) a.task a.rest a.outer tt (entered_in_range block h.0) (outer_joined begun.outer.items o known.outer h.1 known.rest)
   range_after outcome.Ends h a = built None begun.rest begun.outer.items a.task a.rest a.outer tt known.rest known.outer
   range_after outcome.Returned h a = built (Some after) begun.rest begun.outer.items a.task a.rest a.outer known_after known.rest known.outer
   range_after (outcome.Trapped trap line) h a = built (Some after) begun.rest begun.outer.items a.task a.rest a.outer known_after known.rest known.outer
@@ -266,9 +267,9 @@ module _ (unit : SourceUnit) (classes : Classes) (lent : BuffersInUse) (k : ℕ)
 
   around_refused : (after : List Task) (os : List Outer) → step_within unit classes lent k s t true (Some after) ≡ NoAdvance → step_within unit classes lent k s t true (Some (tasks_around after os)) ≡ NoAdvance
   around_refused after [] h = h
-  around_refused after (o ∷ os) h = around_refused (end_view o.end ∷ tasks_of_statements o.rest.now ++ after) os (end_refused o.end (tasks_of_statements o.rest.now ++ after))
+  around_refused after (o ∷ os) h = around_refused (end_view o.end ∷ tasks_of_statements o.rest ++ after) os (end_refused o.end (tasks_of_statements o.rest ++ after))
 
-module _ (classes : Classes) (shared_then : Shared) (old new : Activation) (idle : old.task ≡ None) (done : old.rest.now ≡ []) where
+module _ (classes : Classes) (shared_then : Shared) (old new : Activation) (idle : old.task ≡ None) (done : old.rest ≡ []) where
   -- no task is left
   pub nothing_to_do : old.outer.items ≡ [] → Advances classes false shared_then old outcome.Impossible shared_then new
   nothing_to_do none = λ unit lent k t sees has. ap (λ (tasks : List Task). step_within unit classes lent k shared_then t false (Some tasks)) (left_is old None [] [] idle done none)
@@ -281,7 +282,7 @@ module _ (classes : Classes) (shared_then : Shared) (old new : Activation) (idle
 
   module _ (os : List Outer) (o : Outer) (outer : old.outer.items ≡ os ++ o ∷ []) (rest : new.rest ≡ o.rest) (rest_of : new.outer.items ≡ os) (kept : KeepsScene old new) where
     abbrev after : List Task
-    after = tasks_after o.rest.now os
+    after = tasks_after o.rest os
 
     at_end : tasks_left old ≡ end_view o.end ∷ after
     at_end = left_is old None [] (os ++ o ∷ []) idle done outer ∙ around_more [] os o
@@ -293,7 +294,7 @@ module _ (classes : Classes) (shared_then : Shared) (old new : Activation) (idle
         (sees.frames ∙ sym kept.frames) (sees.pending ∙ sym kept.pending)
 
     left : (p : Option TaskInMemory) → new.task ≡ p → tasks_left new ≡ tasks_from p after
-    left p begun = left_is new p o.rest.now os begun (ap (λ (b : Bor (List Stmt)). b.now) rest) rest_of
+    left p begun = left_is new p o.rest os begun rest rest_of
 
     -- after an `if`
     pub if_over : o.end ≡ end.If → new.task ≡ None → Advances classes false shared_then old outcome.Ends shared_then new

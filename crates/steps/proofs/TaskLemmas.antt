@@ -60,7 +60,7 @@ module _ (scene : Scene) (old new : TaskInMemory) where
   does (outcome.Tests line zero b other) h = absurd h
   does (outcome.SetsElement x i z) h = by_effect (outcome.SetsElement x i z) h (λ lent k t rest has. refl)
   does (outcome.Makes T x n) h = by_effect (outcome.Makes T x n) h (λ lent k t rest has. refl)
-  does (outcome.Enters statements e) h = by_effect (outcome.Enters statements e) h (λ lent k t rest has. refl)
+  does (outcome.Enters block e) h = by_effect (outcome.Enters block e) h (λ lent k t rest has. refl)
   does outcome.Ends h = by_effect outcome.Ends h (λ lent k t rest has. refl)
   does outcome.Returned h = by_effect outcome.Returned h (λ lent k t rest has. refl)
   does (outcome.Trapped trap line) h = by_effect (outcome.Trapped trap line) h.0 (λ lent k t rest has.
@@ -85,7 +85,7 @@ module _ (scene : Scene) (old new : TaskInMemory) where
   does_without (outcome.Tests line zero b other) h = absurd h
   does_without (outcome.SetsElement x i z) h = by_refusal (outcome.SetsElement x i z) h (λ lent k t rest. refl)
   does_without (outcome.Makes T x n) h = by_refusal (outcome.Makes T x n) h (λ lent k t rest. refl)
-  does_without (outcome.Enters statements e) h = by_refusal (outcome.Enters statements e) h (λ lent k t rest. refl)
+  does_without (outcome.Enters block e) h = by_refusal (outcome.Enters block e) h (λ lent k t rest. refl)
   does_without outcome.Ends h = by_refusal outcome.Ends h (λ lent k t rest. refl)
   does_without outcome.Returned h = by_refusal outcome.Returned h (λ lent k t rest. refl)
   does_without (outcome.Trapped trap line) h = by_refusal (outcome.Trapped trap line) h.0 (λ lent k t rest. refl)

@@ -1,6 +1,5 @@
 -- The tasks of a call in progress, and what a step of it does.
 use Rattle.std.specs.Prelude.{◌≡◌, ℕ, Bool, true, false, List, [], ◌∷◌, ◌++◌, length, Option, Some, None}
-use Rattle.std.specs.Borrow.{Bor}
 use Rattle.syntax.specs.declared.expr.Expr.{Expr as ExprInMemory}
 use Rattle.syntax.specs.declared.stmt.Block.{Block as BlockInMemory}
 use Rattle.syntax.specs.declared.stmt.Stmt.{Stmt as StmtInMemory}
@@ -21,7 +20,7 @@ use Rattle.tasks.specs.declared.outcome.Outcome.TheVariants as outcome
 use Rattle.tasks.specs.declared.task.Task.{Task as TaskInMemory}
 use Rattle.steps.specs.Steps.{Scene, scene_with, Sees, Does}
 use Rattle.tasks.specs.Outcomes.{variable_step, LeavesVariables, LeavesIf}
-use Rattle.tasks.specs.Tasks.{branch_task, task_view, end_view, tasks_of_statements, StatementsInRange, TaskInRange, EndInRange}
+use Rattle.tasks.specs.Tasks.{branch_task, task_view, end_view, statements_in, tasks_of_statements, StatementsInRange, TaskInRange, EndInRange}
 use Rattle.terms.specs.declared.term.Term.TheVariants as term
 use Rattle.terms.specs.declared.value.Value.TheVariants as value
 use Rattle.terms.specs.Views.{Contents, variables_view, trap_view}
@@ -34,14 +33,14 @@ tasks_from (Some task) rest = task_view task ∷ rest
 -- the tasks around a block, of which these are after the outermost that is told
 abbrev pub tasks_around : List Task → List Outer → List Task
 tasks_around after [] = after
-tasks_around after (o ∷ inner) = tasks_around (end_view o.end ∷ tasks_of_statements o.rest.now ++ after) inner
+tasks_around after (o ∷ inner) = tasks_around (end_view o.end ∷ tasks_of_statements o.rest ++ after) inner
 
 -- the tasks after the one that is begun
 abbrev pub tasks_after : List StmtInMemory → List Outer → List Task
 tasks_after rest outer = tasks_of_statements rest ++ tasks_around [] outer
 
 abbrev pub tasks_left : Activation → List Task
-tasks_left a = tasks_from a.task (tasks_after a.rest.now a.outer.items)
+tasks_left a = tasks_from a.task (tasks_after a.rest a.outer.items)
 
 -- ---- what is known of accepted programs
 
@@ -51,11 +50,11 @@ BegunInRange (Some task) = TaskInRange task
 
 abbrev pub OuterInRange : List Outer → Type 0
 OuterInRange [] = Unit {0}
-OuterInRange (o ∷ inner) = EndInRange o.end × StatementsInRange o.rest.now × OuterInRange inner
+OuterInRange (o ∷ inner) = EndInRange o.end × StatementsInRange o.rest × OuterInRange inner
 
 pub record IsInRange (a : Activation) : Type 0 where
   pub begun : BegunInRange a.task
-  pub rest : StatementsInRange a.rest.now
+  pub rest : StatementsInRange a.rest
   pub outer : OuterInRange a.outer.items
 
 -- ---- a step
@@ -113,13 +112,13 @@ task_after task (outcome.Tests line zero b other) = Some (branch_task line (term
 task_after task took = None
 
 -- the statements after it
-abbrev pub rest_after : Bor (List StmtInMemory) → Outcome → Bor (List StmtInMemory)
-rest_after rest (outcome.Enters statements e) = statements
+abbrev pub rest_after : List StmtInMemory → Outcome → List StmtInMemory
+rest_after rest (outcome.Enters block e) = statements_in block
 rest_after rest took = rest
 
 -- what is to do around their block
-abbrev pub outer_after : Bor (List StmtInMemory) → List Outer → Outcome → List Outer
-outer_after rest outer (outcome.Enters statements e) = outer ++ record { end = e; rest = rest } ∷ []
+abbrev pub outer_after : List StmtInMemory → List Outer → Outcome → List Outer
+outer_after rest outer (outcome.Enters block e) = outer ++ record { end = e; rest = rest } ∷ []
 outer_after rest outer took = outer
 
 -- what a step did to its task was done to a call in progress, and nothing else

@@ -14,7 +14,7 @@ use Rattle.tasks.specs.declared.outcome.Outcome.{Outcome}
 use Rattle.tasks.specs.declared.outcome.Outcome.TheVariants as outcome
 use Rattle.tasks.specs.declared.task.Task.{Task as TaskInMemory}
 use Rattle.tasks.specs.Outcomes.{else_tree, variable_step}
-use Rattle.tasks.specs.Tasks.{task_view, end_view, tasks_of_statements}
+use Rattle.tasks.specs.Tasks.{task_view, end_view, statements_in, tasks_of_statements}
 use Rattle.terms.specs.Views.{Contents, variables_view, trap_view}
 
 -- what a step of a call in progress depends on, but its tasks
@@ -38,7 +38,7 @@ pub record Sees (scene : Scene) (t : Thread) : Type 0 where
 abbrev pub left_by : (k : ℕ) → Shared → Thread → List Task → Outcome → TaskInMemory → Advance
 left_by k s t rest outcome.Stays new = Advances s (with_tasks t (task_view new ∷ rest)) Quiet
 left_by k s t rest (outcome.Printed z) new = Advances s (with_tasks t rest) (PrintedNumber z)
-left_by k s t rest (outcome.Enters statements e) new = Advances s (with_tasks t ((tasks_of_statements statements.now ++ end_view e ∷ []) ++ rest)) Quiet
+left_by k s t rest (outcome.Enters block e) new = Advances s (with_tasks t ((tasks_of_statements (statements_in block) ++ end_view e ∷ []) ++ rest)) Quiet
 left_by k s t rest outcome.Ends new = Advances s (with_tasks t rest) Quiet
 left_by k s t rest (outcome.Tests line zero b other) new = Advances s (with_tasks t (Branch line (Done (Truth zero)) (block_tree b.now) (else_tree line other) ∷ rest)) Quiet
 left_by k s t rest outcome.Returned new = return_step k s t

@@ -20,14 +20,14 @@ use plain_steps::set_variables;
 use std::alloc::{AllocError, Global};
 use std::mem;
 use syntax::{Block, Expr, Stmt};
-use tasks::{Choice, End, Outcome, Task, loop_task, task_of};
+use tasks::{Choice, End, Outcome, Statements, Task, loop_task, task_of};
 use terms::{Statics, Term, Value, Variables};
 
 /// What is still to do around a block: what comes at the block's end, and the statements after it.
-#[derive(Clone, Copy)]
+#[derive(Drop)]
 pub struct Outer<'a> {
     pub end: End<'a>,
-    pub rest: &'a [Stmt],
+    pub rest: Statements<'a>,
 }
 
 /// A call in progress: the task that is begun, the statements after it in its block, what is to do around the block,
@@ -35,7 +35,7 @@ pub struct Outer<'a> {
 /// exception.
 pub struct Activation<'a> {
     pub task: Option<Task<'a>>,
-    pub rest: &'a [Stmt],
+    pub rest: Statements<'a>,
     pub outer: Vec<Outer<'a>>,
     pub variables: Variables<'a>,
     pub frames: Frames,
@@ -47,13 +47,14 @@ impl Drop for Activation<'_> {
     fn drop(self) {
         let Activation {
             task,
-            rest: _,
+            rest,
             outer,
             variables,
             frames,
             pending: _,
         } = self;
         drop(task);
+        drop(rest);
         drop(outer);
         drop(variables);
         drop(frames);
@@ -88,16 +89,16 @@ fn begin<'a>(alloc: Global, activation: &mut Activation<'a>) -> Result<(), Alloc
     ensures tasks { IfOk result (λ _. tasks_left activation.new ≡ tasks_left activation.old) }
     ensures range { IfOk result (λ _. IsInRange activation.new) }
     ensures kept { IfOk result (λ _. KeepsScene activation.old activation.new) }
-    ensures begun { IfOk result (λ _. activation.new.task ≡ None → activation.new.rest.now ≡ []) }
+    ensures begun { IfOk result (λ _. activation.new.task ≡ None → activation.new.rest ≡ []) }
 {
     if activation.task.is_some() {
         return Ok(());
     }
-    let Some((first, after)) = activation.rest.split_first() else {
+    let Some(first) = activation.rest.first() else {
         return Ok(());
     };
     begin_statement(alloc, &mut activation.task, first)?;
-    activation.rest = after;
+    activation.rest.skip_first();
     Ok(())
 }
 
@@ -148,7 +149,7 @@ fn leave_block<'a>(
 ) -> Result<Outcome<'a>, AllocError>
     requires range { IsInRange activation.old }
     requires task { activation.old.task ≡ None }
-    requires rest { activation.old.rest.now ≡ [] }
+    requires rest { activation.old.rest ≡ [] }
     ensures step { IfOk result (λ o. (classes : Classes) (shared : SharedOfThreads) → Advances classes refused shared activation.old o shared activation.new) }
     ensures range { IfOk result (λ _. IsInRange activation.new) }
 {
@@ -158,8 +159,9 @@ fn leave_block<'a>(
     let Some(outer) = activation.outer.pop() else {
         return Ok(Outcome::Impossible);
     };
-    activation.rest = outer.rest;
-    match outer.end {
+    let Outer { end, rest } = outer;
+    activation.rest = rest;
+    match end {
         End::If => Ok(Outcome::Ends),
         End::Turn(line, test, body) => {
             begin_turn(alloc, &mut activation.task, line, test, body)?;
@@ -168,18 +170,17 @@ fn leave_block<'a>(
     }
 }
 
-/// Begins a block of these statements, with what comes at its end.
+/// Begins a block, with what comes at its end.
 #[inline]
 fn enter_block<'a>(
     activation: &mut Activation<'a>,
-    statements: &'a [Stmt],
+    block: Option<&'a Block>,
     end: End<'a>,
 ) -> Result<(), AllocError>
-    ensures { IfOk result (λ _. AreSet activation.old (outcome.Enters statements.entry end.entry) activation.new) }
+    ensures { IfOk result (λ _. AreSet activation.old (outcome.Enters block.entry end.entry) activation.new) }
 {
-    let rest = activation.rest;
+    let rest = mem::replace(&mut activation.rest, Statements::of(block));
     activation.outer.push(Outer { end, rest })?;
-    activation.rest = statements;
     put_task(&mut activation.task, None);
     Ok(())
 }
@@ -190,7 +191,7 @@ fn set_tasks<'a>(activation: &mut Activation<'a>, outcome: Outcome<'a>) -> Resul
 {
     match outcome {
         Outcome::Stays | Outcome::Returned | Outcome::Trapped(_, _) | Outcome::Impossible => {}
-        Outcome::Enters(statements, end) => enter_block(activation, statements, end)?,
+        Outcome::Enters(block, end) => enter_block(activation, block, end)?,
         Outcome::Printed(_) | Outcome::Sets(_, _) | Outcome::SetsNull(_) => {
             put_task(&mut activation.task, None);
         }

@@ -1,6 +1,7 @@
 -- What is known of a tree's statements: their numbers are in range, and they call what can be called.
-use Rattle.std.proofs.Common.{◌≡◌, ℕ, zero, suc, Bool, true, false, List, [], ◌∷◌, ◌++◌, cond, length, map, take, drop, get_or, append_assoc, slice_get, ◌-◌, ◌<◌, ◌≤◌, arith, Option, Some, refl, ap, ◌∙◌, sym, subst}
+use Rattle.std.proofs.Common.{◌≡◌, ℕ, zero, suc, Bool, true, false, List, [], ◌∷◌, ◌++◌, cond, length, map, take, drop, get_or, append_assoc, slice_get, ◌-◌, ◌<◌, ◌≤◌, arith, Option, Some, refl, ap, ◌∙◌, sym, subst, None}
 use Rattle.std.specs.Prelude.{find, slice_set, zip, IsTrue}
+use Rattle.std.specs.Borrow.{Bor}
 use Rattle.std.specs.Str.{bytes_eq}
 use Rattle.std.specs.List.{flat_map, list_all}
 use Rattle.std.proofs.lemmas.Bool.{and_parts}
@@ -25,7 +26,7 @@ use Rattle.source.specs.Activation.{function_at}
 use Rattle.source.specs.Task.{Task, operand, task_of, tasks_of}
 use Rattle.terms.specs.declared.operand.Operand.{Operand}
 use Rattle.terms.specs.Views.{operand_view}
-use Rattle.tasks.specs.Tasks.{ArgumentsInRange, OperandInRange, OperandsInRange, tasks_of_statements, has_numbers_in_range, calls_built, BlockInRange, InsideInRange, StatementsInRange}
+use Rattle.tasks.specs.Tasks.{ArgumentsInRange, ElseInRange, statements_in, OperandInRange, OperandsInRange, tasks_of_statements, has_numbers_in_range, calls_built, BlockInRange, InsideInRange, StatementsInRange}
 
 -- the tasks of statements, by their tree
 pub tasks_of-statements : (statements : List Stmt) (end_line : ℕ) → tasks_of_statements statements ≡ tasks_of (statements_tree statements end_line)
@@ -105,6 +106,11 @@ statements_in_range (s ∷ rest) end_line h =
 -- the statements of a block
 pub block_in_range : (b : BlockInMemory) → BlockInRange (block_tree b) → StatementsInRange (out-Block b).statements.items
 block_in_range b h = statements_in_range (out-Block b).statements.items (out-Block b).end_line (subst BlockInRange (block_is b) h)
+
+-- the statements of a block that is entered, if there is one
+pub entered_in_range : (o : Option (Bor BlockInMemory)) → ElseInRange o → StatementsInRange (statements_in o)
+entered_in_range None h = tt
+entered_in_range (Some b) h = block_in_range b.now h
 
 -- the statements of a function that is found
 pub body_in_range : (items : List Item) (name : List ℕ) (f : FunctionInMemory) → IsTree (unit_tree items) → IsTrue (calls_are_built (unit_tree items)) → function_at (unit_tree items) name ≡ Some (function_tree f) → StatementsInRange (out-Block f.body).statements.items

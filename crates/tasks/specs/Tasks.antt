@@ -5,7 +5,7 @@ use Rattle.std.specs.Borrow.{Bor}
 use Rattle.base.specs.Bytes.{Identifier}
 use Rattle.base.specs.Options.{some_passes}
 use Rattle.syntax.specs.declared.expr.Expr.{Expr as ExprInMemory}
-use Rattle.syntax.specs.declared.stmt.Block.{Block as BlockInMemory}
+use Rattle.syntax.specs.declared.stmt.Block.{Block as BlockInMemory, out-Block}
 use Rattle.syntax.specs.declared.stmt.Form.{Form as FormInMemory}
 use Rattle.syntax.specs.declared.stmt.Form.TheVariants as form
 use Rattle.syntax.specs.declared.stmt.Stmt.{Stmt as StmtInMemory}
@@ -71,6 +71,11 @@ loop_task line test t body = task.Loop (record { line = line; test = test; term 
 -- an `if` with its test's term
 abbrev pub branch_task : ℕ → TermInMemory → Bor BlockInMemory → Option (Bor BlockInMemory) → TaskInMemory
 branch_task line t b other = task.Branch (record { line = line; test = t; block = b; otherwise = other })
+
+-- the statements of a block; none where an `else` is missing
+abbrev pub statements_in : Option (Bor BlockInMemory) → List StmtInMemory
+statements_in None = []
+statements_in (Some b) = (out-Block b.now).statements.items
 
 -- the statements before their first steps
 abbrev pub tasks_of_statements : List StmtInMemory → List Task
@@ -175,6 +180,6 @@ EndInRange end.If = Unit {0}
 EndInRange (end.Turn line test body) = ExprInRange (expr_tree test.now) × BlockInRange (block_tree body.now)
 
 abbrev pub OutcomeInRange : Outcome → Type 0
-OutcomeInRange (outcome.Enters statements e) = StatementsInRange statements.now × EndInRange e
+OutcomeInRange (outcome.Enters block e) = ElseInRange block × EndInRange e
 OutcomeInRange (outcome.Tests line zero b other) = BlockInRange (block_tree b.now) × ElseInRange other
 OutcomeInRange took = Unit {0}

@@ -5,7 +5,7 @@ ghost use Rattle.syntax.specs.Views.{variable_type_tree};
 ghost use Rattle.source.specs.Task.{kind_of};
 ghost use Rattle.tasks.specs.Outcomes.{kind_view};
 
-use syntax::{Block, ElementType, Expr, Name, Stmt, VariableType};
+use syntax::{Block, ElementType, Expr, Name, VariableType};
 use terms::{Given, Trap, Value};
 
 /// What a declaration makes.
@@ -64,8 +64,8 @@ pub enum Outcome<'a> {
     SetsElement(&'a Name, usize, i32),
     /// It is over, and there is an array of this many zeros.
     Makes(ElementType, &'a Name, u32),
-    /// It is over, and these statements are to do, up to this end.
-    Enters(&'a [Stmt], End<'a>),
+    /// It is over, and the statements of this block are to do, up to this end; none where an `else` is missing.
+    Enters(Option<&'a Block>, End<'a>),
     /// It is over: a way of an `if` has ended, or a loop.
     Ends,
     /// The call is over.

@@ -209,7 +209,7 @@ end-plain (end.Turn line test body) = tt
 
 around-plain : (after : List Task) (os : List Outer) → BeginsPlain after → BeginsPlain (tasks_around after os)
 around-plain after [] h = h
-around-plain after (o ∷ os) h = around-plain (end_view o.end ∷ tasks_of_statements o.rest.now ++ after) os (end-plain o.end)
+around-plain after (o ∷ os) h = around-plain (end_view o.end ∷ tasks_of_statements o.rest ++ after) os (end-plain o.end)
 
 begins-plain : (o : Option TaskInMemory) (rest : List StmtInMemory) (os : List Outer) → BegunInRange o → StatementsInRange rest → BeginsPlain (tasks_from o (tasks_after rest os))
 begins-plain None [] os h r = around-plain [] os tt
@@ -237,7 +237,7 @@ module _ (unit : SourceUnit) (classes : Classes) (shared : Shared) (k : ℕ) whe
 
   free_work : (s : Thread) (o : Option Activation) → WorkInRange o → waits_with classes k shared s (next_effect shared s (tasks_in o)) ≡ false
   free_work s None r = refl
-  free_work s (Some a) r = free_tasks s (tasks_left a) (begins-plain a.task a.rest.now a.outer.items r.begun r.rest)
+  free_work s (Some a) r = free_tasks s (tasks_left a) (begins-plain a.task a.rest a.outer.items r.begun r.rest)
 
   -- no thread waits for a monitor
   pub waits_none : (t : ThreadInMemory) (s : Thread) → ThreadStands unit classes t s → WorkInRange t.activation → waits classes k shared s ≡ false

@@ -42,10 +42,10 @@ no_monitors Ended k = refl
 no_monitors (Uncaught c) k = refl
 
 -- the tasks of a call in progress at its beginning
-pub begun_tasks : (body : BlockInMemory) (a : Activation) → a.task ≡ None → a.rest.now ≡ (out-Block body).statements.items → a.outer.items ≡ [] → tasks_left a ≡ tasks_of (block_tree body)
+pub begun_tasks : (body : BlockInMemory) (a : Activation) → a.task ≡ None → a.rest ≡ (out-Block body).statements.items → a.outer.items ≡ [] → tasks_left a ≡ tasks_of (block_tree body)
 begun_tasks body a none rest outer =
     let statements = (out-Block body).statements.items in
-    ap (λ (o : Option TaskInMemory). tasks_from o (tasks_after a.rest.now a.outer.items)) none
+    ap (λ (o : Option TaskInMemory). tasks_from o (tasks_after a.rest a.outer.items)) none
     ∙ ap (λ (left : List Stmt). tasks_after left a.outer.items) rest
     ∙ ap (λ (os : List Outer). tasks_after statements os) outer
     ∙ append-nil (tasks_of_statements statements)
@@ -111,7 +111,7 @@ module _ (unit : SourceUnit) (classes : Classes) (lent : BuffersInUse) (k : ℕ)
     goes (outcome.Tests line zero b d) other does = on Quiet (advances_so (outcome.Tests line zero b d) does)
     goes (outcome.SetsElement x i z) other does = on Quiet (advances_so (outcome.SetsElement x i z) does)
     goes (outcome.Makes T x n) other does = on Quiet (advances_so (outcome.Makes T x n) does)
-    goes (outcome.Enters statements e) other does = on Quiet (advances_so (outcome.Enters statements e) does)
+    goes (outcome.Enters block e) other does = on Quiet (advances_so (outcome.Enters block e) does)
     goes outcome.Ends other does = on Quiet (advances_so outcome.Ends does)
     goes outcome.Returned other does = absurd (other refl)
     goes (outcome.Trapped trap line) other does = on (Trapped (trap_view trap) line) (advances_so (outcome.Trapped trap line) does)

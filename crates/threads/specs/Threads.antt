@@ -57,7 +57,7 @@ pub record IsBegun (f : Function) (class : ℕ) (arguments : List ObjectValueInM
   pub activation : Activation
   pub is : o ≡ Some activation
   pub task : activation.task ≡ None
-  pub rest : activation.rest.now ≡ (out-Block f.body).statements.items
+  pub rest : activation.rest ≡ (out-Block f.body).statements.items
   pub outer : activation.outer.items ≡ []
   pub variables : variables_view activation.variables ≡ assign_all ((f.class_name, LocalRef 1 (Some class)) ∷ parameter_variables (zip (function_tree f).parameters (map object_value_view arguments))) []
   pub frames : activation.frames ≡ entry_frame (class ∷ filter_map named_object (map object_value_view arguments)) ∷ []

@@ -23,7 +23,7 @@ use std::alloc::{AllocError, Global};
 use std::mem;
 use steps::{Activation, advance};
 use syntax::{Function, Parameter};
-use tasks::Outcome;
+use tasks::{Outcome, Statements};
 use terms::{Content, Trap, Value, Variables};
 use world::{Call, ObjectValue, World};
 
@@ -191,7 +191,7 @@ fn begin_call<'a>(
     let frames = entry_frames(alloc, class, arguments)?;
     let activation = Activation {
         task: None,
-        rest: &function.body.statements,
+        rest: Statements::of(Some(&function.body)),
         outer: Vec::new(alloc),
         variables,
         frames,

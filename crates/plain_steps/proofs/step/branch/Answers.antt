@@ -1,10 +1,9 @@
-use Rattle.std.proofs.Common.{◌≡◌, true}
-use Rattle.syntax.specs.Views.{block_tree}
+use Rattle.std.proofs.Common.{◌≡◌, true, false}
 use Rattle.source.specs.Task.{EndIf}
 use Rattle.terms.specs.declared.term.Term.TheVariants as term
 use Rattle.terms.specs.declared.value.Value.TheVariants as value
 use Rattle.terms.specs.Views.{variables_view}
-use Rattle.plain_steps.proofs.EffectLemmas.{way_entered, branch_reduces}
+use Rattle.plain_steps.proofs.EffectLemmas.{block_entered, else_entered, branch_reduces}
 use Rattle.plain_steps.proofs.step.branch.Goals as goal
 
 pub returns-in_default-clause-step : goal.returns-in_default-clause-step
@@ -14,4 +13,9 @@ returns-in_default-clause-step c =
 pub returns-in-Truth-true-clause-step : goal.returns-in-Truth-true-clause-step
 returns-in-Truth-true-clause-step c =
     let shape : c.args.choice.now.test ≡ term.Done (value.Truth true) = cc in
-    λ heap. rw shape (way_entered c.statements_of.result.now (block_tree c.args.choice.now.block.now) EndIf (c.statements_of.ensures.view c.args.choice.now.line))
+    λ heap. rw shape (block_entered c.args.choice.now.block EndIf)
+
+pub returns-in-Truth-false-clause-step : goal.returns-in-Truth-false-clause-step
+returns-in-Truth-false-clause-step c =
+    let shape : c.args.choice.now.test ≡ term.Done (value.Truth false) = cc in
+    λ heap. rw shape (else_entered c.args.choice.now.line c.args.choice.now.otherwise EndIf)

@@ -4,7 +4,7 @@ use Rattle.source.specs.Task.{EndTurn}
 use Rattle.terms.specs.declared.term.Term.TheVariants as term
 use Rattle.terms.specs.declared.value.Value.TheVariants as value
 use Rattle.terms.specs.Views.{variables_view}
-use Rattle.plain_steps.proofs.EffectLemmas.{way_entered, loop_reduces}
+use Rattle.plain_steps.proofs.EffectLemmas.{block_entered, loop_reduces}
 use Rattle.plain_steps.proofs.step.turn.Goals as goal
 
 pub returns-in_default-clause-step : goal.returns-in_default-clause-step
@@ -14,4 +14,4 @@ returns-in_default-clause-step c =
 pub returns-in-Truth-true-clause-step : goal.returns-in-Truth-true-clause-step
 returns-in-Truth-true-clause-step c =
     let shape : c.args.i.now.term ≡ term.Done (value.Truth true) = cc in
-    λ heap. rw shape (way_entered c.statements_of.result.now (block_tree c.args.i.now.body.now) (EndTurn c.args.i.now.line (expr_tree c.args.i.now.test.now) (block_tree c.args.i.now.body.now)) (c.statements_of.ensures.view c.args.i.now.line))
+    λ heap. rw shape (block_entered c.args.i.now.body (EndTurn c.args.i.now.line (expr_tree c.args.i.now.test.now) (block_tree c.args.i.now.body.now)))
