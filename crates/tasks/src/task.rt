@@ -1,6 +1,6 @@
 //! Tasks: statements that are begun.
 
-ghost use Rattle.std.specs.Prelude.{◌≡◌, ◌++◌, ◌∷◌, [], IfOk, IsTrue, map, zip};
+ghost use Rattle.std.specs.Prelude.{◌≡◌, ◌++◌, IfOk, IsTrue, map, zip};
 ghost use Rattle.std.specs.List.{list_all};
 ghost use Rattle.jni.specs.Table.{parameter_value};
 ghost use Rattle.syntax.specs.Views.{argument_tree, call_tree, stmt_tree, expr_tree, right_side_tree, test_tree, block_tree};
@@ -164,30 +164,11 @@ fn push_operands<'a>(
         [parameter, parameters @ ..] => match arguments {
             [] => Ok(()),
             [argument, arguments @ ..] => {
-                push_operand(alloc, operands, *parameter, argument)?;
+                operands.push(operand_of(alloc, *parameter, argument)?)?;
                 push_operands(alloc, operands, parameters, arguments)
             }
         },
     }
-}
-
-/// Adds the operand of an argument for this parameter.
-#[inline]
-fn push_operand<'a>(
-    alloc: Global,
-    operands: &mut Vec<Operand<'a>>,
-    parameter: ParameterKind,
-    argument: &'a Argument,
-) -> Result<(), AllocError>
-    requires numbers { IsTrue (list_all numbers_in_range (argument_expressions (argument_tree argument.now))) }
-    requires range { OperandsInRange operands.old.items }
-    ensures view { IfOk result (λ _. map operand_view operands.new.items ≡ map operand_view operands.old.items
-        ++ operand (parameter_value parameter, argument_tree argument.entry.now) ∷ []) }
-    ensures range { IfOk result (λ _. OperandsInRange operands.new.items) }
-{
-    let operand = operand_of(alloc, parameter, argument)?;
-    operands.push(operand)?;
-    Ok(())
 }
 
 /// An argument before the call's first step.
