@@ -8,8 +8,7 @@ ghost use Rattle.source.specs.Load.{call_loads, fits_parameter, fit_parameters, 
 ghost use Rattle.source.specs.Start.{start};
 ghost use Rattle.call_checks.specs.Shares.{shared_view};
 ghost use Rattle.threads.specs.States.{AreInRange, Stands};
-ghost use Rattle.threads.specs.Threads.{WorkInRange};
-ghost use Rattle.replay.specs.Loading.{refused_calls, first_line, AreWaiting, IsWaiting};
+ghost use Rattle.replay.specs.Loading.{refused_calls, first_line, AddsWaiting, AreWaiting, IsWaiting};
 ghost use Rattle.replay.specs.Replays.{IsLoadFault};
 
 use crate::fault::ReplayFault;
@@ -112,8 +111,7 @@ fn first_fault(
 
 /// A thread before its first call.
 fn waiting<'a>(calls: &'a [Call]) -> Thread<'a>
-    ensures waiting { IsWaiting result calls.entry.now }
-    ensures range { WorkInRange result.activation }
+    ensures { IsWaiting result calls.entry.now }
 {
     Thread {
         calls,
@@ -122,23 +120,31 @@ fn waiting<'a>(calls: &'a [Call]) -> Thread<'a>
     }
 }
 
+/// Adds a thread before its first call.
+fn push_waiting<'a>(threads: &mut Vec<Thread<'a>>, calls: &'a [Call]) -> Result<(), AllocError>
+    ensures { IfOk result (λ _. AddsWaiting threads.old.items calls.entry.now threads.new.items) }
+{
+    match threads.push(waiting(calls)) {
+        Ok(()) => Ok(()),
+        Err(_) => Err(AllocError),
+    }
+}
+
 /// Puts the threads before their first calls into an empty list.
 #[inline]
 fn add_waiting<'a>(threads: &mut Vec<Thread<'a>>, world: &'a World) -> Result<(), AllocError>
     requires { threads.old.items ≡ [] }
-    ensures waiting { IfOk result (λ _. AreWaiting threads.new.items world.entry.now.threads) }
-    ensures range { IfOk result (λ _. AreInRange threads.new.items) }
+    ensures { IfOk result (λ _. AreWaiting threads.new.items world.entry.now.threads) }
 {
     for calls in world.threads() {
-        threads.push(waiting(calls))?;
+        push_waiting(threads, calls)?;
     }
     Ok(())
 }
 
 /// The threads before their first calls.
 fn waiting_threads<'a>(alloc: Global, world: &'a World) -> Result<Vec<Thread<'a>>, AllocError>
-    ensures waiting { IfOk result (λ threads. AreWaiting threads.items world.now.threads) }
-    ensures range { IfOk result (λ threads. AreInRange threads.items) }
+    ensures { IfOk result (λ threads. AreWaiting threads.items world.now.threads) }
 {
     let mut threads = Vec::new(alloc);
     add_waiting(&mut threads, world)?;

@@ -11,7 +11,7 @@ ghost use Rattle.source.specs.Activation.{parameter_variables, class_of_function
 ghost use Rattle.source.specs.Step.{is_unfinished};
 ghost use Rattle.source.specs.Thread.{Shared as SharedOfThreads};
 ghost use Rattle.source.specs.Variable.{LocalRef};
-ghost use Rattle.threads.specs.Threads.{argument_content, ending_view, IsBegun, EndsStep, TakesStep, WorkInRange, step_of};
+ghost use Rattle.threads.specs.Threads.{argument_content, ending_view, BeginsNext, IsBegun, EndsStep, TakesStep, WorkInRange, step_of};
 ghost use Rattle.call_checks.specs.Shares.{shared_view};
 ghost use Rattle.terms.specs.Views.{assign_all, content_view, variables_view};
 
@@ -201,6 +201,30 @@ fn begin_call<'a>(
     Ok(())
 }
 
+/// Begins this call in the place of the one in progress; false where its function or the function's class is unknown.
+#[inline]
+fn begin_next<'a>(
+    alloc: Global,
+    functions: &Functions<'a>,
+    world: &World,
+    call: &Call,
+    place: &mut Option<Activation<'a>>,
+) -> Result<bool, AllocError>
+    requires tree { IsTree (unit_tree functions.now) }
+    requires sorted { IsSorted (unit_tree functions.now) }
+    requires calls { IsTrue (calls_are_built (unit_tree functions.now)) }
+    ensures { IfOk result (λ begun. BeginsNext (unit_tree functions.now) world.now.classes call.now begun place.old place.new) }
+{
+    let Some(found) = functions.find(call.function()) else {
+        return Ok(false);
+    };
+    let Some(class) = class_of(alloc, world, found.function)? else {
+        return Ok(false);
+    };
+    begin_call(alloc, place, found.function, class, call.arguments())?;
+    Ok(true)
+}
+
 /// Enters the next call.
 fn enter<'a>(
     alloc: Global,
@@ -223,20 +247,9 @@ fn enter<'a>(
     let Some((call, rest)) = thread.calls.split_first() else {
         return Ok(Step::Impossible);
     };
-    let Some(found) = functions.find(call.function()) else {
+    if !begin_next(alloc, functions, world, call, &mut thread.activation)? {
         return Ok(Step::Impossible);
-    };
-    let function = found.function;
-    let Some(class) = class_of(alloc, world, function)? else {
-        return Ok(Step::Impossible);
-    };
-    begin_call(
-        alloc,
-        &mut thread.activation,
-        function,
-        class,
-        call.arguments(),
-    )?;
+    }
     thread.calls = rest;
     Ok(Step::Quiet)
 }
