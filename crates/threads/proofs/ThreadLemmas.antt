@@ -14,7 +14,7 @@ use Rattle.source.specs.Task.{tasks_of}
 use Rattle.classes.specs.Class.{Classes}
 use Rattle.source.specs.Thread.{Monitor, Thread, Shared, BuffersInUse, Event, Quiet, PrintedNumber, Trapped, Advances as AdvancesTo, NoAdvance, Ending, Unfinished, Ended, Uncaught}
 use Rattle.source.specs.Object.{Reference}
-use Rattle.source.specs.Activation.{named_object, entry_frame, ending_after, monitors_after, calls_after, return_step, enter, entered, entry_advance, entered_function, class_of_function, function_at, parameter_variables}
+use Rattle.source.specs.Activation.{ending_after, monitors_after, calls_after, return_step, enter, entered, entry_advance, entered_function}
 use Rattle.source.specs.ThreadStep.{thread_step, step_within}
 use Rattle.steps.specs.declared.activation.Activation.{Activation}
 use Rattle.steps.specs.declared.activation.Outer.{Outer}
@@ -27,9 +27,7 @@ use Rattle.plain_steps.proofs.EffectLemmas.{block_tasks}
 use Rattle.call_checks.specs.Shares.{shared_view}
 use Rattle.call_checks.specs.declared.shared.Shared.{Shared as SharedInMemory}
 use Rattle.steps.specs.Steps.{Sees}
-use Rattle.terms.specs.Views.{variables_view, trap_view}
-use Rattle.source.specs.Variable.{LocalRef}
-use Rattle.std.specs.Prelude.{filter_map, zip}
+use Rattle.terms.specs.Views.{trap_view}
 use Rattle.tasks.specs.declared.outcome.Outcome.{Outcome}
 use Rattle.threads.specs.declared.thread.Step.{Step}
 use Rattle.source.specs.Heap.{Heap}

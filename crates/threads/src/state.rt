@@ -121,15 +121,17 @@ fn take_turn<'a>(
     ensures range { IfOk result (λ _. AreInRange state.new.threads.items) }
 {
     let thread = &mut state.threads[place];
-    let step = take_step(
+    match take_step(
         alloc,
         functions,
         state.world,
         &mut state.shared,
         refused,
         thread,
-    )?;
-    note(state, k, step)
+    ) {
+        Ok(step) => note(state, k, step),
+        Err(error) => Err(error),
+    }
 }
 
 /// Takes an entry; false where it isn't possible.

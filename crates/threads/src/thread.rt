@@ -218,11 +218,14 @@ fn begin_next<'a>(
     let Some(found) = functions.find(call.function()) else {
         return Ok(false);
     };
-    let Some(class) = class_of(alloc, world, found.function)? else {
-        return Ok(false);
-    };
-    begin_call(alloc, place, found.function, class, call.arguments())?;
-    Ok(true)
+    match class_of(alloc, world, found.function) {
+        Ok(Some(class)) => {
+            begin_call(alloc, place, found.function, class, call.arguments())?;
+            Ok(true)
+        }
+        Ok(None) => Ok(false),
+        Err(error) => Err(error),
+    }
 }
 
 /// Enters the next call.
@@ -247,11 +250,14 @@ fn enter<'a>(
     let Some((call, rest)) = thread.calls.split_first() else {
         return Ok(Step::Impossible);
     };
-    if !begin_next(alloc, functions, world, call, &mut thread.activation)? {
-        return Ok(Step::Impossible);
+    match begin_next(alloc, functions, world, call, &mut thread.activation) {
+        Ok(true) => {
+            thread.calls = rest;
+            Ok(Step::Quiet)
+        }
+        Ok(false) => Ok(Step::Impossible),
+        Err(error) => Err(error),
     }
-    thread.calls = rest;
-    Ok(Step::Quiet)
 }
 
 /// What others see of what a call in progress did.
@@ -336,7 +342,11 @@ pub(crate) fn take_step<'a>(
     let Some(activation) = &mut thread.activation else {
         return enter(alloc, functions, world, refused, thread);
     };
-    let outcome = advance(alloc, world.classes(), shared, refused, activation)?;
-    let pending = activation.pending;
-    Ok(end_step(&shared.store, thread, pending, outcome))
+    match advance(alloc, world.classes(), shared, refused, activation) {
+        Ok(outcome) => {
+            let pending = activation.pending;
+            Ok(end_step(&shared.store, thread, pending, outcome))
+        }
+        Err(error) => Err(error),
+    }
 }

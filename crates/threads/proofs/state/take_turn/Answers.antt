@@ -26,24 +26,24 @@ noted_so : {E : Type 0} (r : Result Bool E) (P : Bool → Type 0) (took : Step) 
 noted_so (Ok possible) P took N is noted goes = subst P (sym is) (goes noted)
 noted_so (Err e) P took N is noted goes = tt
 
-pub returns-clause-step : goal.returns-clause-step
-returns-clause-step c =
+pub returns-in-Ok-clause-step : goal.returns-in-Ok-clause-step
+returns-in-Ok-clause-step c =
     let unit = unit_tree c.args.functions.now in
     let m = c.args.state.now in
     let t = c.index_mut-thread.result.now in
     let after = c.take_step.new.thread in
     let new = c.note.new.state in
     let at = slice_get_read m.threads.items (length m.threads.items) c.args.place t refl c.requires.live.there c.index_mut-thread.ensures.value in
-    noted_so c.note.result (λ possible. TakesEntry unit m (entry.Step c.args.k c.args.refused) possible new) c.in_ok-step.step _ c.note.ensures.possible c.note.ensures.noted
+    noted_so c.note.result (λ possible. TakesEntry unit m (entry.Step c.args.k c.args.refused) possible new) c.in-Ok.step _ c.note.ensures.possible c.note.ensures.noted
     (λ noted w s h.
-    let step = subst (λ (v : World). TakesStep unit v.classes c.args.refused (shared_view m.shared) t c.in_ok-step.step (shared_view new.shared) after) (sym h.world)
-    (subst (λ (s' : Shared). TakesStep unit m.world.now.classes c.args.refused (shared_view m.shared) t c.in_ok-step.step (shared_view s') after) (sym noted.shared) c.in_ok-step.ensures.step) in
-    takes unit w m s h c.requires.range c.args.k c.args.refused c.args.place t after c.in_ok-step.step new
+    let step = subst (λ (v : World). TakesStep unit v.classes c.args.refused (shared_view m.shared) t c.in-Ok.step (shared_view new.shared) after) (sym h.world)
+    (subst (λ (s' : Shared). TakesStep unit m.world.now.classes c.args.refused (shared_view m.shared) t c.in-Ok.step (shared_view s') after) (sym noted.shared) c.in-Ok.ensures.step) in
+    takes unit w m s h c.requires.range c.args.k c.args.refused c.args.place t after c.in-Ok.step new
     (omega arith) at (c.requires.live.live t at) c.requires.live.runs step
     noted.world (ap (λ (v : Vec Thread). v.items) noted.threads) noted.printed noted.stop)
 
-pub returns-clause-range : goal.returns-clause-range
-returns-clause-range c =
+pub returns-in-Ok-clause-range : goal.returns-in-Ok-clause-range
+returns-in-Ok-clause-range c =
     IfOk-weaker c.note.result _ (λ _. AreInRange c.note.new.state.threads.items) (λ possible noted.
     subst (λ (v : Vec Thread). AreInRange v.items) (sym noted.threads)
-    (range_set c.args.state.now.threads.items c.args.place c.take_step.new.thread c.requires.range c.in_ok-step.ensures.range)) c.note.ensures.noted
+    (range_set c.args.state.now.threads.items c.args.place c.take_step.new.thread c.requires.range c.in-Ok.ensures.range)) c.note.ensures.noted

@@ -1,5 +1,4 @@
 use Rattle.std.proofs.Common.{◌∷◌, List, [], map, ap, sym, ◌∙◌, Some, zip, rules}
-use Rattle.std.specs.Option.{option_map}
 use Rattle.syntax.specs.Views.{unit_tree, function_tree}
 use Rattle.source.specs.Object.{ObjectValue}
 use Rattle.std.specs.Prelude.{filter_map}
@@ -12,17 +11,17 @@ use Rattle.threads.proofs.ThreadLemmas.{begun_tasks}
 use Rattle.tasks.proofs.RangeLemmas.{body_in_range}
 use Rattle.threads.proofs.thread.begin_next.Goals as goal
 
-pub returns : goal.returns
-returns c =
-    let begun = c.in_ok-begin_call.ensures in
+pub returns-in_ok-begin_call-in-Ok-Some : goal.returns-in_ok-begin_call-in-Ok-Some
+returns-in_ok-begin_call-in-Ok-Some c =
+    let begun = c.in_ok-begin_call-in-Ok-Some.ensures in
     let f = c.in-Some.found.function.now in
-    let class = c.in-Some-2.class in
+    let class = c.in-Ok-Some.class in
     let given = map object_value_view c.arguments.result.now in
     record {
       function = function_tree f;
       found = search rules;
       class = class;
-      its_class = sym c.in_ok-class.ensures ∙ c.in-Some-2.is;
+      its_class = sym (rw c.in-Ok-Some.field-0-is at c.in-Ok-Some.ensures);
       activation = begun.activation;
       is = begun.is;
       tasks = begun_tasks f.body begun.activation begun.task begun.rest begun.outer;
