@@ -146,11 +146,11 @@ writes unit w journal m standings rows h is shows = record {
 
 -- ---- answers
 
-module _ (unit : SourceUnit) (w : World) (journal : Journal) (old new : Written) where
-  -- a replay that was refused
-  pub refused_answer : (fault : ReplayFault) → IsRefused unit w journal fault → Answers unit w journal old old (Err fault)
-  refused_answer fault h = (unwritten unit w journal old fault h, from_outside unit w journal fault h)
+-- a replay that was refused
+pub refused_answer : (unit : SourceUnit) (w : World) (journal : Journal) (old : Written) (fault : ReplayFault) → IsRefused unit w journal fault → Answers unit w journal old old (Err fault)
+refused_answer unit w journal old fault h = (unwritten unit w journal old fault h, from_outside unit w journal fault h)
 
+module _ (unit : SourceUnit) (w : World) (journal : Journal) (old new : Written) where
   pub ok_of : (r : Result (Option TrapAt) ReplayFault) → Answers unit w journal old new r → OnOk r (WritesRun unit w journal old new)
   ok_of (Ok trap) h = h.0
   ok_of (Err fault) h = tt

@@ -126,9 +126,11 @@ fn replay_from<'a, W: Sink>(
     requires range { AreInRange state.old.threads.items }
     ensures { (w : World) → Replayed (unit_tree functions.now) w [] state.old → Answers (unit_tree functions.now) w journal.now (W.written out.old) (W.written out.new) result }
 {
-    follow(alloc, functions, state, journal)?;
-    match write_report(alloc, state, journal, out) {
-        Ok(()) => Ok(shown_stop(state.stop)),
+    match follow(alloc, functions, state, journal) {
+        Ok(()) => match write_report(alloc, state, journal, out) {
+            Ok(()) => Ok(shown_stop(state.stop)),
+            Err(fault) => Err(fault),
+        },
         Err(fault) => Err(fault),
     }
 }

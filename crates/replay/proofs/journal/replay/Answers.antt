@@ -24,4 +24,3 @@ returns-clause-err g c = err_of _ _ _ _ _ c.replay_with.result
 pub returns-clause-only : goal.returns-clause-only
 returns-clause-only g c = only_of _ _ _ _ _ c.replay_with.result
     (subst (λ (items : List Item). Answers (unit_tree items) c.args.world.now c.args.journal.now (g.W.Sink.written c.args.out.now) (g.W.Sink.written c.replay_with.new.out) c.replay_with.result) (c.in_ok-functions.ensures ∙ c.items.ensures.same) c.replay_with.ensures)
-

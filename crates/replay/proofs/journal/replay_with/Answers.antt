@@ -9,6 +9,6 @@ returns-in-Ok g c =
     let s = c.in-Ok.ensures in
     c.replay_from.ensures c.args.world.now (record { fits = s.fits; end = start (unit_tree c.args.functions.now) c.args.world.now; replays = refl; stands = s.stands; range = s.range })
 
-pub returns : goal.returns
-returns g c =
-    refused_answer (unit_tree c.args.functions.now) c.args.world.now c.args.journal.now _ _ c.in-Err.fault (not_begun (unit_tree c.args.functions.now) c.args.world.now c.args.journal.now c.in-Err.fault c.in-Err.ensures.fault)
+pub returns-in-Err : goal.returns-in-Err
+returns-in-Err g c =
+    refused_answer (unit_tree c.args.functions.now) c.args.world.now c.args.journal.now (g.W.Sink.written c.args.out.now) c.in-Err.fault (not_begun (unit_tree c.args.functions.now) c.args.world.now c.args.journal.now c.in-Err.fault c.in-Err.ensures.fault)

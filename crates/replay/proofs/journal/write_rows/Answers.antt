@@ -11,18 +11,18 @@ returns-in-Ok-write_run g c = (
     fits = replayed.fits;
     text = _;
     is = writes unit w c.args.journal.now c.args.state.now c.in-Ok.standings.items c.args.rows.now replayed c.in-Ok.ensures c.requires.rows;
-    written = c.in-Ok-write_run.ensures.text;
+    written = rw (c.deref.ensures.value, c.deref-2.ensures.value) at c.in-Ok-write_run.ensures.text;
   },
   c.in-Ok-write_run.ensures.none_waits,
 )
 
-pub returns-in-Err-write_run : goal.returns-in-Err-write_run
-returns-in-Err-write_run g c = (
+pub returns : goal.returns
+returns g c = (
   λ unit w replayed. record {
     fits = replayed.fits;
     text = _;
     is = writes unit w c.args.journal.now c.args.state.now c.in-Ok.standings.items c.args.rows.now replayed c.in-Ok.ensures c.requires.rows;
-    stopped = c.in-Err-write_run.ensures.text;
+    stopped = rw (c.deref.ensures.value, c.deref-2.ensures.value) at c.in-Err-write_run.ensures.text;
   },
   tt,
 )
