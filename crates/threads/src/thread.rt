@@ -20,7 +20,6 @@ use classes::mangling::unmangle;
 use functions::Functions;
 use object_store::{Frames, Names, Store};
 use std::alloc::{AllocError, Global};
-use std::mem;
 use steps::{Activation, advance};
 use syntax::{Function, Parameter};
 use tasks::Outcome;
@@ -173,7 +172,7 @@ fn entry_frames(
 fn put_activation<'a>(place: &mut Option<Activation<'a>>, activation: Option<Activation<'a>>)
     ensures { place.new ≡ activation.entry }
 {
-    drop(mem::replace(place, activation));
+    *place = activation;
 }
 
 /// Begins the call of a function of this class, in the place of the call in progress.
