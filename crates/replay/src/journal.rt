@@ -38,8 +38,10 @@ fn follow<'a>(
     ensures refused { IfErr result (IsRefusedFrom (unit_tree functions.now) state.old journal.now) }
 {
     for (done, entry) in journal.iter().enumerate() {
-        if !take_entry(alloc, functions, state, *entry)? {
-            return Err(ReplayFault::Impossible(done + 1));
+        match take_entry(alloc, functions, state, *entry) {
+            Ok(true) => {}
+            Ok(false) => return Err(ReplayFault::Impossible(done + 1)),
+            Err(_) => return Err(ReplayFault::Memory),
         }
     }
     Ok(())
