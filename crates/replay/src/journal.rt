@@ -178,6 +178,8 @@ pub fn replay<W: Sink>(
     // Faults 82 and 91 are answered only where they must be.
     ensures only { IsReplayable (unit_tree checked.now) world.now journal.now → IfErr result IsFromOutside }
 {
-    let functions = Functions::of(alloc, checked.items())?;
-    replay_with(alloc, &functions, world, journal, out)
+    match Functions::of(alloc, checked.items()) {
+        Ok(functions) => replay_with(alloc, &functions, world, journal, out),
+        Err(_) => Err(ReplayFault::Memory),
+    }
 }

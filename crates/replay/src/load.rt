@@ -198,8 +198,10 @@ pub(crate) fn start<'a>(
     ensures fits { IfOk result (λ _. first_load_fault (unit_tree functions.now) world.now ≡ None) }
     ensures fault { IfErr result (IsLoadFault (unit_tree functions.now) world.now) }
 {
-    if let Some(line) = first_fault(alloc, functions, world)? {
-        return Err(ReplayFault::DoesNotFit(line));
+    match first_fault(alloc, functions, world) {
+        Ok(None) => {}
+        Ok(Some(line)) => return Err(ReplayFault::DoesNotFit(line)),
+        Err(_) => return Err(ReplayFault::Memory),
     }
     match begun(alloc, functions, world) {
         Ok(state) => Ok(state),
