@@ -85,8 +85,10 @@ fn first_unfit(
     ensures { IfOk result (λ line. line ≡ first_line (refused_calls (unit_tree functions.now) world.now.classes calls.now)) }
 {
     for call in calls {
-        if !fits(alloc, functions, world, call)? {
-            return Ok(Some(call.line()));
+        match fits(alloc, functions, world, call) {
+            Ok(true) => {}
+            Ok(false) => return Ok(Some(call.line())),
+            Err(error) => return Err(error),
         }
     }
     Ok(None)
