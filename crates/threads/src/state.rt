@@ -196,7 +196,10 @@ fn add_standings<'a>(
     let mut k = 0;
     for thread in threads {
         k += 1;
-        standings.push(standing_of(classes, stop, k, thread))?;
+        match standings.push(standing_of(classes, stop, k, thread)) {
+            Ok(()) => {}
+            Err(_) => return Err(AllocError),
+        }
     }
     Ok(())
 }
