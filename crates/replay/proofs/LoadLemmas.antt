@@ -1,5 +1,5 @@
 -- The first call that doesn't fit, and the threads before their first calls.
-use Rattle.std.proofs.Common.{◌≡◌, ℕ, zero, suc, ◌+◌, Bool, true, false, cond, ◌&&◌, is_some, drop, take, List, [], ◌∷◌, ◌++◌, map, Option, Some, None, refl, sym, ap, ◌∙◌, subst, arith, IsTrue}
+use Rattle.std.proofs.Common.{◌≡◌, ℕ, zero, suc, ◌+◌, Bool, true, false, cond, ◌&&◌, is_some, drop, take, List, [], ◌∷◌, ◌++◌, map, Option, Some, None, refl, sym, ap, ◌∙◌, append_assoc, subst, arith, IsTrue}
 use Rattle.std.specs.Prelude.{slice_get, not, filter}
 use Rattle.std.specs.List.{flat_map, list_all}
 use Rattle.std.specs.Global.{Vec}
@@ -9,9 +9,9 @@ use Rattle.source.specs.World.{Invocation}
 use Rattle.source.specs.Load.{call_loads}
 use Rattle.source.specs.Start.{waiting_thread}
 use Rattle.threads.specs.declared.thread.Thread.{Thread as ThreadInMemory}
-use Rattle.replay.specs.Loading.{refused_calls, first_line, IsWaiting, AreWaiting}
-use Rattle.threads.specs.States.{ThreadsStand}
-use Rattle.threads.specs.Threads.{ThreadStands, WorkStands, tasks_in, ending_view}
+use Rattle.replay.specs.Loading.{refused_calls, first_line, IsWaiting, AddsWaiting, AreWaiting}
+use Rattle.threads.specs.States.{AreInRange, ThreadsStand}
+use Rattle.threads.specs.Threads.{ThreadStands, WorkInRange, WorkStands, tasks_in, ending_view}
 use Rattle.steps.specs.declared.activation.Activation.{Activation}
 
 -- the calls of each thread
@@ -98,3 +98,20 @@ module _ (unit : SourceUnit) (classes : Classes) where
   stand_waiting (t ∷ ts) (c ∷ cs) h none =
       let parts = none_of_both (refused_calls unit classes c) (refused cs) none in
       (stands_waiting t c h.0 parts.0, stand_waiting ts cs h.1 parts.1)
+
+-- ---- threads before their first calls
+
+-- one thread more
+pub more_waiting : (items : List (Vec Invocation)) (i : ℕ) (v : Vec Invocation) (old new : List ThreadInMemory) → slice_get items i ≡ Some v → AddsWaiting old v.items new
+    → ((rest : List ThreadInMemory) → AreWaiting rest (calls_of (drop i items)) → AreWaiting (old ++ rest) (calls_of items))
+    → (rest : List ThreadInMemory) → AreWaiting rest (calls_of (drop (i + 1) items)) → AreWaiting (new ++ rest) (calls_of items)
+more_waiting items i v old new at adds before rest h =
+    subst (λ (ts : List ThreadInMemory). AreWaiting (ts ++ rest) (calls_of items)) (sym adds.added)
+    (subst (λ (ts : List ThreadInMemory). AreWaiting ts (calls_of items)) (sym (append_assoc old (adds.thread ∷ []) rest))
+    (before (adds.thread ∷ rest) (subst (λ (vs : List (Vec Invocation)). AreWaiting (adds.thread ∷ rest) (calls_of vs)) (sym (drop_more items i v at)) (adds.waiting, h))))
+
+-- no call is in progress
+pub waiting_range : (ts : List ThreadInMemory) (threads : List (List Invocation)) → AreWaiting ts threads → AreInRange ts
+waiting_range [] threads h = tt
+waiting_range (t ∷ ts) [] h = absurd h
+waiting_range (t ∷ ts) (c ∷ cs) h = (subst WorkInRange (sym h.0.idle) tt, waiting_range ts cs h.1)

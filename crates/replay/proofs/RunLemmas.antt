@@ -1,6 +1,6 @@
 -- A journal's replay goes on by an entry, or stops before it.
 use Rattle.std.proofs.Common.{Contains, ◌≡◌, ℕ, ◌+◌, ◌<◌, ◌≤◌, true, false, List, ◌∷◌, ◌++◌, length, map, drop, take, Option, Some, None, refl, sym, ap, ◌∙◌, subst, arith}
-use Rattle.std.specs.Prelude.{slice_get, is_some}
+use Rattle.std.specs.Prelude.{slice_get, is_some, Result, Ok, Err, IfOk, IfErr, OnOk}
 use Rattle.std.specs.List.{flat_map}
 use Rattle.std.specs.Option.{option_and_then, option_map}
 use Rattle.std.proofs.lemmas.List.{take-append-drop, length-take-le, take_all}
@@ -29,12 +29,13 @@ use Rattle.replay.specs.declared.fault.ReplayFault.{ReplayFault}
 use Rattle.replay.specs.declared.fault.ReplayFault.TheVariants.{DoesNotFit, Impossible, Memory, Writer}
 use Rattle.threads.specs.declared.state.State.{State as StateInMemory}
 use Rattle.threads.specs.States.{Stands, TakesEntry, AreInRange, standings_in, stop_view}
+use Rattle.replay.specs.declared.trap_at.TrapAt.{TrapAt}
 use Rattle.replay.specs.TrapAt.{trap_at}
 use Rattle.threads.specs.declared.state.Stop.{Stop as StopInMemory}
 use Rattle.report.specs.declared.thread_status.ThreadStatus.{ThreadStatus}
 use Rattle.report.specs.ThreadStatus.{standing_view}
 use Rattle.threads.specs.Rows.{thread_names}
-use Rattle.replay.specs.Replays.{IsFirstImpossible, Replayed, IsRefused, IsLoadFault, IsStoppedBy, IsReplayable, IsFromOutside, EndsBy, shown_stop}
+use Rattle.replay.specs.Replays.{Answers, IsFirstImpossible, Replayed, IsRefused, IsLoadFault, IsStoppedBy, IsReplayable, IsFromOutside, EndsBy, ShowsRows, WritesRun, shown_stop}
 use Rattle.replay.proofs.LoadLemmas.{drop_more, take_more}
 use Rattle.replay.proofs.RootLemmas.{roots_are}
 use Rattle.threads.proofs.StateLemmas.{report_same}
@@ -120,7 +121,7 @@ ends unit w journal m h = record {
 -- ---- the text
 
 -- the rows of what the threads in memory refer to are those of the report
-rows_are : (unit : SourceUnit) (w : World) (m : StateInMemory) (s : State) (classes : Classes) (objects : Heap) (loaded : ℕ) (names : List ℕ) (rows : List ShownRow) → Stands unit w m s
+pub rows_are : (unit : SourceUnit) (w : World) (m : StateInMemory) (s : State) (classes : Classes) (objects : Heap) (loaded : ℕ) (names : List ℕ) (rows : List ShownRow) → Stands unit w m s
     → classes ≡ m.world.now.classes → objects ≡ m.shared.store → loaded ≡ loaded_count w → names ≡ m.shared.globals ++ flat_map thread_names m.threads.items → AreReported classes objects loaded names rows → rows ≡ (report w s).objects
 rows_are unit w m s classes objects loaded names rows h k o l n told =
     let same : roots w s ≡ from_one loaded ++ names =
@@ -135,11 +136,37 @@ rows_are unit w m s classes objects loaded names rows h k o l n told =
     })
 
 -- what is written from the state in memory is what the run writes
-pub writes : (unit : SourceUnit) (w : World) (journal : Journal) (m : StateInMemory) (standings : List ThreadStatus) (classes : Classes) (objects : Heap) (loaded : ℕ) (names : List ℕ) (rows : List ShownRow) → Replayed unit w journal m
-    → map standing_view standings ≡ standings_in m → classes ≡ m.world.now.classes → objects ≡ m.shared.store → loaded ≡ loaded_count w → names ≡ m.shared.globals ++ flat_map thread_names m.threads.items → AreReported classes objects loaded names rows
+pub writes : (unit : SourceUnit) (w : World) (journal : Journal) (m : StateInMemory) (standings : List ThreadStatus) (rows : List ShownRow) → Replayed unit w journal m → map standing_view standings ≡ standings_in m → ShowsRows m rows
     → Writes unit w journal (report_text (report_with m.printed.items standings rows) ++ journal_line journal)
-writes unit w journal m standings classes objects loaded names rows h is k o l n told = record {
+writes unit w journal m standings rows h is shows = record {
   end = h.end;
   replays = h.replays;
-  same = ap (λ (r : Report). report_text r ++ journal_line journal) (sym (report_same unit w m h.end h.stands h.range standings rows is (rows_are unit w m h.end classes objects loaded names rows h.stands k o l n told)));
+  same = ap (λ (r : Report). report_text r ++ journal_line journal) (sym (report_same unit w m h.end h.stands h.range standings rows is (shows unit w h.end h.stands)));
 }
+
+-- ---- answers
+
+-- a replay that was refused
+pub refused_answer : (unit : SourceUnit) (w : World) (journal : Journal) (old : Written) (fault : ReplayFault) → IsRefused unit w journal fault → Answers unit w journal old old (Err fault)
+refused_answer unit w journal old fault h = (unwritten unit w journal old fault h, from_outside unit w journal fault h)
+
+module _ (unit : SourceUnit) (w : World) (journal : Journal) (old new : Written) where
+  pub ok_of : (r : Result (Option TrapAt) ReplayFault) → Answers unit w journal old new r → OnOk r (WritesRun unit w journal old new)
+  ok_of (Ok trap) h = h.0
+  ok_of (Err fault) h = tt
+
+  pub trap_of : (r : Result (Option TrapAt) ReplayFault) → Answers unit w journal old new r → IfOk r (EndsBy unit w journal)
+  trap_of (Ok trap) h = h.1
+  trap_of (Err fault) h = tt
+
+  pub none_waits_of : (r : Result (Option TrapAt) ReplayFault) → Answers unit w journal old new r → OnOk r (new.waiting ≡ 0)
+  none_waits_of (Ok trap) h = h.2
+  none_waits_of (Err fault) h = tt
+
+  pub err_of : (r : Result (Option TrapAt) ReplayFault) → Answers unit w journal old new r → IfErr r (IsStoppedBy unit w journal old new)
+  err_of (Ok trap) h = tt
+  err_of (Err fault) h = h.0
+
+  pub only_of : (r : Result (Option TrapAt) ReplayFault) → Answers unit w journal old new r → IsReplayable unit w journal → IfErr r IsFromOutside
+  only_of (Ok trap) h replayable = tt
+  only_of (Err fault) h replayable = h.1 replayable

@@ -1,5 +1,5 @@
 -- Threads before their first calls, and calls that don't fit.
-use Rattle.std.specs.Prelude.{◌≡◌, ℕ, not, List, [], ◌∷◌, filter, map, slice_get, Option, None}
+use Rattle.std.specs.Prelude.{◌≡◌, ℕ, not, List, [], ◌∷◌, ◌++◌, filter, map, slice_get, Option, None}
 use Rattle.syntax.specs.Tree.{SourceUnit}
 use Rattle.classes.specs.Class.{Classes}
 use Rattle.source.specs.World.{Invocation}
@@ -20,6 +20,12 @@ pub record IsWaiting (t : ThreadInMemory) (calls : List Invocation) : Type 0 whe
   pub same : t.calls.now ≡ calls
   pub idle : t.activation ≡ None
   pub unended : t.ending ≡ Unfinished
+
+-- a thread that has all of these calls to come was added
+pub record AddsWaiting (old : List ThreadInMemory) (calls : List Invocation) (new : List ThreadInMemory) : Type 0 where
+  pub thread : ThreadInMemory
+  pub waiting : IsWaiting thread calls
+  pub added : new ≡ old ++ thread ∷ []
 
 -- each thread has
 abbrev pub AreWaiting : List ThreadInMemory → List (List Invocation) → Type 0

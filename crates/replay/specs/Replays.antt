@@ -1,5 +1,5 @@
 -- What replaying a journal answers.
-use Rattle.std.specs.Prelude.{◌≡◌, ℕ, ◌+◌, List, [], ◌∷◌, ◌++◌, length, Option, Some, None, IsSome}
+use Rattle.std.specs.Prelude.{◌≡◌, ℕ, ◌+◌, List, [], ◌∷◌, ◌++◌, length, Option, Some, None, Result, Ok, Err, IsSome}
 use Rattle.std.specs.Option.{option_map}
 use Rattle.syntax.specs.Tree.{SourceUnit}
 use Rattle.source.specs.declared.journal.Entry.{Entry}
@@ -9,6 +9,8 @@ use Rattle.source.specs.World.{World}
 use Rattle.source.specs.Load.{first_load_fault}
 use Rattle.source.specs.Run.{replay}
 use Rattle.report.specs.RunText.{Writes}
+use Rattle.source.specs.Report.{ShownRow}
+use Rattle.source.specs.ReportOf.{report}
 use Rattle.source.specs.State.{State}
 use Rattle.source.specs.Step.{world_step}
 use Rattle.replay.specs.declared.fault.ReplayFault.{ReplayFault}
@@ -87,9 +89,19 @@ pub record Replayed (unit : SourceUnit) (w : World) (journal : Journal) (m : Sta
 abbrev pub LeadsTo : SourceUnit → StateInMemory → Journal → StateInMemory → Type 0
 LeadsTo unit old journal new = (w : World) → Replayed unit w [] old → Replayed unit w journal new
 
--- the same of each unit and world whose replay leads to this state
-abbrev pub EachRun : StateInMemory → Journal → (SourceUnit → World → Type 0) → Type 0
-EachRun m journal P = (unit : SourceUnit) (w : World) → Replayed unit w journal m → P unit w
+-- the rows of the objects that can still be reached are those of the report of each state that this one stands for
+abbrev pub ShowsRows : StateInMemory → List ShownRow → Type 0
+ShowsRows m rows = (unit : SourceUnit) (w : World) (s : State) → Stands unit w m s → rows ≡ (report w s).objects
+
+-- for each unit and world whose replay leads to this state, what writing its report and the journal did
+abbrev pub WritesState : StateInMemory → Journal → Written → Written → Result (Unit {0}) ReplayFault → Type 0
+WritesState m journal old new (Ok _) = ((unit : SourceUnit) (w : World) → Replayed unit w journal m → WritesRun unit w journal old new) × (new.waiting ≡ 0)
+WritesState m journal old new (Err fault) = ((unit : SourceUnit) (w : World) → Replayed unit w journal m → IsStoppedBy unit w journal old new fault) × IsFromOutside fault
+
+-- what a replay answers, and what it did to the sink
+abbrev pub Answers : SourceUnit → World → Journal → Written → Written → Result (Option TrapAt) ReplayFault → Type 0
+Answers unit w journal old new (Ok trap) = WritesRun unit w journal old new × EndsBy unit w journal trap × (new.waiting ≡ 0)
+Answers unit w journal old new (Err fault) = IsStoppedBy unit w journal old new fault × (IsReplayable unit w journal → IsFromOutside fault)
 
 -- why a replay didn't begin
 abbrev pub IsLoadFault : SourceUnit → World → ReplayFault → Type 0

@@ -1,26 +1,25 @@
 //! Replays of journals.
 
-ghost use Rattle.std.specs.Prelude.{◌≡◌, ◌++◌, IfOk, IfErr, OnOk, IsTrue, flat_map, map};
+ghost use Rattle.std.specs.Prelude.{◌≡◌, [], IfOk, IfErr, OnOk, IsTrue};
 ghost use Rattle.syntax.specs.Limits.{IsTree};
 ghost use Rattle.syntax.specs.Views.{unit_tree};
 ghost use Rattle.sorts.specs.BuiltCalls.{calls_are_built};
 ghost use Rattle.sorts.specs.SortRules.{IsSorted};
 ghost use Rattle.report.specs.Sink.{CanFail};
-ghost use Rattle.report.specs.ThreadStatus.{standing_view};
-ghost use Rattle.threads.specs.Rows.{thread_names};
-ghost use Rattle.threads.specs.States.{AreInRange, standings_in};
-ghost use Rattle.replay.specs.Replays.{EachRun, Replayed, LeadsTo, IsRefused, IsRefusedFrom, WritesRun, IsStoppedBy, IsReplayable, IsFromOutside, EndsBy, shown_stop};
+ghost use Rattle.source.specs.World.{World};
+ghost use Rattle.threads.specs.States.{AreInRange};
+ghost use Rattle.replay.specs.Replays.{Answers, Replayed, LeadsTo, IsRefusedFrom, ShowsRows, WritesRun, WritesState, IsStoppedBy, IsReplayable, IsFromOutside, EndsBy, shown_stop};
 
 use crate::fault::ReplayFault;
 use crate::load::start;
 use crate::trap_at::TrapAt;
 use functions::Functions;
 use object_store::made_before;
-use reached::reached_rows;
+use reached::{ReachedRows, reached_rows};
 use region_rules::Checked;
-use report::{Sink, ThreadStatus, write_run};
+use report::{Sink, write_run};
 use source::Entry;
-use std::alloc::Global;
+use std::alloc::{AllocError, Global};
 use terms::trap_number;
 use threads::{NamedObjects, State, Stop, root_names, standings_of, take_entry};
 use world::World;
@@ -41,60 +40,46 @@ fn follow<'a>(
     ensures refused { IfErr result (IsRefusedFrom (unit_tree functions.now) state.old journal.now) }
 {
     for (done, entry) in journal.iter().enumerate() {
-        if !take_entry(alloc, functions, state, *entry)? {
-            return Err(ReplayFault::Impossible(done + 1));
+        match take_entry(alloc, functions, state, *entry) {
+            Ok(true) => {}
+            Ok(false) => return Err(ReplayFault::Impossible(done + 1)),
+            Err(_) => return Err(ReplayFault::Memory),
         }
     }
     Ok(())
 }
 
-/// The state that the journal leads to.
-fn run<'a>(
+/// The rows of what the threads of a state refer to. These are its objects.
+fn rows_of<'r>(
     alloc: Global,
-    functions: &Functions<'a>,
-    world: &'a World,
-    journal: &[Entry],
-) -> Result<State<'a>, ReplayFault>
-    requires tree { IsTree (unit_tree functions.now) }
-    requires sorted { IsSorted (unit_tree functions.now) }
-    requires calls { IsTrue (calls_are_built (unit_tree functions.now)) }
-    ensures end { IfOk result (Replayed (unit_tree functions.now) world.now journal.now) }
-    ensures refused { IfErr result (IsRefused (unit_tree functions.now) world.now journal.now) }
+    state: &'r State<'_>,
+    objects: &'r NamedObjects<'r>,
+) -> Result<ReachedRows<'r, NamedObjects<'r>>, AllocError>
+    requires { objects.now.store.now ≡ state.now.shared.store }
+    ensures { IfOk result (ShowsRows state.now) }
 {
-    let mut state = match start(alloc, functions, world) {
-        Ok(state) => state,
-        Err(fault) => return Err(fault),
-    };
-    match follow(alloc, functions, &mut state, journal) {
-        Ok(()) => Ok(state),
-        Err(fault) => Err(fault),
-    }
+    let names = root_names(alloc, &state.shared.globals, &state.threads)?;
+    let loaded = made_before(state.world) + state.world.objects().len();
+    reached_rows(alloc, state.world.classes(), objects, loaded, &names)
 }
 
-/// Writes the report of the state that a journal led to, with these standings and the rows of what these names refer to, and the
-/// journal.
+/// Writes the report of the state that a journal led to, with these rows, and the journal.
 fn write_rows<W: Sink>(
     alloc: Global,
     state: &State<'_>,
-    standings: &[ThreadStatus<'_>],
-    names: &[usize],
+    rows: &ReachedRows<'_, NamedObjects<'_>>,
     journal: &[Entry],
     out: &mut W,
 ) -> Result<(), ReplayFault>
     requires sink { CanFail (W.written out.old) }
-    requires standings { map standing_view standings.now ≡ standings_in state.now }
-    requires names { names.now ≡ state.now.shared.globals ++ flat_map thread_names state.now.threads.items }
-    ensures ok { OnOk result (EachRun state.now journal.now (λ unit w. WritesRun unit w journal.now (W.written out.old) (W.written out.new))) }
-    ensures none_waits { OnOk result ((W.written out.new).waiting ≡ 0) }
-    ensures err { IfErr result (λ fault. EachRun state.now journal.now (λ unit w. IsStoppedBy unit w journal.now (W.written out.old) (W.written out.new) fault)) }
-    ensures only { IfErr result IsFromOutside }
+    requires rows { ShowsRows state.now rows.now }
+    ensures { WritesState state.now journal.now (W.written out.old) (W.written out.new) result }
 {
-    let objects = NamedObjects {
-        store: &state.shared.store,
+    let standings = match standings_of(alloc, state) {
+        Ok(standings) => standings,
+        Err(_) => return Err(ReplayFault::Memory),
     };
-    let loaded = made_before(state.world) + state.world.objects().len();
-    let rows = reached_rows(alloc, state.world.classes(), &objects, loaded, names)?;
-    match write_run(out, &state.printed, standings, &rows, journal) {
+    match write_run(out, &state.printed, &standings, rows, journal) {
         Ok(()) => Ok(()),
         Err(_) => Err(ReplayFault::Writer),
     }
@@ -108,14 +93,15 @@ fn write_report<W: Sink>(
     out: &mut W,
 ) -> Result<(), ReplayFault>
     requires { CanFail (W.written out.old) }
-    ensures ok { OnOk result (EachRun state.now journal.now (λ unit w. WritesRun unit w journal.now (W.written out.old) (W.written out.new))) }
-    ensures none_waits { OnOk result ((W.written out.new).waiting ≡ 0) }
-    ensures err { IfErr result (λ fault. EachRun state.now journal.now (λ unit w. IsStoppedBy unit w journal.now (W.written out.old) (W.written out.new) fault)) }
-    ensures only { IfErr result IsFromOutside }
+    ensures { WritesState state.now journal.now (W.written out.old) (W.written out.new) result }
 {
-    let standings = standings_of(alloc, state)?;
-    let names = root_names(alloc, &state.shared.globals, &state.threads)?;
-    write_rows(alloc, state, &standings, &names, journal, out)
+    let objects = NamedObjects {
+        store: &state.shared.store,
+    };
+    match rows_of(alloc, state, &objects) {
+        Ok(rows) => write_rows(alloc, state, &rows, journal, out),
+        Err(_) => Err(ReplayFault::Memory),
+    }
 }
 
 /// The trap's number and line.
@@ -127,6 +113,30 @@ fn shown_stop(stop: Option<Stop>) -> Option<TrapAt>
         number: trap_number(stop.trap),
         line: stop.line,
     })
+}
+
+/// The same as `replay`, from the state before the first entry.
+fn replay_from<'a, W: Sink>(
+    alloc: Global,
+    functions: &Functions<'a>,
+    state: &mut State<'a>,
+    journal: &[Entry],
+    out: &mut W,
+) -> Result<Option<TrapAt>, ReplayFault>
+    requires sink { CanFail (W.written out.old) }
+    requires tree { IsTree (unit_tree functions.now) }
+    requires sorted { IsSorted (unit_tree functions.now) }
+    requires calls { IsTrue (calls_are_built (unit_tree functions.now)) }
+    requires range { AreInRange state.old.threads.items }
+    ensures { (w : World) → Replayed (unit_tree functions.now) w [] state.old → Answers (unit_tree functions.now) w journal.now (W.written out.old) (W.written out.new) result }
+{
+    match follow(alloc, functions, state, journal) {
+        Ok(()) => match write_report(alloc, state, journal, out) {
+            Ok(()) => Ok(shown_stop(state.stop)),
+            Err(fault) => Err(fault),
+        },
+        Err(fault) => Err(fault),
+    }
 }
 
 /// The same as `replay`, of the unit that these functions are of.
@@ -141,18 +151,10 @@ fn replay_with<W: Sink>(
     requires tree { IsTree (unit_tree functions.now) }
     requires sorted { IsSorted (unit_tree functions.now) }
     requires calls { IsTrue (calls_are_built (unit_tree functions.now)) }
-    ensures ok { OnOk result (WritesRun (unit_tree functions.now) world.now journal.now (W.written out.old) (W.written out.new)) }
-    ensures trap { IfOk result (EndsBy (unit_tree functions.now) world.now journal.now) }
-    ensures none_waits { OnOk result ((W.written out.new).waiting ≡ 0) }
-    ensures err { IfErr result (IsStoppedBy (unit_tree functions.now) world.now journal.now (W.written out.old) (W.written out.new)) }
-    ensures only { IsReplayable (unit_tree functions.now) world.now journal.now → IfErr result IsFromOutside }
+    ensures { Answers (unit_tree functions.now) world.now journal.now (W.written out.old) (W.written out.new) result }
 {
-    let state = match run(alloc, functions, world, journal) {
-        Ok(state) => state,
-        Err(fault) => return Err(fault),
-    };
-    match write_report(alloc, &state, journal, out) {
-        Ok(()) => Ok(shown_stop(state.stop)),
+    match start(alloc, functions, world) {
+        Ok(mut state) => replay_from(alloc, functions, &mut state, journal, out),
         Err(fault) => Err(fault),
     }
 }
@@ -178,6 +180,8 @@ pub fn replay<W: Sink>(
     // Faults 82 and 91 are answered only where they must be.
     ensures only { IsReplayable (unit_tree checked.now) world.now journal.now → IfErr result IsFromOutside }
 {
-    let functions = Functions::of(alloc, checked.items())?;
-    replay_with(alloc, &functions, world, journal, out)
+    match Functions::of(alloc, checked.items()) {
+        Ok(functions) => replay_with(alloc, &functions, world, journal, out),
+        Err(_) => Err(ReplayFault::Memory),
+    }
 }

@@ -8,8 +8,7 @@ ghost use Rattle.source.specs.Load.{call_loads, fits_parameter, fit_parameters, 
 ghost use Rattle.source.specs.Start.{start};
 ghost use Rattle.replay_calls.specs.Shares.{shared_view};
 ghost use Rattle.threads.specs.States.{AreInRange, Stands};
-ghost use Rattle.threads.specs.Threads.{WorkInRange};
-ghost use Rattle.replay.specs.Loading.{refused_calls, first_line, AreWaiting, IsWaiting};
+ghost use Rattle.replay.specs.Loading.{refused_calls, first_line, AddsWaiting, AreWaiting, IsWaiting};
 ghost use Rattle.replay.specs.Replays.{IsLoadFault};
 
 use crate::fault::ReplayFault;
@@ -86,8 +85,10 @@ fn first_unfit(
     ensures { IfOk result (λ line. line ≡ first_line (refused_calls (unit_tree functions.now) world.now.classes calls.now)) }
 {
     for call in calls {
-        if !fits(alloc, functions, world, call)? {
-            return Ok(Some(call.line()));
+        match fits(alloc, functions, world, call) {
+            Ok(true) => {}
+            Ok(false) => return Ok(Some(call.line())),
+            Err(error) => return Err(error),
         }
     }
     Ok(None)
@@ -112,8 +113,7 @@ fn first_fault(
 
 /// A thread before its first call.
 fn waiting<'a>(calls: &'a [Call]) -> Thread<'a>
-    ensures waiting { IsWaiting result calls.entry.now }
-    ensures range { WorkInRange result.activation }
+    ensures { IsWaiting result calls.entry.now }
 {
     Thread {
         calls,
@@ -122,23 +122,31 @@ fn waiting<'a>(calls: &'a [Call]) -> Thread<'a>
     }
 }
 
+/// Adds a thread before its first call.
+fn push_waiting<'a>(threads: &mut Vec<Thread<'a>>, calls: &'a [Call]) -> Result<(), AllocError>
+    ensures { IfOk result (λ _. AddsWaiting threads.old.items calls.entry.now threads.new.items) }
+{
+    match threads.push(waiting(calls)) {
+        Ok(()) => Ok(()),
+        Err(_) => Err(AllocError),
+    }
+}
+
 /// Puts the threads before their first calls into an empty list.
 #[inline]
 fn add_waiting<'a>(threads: &mut Vec<Thread<'a>>, world: &'a World) -> Result<(), AllocError>
     requires { threads.old.items ≡ [] }
-    ensures waiting { IfOk result (λ _. AreWaiting threads.new.items world.entry.now.threads) }
-    ensures range { IfOk result (λ _. AreInRange threads.new.items) }
+    ensures { IfOk result (λ _. AreWaiting threads.new.items world.entry.now.threads) }
 {
     for calls in world.threads() {
-        threads.push(waiting(calls))?;
+        push_waiting(threads, calls)?;
     }
     Ok(())
 }
 
 /// The threads before their first calls.
 fn waiting_threads<'a>(alloc: Global, world: &'a World) -> Result<Vec<Thread<'a>>, AllocError>
-    ensures waiting { IfOk result (λ threads. AreWaiting threads.items world.now.threads) }
-    ensures range { IfOk result (λ threads. AreInRange threads.items) }
+    ensures { IfOk result (λ threads. AreWaiting threads.items world.now.threads) }
 {
     let mut threads = Vec::new(alloc);
     add_waiting(&mut threads, world)?;
@@ -192,8 +200,10 @@ pub(crate) fn start<'a>(
     ensures fits { IfOk result (λ _. first_load_fault (unit_tree functions.now) world.now ≡ None) }
     ensures fault { IfErr result (IsLoadFault (unit_tree functions.now) world.now) }
 {
-    if let Some(line) = first_fault(alloc, functions, world)? {
-        return Err(ReplayFault::DoesNotFit(line));
+    match first_fault(alloc, functions, world) {
+        Ok(None) => {}
+        Ok(Some(line)) => return Err(ReplayFault::DoesNotFit(line)),
+        Err(_) => return Err(ReplayFault::Memory),
     }
     match begun(alloc, functions, world) {
         Ok(state) => Ok(state),

@@ -14,7 +14,7 @@ use Rattle.source.specs.Task.{tasks_of}
 use Rattle.classes.specs.Class.{Classes}
 use Rattle.source.specs.Thread.{Monitor, Thread, Shared, BuffersInUse, Event, Quiet, PrintedNumber, Trapped, Advances as AdvancesTo, NoAdvance, Ending, Unfinished, Ended, Uncaught}
 use Rattle.source.specs.Object.{Reference}
-use Rattle.source.specs.Activation.{named_object, entry_frame, ending_after, monitors_after, calls_after, return_step, enter, entered, entry_advance, entered_function, class_of_function, function_at, parameter_variables}
+use Rattle.source.specs.Activation.{ending_after, monitors_after, calls_after, return_step, enter, entered, entry_advance, entered_function}
 use Rattle.source.specs.ThreadStep.{thread_step, step_within}
 use Rattle.steps.specs.declared.activation.Activation.{Activation}
 use Rattle.steps.specs.declared.activation.Outer.{Outer}
@@ -27,13 +27,11 @@ use Rattle.plain_steps.proofs.EffectLemmas.{block_tasks}
 use Rattle.replay_calls.specs.Shares.{shared_view}
 use Rattle.replay_calls.specs.declared.shared.Shared.{Shared as SharedInMemory}
 use Rattle.steps.specs.Steps.{Sees}
-use Rattle.terms.specs.Views.{variables_view, trap_view}
-use Rattle.source.specs.Variable.{LocalRef}
-use Rattle.std.specs.Prelude.{filter_map, zip}
+use Rattle.terms.specs.Views.{trap_view}
 use Rattle.tasks.specs.declared.outcome.Outcome.{Outcome}
 use Rattle.threads.specs.declared.thread.Step.{Step}
 use Rattle.source.specs.Heap.{Heap}
-use Rattle.threads.specs.Threads.{ThreadStands, WorkInRange, WorkStands, EndsStep, Leaves, StepIs, step_of, tasks_in, ending_view}
+use Rattle.threads.specs.Threads.{IsEntered, HasNoEntry, ThreadStands, WorkInRange, WorkStands, EndsStep, Leaves, StepIs, step_of, tasks_in, ending_view}
 
 -- a thread that has ended owns nothing where nobody does
 no_monitors : (e : Ending) (k : ℕ) → monitors_after e k [] ≡ []
@@ -143,23 +141,20 @@ module _ (unit : SourceUnit) (classes : Classes) (lent : BuffersInUse) (k : ℕ)
         subst (λ (w : Step). StepIs unit classes (shared_view after) left w taken) (sym e.0) (subst (λ (u : ThreadInMemory). StepIs unit classes (shared_view after) u (step_of o) taken) (sym e.1) (goes o (λ r. absurd (cc)) does))
 
   -- the entry into the next call
-  pub enters : (shared : Shared) (t : ThreadInMemory) (call : Invocation) (rest : List Invocation) (f : Function) (class : ℕ) (a : Activation) (s : Thread)
-      → t.activation ≡ None → t.calls.now ≡ call ∷ rest → function_at unit call.function ≡ Some f → class_of_function classes f ≡ Some class
-      → tasks_left a ≡ tasks_of f.body → variables_view a.variables ≡ (f.class_name, LocalRef 1 (Some class)) ∷ parameter_variables (zip f.parameters call.arguments) → a.frames ≡ entry_frame (class ∷ filter_map named_object call.arguments) ∷ [] → a.pending ≡ None → ThreadStands unit classes t s
-      → (after : Bor (List Invocation)) → after.now ≡ rest
-      → Leaves unit classes shared (record t { calls = after; activation = Some a }) Quiet (thread_step unit classes lent k shared s false)
-  enters shared t call rest f class a s idle calls found its_class tasks variables frames none h after is = record {
-    next = entered s rest f class call.arguments;
+  pub enters : (shared : Shared) (t : ThreadInMemory) (call : Invocation) (rest : List Invocation) (o : Option Activation) (s : Thread) → IsEntered unit classes call o → t.activation ≡ None → t.calls.now ≡ call ∷ rest → ThreadStands unit classes t s
+      → (after : Bor (List Invocation)) → after.now ≡ rest → Leaves unit classes shared (record t { calls = after; activation = o }) Quiet (thread_step unit classes lent k shared s false)
+  enters shared t call rest o s e idle calls h after is = record {
+    next = entered s rest e.function e.class call.arguments;
     advances =
         ap (step_within unit classes lent k shared s false) (h.tasks ∙ ap tasks_in idle)
         ∙ ap (λ (cs : List Invocation). entry_advance shared (enter unit classes s cs)) (h.calls ∙ calls)
-        ∙ ap (λ (o : Option Function). entry_advance shared (entered_function classes s call rest o)) found
-        ∙ ap (λ (o : Option ℕ). entry_advance shared (option_map (λ d. entered s rest f d call.arguments) o)) its_class;
+        ∙ ap (λ (p : Option Function). entry_advance shared (entered_function classes s call rest p)) e.found
+        ∙ ap (λ (p : Option ℕ). entry_advance shared (option_map (λ d. entered s rest e.function d call.arguments) p)) e.its_class;
     stands = record {
       calls = sym is;
       loads = subst (λ (cs : List Invocation). IsTrue (list_all (call_loads unit classes) cs)) (sym is) parts.1;
-      tasks = ap Some (sym tasks);
-      work = (sym variables, sym frames, (subst (λ (o : Option Activation). WorkStands o s) idle h.work).2 ∙ sym none);
+      tasks = ap Some (sym e.tasks) ∙ ap tasks_in (sym e.is);
+      work = subst (λ (p : Option Activation). WorkStands p (entered s rest e.function e.class call.arguments)) (sym e.is) (sym e.variables, sym e.frames, (subst (λ (p : Option Activation). WorkStands p s) idle h.work).2 ∙ sym e.pending);
       ending = h.ending;
     };
   }
@@ -180,19 +175,10 @@ module _ (unit : SourceUnit) (classes : Classes) (lent : BuffersInUse) (k : ℕ)
       ap (step_within unit classes lent k shared s false) (h.tasks ∙ ap tasks_in idle)
       ∙ ap (λ (cs : List Invocation). entry_advance shared (enter unit classes s cs)) (h.calls ∙ none)
 
-  -- the next call's function isn't there
-  pub no_function : (shared : Shared) (t : ThreadInMemory) (call : Invocation) (rest : List Invocation) (s : Thread) → t.activation ≡ None → t.calls.now ≡ call ∷ rest → function_at unit call.function ≡ None → ThreadStands unit classes t s
+  -- the next call cannot begin
+  pub no_next : (shared : Shared) (t : ThreadInMemory) (call : Invocation) (rest : List Invocation) (s : Thread) → HasNoEntry unit classes call → t.activation ≡ None → t.calls.now ≡ call ∷ rest → ThreadStands unit classes t s
       → thread_step unit classes lent k shared s false ≡ NoAdvance
-  no_function shared t call rest s idle calls none h =
+  no_next shared t call rest s never idle calls h =
       ap (step_within unit classes lent k shared s false) (h.tasks ∙ ap tasks_in idle)
       ∙ ap (λ (cs : List Invocation). entry_advance shared (enter unit classes s cs)) (h.calls ∙ calls)
-      ∙ ap (λ (o : Option Function). entry_advance shared (entered_function classes s call rest o)) none
-
-  -- nor its class
-  pub no_class : (shared : Shared) (t : ThreadInMemory) (call : Invocation) (rest : List Invocation) (f : Function) (s : Thread) → t.activation ≡ None → t.calls.now ≡ call ∷ rest → function_at unit call.function ≡ Some f → class_of_function classes f ≡ None → ThreadStands unit classes t s
-      → thread_step unit classes lent k shared s false ≡ NoAdvance
-  no_class shared t call rest f s idle calls found none h =
-      ap (step_within unit classes lent k shared s false) (h.tasks ∙ ap tasks_in idle)
-      ∙ ap (λ (cs : List Invocation). entry_advance shared (enter unit classes s cs)) (h.calls ∙ calls)
-      ∙ ap (λ (o : Option Function). entry_advance shared (entered_function classes s call rest o)) found
-      ∙ ap (λ (o : Option ℕ). entry_advance shared (option_map (λ d. entered s rest f d call.arguments) o)) none
+      ∙ ap (entry_advance shared) (never s rest)

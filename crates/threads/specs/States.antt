@@ -1,17 +1,18 @@
 -- States that lie in memory, as those of the language, and what an entry does to one.
-use Rattle.std.specs.Prelude.{◌≡◌, ℕ, ◌==◌, Bool, true, false, if◌then◌else◌, List, [], ◌∷◌, ◌++◌, map, Option, Some, None}
+use Rattle.std.specs.Prelude.{◌≡◌, ℕ, ◌+◌, ◌<◌, ◌==◌, length, slice_get, is_some, Bool, true, false, if◌then◌else◌, List, [], ◌∷◌, ◌++◌, map, Option, Some, None}
 use Rattle.std.specs.List.{enumerate_from}
 use Rattle.std.specs.Option.{option_map}
 use Rattle.syntax.specs.Tree.{SourceUnit}
 use Rattle.classes.specs.Class.{Classes}
 use Rattle.source.specs.declared.journal.Entry.{Entry}
+use Rattle.source.specs.declared.journal.Entry.TheVariants as entry
 use Rattle.source.specs.declared.printed.Printed.{Printed}
 use Rattle.source.specs.Report.{ThreadStanding, HasTrapped}
 use Rattle.source.specs.ReportOf.{standing_by_ending}
 use Rattle.source.specs.World.{World}
 use Rattle.source.specs.Thread.{Thread}
 use Rattle.source.specs.State.{State, Stop}
-use Rattle.source.specs.Step.{world_step}
+use Rattle.source.specs.Step.{world_step, is_unfinished}
 use Rattle.source.specs.Value.{trap_number}
 use Rattle.threads.specs.declared.thread.Thread.{Thread as ThreadInMemory}
 use Rattle.threads.specs.declared.thread.Step.{Step}
@@ -77,6 +78,17 @@ Leads unit w s e new false = world_step unit w.classes s e ≡ None
 -- the same in each state that it stands for
 abbrev pub TakesEntry : SourceUnit → StateInMemory → Entry → (possible : Bool) → StateInMemory → Type 0
 TakesEntry unit old e possible new = (w : World) (s : State) → Stands unit w old s → Leads unit w s e new possible
+
+-- thread k is at this place, and can step
+pub record IsLiveAt (m : StateInMemory) (k place : ℕ) : Type 0 where
+  pub counted : k ≡ place + 1
+  pub there : place < length m.threads.items
+  pub live : (t : ThreadInMemory) → slice_get m.threads.items place ≡ Some t → is_unfinished (ending_view t.ending) ≡ true
+  pub runs : is_some m.stop ≡ false
+
+-- no step of thread k is possible
+abbrev pub TakesNone : StateInMemory → ℕ → Type 0
+TakesNone m k = (unit : SourceUnit) (refused : Bool) → TakesEntry unit m (entry.Step k refused) false m
 
 -- ---- the report
 

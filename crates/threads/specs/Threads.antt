@@ -1,16 +1,17 @@
 -- Threads that lie in memory, as those of the language, and what a step of one does.
-use Rattle.std.specs.Prelude.{◌≡◌, ℕ, Bool, List, [], ◌∷◌, map, filter_map, zip, Option, Some, None, IsTrue}
+use Rattle.std.specs.Prelude.{◌≡◌, ℕ, Bool, true, false, List, [], ◌∷◌, map, filter_map, zip, Option, Some, None, IsTrue}
 use Rattle.std.specs.List.{list_all}
 use Rattle.syntax.specs.declared.stmt.Block.{out-Block}
 use Rattle.syntax.specs.declared.unit.Function.{Function}
-use Rattle.syntax.specs.Tree.{SourceUnit}
+use Rattle.syntax.specs.Tree.{SourceUnit, Function as FunctionOfUnit}
 use Rattle.syntax.specs.Views.{function_tree}
 use Rattle.classes.specs.Class.{Classes}
 use Rattle.source.specs.Object.{ObjectValue, Number, Refers}
-use Rattle.source.specs.Activation.{parameter_variables, named_object, entry_frame, ending_after, calls_after}
+use Rattle.source.specs.Activation.{parameter_variables, function_at, class_of_function, entered_function, named_object, entry_frame, ending_after, calls_after}
 use Rattle.source.specs.Heap.{Heap}
 use Rattle.source.specs.Load.{call_loads}
-use Rattle.source.specs.Task.{Task}
+use Rattle.source.specs.World.{Invocation}
+use Rattle.source.specs.Task.{Task, tasks_of}
 use Rattle.source.specs.Thread.{Ending, Unfinished, Ended, Uncaught, Thread, Shared, BuffersInUse, Event, Quiet, PrintedNumber, Trapped, Advance, Advances, NoAdvance}
 use Rattle.source.specs.ThreadStep.{thread_step}
 use Rattle.source.specs.Value.{Int}
@@ -62,6 +63,29 @@ pub record IsBegun (f : Function) (class : ℕ) (arguments : List ObjectValueInM
   pub variables : variables_view activation.variables ≡ assign_all ((f.class_name, LocalRef 1 (Some class)) ∷ parameter_variables (zip (function_tree f).parameters (map object_value_view arguments))) []
   pub frames : activation.frames ≡ entry_frame (class ∷ filter_map named_object (map object_value_view arguments)) ∷ []
   pub pending : activation.pending ≡ None
+
+-- a call in progress is this one at its beginning
+pub record IsEntered (unit : SourceUnit) (classes : Classes) (call : Invocation) (o : Option Activation) : Type 0 where
+  pub function : FunctionOfUnit
+  pub found : function_at unit call.function ≡ Some function
+  pub class : ℕ
+  pub its_class : class_of_function classes function ≡ Some class
+  pub activation : Activation
+  pub is : o ≡ Some activation
+  pub tasks : tasks_left activation ≡ tasks_of function.body
+  pub variables : variables_view activation.variables ≡ (function.class_name, LocalRef 1 (Some class)) ∷ parameter_variables (zip function.parameters call.arguments)
+  pub frames : activation.frames ≡ entry_frame (class ∷ filter_map named_object call.arguments) ∷ []
+  pub pending : activation.pending ≡ None
+  pub range : IsInRange activation
+
+-- no thread can enter this call
+abbrev pub HasNoEntry : SourceUnit → Classes → Invocation → Type 0
+HasNoEntry unit classes call = (s : Thread) (rest : List Invocation) → entered_function classes s call rest (function_at unit call.function) ≡ None
+
+-- this call was begun in a place, or cannot begin
+abbrev pub BeginsNext : SourceUnit → Classes → Invocation → (begun : Bool) → (old new : Option Activation) → Type 0
+BeginsNext unit classes call true old new = IsEntered unit classes call new
+BeginsNext unit classes call false old new = (new ≡ old) × HasNoEntry unit classes call
 
 -- what others see of what a call in progress did
 abbrev pub step_of : Outcome → Step

@@ -1,13 +1,13 @@
 //! The state of a replay, and what an entry does to it.
 
-ghost use Rattle.std.specs.Prelude.{◌≡◌, [], IfOk, IsTrue, false, map};
+ghost use Rattle.std.specs.Prelude.{◌≡◌, [], IfOk, IfSome, IfNone, IsTrue, false, map};
 ghost use Rattle.std.specs.List.{enumerate_from};
 ghost use Rattle.syntax.specs.Limits.{IsTree};
 ghost use Rattle.syntax.specs.Views.{unit_tree};
 ghost use Rattle.sorts.specs.BuiltCalls.{calls_are_built};
 ghost use Rattle.sorts.specs.SortRules.{IsSorted};
 ghost use Rattle.source.specs.declared.journal.Entry.TheVariants as journal;
-ghost use Rattle.threads.specs.States.{AreInRange, TakesEntry, IsNoted, is_possible, standing_in, standings_in};
+ghost use Rattle.threads.specs.States.{AreInRange, IsLiveAt, TakesEntry, TakesNone, IsNoted, is_possible, standing_in, standings_in};
 ghost use Rattle.threads.specs.Threads.{ending_view};
 ghost use Rattle.report.specs.ThreadStatus.{standing_view};
 ghost use Rattle.source.specs.ReportOf.{standing_by_ending};
@@ -79,6 +79,63 @@ fn note(state: &mut State<'_>, k: u8, step: Step) -> Result<bool, AllocError>
     }
 }
 
+/// The place of thread `k` if it can step: the machine hasn't stopped, and the thread is there and has not ended.
+#[inline]
+fn place_of(state: &State<'_>, k: u8) -> Option<usize>
+    requires { AreInRange state.now.threads.items }
+    ensures some { IfSome result (IsLiveAt state.now k) }
+    ensures none { IfNone result (TakesNone state.now k) }
+{
+    if state.stop.is_some() {
+        return None;
+    }
+    let number = usize::from(k);
+    if number == 0 {
+        return None;
+    }
+    if state.threads.len() < number {
+        return None;
+    }
+    if is_unfinished(state.threads[number - 1].ending) {
+        Some(number - 1)
+    } else {
+        None
+    }
+}
+
+/// Takes the step of thread `k`, which is at this place and can step, its allocation refused or not; false where the step isn't
+/// possible.
+#[inline]
+fn take_turn<'a>(
+    alloc: Global,
+    functions: &Functions<'a>,
+    state: &mut State<'a>,
+    k: u8,
+    place: usize,
+    refused: bool,
+) -> Result<bool, AllocError>
+    requires tree { IsTree (unit_tree functions.now) }
+    requires sorted { IsSorted (unit_tree functions.now) }
+    requires calls { IsTrue (calls_are_built (unit_tree functions.now)) }
+    requires range { AreInRange state.old.threads.items }
+    requires live { IsLiveAt state.old k place }
+    ensures step { IfOk result (λ possible. TakesEntry (unit_tree functions.now) state.old (journal.Step k refused) possible state.new) }
+    ensures range { IfOk result (λ _. AreInRange state.new.threads.items) }
+{
+    let thread = &mut state.threads[place];
+    match take_step(
+        alloc,
+        functions,
+        state.world,
+        &mut state.shared,
+        refused,
+        thread,
+    ) {
+        Ok(step) => note(state, k, step),
+        Err(error) => Err(error),
+    }
+}
+
 /// Takes an entry; false where it isn't possible.
 pub fn take_entry<'a>(
     alloc: Global,
@@ -93,50 +150,11 @@ pub fn take_entry<'a>(
     ensures step { IfOk result (λ possible. TakesEntry (unit_tree functions.now) state.old entry possible state.new) }
     ensures range { IfOk result (λ _. AreInRange state.new.threads.items) }
 {
-    match entry {
-        Entry::Step { thread, refused } => take_turn(alloc, functions, state, thread, refused),
+    let Entry::Step { thread, refused } = entry;
+    match place_of(state, thread) {
+        Some(place) => take_turn(alloc, functions, state, thread, place, refused),
+        None => Ok(false),
     }
-}
-
-/// Takes the step of thread `k`, its allocation refused or not; false where it isn't possible.
-fn take_turn<'a>(
-    alloc: Global,
-    functions: &Functions<'a>,
-    state: &mut State<'a>,
-    k: u8,
-    refused: bool,
-) -> Result<bool, AllocError>
-    requires tree { IsTree (unit_tree functions.now) }
-    requires sorted { IsSorted (unit_tree functions.now) }
-    requires calls { IsTrue (calls_are_built (unit_tree functions.now)) }
-    requires range { AreInRange state.old.threads.items }
-    ensures step { IfOk result (λ possible. TakesEntry (unit_tree functions.now) state.old (journal.Step k refused) possible state.new) }
-    ensures range { IfOk result (λ _. AreInRange state.new.threads.items) }
-{
-    if state.stop.is_some() {
-        return Ok(false);
-    }
-    let number = usize::from(k);
-    if number == 0 {
-        return Ok(false);
-    }
-    if state.threads.len() < number {
-        return Ok(false);
-    }
-    let thread = &mut state.threads[number - 1];
-    if !is_unfinished(thread.ending) {
-        return Ok(false);
-    }
-    let step = take_step(
-        alloc,
-        functions,
-        state.world,
-        &mut state.shared,
-        refused,
-        thread,
-    )?;
-    let possible = note(state, k, step)?;
-    Ok(possible)
 }
 
 /// The status of a thread that didn't trap. None waits.
@@ -180,7 +198,10 @@ fn add_standings<'a>(
     let mut k = 0;
     for thread in threads {
         k += 1;
-        standings.push(standing_of(classes, stop, k, thread))?;
+        match standings.push(standing_of(classes, stop, k, thread)) {
+            Ok(()) => {}
+            Err(_) => return Err(AllocError),
+        }
     }
     Ok(())
 }

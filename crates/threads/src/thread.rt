@@ -11,7 +11,7 @@ ghost use Rattle.source.specs.Activation.{parameter_variables, class_of_function
 ghost use Rattle.source.specs.Step.{is_unfinished};
 ghost use Rattle.source.specs.Thread.{Shared as SharedOfThreads};
 ghost use Rattle.source.specs.Variable.{LocalRef};
-ghost use Rattle.threads.specs.Threads.{argument_content, ending_view, IsBegun, EndsStep, TakesStep, WorkInRange, step_of};
+ghost use Rattle.threads.specs.Threads.{argument_content, ending_view, BeginsNext, IsBegun, EndsStep, TakesStep, WorkInRange, step_of};
 ghost use Rattle.replay_calls.specs.Shares.{shared_view};
 ghost use Rattle.terms.specs.Views.{assign_all, content_view, variables_view};
 
@@ -20,7 +20,6 @@ use functions::Functions;
 use object_store::{Frames, Names, Store};
 use replay_calls::Shared;
 use std::alloc::{AllocError, Global};
-use std::mem;
 use steps::{Activation, advance};
 use syntax::{Function, Parameter};
 use tasks::{Outcome, Statements};
@@ -173,7 +172,7 @@ fn entry_frames(
 fn put_activation<'a>(place: &mut Option<Activation<'a>>, activation: Option<Activation<'a>>)
     ensures { place.new ≡ activation.entry }
 {
-    drop(mem::replace(place, activation));
+    *place = activation;
 }
 
 /// Begins the call of a function of this class, in the place of the call in progress.
@@ -201,6 +200,33 @@ fn begin_call<'a>(
     Ok(())
 }
 
+/// Begins this call in the place of the one in progress; false where its function or the function's class is unknown.
+#[inline]
+fn begin_next<'a>(
+    alloc: Global,
+    functions: &Functions<'a>,
+    world: &World,
+    call: &Call,
+    place: &mut Option<Activation<'a>>,
+) -> Result<bool, AllocError>
+    requires tree { IsTree (unit_tree functions.now) }
+    requires sorted { IsSorted (unit_tree functions.now) }
+    requires calls { IsTrue (calls_are_built (unit_tree functions.now)) }
+    ensures { IfOk result (λ begun. BeginsNext (unit_tree functions.now) world.now.classes call.now begun place.old place.new) }
+{
+    let Some(found) = functions.find(call.function()) else {
+        return Ok(false);
+    };
+    match class_of(alloc, world, found.function) {
+        Ok(Some(class)) => {
+            begin_call(alloc, place, found.function, class, call.arguments())?;
+            Ok(true)
+        }
+        Ok(None) => Ok(false),
+        Err(error) => Err(error),
+    }
+}
+
 /// Enters the next call.
 fn enter<'a>(
     alloc: Global,
@@ -223,22 +249,14 @@ fn enter<'a>(
     let Some((call, rest)) = thread.calls.split_first() else {
         return Ok(Step::Impossible);
     };
-    let Some(found) = functions.find(call.function()) else {
-        return Ok(Step::Impossible);
-    };
-    let function = found.function;
-    let Some(class) = class_of(alloc, world, function)? else {
-        return Ok(Step::Impossible);
-    };
-    begin_call(
-        alloc,
-        &mut thread.activation,
-        function,
-        class,
-        call.arguments(),
-    )?;
-    thread.calls = rest;
-    Ok(Step::Quiet)
+    match begin_next(alloc, functions, world, call, &mut thread.activation) {
+        Ok(true) => {
+            thread.calls = rest;
+            Ok(Step::Quiet)
+        }
+        Ok(false) => Ok(Step::Impossible),
+        Err(error) => Err(error),
+    }
 }
 
 /// What others see of what a call in progress did.
@@ -323,7 +341,11 @@ pub(crate) fn take_step<'a>(
     let Some(activation) = &mut thread.activation else {
         return enter(alloc, functions, world, refused, thread);
     };
-    let outcome = advance(alloc, world.classes(), shared, refused, activation)?;
-    let pending = activation.pending;
-    Ok(end_step(&shared.store, thread, pending, outcome))
+    match advance(alloc, world.classes(), shared, refused, activation) {
+        Ok(outcome) => {
+            let pending = activation.pending;
+            Ok(end_step(&shared.store, thread, pending, outcome))
+        }
+        Err(error) => Err(error),
+    }
 }

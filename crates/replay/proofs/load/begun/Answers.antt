@@ -2,7 +2,7 @@ use Rattle.std.proofs.Common.{List, None, refl, sym, ap, ◌∙◌}
 use Rattle.syntax.specs.declared.unit.Item.{Item}
 use Rattle.syntax.specs.Views.{unit_tree}
 use Rattle.source.specs.Start.{start}
-use Rattle.replay.proofs.LoadLemmas.{refused, no_call, stand_waiting}
+use Rattle.replay.proofs.LoadLemmas.{refused, no_call, stand_waiting, waiting_range}
 use Rattle.replay.proofs.load.begun.Goals as goal
 
 pub returns-clause-stands : goal.returns-clause-stands
@@ -13,7 +13,10 @@ returns-clause-stands c =
     record {
       world = refl;
       shared = sym (c.in_ok-shared.ensures ∙ ap (λ (items : List Item). (start (unit_tree items) w).shared) c.items.ensures);
-      threads = stand_waiting unit w.classes c.in_ok-threads.threads.items c.args.world.now.threads c.in_ok-threads.ensures.waiting none;
+      threads = stand_waiting unit w.classes c.in_ok-threads.threads.items c.args.world.now.threads c.in_ok-threads.ensures none;
       printed = sym c.new.ensures.items;
       stop = refl;
     }
+
+pub returns-clause-range : goal.returns-clause-range
+returns-clause-range c = waiting_range c.in_ok-threads.threads.items c.args.world.now.threads c.in_ok-threads.ensures
