@@ -1,5 +1,6 @@
-use Rattle.std.proofs.Common.{rules, ◌+◌, ◌++◌, [], subst, List, drop, Result, Ok, refl, append-nil, sym, ap, ◌∙◌}
+use Rattle.std.proofs.Common.{rules, ◌+◌, ◌++◌, [], subst, List, length, length-append, arith, drop, Result, Ok, refl, append-nil, sym, ap, ◌∙◌}
 use Rattle.std.proofs.lemmas.List.{append_assoc}
+use Rattle.std.proofs.lemmas.Result.{err_from_is_err_and}
 use Rattle.base.specs.Bytes.{Identifier}
 use Rattle.syntax.specs.declared.stmt.Stmt.{Stmt as StmtInMemory}
 use Rattle.syntax.specs.declared.stmt.Block.{out-Block}
@@ -18,7 +19,7 @@ use Rattle.region_states.specs.StatesInMemory.{names_of}
 use Rattle.regions.specs.Walks.{WayOrFault, way_value, Branches, go_on, inner_way}
 use Rattle.regions.specs.Ways.{join_ways, way_of_block}
 use Rattle.region_statements.proofs.NameLemmas.{where_true_names, where_false_names}
-use Rattle.regions.proofs.WayLemmas.{Goes-along, if_ok_weaker, if_ok_always, branch_awaits, passed_names, stmt_fault, stmt_next, go_rest, go_step, after_line, turn_is_join}
+use Rattle.regions.proofs.WayLemmas.{Goes-along, Stops-along, go_fault, past, if_ok_weaker, if_ok_always, branch_awaits, passed_names, stmt_fault, stmt_next, go_rest, go_step, after_line, turn_is_join}
 use Rattle.regions.proofs.walk.+walk.Goals as goal
 
 -- ---- the loop over a block's statements
@@ -79,6 +80,50 @@ block_way-loop-stmt-preserved t c =
           ∙ ap (λ (w : WayInMemory). go_on outer (way_value w now) (Next (stmt_tree s) rest)) c.in-On.is
           ∙ go_step outer now (way_value c.in_ok-way-in-On.way after) (stmt_tree s) rest c.in_ok-way-in-On.ensures.goes;
     }
+
+pub block_way-returns-in_err-way-in-On-clause-goes : goal.block_way-returns-in_err-way-in-On-clause-goes
+block_way-returns-in_err-way-in-On-clause-goes t c = λ outer same.
+    let now = c.loop-stmt.state in
+    let items = c.deref-stmt-items.result.now in
+    let i = c.loop-stmt.stmt-index in
+    let s = c.stmt-item.result in
+    let end_line = (out-Block c.args.block.now).end_line in
+    let rest = statements_tree (drop (i + 1) items) end_line in
+    let e = c.in_err-way-in-On.field-0.0 in
+    let p = err_from_is_err_and c.from_residual.result c.from_residual.ensures.1 in
+    rw (p.1, p.2) (Stops-along e _ _
+    (c.loop-stmt.invariant.goes outer same
+    ∙ go_rest outer (way_value c.loop-stmt.way now) items i s end_line c.loop-stmt-test.true c.stmt-item.is
+    ∙ ap (λ (w : WayInMemory). go_on outer (way_value w now) (Next (stmt_tree s) rest)) c.in-On.is)
+    (go_fault outer now (stmt_tree s) rest e c.in_err-way-in-On.ensures.goes))
+
+pub block_way-returns-in_err-way-in-On-clause-names : goal.block_way-returns-in_err-way-in-On-clause-names
+block_way-returns-in_err-way-in-On-clause-names t c =
+    let p = err_from_is_err_and c.from_residual.result c.from_residual.ensures.1 in
+    rw p.1 tt
+
+pub block_way-returns-in-Returned-clause-names : goal.block_way-returns-in-Returned-clause-names
+block_way-returns-in-Returned-clause-names t c = if_ok_weaker c.refuse.result (λ w h. absurd h) c.refuse.ensures.never
+
+pub block_way-end-requires : goal.block_way-end-requires
+block_way-end-requires t c =
+    let grows = c.loop-stmt.invariant.grows in
+    omega (arith, c.loop-stmt.invariant.count, simp length-append at (ap length grows.1))
+
+pub block_way-returns-clause-goes : goal.block_way-returns-clause-goes
+block_way-returns-clause-goes t c = λ outer same.
+    let now = c.loop-stmt.state in
+    let items = c.deref-stmt-items.result.now in
+    let i = c.loop-stmt.stmt-index in
+    let end_line = (out-Block c.args.block.now).end_line in
+    let grows = c.loop-stmt.invariant.grows in
+    Goes-along c.end.result c.end.new.state _ _
+    (c.loop-stmt.invariant.goes outer same
+    ∙ ap (λ (left : List StmtInMemory). go_on outer (way_value c.loop-stmt.way now) (statements_tree left end_line)) (past i items c.loop-stmt-test.false))
+    (c.end.ensures.goes outer (c.loop-stmt.invariant.count ∙ ap length (sym same)) (grows.0, grows.1 ∙ ap (λ (names : List Identifier). names ++ grows.0) (sym same)))
+
+pub block_way-returns-clause-names : goal.block_way-returns-clause-names
+block_way-returns-clause-names t c = c.end.ensures.names c.args.state.now c.loop-stmt.invariant.count c.loop-stmt.invariant.grows
 
 -- ---- statements
 
