@@ -105,10 +105,7 @@ pub(crate) fn one_way<'a>(
 }
 
 /// The way after none of a loop's turns, which is one of its two ways.
-pub(crate) fn no_turn<'a>(
-    alloc: Global,
-    state: &StaticState<'a>,
-) -> Result<Branch<'a>, CheckFault>
+pub(crate) fn no_turn<'a>(alloc: Global, state: &StaticState<'a>) -> Result<Branch<'a>, CheckFault>
     ensures { Branches result state.now (Ok (On state.now)) state.now }
 {
     let known = save(alloc, state)?;

@@ -1,4 +1,5 @@
 use Rattle.std.proofs.Common.{rules, ◌+◌, ◌++◌, [], subst, List, length, length-append, arith, drop, Result, Ok, refl, append-nil, sym, ap, ◌∙◌}
+use Rattle.std.specs.Prelude.{◌≡◌, IfOk}
 use Rattle.std.proofs.lemmas.List.{append_assoc}
 use Rattle.std.proofs.lemmas.Result.{err_from_is_err_and}
 use Rattle.base.specs.Bytes.{Identifier}
@@ -16,10 +17,10 @@ use Rattle.region_statements.specs.NewNames.{own_names, DeclaresNew, DeclareNew}
 use Rattle.region_rules.specs.RegionStates.{RegionState}
 use Rattle.region_rules.specs.Regions.{On, where_true, where_false}
 use Rattle.region_states.specs.StatesInMemory.{names_of}
-use Rattle.regions.specs.Walks.{WayOrFault, way_value, Branches, go_on, inner_way}
+use Rattle.regions.specs.Walks.{WayOrFault, way_value, Branches, Awaits, go_on, inner_way}
 use Rattle.regions.specs.Ways.{join_ways, way_of_block}
 use Rattle.region_statements.proofs.NameLemmas.{where_true_names, where_false_names}
-use Rattle.regions.proofs.WayLemmas.{Goes-along, Stops-along, go_fault, past, if_ok_weaker, if_ok_always, branch_awaits, passed_names, stmt_fault, stmt_next, go_rest, go_step, after_line, turn_is_join}
+use Rattle.regions.proofs.WayLemmas.{Goes-along, Stops-along, first_stops, stmt_goes, go_fault, past, if_ok_weaker, if_ok_always, branch_awaits, passed_names, stmt_fault, stmt_next, go_rest, go_step, after_line, turn_is_join}
 use Rattle.regions.proofs.walk.+walk.Goals as goal
 
 -- ---- the loop over a block's statements
@@ -131,6 +132,16 @@ pub stmt_way-returns-in-Some-clause-goes : goal.stmt_way-returns-in-Some-clause-
 stmt_way-returns-in-Some-clause-goes t c =
     stmt_fault c.refuse.result c.args.state.now c.args.state.now c.args.stmt.now (rule_of c.in-Some.rule) (c.in-Some.ensures c.args.stmt.now.line) (c.refuse.ensures.fault c.args.state.now)
 
+pub stmt_way-returns-in-Some-clause-names : goal.stmt_way-returns-in-Some-clause-names
+stmt_way-returns-in-Some-clause-names t c = if_ok_weaker c.refuse.result (λ w h. absurd h) c.refuse.ensures.never
+
+pub stmt_way-returns-in-None-clause-goes : goal.stmt_way-returns-in-None-clause-goes
+stmt_way-returns-in-None-clause-goes t c =
+    stmt_goes c.inner_way.result c.inner_way.new.state c.args.state.now c.args.stmt.now (c.in-None.ensures c.args.stmt.now.line) c.inner_way.ensures.goes
+
+pub stmt_way-returns-in-None-clause-names : goal.stmt_way-returns-in-None-clause-names
+stmt_way-returns-in-None-clause-names t c = c.inner_way.ensures.names
+
 -- ---- first branches
 
 pub then_way-block_way-first-requires : goal.then_way-block_way-first-requires
@@ -151,7 +162,50 @@ then_way-returns-in-Ok t c =
     (if_ok_weaker c.block_way-first.result (λ w e. sym (e ∙ names)) c.block_way-first.ensures.names)
     (Goes-along c.block_way-first.result c.block_way-first.new.state _ _ (ap (λ (s : RegionState). way_of_block now s body) (sym begun)) (c.block_way-first.ensures.goes now (sym names)))
 
+pub then_way-take_else-requires-clause-long : goal.then_way-take_else-requires-clause-long
+then_way-take_else-requires-clause-long t c =
+    let saved = c.in-Ok.ensures.before in
+    let names = ap names_of c.in-Ok.ensures.after ∙ where_true_names c.args.state.now (test_tree c.args.test.now) in
+    if_ok_weaker c.block_way-first.result (λ w e. saved.0 ∙ ap length (sym (e ∙ names))) c.block_way-first.ensures.names
+
+pub then_way-take_else-requires-clause-counted : goal.then_way-take_else-requires-clause-counted
+then_way-take_else-requires-clause-counted t c = c.in-Ok.ensures.before.2
+
+pub then_way-returns-in-Err : goal.then_way-returns-in-Err
+then_way-returns-in-Err t c = rw c.in-Err.ensures.memory tt
+
 -- ---- second branches
+
+pub other_way-block_way-second-requires : goal.other_way-block_way-second-requires
+other_way-block_way-second-requires t c = (
+  search rules,
+  subst (λ (r : Result Branch CheckFault). IfOk r (λ _. DeclareNew (names_of c.args.state.now) (block_tree c.args.block.now))) c.in-Ok.is c.requires.new,
+)
+
+pub other_way-join-requires-clause-long : goal.other_way-join-requires-clause-long
+other_way-join-requires-clause-long t c =
+    let first = subst (λ (r : Result Branch CheckFault). Awaits r c.args.state.now) c.in-Ok.is c.requires.saved in
+    if_ok_weaker c.block_way-second.result (λ w e. first.1.0 ∙ ap length (first.2 ∙ sym e)) c.block_way-second.ensures.names
+
+pub other_way-join-requires-clause-counted : goal.other_way-join-requires-clause-counted
+other_way-join-requires-clause-counted t c =
+    (subst (λ (r : Result Branch CheckFault). Awaits r c.args.state.now) c.in-Ok.is c.requires.saved).1.2
+
+pub other_way-returns-in-Ok-clause-names : goal.other_way-returns-in-Ok-clause-names
+other_way-returns-in-Ok-clause-names t c = λ names same.
+    let now = c.args.state.now in
+    let first = subst (λ (r : Result Branch CheckFault). Awaits r now) c.in-Ok.is c.requires.saved in
+    let named = subst (λ (r : Result Branch CheckFault). IfOk r (λ _. names_of now ≡ names)) c.in-Ok.is same in
+    if_ok_weaker c.join.result (λ w e. e ∙ first.2 ∙ named)
+    (c.join.ensures.names first.0 first.1 (if_ok_weaker c.block_way-second.result (λ w e. first.2 ∙ sym e) c.block_way-second.ensures.names))
+
+pub other_way-returns-in-Err-clause-goes : goal.other_way-returns-in-Err-clause-goes
+other_way-returns-in-Err-clause-goes t c = λ outer expected other same is.
+    first_stops c.args.line expected (way_of_block outer other (block_tree c.args.block.now)) c.in-Err.e
+    (subst (λ (r : Result Branch CheckFault). Branches r c.args.state.now expected other) c.in-Err.is is)
+
+pub other_way-returns-in-Err-clause-names : goal.other_way-returns-in-Err-clause-names
+other_way-returns-in-Err-clause-names t c = λ names same. tt
 
 pub other_way-returns-in-Ok-clause-goes : goal.other_way-returns-in-Ok-clause-goes
 other_way-returns-in-Ok-clause-goes t c = λ outer expected other same is.
@@ -228,3 +282,28 @@ inner_way-returns-in-While-clause-names t c =
     if_ok_weaker c.other_way-in-While.result
     (λ w e. e ∙ sym (append-nil (names_of now)) ∙ ap (λ (f : FormInMemory). names_of now ++ own_names (form_tree c.args.line f)) (sym c.in-While.is))
     (c.other_way-in-While.ensures.names (names_of now) (if_ok_always c.no_turn-before.result (λ b. refl)))
+
+pub inner_way-then_way-first-requires : goal.inner_way-then_way-first-requires
+inner_way-then_way-first-requires t c = (
+  search (rules, the_lemmas),
+  subst (λ (f : FormInMemory). DeclaresNew (names_of c.args.state.now) (form_tree c.args.line f)) c.in-If.is c.requires,
+)
+
+pub inner_way-one_way-requires : goal.inner_way-one_way-requires
+inner_way-one_way-requires t c =
+    let first = c.then_way-first in
+    branch_awaits first.result first.new.state (where_false c.args.state.now (test_tree c.in-If.test)) _ first.ensures
+
+pub inner_way-then_way-first-requires-in-IfElse : goal.inner_way-then_way-first-requires-in-IfElse
+inner_way-then_way-first-requires-in-IfElse t c = (
+  search (rules, the_lemmas),
+  (subst (λ (f : FormInMemory). DeclaresNew (names_of c.args.state.now) (form_tree c.args.line f)) c.in-IfElse.is c.requires).0,
+)
+
+pub inner_way-other_way-requires-in-While : goal.inner_way-other_way-requires-in-While
+inner_way-other_way-requires-in-While t c =
+    let now = c.args.state.now in
+    let new = subst (λ (f : FormInMemory). DeclaresNew (names_of c.args.state.now) (form_tree c.args.line f)) c.in-While.is c.requires in (
+      search (rules, the_lemmas),
+      (branch_awaits c.no_turn-before.result now now _ c.no_turn-before.ensures, if_ok_always c.no_turn-before.result (λ b. new)),
+    )
