@@ -1,5 +1,4 @@
-use Rattle.std.proofs.Common.{◌≡◌, ℕ, suc, ◌+◌, ◌<◌, List, ◌∷◌, length, get_or, drop, Option, Some, None, ap, ◌∙◌, sym, arith, add-one, drop-cons}
-use Rattle.std.specs.Prelude.{IfSome, IfNone}
+use Rattle.std.proofs.Common.{◌≡◌, ℕ, suc, ◌+◌, ◌<◌, List, ◌∷◌, length, get_or, drop, ap, ◌∙◌, sym, arith, add-one, drop-cons}
 use Rattle.std.proofs.Math.ListN.{drop_of_length-le}
 use Rattle.syntax.specs.Tree.{Block, ResultType}
 use Rattle.syntax.specs.Views.{stmt_tree, statements_tree, result_tree}
@@ -7,6 +6,7 @@ use Rattle.syntax.specs.declared.stmt.Stmt.{Stmt as StmtInMemory}
 use Rattle.syntax.specs.declared.stmt.Block.{out-Block}
 use Rattle.syntax.proofs.Blocks.{block_is}
 use Rattle.lowered.specs.Length.{block_steps, stmt_steps}
+use Rattle.lower.proofs.Left.{some_by, none_by}
 use Rattle.lower.proofs.length.+statements.Goals as goal
 
 pub after_block-loop-stmt-init : goal.after_block-loop-stmt-init
@@ -14,15 +14,7 @@ after_block-loop-stmt-init t c =
     let block = block_is c.args.block.now ∙ ap (λ (items : List StmtInMemory). statements_tree items (out-Block c.args.block.now).end_line) (sym c.deref-stmt-items.ensures.value) in
     omega (arith, ap (λ (b : Block). block_steps (result_tree c.args.returns) b) block)
 
--- ---- what is left after two walks
-
-some_by : (r : Option ℕ) (P Q : ℕ → Type 0) → ((x : ℕ) → P x → Q x) → IfSome r P → IfSome r Q
-some_by (Some x) P Q f h = f x h
-some_by None P Q f h = tt
-
-none_by : (r : Option ℕ) (P Q : Type 0) → (P → Q) → IfNone r P → IfNone r Q
-none_by (Some x) P Q f h = tt
-none_by None P Q f h = f h
+-- ---- the steps from a statement on
 
 steps_next : (returns : ResultType) (items : List StmtInMemory) (i : ℕ) (s : StmtInMemory) (end : ℕ) → i < length items → s ≡ get_or items i s
     → block_steps returns (statements_tree (drop i items) end) ≡ stmt_steps returns (stmt_tree s) + block_steps returns (statements_tree (drop (i + 1) items) end)
