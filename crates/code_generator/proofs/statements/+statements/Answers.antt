@@ -1,14 +1,16 @@
-use Rattle.std.proofs.Common.{◌≡◌, ℕ, ◌+◌, ◌-◌, List, [], ◌∷◌, ◌++◌, length, ◌∙◌, sym, ap, refl, arith, length-append}
+use Rattle.std.proofs.Common.{◌≡◌, ℕ, suc, drop, drop-cons, add-one, append_assoc, ◌+◌, ◌-◌, List, [], ◌∷◌, ◌++◌, length, ◌∙◌, sym, ap, refl, arith, length-append}
 use Rattle.std.specs.Prelude.{slice_set, vec_len}
 use Rattle.std.proofs.Math.ListN.{drop_of_length-le}
 use Rattle.std.proofs.lemmas.List.{append-nil}
 use Rattle.syntax.specs.declared.stmt.Stmt.{Stmt as StmtInMemory}
+use Rattle.syntax.specs.declared.stmt.Form.{Form as FormInMemory}
 use Rattle.syntax.specs.declared.stmt.Block.{out-Block}
+use Rattle.syntax.specs.Tree.{Block, Next}
 use Rattle.syntax.specs.Views.{form_tree, block_tree, statements_tree}
 use Rattle.syntax.proofs.Blocks.{block_is}
 use Rattle.code.specs.declared.instr.Instr.{Instr}
 use Rattle.code.specs.declared.instr.Instr.TheVariants as instr
-use Rattle.lowered.specs.Layout.{block_layout}
+use Rattle.lowered.specs.Layout.{Layout, layout_after, block_layout}
 use Rattle.lowered.specs.Coding.{first_code, ways_code, loop_code, stmt_code, block_code}
 use Rattle.code_generator.proofs.BlockNames.{block_closed}
 use Rattle.code_generator.proofs.Jumps.{on_ok, on_always, on_fault, if_fault, first_made, ways_made, loop_made}
@@ -224,3 +226,29 @@ emit_block-returns-clause-code t c =
     let now = c.loop-stmt.code.items in
     let end = (out-Block c.args.block.now).end_line in
     sym (c.loop-stmt.invariant.code ∙ ap (λ (items : List StmtInMemory). now ++ block_code c.loop-stmt.names (statements_tree items end)) (drop_of_length-le _ c.loop-stmt-test.false) ∙ append-nil now)
+
+-- one statement more
+step_code : (old new : List Instr) (l after : Layout) (line counted : ℕ) (form : FormInMemory) (rest : Block) → counted ≡ line → new ≡ old ++ stmt_code l (form_tree counted form) → after ≡ layout_after l (form_tree counted form)
+    → old ++ block_code l (Next (form_tree line form) rest) ≡ new ++ block_code after rest
+step_code old new l after line counted form rest same code layout = rw (code, layout, same) (rw append_assoc refl)
+
+step_layout : (l after : Layout) (line counted : ℕ) (form : FormInMemory) (rest : Block) → counted ≡ line → after ≡ layout_after l (form_tree counted form) → block_layout l (Next (form_tree line form) rest) ≡ block_layout after rest
+step_layout l after line counted form rest same layout = rw (layout, same) refl
+
+pub emit_block-loop-stmt-preserved : goal.emit_block-loop-stmt-preserved
+emit_block-loop-stmt-preserved t c =
+    let items = c.deref-stmt-items.result.now in
+    let i = c.loop-stmt.stmt-index in
+    let s = c.stmt-item.result in
+    let end = (out-Block c.args.block.now).end_line in
+    let old = c.loop-stmt.code.items in
+    let names = c.loop-stmt.names in
+    let rest = statements_tree (drop (i + 1) items) end in
+    let next : drop i items ≡ s ∷ drop (i + 1) items = rw add-one (drop-cons items i s c.loop-stmt-test.true ∙ ap (λ x. x ∷ drop (suc i) items) (sym c.stmt-item.is)) in
+    let line = c.in_ok-counted.ensures in
+    record {
+      code = c.loop-stmt.invariant.code ∙ ap (λ (left : List StmtInMemory). old ++ block_code names (statements_tree left end)) next
+          ∙ step_code old c.emit_form.new.code.items names c.emit_form.new.names s.line c.in_ok-counted.field-0 s.form rest line c.in_ok-emit_form.ensures.code c.in_ok-emit_form.ensures.names;
+      layout = c.loop-stmt.invariant.layout ∙ ap (λ (left : List StmtInMemory). block_layout names (statements_tree left end)) next
+          ∙ step_layout names c.emit_form.new.names s.line c.in_ok-counted.field-0 s.form rest line c.in_ok-emit_form.ensures.names;
+    }
