@@ -89,6 +89,7 @@ pub(crate) fn join<'a>(
 }
 
 /// The way after a branch and no other.
+#[inline]
 pub(crate) fn one_way<'a>(
     state: &mut StaticState<'a>,
     line: usize,
@@ -105,6 +106,7 @@ pub(crate) fn one_way<'a>(
 }
 
 /// The way after none of a loop's turns, which is one of its two ways.
+#[inline]
 pub(crate) fn no_turn<'a>(alloc: Global, state: &StaticState<'a>) -> Result<Branch<'a>, CheckFault>
     ensures { Branches result state.now (Ok (On state.now)) state.now }
 {
