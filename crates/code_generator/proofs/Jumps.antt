@@ -1,6 +1,6 @@
 -- A jump is written once it is known how far it leads.
 use Rattle.std.proofs.Common.{◌≡◌, ℕ, ◌+◌, List, [], ◌∷◌, ◌++◌, length, Result, Ok, Err, OnOk, refl, sym, ap, ◌∙◌, arith, append_assoc, length-append}
-use Rattle.std.specs.Prelude.{slice_set}
+use Rattle.std.specs.Prelude.{slice_set, IfOk, IsErr}
 use Rattle.code.specs.declared.instr.Instr.{Instr}
 use Rattle.code.specs.declared.instr.Instr.TheVariants as instr
 use Rattle.lowered.specs.Coding.{skip_code, logical_code, first_code, ways_code, loop_code}
@@ -9,6 +9,19 @@ use Rattle.lowered.specs.Coding.{skip_code, logical_code, first_code, ways_code,
 pub on_ok : {A E : Type 0} (r : Result A E) (P Q : Type 0) → (P → Q) → OnOk r P → OnOk r Q
 on_ok (Ok x) P Q f h = f h
 on_ok (Err e) P Q f h = h
+
+pub on_always : {A E : Type 0} (r : Result A E) (P : Type 0) → P → OnOk r P
+on_always (Ok x) P h = h
+on_always (Err e) P h = tt
+
+-- a fault keeps what a success would
+pub on_fault : {A E : Type 0} (r : Result A E) (P : Type 0) → IsErr r → OnOk r P
+on_fault (Ok x) P h = absurd (cc)
+on_fault (Err e) P h = tt
+
+pub if_fault : {A E : Type 0} (r : Result A E) (P : A → Type 0) → IsErr r → IfOk r P
+if_fault (Ok x) P h = absurd (cc)
+if_fault (Err e) P h = tt
 
 -- an instruction after others is replaced
 pub set_after : (a b : List Instr) (i j : Instr) → slice_set (a ++ i ∷ b) (length a) j ≡ a ++ j ∷ b

@@ -19,6 +19,7 @@ pub mod BuiltCalls
 pub mod BufferFacts
 pub mod StatementFacts
 pub mod BodyFacts
+pub mod Left
 pub mod LengthFacts
 pub mod AcceptedFacts
 pub mod ItemSteps

@@ -6,23 +6,25 @@ use Rattle.syntax.specs.declared.stmt.Form.TheVariants as form
 use Rattle.syntax.specs.declared.stmt.Stmt.{Stmt as StmtInMemory}
 use Rattle.syntax.specs.declared.stmt.Block.{Block as BlockInMemory, out-Block}
 use Rattle.syntax.specs.Parts.{line_of}
-use Rattle.syntax.specs.Tree.{Stmt, If, IfElse, While, Return, ReturnValue, Block, End, Next}
+use Rattle.syntax.specs.Tree.{Stmt, If, IfElse, While, Return, ReturnValue, Test, Block, End, Next}
 use Rattle.syntax.specs.Views.{form_tree, stmt_tree, statements_tree, block_tree}
 use Rattle.syntax.proofs.Blocks.{block_is}
 use Rattle.regions.specs.declared.fault.CheckFault.{CheckFault}
 use Rattle.regions.specs.declared.fault.CheckFault.TheVariants.{Memory, Broken}
 use Rattle.regions.specs.declared.joins.Way.{Way as WayInMemory}
+use Rattle.regions.specs.declared.joins.Branch.{Branch}
 use Rattle.regions.specs.Findings.{fault_of, end_line_of}
 use Rattle.region_rules.specs.FirstFaults.{first_broken}
 use Rattle.region_rules.specs.RegionRules.{RegionRule, HeldBuffer, WaysDiffer, NoReturn}
 use Rattle.region_rules.specs.RegionStates.{RegionState}
-use Rattle.region_rules.specs.Regions.{Way, On, Returned, left}
-use Rattle.regions.specs.Walks.{Stops, Goes, go_on, inner_way}
-use Rattle.region_states.specs.StatesInMemory.{holds_other}
+use Rattle.region_rules.specs.Regions.{Way, On, Returned, left, where_false}
+use Rattle.regions.specs.Walks.{Stops, Goes, Branches, Awaits, go_on, inner_way}
+use Rattle.region_states.specs.StatesInMemory.{names_of, holds_other}
 use Rattle.regions.specs.Ways.{Fault, way_if, own_way, way_after, returned_before, join_ways, turn_way, way_of, way_of_block}
 use Rattle.syntax.specs.declared.unit.Item.{Item as ItemInMemory}
 use Rattle.region_states.proofs.Same.{same_swapped}
 use Rattle.region_states.proofs.StateLemmas.{own_is}
+use Rattle.region_states.proofs.NameLemmas.{where_false_names}
 
 -- ---- answers along equations
 
@@ -36,6 +38,20 @@ Stops-along e a b h k = subst (λ x. Stops e x) (sym h) k
 pub if_ok_weaker : {A B : Type 0} {P Q : A → Type 0} (r : Result A B) → ((x : A) → P x → Q x) → IfOk r P → IfOk r Q
 if_ok_weaker (Ok x) f h = f x h
 if_ok_weaker (Err e) f h = h
+
+pub if_ok_always : {A B : Type 0} {P : A → Type 0} (r : Result A B) → ((x : A) → P x) → IfOk r P
+if_ok_always (Ok x) f = f x
+if_ok_always (Err e) f = tt
+
+-- ---- first branches
+
+pub branch_awaits : (r : Result Branch CheckFault) (now other : RegionState) (expected : Result Way Fault) → Branches r now expected other → Awaits r now
+branch_awaits (Ok b) now other expected h = (h.0, h.1, h.2)
+branch_awaits (Err e) now other expected h = tt
+
+pub passed_names : (r : Result Branch CheckFault) (now before : RegionState) (test : Test) (expected : Result Way Fault) → Branches r now expected (where_false before test) → IfOk r (λ _. names_of now ≡ names_of before)
+passed_names (Ok b) now before test expected h = ap names_of h.4 ∙ where_false_names before test
+passed_names (Err e) now before test expected h = tt
 
 -- ---- statements
 

@@ -37,6 +37,11 @@ abbrev pub Branches : Result Branch CheckFault → RegionState → WayOrFault �
 Branches (Ok b) now expected other = (s : RegionState) × IsSaved b.known s × (names_of s ≡ names_of now) × (expected ≡ Ok (way_value b.way s)) × (now ≡ other)
 Branches (Err e) now expected other = Stops e expected
 
+-- where there is a first branch, what is known after it is kept of the variables of this state
+abbrev pub Awaits : Result Branch CheckFault → RegionState → Type 0
+Awaits (Ok b) now = (s : RegionState) × IsSaved b.known s × (names_of s ≡ names_of now)
+Awaits (Err e) now = Unit {0}
+
 -- the way through the rest of a block, after this way so far
 abbrev pub go_on : RegionState → Way → Block → WayOrFault
 go_on outer way rest = way_after (Ok way) (λ middle. way_of_block outer middle rest) (returned_before rest)

@@ -1,18 +1,20 @@
 //! How ways go on, and how two of them become one.
 
-ghost use Rattle.std.specs.Prelude.{◌≡◌, Ok, Err, length, OnOk, IfOk};
+ghost use Rattle.std.specs.Prelude.{◌≡◌, List, Ok, Err, length, OnOk, IfOk, IfErr};
+ghost use Rattle.regions.specs.declared.fault.CheckFault.TheVariants.{Memory};
+ghost use Rattle.base.specs.Bytes.{Identifier};
 ghost use Rattle.syntax.specs.Views.{test_tree};
 ghost use Rattle.region_rules.specs.RegionStates.{RegionState};
-ghost use Rattle.region_rules.specs.Regions.{where_true, where_false};
+ghost use Rattle.region_rules.specs.Regions.{On, where_true, where_false};
 ghost use Rattle.regions.specs.Ways.{join_ways};
 ghost use Rattle.region_states.specs.StatesInMemory.{names_of, IsSaved, HasCounts};
 ghost use Rattle.regions.specs.Findings.{rule_of};
-ghost use Rattle.regions.specs.Walks.{WayOrFault, way_value, Goes, Branches};
+ghost use Rattle.regions.specs.Walks.{WayOrFault, way_value, Goes, Branches, Awaits};
 
 use crate::fault::{CheckFault, RegionFault, RegionRule};
 use region_states::changes::{take_false, take_true};
 use region_states::states::{Facts, StaticState, exchange, is_as_saved, save};
-use std::alloc::{AllocError, Global};
+use std::alloc::Global;
 use syntax::Test;
 
 /// How a way goes on after a statement: with a state, or not at all.
@@ -86,14 +88,44 @@ pub(crate) fn join<'a>(
     }
 }
 
+/// The way after a branch and no other.
+#[inline]
+pub(crate) fn one_way<'a>(
+    state: &mut StaticState<'a>,
+    line: usize,
+    first: Result<Branch<'a>, CheckFault>,
+) -> Result<Way, CheckFault>
+    requires { Awaits first state.old }
+    ensures goes { (expected : WayOrFault) (other : RegionState) → Branches first.entry state.old expected other → Goes result state.new (join_ways line expected (Ok (On other))) }
+    ensures names { (names : List Identifier) → IfOk first.entry (λ _. names_of state.old ≡ names) → IfOk result (λ _. names_of state.new ≡ names) }
+{
+    match first {
+        Ok(first) => join(state, line, first, Ok(Way::On)),
+        Err(e) => Err(e),
+    }
+}
+
+/// The way after none of a loop's turns, which is one of its two ways.
+#[inline]
+pub(crate) fn no_turn<'a>(alloc: Global, state: &StaticState<'a>) -> Result<Branch<'a>, CheckFault>
+    ensures { Branches result state.now (Ok (On state.now)) state.now }
+{
+    let known = save(alloc, state)?;
+    Ok(Branch {
+        way: Way::On,
+        known,
+    })
+}
+
 /// The beginning of the branch where a test holds. What was known before the test is answered.
 pub(crate) fn take_then<'a>(
     alloc: Global,
     state: &mut StaticState<'a>,
     test: &'a Test,
-) -> Result<Facts<'a>, AllocError>
+) -> Result<Facts<'a>, CheckFault>
     ensures before { IfOk result (λ known. IsSaved known state.old) }
     ensures after { OnOk result (state.new ≡ where_true state.old (test_tree test.now)) }
+    ensures memory { IfErr result (λ e. e ≡ Memory) }
 {
     let known = save(alloc, state)?;
     take_true(state, test)?;

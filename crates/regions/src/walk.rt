@@ -1,23 +1,24 @@
 //! The ways through a function.
 
-ghost use Rattle.std.specs.Prelude.{◌≡◌, ◌≤◌, ◌++◌, ℕ, Ok, map, length, OnOk, IfOk};
+ghost use Rattle.std.specs.Prelude.{◌≡◌, ◌≤◌, ◌++◌, ℕ, List, map, length, OnOk, IfOk};
+ghost use Rattle.base.specs.Bytes.{Identifier};
 ghost use Rattle.std.specs.List.{AllByRecursion};
 ghost use Rattle.syntax.specs.Tree.{End};
 ghost use Rattle.syntax.specs.Views.{block_tree, stmt_tree, test_tree, form_tree, function_tree, item_tree};
 ghost use Rattle.region_rules.specs.RegionStates.{RegionState, state_at_entry, state_after};
-ghost use Rattle.region_rules.specs.Regions.{On, where_true, where_false};
-ghost use Rattle.regions.specs.Ways.{join_ways, turn_way, way_of, way_of_block};
+ghost use Rattle.region_rules.specs.Regions.{where_true, where_false};
+ghost use Rattle.regions.specs.Ways.{join_ways, way_of, way_of_block};
 ghost use Rattle.region_states.specs.StatesInMemory.{names_of, Grows};
 ghost use Rattle.region_states.specs.NewNames.{own_names, AreNew, DeclaresNew, DeclareNew, DeclaresOnce, ItemOnce};
 ghost use Rattle.regions.specs.Findings.{Finds, function_fault, item_fault, items_fault};
-ghost use Rattle.regions.specs.Walks.{way_value, Goes, Branches, go_on, plain_way, inner_way};
+ghost use Rattle.regions.specs.Walks.{WayOrFault, way_value, Goes, Branches, Awaits, go_on, plain_way, inner_way};
 
 use crate::fault::{CheckFault, RegionFault, RegionRule};
-use crate::joins::{Branch, Way, join, refuse, take_else, take_then};
+use crate::joins::{Branch, Way, join, no_turn, one_way, refuse, take_else, take_then};
 use crate::rules::{first_broken, is_return};
 use region_states::changes::pass;
 use region_states::states::{
-    StaticState, VariableState, add, clear, count, holds_own, leave, nothing, save,
+    StaticState, VariableState, add, clear, count, holds_own, leave, nothing,
 };
 use std::alloc::{AllocError, Global};
 use syntax::{Block, Form, Function, Item, ParameterType, Stmt, Test};
@@ -67,67 +68,36 @@ fn then_way<'a>(
     requires { DeclareNew (names_of state.old) (block_tree then.now) }
     ensures { Branches result state.new (way_of_block state.old (where_true state.old (test_tree test.now)) (block_tree then.now)) (where_false state.old (test_tree test.now)) }
 {
-    let before = take_then(alloc, state, test)?;
-    let first = block_way(alloc, state, then);
-    take_else(state, test, first, before)
+    match take_then(alloc, state, test) {
+        Ok(before) => {
+            let first = block_way(alloc, state, then);
+            take_else(state, test, first, before)
+        }
+        Err(e) => Err(e),
+    }
 }
 
-/// The way after an `if` without `else`.
+/// The way after this first branch and a block, which is the second.
 #[cycle(walk)]
-fn if_way<'a>(
+fn other_way<'a>(
     alloc: Global,
     state: &mut StaticState<'a>,
     line: usize,
-    test: &'a Test,
-    then: &'a Block,
+    first: Result<Branch<'a>, CheckFault>,
+    block: &'a Block,
 ) -> Result<Way, CheckFault>
-    requires { DeclareNew (names_of state.old) (block_tree then.now) }
-    ensures goes { Goes result state.new (join_ways line (way_of_block state.old (where_true state.old (test_tree test.now)) (block_tree then.now)) (Ok (On (where_false state.old (test_tree test.now))))) }
-    ensures names { IfOk result (λ _. names_of state.new ≡ names_of state.old) }
+    requires saved { Awaits first state.old }
+    requires new { IfOk first (λ _. DeclareNew (names_of state.old) (block_tree block.now)) }
+    ensures goes { (outer : RegionState) (expected : WayOrFault) (other : RegionState) → names_of outer ≡ names_of other → Branches first.entry state.old expected other → Goes result state.new (join_ways line expected (way_of_block outer other (block_tree block.now))) }
+    ensures names { (names : List Identifier) → IfOk first.entry (λ _. names_of state.old ≡ names) → IfOk result (λ _. names_of state.new ≡ names) }
 {
-    let first = then_way(alloc, state, test, then)?;
-    join(state, line, first, Ok(Way::On))
-}
-
-/// The way after an `if` with `else`.
-#[cycle(walk)]
-fn if_else_way<'a>(
-    alloc: Global,
-    state: &mut StaticState<'a>,
-    line: usize,
-    test: &'a Test,
-    then: &'a Block,
-    otherwise: &'a Block,
-) -> Result<Way, CheckFault>
-    requires then { DeclareNew (names_of state.old) (block_tree then.now) }
-    requires otherwise { DeclareNew (names_of state.old) (block_tree otherwise.now) }
-    ensures goes { Goes result state.new (join_ways line (way_of_block state.old (where_true state.old (test_tree test.now)) (block_tree then.now)) (way_of_block state.old (where_false state.old (test_tree test.now)) (block_tree otherwise.now))) }
-    ensures names { IfOk result (λ _. names_of state.new ≡ names_of state.old) }
-{
-    let first = then_way(alloc, state, test, then)?;
-    let second = block_way(alloc, state, otherwise);
-    join(state, line, first, second)
-}
-
-/// The way after a `while`, whose body comes back to the state in which it began.
-#[cycle(walk)]
-fn while_way<'a>(
-    alloc: Global,
-    state: &mut StaticState<'a>,
-    line: usize,
-    body: &'a Block,
-) -> Result<Way, CheckFault>
-    requires { DeclareNew (names_of state.old) (block_tree body.now) }
-    ensures goes { Goes result state.new (turn_way line state.old (way_of_block state.old state.old (block_tree body.now))) }
-    ensures names { IfOk result (λ _. names_of state.new ≡ names_of state.old) }
-{
-    let known = save(alloc, state)?;
-    let turn = block_way(alloc, state, body);
-    let before = Branch {
-        way: Way::On,
-        known,
-    };
-    join(state, line, before, turn)
+    match first {
+        Ok(first) => {
+            let second = block_way(alloc, state, block);
+            join(state, line, first, second)
+        }
+        Err(e) => Err(e),
+    }
 }
 
 /// The way after a statement on this line that keeps the rules itself.
@@ -143,9 +113,18 @@ fn inner_way<'a>(
     ensures names { IfOk result (λ _. names_of state.new ≡ names_of state.old ++ own_names (form_tree line form.now)) }
 {
     match form {
-        Form::If(test, b) => if_way(alloc, state, line, test, b),
-        Form::IfElse(test, b, d) => if_else_way(alloc, state, line, test, b, d),
-        Form::While(_, b) => while_way(alloc, state, line, b),
+        Form::If(test, b) => {
+            let first = then_way(alloc, state, test, b);
+            one_way(state, line, first)
+        }
+        Form::IfElse(test, b, d) => {
+            let first = then_way(alloc, state, test, b);
+            other_way(alloc, state, line, first, d)
+        }
+        Form::While(_, b) => {
+            let before = no_turn(alloc, state);
+            other_way(alloc, state, line, before, b)
+        }
         _ => plain_way(state, form),
     }
 }

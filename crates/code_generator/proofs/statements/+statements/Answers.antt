@@ -1,17 +1,19 @@
-use Rattle.std.proofs.Common.{◌≡◌, ℕ, ◌+◌, ◌-◌, List, [], ◌∷◌, ◌++◌, length, ◌∙◌, sym, ap, refl, arith, length-append}
+use Rattle.std.proofs.Common.{◌≡◌, ℕ, suc, drop, drop-cons, add-one, append_assoc, ◌+◌, ◌-◌, List, [], ◌∷◌, ◌++◌, length, ◌∙◌, sym, ap, refl, arith, length-append}
 use Rattle.std.specs.Prelude.{slice_set, vec_len}
 use Rattle.std.proofs.Math.ListN.{drop_of_length-le}
 use Rattle.std.proofs.lemmas.List.{append-nil}
 use Rattle.syntax.specs.declared.stmt.Stmt.{Stmt as StmtInMemory}
+use Rattle.syntax.specs.declared.stmt.Form.{Form as FormInMemory}
 use Rattle.syntax.specs.declared.stmt.Block.{out-Block}
+use Rattle.syntax.specs.Tree.{Block, Next}
 use Rattle.syntax.specs.Views.{form_tree, block_tree, statements_tree}
 use Rattle.syntax.proofs.Blocks.{block_is}
 use Rattle.code.specs.declared.instr.Instr.{Instr}
 use Rattle.code.specs.declared.instr.Instr.TheVariants as instr
-use Rattle.lowered.specs.Layout.{block_layout}
+use Rattle.lowered.specs.Layout.{Layout, layout_after, block_layout}
 use Rattle.lowered.specs.Coding.{first_code, ways_code, loop_code, stmt_code, block_code}
 use Rattle.code_generator.proofs.BlockNames.{block_closed}
-use Rattle.code_generator.proofs.Jumps.{on_ok, first_made, ways_made, loop_made}
+use Rattle.code_generator.proofs.Jumps.{on_ok, on_always, on_fault, if_fault, first_made, ways_made, loop_made}
 use Rattle.code_generator.proofs.statements.+statements.Goals as goal
 
 -- what three calls append, and the jumps at the end
@@ -103,3 +105,150 @@ emit_block-returns-clause-names t c =
     let end = (out-Block c.args.block.now).end_line in
     let whole : block_layout c.args.names.now (block_tree c.args.block.now) ≡ inner = c.loop-stmt.invariant.layout ∙ ap (λ (items : List StmtInMemory). block_layout inner (statements_tree items end)) (drop_of_length-le _ c.loop-stmt-test.false) in
     c.leave.ensures ∙ block_closed c.args.names.now inner (block_tree c.args.block.now) c.len-outside.result whole c.len-outside.ensures
+
+-- ---- faults that are passed on
+
+pub emit_block-returns-in_err-counted-clause-code : goal.emit_block-returns-in_err-counted-clause-code
+emit_block-returns-in_err-counted-clause-code t c = on_fault c.from_residual.result _ c.from_residual.ensures.0
+
+pub emit_block-returns-in_err-emit_form-clause-code : goal.emit_block-returns-in_err-emit_form-clause-code
+emit_block-returns-in_err-emit_form-clause-code t c = on_fault c.from_residual-in_err-emit_form.result _ c.from_residual-in_err-emit_form.ensures.0
+
+pub emit_first-returns-in_err-emit_test-clause-end : goal.emit_first-returns-in_err-emit_test-clause-end
+emit_first-returns-in_err-emit_test-clause-end t c = if_fault c.from_residual.result _ c.from_residual.ensures.0
+
+pub emit_first-returns-in_err-emit-clause-end : goal.emit_first-returns-in_err-emit-clause-end
+emit_first-returns-in_err-emit-clause-end t c = if_fault c.from_residual-in_err-emit.result _ c.from_residual-in_err-emit.ensures.0
+
+pub emit_first-returns-in_err-emit_block-clause-end : goal.emit_first-returns-in_err-emit_block-clause-end
+emit_first-returns-in_err-emit_block-clause-end t c = if_fault c.from_residual-in_err-emit_block.result _ c.from_residual-in_err-emit_block.ensures.0
+
+pub emit_form-returns-in_err-end-in-If-clause-code : goal.emit_form-returns-in_err-end-in-If-clause-code
+emit_form-returns-in_err-end-in-If-clause-code t c = on_fault c.from_residual.result _ c.from_residual.ensures.0
+
+pub emit_form-returns-in_err-end-in-If-clause-names : goal.emit_form-returns-in_err-end-in-If-clause-names
+emit_form-returns-in_err-end-in-If-clause-names t c = on_fault c.from_residual.result _ c.from_residual.ensures.0
+
+pub emit_block-returns-in_err-counted-clause-names : goal.emit_block-returns-in_err-counted-clause-names
+emit_block-returns-in_err-counted-clause-names t c = on_fault c.from_residual.result _ c.from_residual.ensures.0
+
+pub emit_block-returns-in_err-emit_form-clause-names : goal.emit_block-returns-in_err-emit_form-clause-names
+emit_block-returns-in_err-emit_form-clause-names t c = on_fault c.from_residual-in_err-emit_form.result _ c.from_residual-in_err-emit_form.ensures.0
+
+pub emit_first-returns-in_err-emit_test-clause-code : goal.emit_first-returns-in_err-emit_test-clause-code
+emit_first-returns-in_err-emit_test-clause-code t c = on_fault c.from_residual.result _ c.from_residual.ensures.0
+
+pub emit_first-returns-in_err-emit_test-clause-names : goal.emit_first-returns-in_err-emit_test-clause-names
+emit_first-returns-in_err-emit_test-clause-names t c = on_fault c.from_residual.result _ c.from_residual.ensures.0
+
+pub emit_first-returns-in_err-emit-clause-code : goal.emit_first-returns-in_err-emit-clause-code
+emit_first-returns-in_err-emit-clause-code t c = on_fault c.from_residual-in_err-emit.result _ c.from_residual-in_err-emit.ensures.0
+
+pub emit_first-returns-in_err-emit-clause-names : goal.emit_first-returns-in_err-emit-clause-names
+emit_first-returns-in_err-emit-clause-names t c = on_fault c.from_residual-in_err-emit.result _ c.from_residual-in_err-emit.ensures.0
+
+pub emit_first-returns-in_err-emit_block-clause-code : goal.emit_first-returns-in_err-emit_block-clause-code
+emit_first-returns-in_err-emit_block-clause-code t c = on_fault c.from_residual-in_err-emit_block.result _ c.from_residual-in_err-emit_block.ensures.0
+
+pub emit_first-returns-in_err-emit_block-clause-names : goal.emit_first-returns-in_err-emit_block-clause-names
+emit_first-returns-in_err-emit_block-clause-names t c = on_fault c.from_residual-in_err-emit_block.result _ c.from_residual-in_err-emit_block.ensures.0
+
+pub emit_form-returns-in_err-end-in-IfElse-clause-code : goal.emit_form-returns-in_err-end-in-IfElse-clause-code
+emit_form-returns-in_err-end-in-IfElse-clause-code t c = on_fault c.from_residual-in_err-end-in-IfElse.result _ c.from_residual-in_err-end-in-IfElse.ensures.0
+
+pub emit_form-returns-in_err-end-in-IfElse-clause-names : goal.emit_form-returns-in_err-end-in-IfElse-clause-names
+emit_form-returns-in_err-end-in-IfElse-clause-names t c = on_fault c.from_residual-in_err-end-in-IfElse.result _ c.from_residual-in_err-end-in-IfElse.ensures.0
+
+pub emit_form-returns-in_err-emit_block-in-IfElse-clause-code : goal.emit_form-returns-in_err-emit_block-in-IfElse-clause-code
+emit_form-returns-in_err-emit_block-in-IfElse-clause-code t c = on_fault c.from_residual-in_err-emit_block-in-IfElse.result _ c.from_residual-in_err-emit_block-in-IfElse.ensures.0
+
+pub emit_form-returns-in_err-emit_block-in-IfElse-clause-names : goal.emit_form-returns-in_err-emit_block-in-IfElse-clause-names
+emit_form-returns-in_err-emit_block-in-IfElse-clause-names t c = on_fault c.from_residual-in_err-emit_block-in-IfElse.result _ c.from_residual-in_err-emit_block-in-IfElse.ensures.0
+
+pub emit_loop-returns-in_err-emit_expr-clause-code : goal.emit_loop-returns-in_err-emit_expr-clause-code
+emit_loop-returns-in_err-emit_expr-clause-code t c = on_fault c.from_residual.result _ c.from_residual.ensures.0
+
+pub emit_loop-returns-in_err-emit_expr-clause-names : goal.emit_loop-returns-in_err-emit_expr-clause-names
+emit_loop-returns-in_err-emit_expr-clause-names t c = on_fault c.from_residual.result _ c.from_residual.ensures.0
+
+pub emit_loop-returns-in_err-emit-clause-code : goal.emit_loop-returns-in_err-emit-clause-code
+emit_loop-returns-in_err-emit-clause-code t c = on_fault c.from_residual-in_err-emit.result _ c.from_residual-in_err-emit.ensures.0
+
+pub emit_loop-returns-in_err-emit-clause-names : goal.emit_loop-returns-in_err-emit-clause-names
+emit_loop-returns-in_err-emit-clause-names t c = on_fault c.from_residual-in_err-emit.result _ c.from_residual-in_err-emit.ensures.0
+
+pub emit_loop-returns-in_err-emit_block-clause-code : goal.emit_loop-returns-in_err-emit_block-clause-code
+emit_loop-returns-in_err-emit_block-clause-code t c = on_fault c.from_residual-in_err-emit_block.result _ c.from_residual-in_err-emit_block.ensures.0
+
+pub emit_loop-returns-in_err-emit_block-clause-names : goal.emit_loop-returns-in_err-emit_block-clause-names
+emit_loop-returns-in_err-emit_block-clause-names t c = on_fault c.from_residual-in_err-emit_block.result _ c.from_residual-in_err-emit_block.ensures.0
+
+-- ---- places of jumps, and what is known after the ways
+
+pub emit_first-close_first-requires : goal.emit_first-close_first-requires
+emit_first-close_first-requires t c = omega (arith, c.len-jump.ensures, c.emit_block.new.code.ok.0, simp length-append at (ap length c.in_ok-emit_block.ensures.code), simp length-append at (ap length c.in_ok-emit.ensures))
+
+pub emit_first-returns-clause-end : goal.emit_first-returns-clause-end
+emit_first-returns-clause-end t c = c.close_first.ensures.end
+
+pub emit_first-returns-clause-names : goal.emit_first-returns-clause-names
+emit_first-returns-clause-names t c = on_always c.close_first.result _ c.in_ok-emit_block.ensures.names
+
+pub emit_loop-close_turn-requires-clause-begun : goal.emit_loop-close_turn-requires-clause-begun
+emit_loop-close_turn-requires-clause-begun t c = omega (arith, c.len-start.ensures, c.len-jump.ensures, simp length-append at (ap length c.in_ok-emit_expr.ensures))
+
+pub emit_loop-close_turn-requires-clause-inside : goal.emit_loop-close_turn-requires-clause-inside
+emit_loop-close_turn-requires-clause-inside t c = omega (arith, c.len-jump.ensures, c.emit_block.new.code.ok.0, simp length-append at (ap length c.in_ok-emit_block.ensures.code), simp length-append at (ap length c.in_ok-emit.ensures))
+
+pub emit_loop-returns-clause-names : goal.emit_loop-returns-clause-names
+emit_loop-returns-clause-names t c = on_always c.close_turn.result _ c.in_ok-emit_block.ensures.names
+
+pub emit_form-emit_end-requires : goal.emit_form-emit_end-requires
+emit_form-emit_end-requires t c = omega (arith, c.in_ok-end-in-If.ensures.end)
+
+pub emit_form-emit_end-requires-in-IfElse : goal.emit_form-emit_end-requires-in-IfElse
+emit_form-emit_end-requires-in-IfElse t c = omega (arith, c.in_ok-end-in-IfElse.ensures.end, c.emit_first-in-IfElse.new.code.ok.0, c.emit_block.new.code.ok.0, simp length-append at (ap length c.in_ok-emit_block-in-IfElse.ensures.code))
+
+pub emit_form-returns-in_ok-end-in-If-clause-names : goal.emit_form-returns-in_ok-end-in-If-clause-names
+emit_form-returns-in_ok-end-in-If-clause-names t c = rw c.in-If.is (on_always c.emit_end.result _ c.in_ok-end-in-If.ensures.names)
+
+pub emit_form-returns-in-While-clause-code : goal.emit_form-returns-in-While-clause-code
+emit_form-returns-in-While-clause-code t c = rw c.in-While.is c.emit_loop.ensures.code
+
+pub emit_form-returns-in-While-clause-names : goal.emit_form-returns-in-While-clause-names
+emit_form-returns-in-While-clause-names t c = rw c.in-While.is c.emit_loop.ensures.names
+
+pub emit_form-returns-in_default : goal.emit_form-returns-in_default
+emit_form-returns-in_default t c = record { code = c.emit_plain.ensures.code; names = c.emit_plain.ensures.names }
+
+pub emit_block-returns-clause-code : goal.emit_block-returns-clause-code
+emit_block-returns-clause-code t c =
+    let now = c.loop-stmt.code.items in
+    let end = (out-Block c.args.block.now).end_line in
+    sym (c.loop-stmt.invariant.code ∙ ap (λ (items : List StmtInMemory). now ++ block_code c.loop-stmt.names (statements_tree items end)) (drop_of_length-le _ c.loop-stmt-test.false) ∙ append-nil now)
+
+-- one statement more
+step_code : (old new : List Instr) (l after : Layout) (line counted : ℕ) (form : FormInMemory) (rest : Block) → counted ≡ line → new ≡ old ++ stmt_code l (form_tree counted form) → after ≡ layout_after l (form_tree counted form)
+    → old ++ block_code l (Next (form_tree line form) rest) ≡ new ++ block_code after rest
+step_code old new l after line counted form rest same code layout = rw (code, layout, same) (rw append_assoc refl)
+
+step_layout : (l after : Layout) (line counted : ℕ) (form : FormInMemory) (rest : Block) → counted ≡ line → after ≡ layout_after l (form_tree counted form) → block_layout l (Next (form_tree line form) rest) ≡ block_layout after rest
+step_layout l after line counted form rest same layout = rw (layout, same) refl
+
+pub emit_block-loop-stmt-preserved : goal.emit_block-loop-stmt-preserved
+emit_block-loop-stmt-preserved t c =
+    let items = c.deref-stmt-items.result.now in
+    let i = c.loop-stmt.stmt-index in
+    let s = c.stmt-item.result in
+    let end = (out-Block c.args.block.now).end_line in
+    let old = c.loop-stmt.code.items in
+    let names = c.loop-stmt.names in
+    let rest = statements_tree (drop (i + 1) items) end in
+    let next : drop i items ≡ s ∷ drop (i + 1) items = rw add-one (drop-cons items i s c.loop-stmt-test.true ∙ ap (λ x. x ∷ drop (suc i) items) (sym c.stmt-item.is)) in
+    let line = c.in_ok-counted.ensures in
+    record {
+      code = c.loop-stmt.invariant.code ∙ ap (λ (left : List StmtInMemory). old ++ block_code names (statements_tree left end)) next
+          ∙ step_code old c.emit_form.new.code.items names c.emit_form.new.names s.line c.in_ok-counted.field-0 s.form rest line c.in_ok-emit_form.ensures.code c.in_ok-emit_form.ensures.names;
+      layout = c.loop-stmt.invariant.layout ∙ ap (λ (left : List StmtInMemory). block_layout names (statements_tree left end)) next
+          ∙ step_layout names c.emit_form.new.names s.line c.in_ok-counted.field-0 s.form rest line c.in_ok-emit_form.ensures.names;
+    }

@@ -1,22 +1,26 @@
-use Rattle.std.proofs.Common.{rules, ◌+◌, ◌++◌, [], subst, List, drop, Ok, refl, append-nil, sym, ap, ◌∙◌}
+use Rattle.std.proofs.Common.{rules, ◌+◌, ◌++◌, [], subst, List, length, length-append, arith, drop, Result, Ok, refl, append-nil, sym, ap, ◌∙◌}
+use Rattle.std.specs.Prelude.{◌≡◌, IfOk}
 use Rattle.std.proofs.lemmas.List.{append_assoc}
+use Rattle.std.proofs.lemmas.Result.{err_from_is_err_and}
 use Rattle.base.specs.Bytes.{Identifier}
 use Rattle.syntax.specs.declared.stmt.Stmt.{Stmt as StmtInMemory}
 use Rattle.syntax.specs.declared.stmt.Block.{out-Block}
-use Rattle.syntax.specs.declared.stmt.Form.{the_lemmas}
+use Rattle.syntax.specs.declared.stmt.Form.{Form as FormInMemory, the_lemmas}
 use Rattle.syntax.specs.Tree.{Block, Next}
-use Rattle.syntax.specs.Views.{block_tree, stmt_tree, statements_tree, test_tree}
+use Rattle.syntax.specs.Views.{block_tree, stmt_tree, statements_tree, test_tree, form_tree}
 use Rattle.syntax.proofs.Blocks.{block_is}
+use Rattle.regions.specs.declared.fault.CheckFault.{CheckFault}
+use Rattle.regions.specs.declared.joins.Branch.{Branch}
 use Rattle.regions.specs.declared.joins.Way.{Way as WayInMemory}
 use Rattle.regions.specs.Findings.{rule_of}
-use Rattle.region_states.specs.NewNames.{own_names, DeclareNew}
+use Rattle.region_states.specs.NewNames.{own_names, DeclaresNew, DeclareNew}
 use Rattle.region_rules.specs.RegionStates.{RegionState}
 use Rattle.region_rules.specs.Regions.{On, where_true, where_false}
 use Rattle.region_states.specs.StatesInMemory.{names_of}
-use Rattle.regions.specs.Walks.{WayOrFault, way_value, go_on}
+use Rattle.regions.specs.Walks.{WayOrFault, way_value, Branches, Awaits, go_on, inner_way}
 use Rattle.regions.specs.Ways.{join_ways, way_of_block}
 use Rattle.region_states.proofs.NameLemmas.{where_true_names, where_false_names}
-use Rattle.regions.proofs.WayLemmas.{Goes-along, if_ok_weaker, stmt_fault, stmt_next, go_rest, go_step, after_line, turn_is_join}
+use Rattle.regions.proofs.WayLemmas.{Goes-along, Stops-along, first_stops, stmt_goes, go_fault, past, if_ok_weaker, if_ok_always, branch_awaits, passed_names, stmt_fault, stmt_next, go_rest, go_step, after_line, turn_is_join}
 use Rattle.regions.proofs.walk.+walk.Goals as goal
 
 -- ---- the loop over a block's statements
@@ -78,85 +82,228 @@ block_way-loop-stmt-preserved t c =
           ∙ go_step outer now (way_value c.in_ok-way-in-On.way after) (stmt_tree s) rest c.in_ok-way-in-On.ensures.goes;
     }
 
+pub block_way-returns-in_err-way-in-On-clause-goes : goal.block_way-returns-in_err-way-in-On-clause-goes
+block_way-returns-in_err-way-in-On-clause-goes t c = λ outer same.
+    let now = c.loop-stmt.state in
+    let items = c.deref-stmt-items.result.now in
+    let i = c.loop-stmt.stmt-index in
+    let s = c.stmt-item.result in
+    let end_line = (out-Block c.args.block.now).end_line in
+    let rest = statements_tree (drop (i + 1) items) end_line in
+    let e = c.in_err-way-in-On.field-0.0 in
+    let p = err_from_is_err_and c.from_residual.result c.from_residual.ensures.1 in
+    rw (p.1, p.2) (Stops-along e _ _
+    (c.loop-stmt.invariant.goes outer same
+    ∙ go_rest outer (way_value c.loop-stmt.way now) items i s end_line c.loop-stmt-test.true c.stmt-item.is
+    ∙ ap (λ (w : WayInMemory). go_on outer (way_value w now) (Next (stmt_tree s) rest)) c.in-On.is)
+    (go_fault outer now (stmt_tree s) rest e c.in_err-way-in-On.ensures.goes))
+
+pub block_way-returns-in_err-way-in-On-clause-names : goal.block_way-returns-in_err-way-in-On-clause-names
+block_way-returns-in_err-way-in-On-clause-names t c =
+    let p = err_from_is_err_and c.from_residual.result c.from_residual.ensures.1 in
+    rw p.1 tt
+
+pub block_way-returns-in-Returned-clause-names : goal.block_way-returns-in-Returned-clause-names
+block_way-returns-in-Returned-clause-names t c = if_ok_weaker c.refuse.result (λ w h. absurd h) c.refuse.ensures.never
+
+pub block_way-end-requires : goal.block_way-end-requires
+block_way-end-requires t c =
+    let grows = c.loop-stmt.invariant.grows in
+    omega (arith, c.loop-stmt.invariant.count, simp length-append at (ap length grows.1))
+
+pub block_way-returns-clause-goes : goal.block_way-returns-clause-goes
+block_way-returns-clause-goes t c = λ outer same.
+    let now = c.loop-stmt.state in
+    let items = c.deref-stmt-items.result.now in
+    let i = c.loop-stmt.stmt-index in
+    let end_line = (out-Block c.args.block.now).end_line in
+    let grows = c.loop-stmt.invariant.grows in
+    Goes-along c.end.result c.end.new.state _ _
+    (c.loop-stmt.invariant.goes outer same
+    ∙ ap (λ (left : List StmtInMemory). go_on outer (way_value c.loop-stmt.way now) (statements_tree left end_line)) (past i items c.loop-stmt-test.false))
+    (c.end.ensures.goes outer (c.loop-stmt.invariant.count ∙ ap length (sym same)) (grows.0, grows.1 ∙ ap (λ (names : List Identifier). names ++ grows.0) (sym same)))
+
+pub block_way-returns-clause-names : goal.block_way-returns-clause-names
+block_way-returns-clause-names t c = c.end.ensures.names c.args.state.now c.loop-stmt.invariant.count c.loop-stmt.invariant.grows
+
 -- ---- statements
 
 pub stmt_way-returns-in-Some-clause-goes : goal.stmt_way-returns-in-Some-clause-goes
 stmt_way-returns-in-Some-clause-goes t c =
     stmt_fault c.refuse.result c.args.state.now c.args.state.now c.args.stmt.now (rule_of c.in-Some.rule) (c.in-Some.ensures c.args.stmt.now.line) (c.refuse.ensures.fault c.args.state.now)
 
--- ---- the ways of a test
+pub stmt_way-returns-in-Some-clause-names : goal.stmt_way-returns-in-Some-clause-names
+stmt_way-returns-in-Some-clause-names t c = if_ok_weaker c.refuse.result (λ w h. absurd h) c.refuse.ensures.never
+
+pub stmt_way-returns-in-None-clause-goes : goal.stmt_way-returns-in-None-clause-goes
+stmt_way-returns-in-None-clause-goes t c =
+    stmt_goes c.inner_way.result c.inner_way.new.state c.args.state.now c.args.stmt.now (c.in-None.ensures c.args.stmt.now.line) c.inner_way.ensures.goes
+
+pub stmt_way-returns-in-None-clause-names : goal.stmt_way-returns-in-None-clause-names
+stmt_way-returns-in-None-clause-names t c = c.inner_way.ensures.names
+
+-- ---- first branches
 
 pub then_way-block_way-first-requires : goal.then_way-block_way-first-requires
 then_way-block_way-first-requires t c = (
   search rules,
   subst (λ (names : List Identifier). DeclareNew names (block_tree c.args.then.now))
-      (sym (ap names_of c.in_ok-before.ensures.after ∙ where_true_names c.args.state.now (test_tree c.args.test.now))) c.requires,
+      (sym (ap names_of c.in-Ok.ensures.after ∙ where_true_names c.args.state.now (test_tree c.args.test.now))) c.requires,
 )
 
-pub then_way-returns : goal.then_way-returns
-then_way-returns t c =
+pub then_way-returns-in-Ok : goal.then_way-returns-in-Ok
+then_way-returns-in-Ok t c =
     let now = c.args.state.now in
     let test = test_tree c.args.test.now in
     let body = block_tree c.args.then.now in
-    let begun = c.in_ok-before.ensures.after in
+    let begun = c.in-Ok.ensures.after in
     let names = ap names_of begun ∙ where_true_names now test in
-    c.take_else.ensures now (way_of_block now (where_true now test) body) c.in_ok-before.ensures.before
+    c.take_else.ensures now (way_of_block now (where_true now test) body) c.in-Ok.ensures.before
     (if_ok_weaker c.block_way-first.result (λ w e. sym (e ∙ names)) c.block_way-first.ensures.names)
     (Goes-along c.block_way-first.result c.block_way-first.new.state _ _ (ap (λ (s : RegionState). way_of_block now s body) (sym begun)) (c.block_way-first.ensures.goes now (sym names)))
 
-pub if_way-returns-clause-goes : goal.if_way-returns-clause-goes
-if_way-returns-clause-goes t c =
-    let test = test_tree c.args.test.now in
-    let passed : WayOrFault = Ok (On (where_false c.args.state.now test)) in
-    let first = c.in_ok-first.ensures in
-    Goes-along c.join.result c.join.new.state _ _
-    (ap (λ (r : WayOrFault). join_ways c.args.line r passed) first.3)
-    (c.join.ensures.goes first.0 passed first.1 first.2 (ap (λ (s : RegionState). Ok (On s)) (sym first.4)))
+pub then_way-take_else-requires-clause-long : goal.then_way-take_else-requires-clause-long
+then_way-take_else-requires-clause-long t c =
+    let saved = c.in-Ok.ensures.before in
+    let names = ap names_of c.in-Ok.ensures.after ∙ where_true_names c.args.state.now (test_tree c.args.test.now) in
+    if_ok_weaker c.block_way-first.result (λ w e. saved.0 ∙ ap length (sym (e ∙ names))) c.block_way-first.ensures.names
 
-pub if_way-returns-clause-names : goal.if_way-returns-clause-names
-if_way-returns-clause-names t c =
-    let first = c.in_ok-first.ensures in
-    if_ok_weaker c.join.result
-    (λ w e. e ∙ first.2 ∙ ap names_of first.4 ∙ where_false_names c.args.state.now (test_tree c.args.test.now))
-    (c.join.ensures.names first.0 first.1 first.2)
+pub then_way-take_else-requires-clause-counted : goal.then_way-take_else-requires-clause-counted
+then_way-take_else-requires-clause-counted t c = c.in-Ok.ensures.before.2
 
-pub if_else_way-block_way-second-requires : goal.if_else_way-block_way-second-requires
-if_else_way-block_way-second-requires t c = (
+pub then_way-returns-in-Err : goal.then_way-returns-in-Err
+then_way-returns-in-Err t c = rw c.in-Err.ensures.memory tt
+
+-- ---- second branches
+
+pub other_way-block_way-second-requires : goal.other_way-block_way-second-requires
+other_way-block_way-second-requires t c = (
   search rules,
-  subst (λ (names : List Identifier). DeclareNew names (block_tree c.args.otherwise.now))
-      (sym (ap names_of (c.in_ok-first.ensures).4 ∙ where_false_names c.args.state.now (test_tree c.args.test.now))) c.requires.otherwise,
+  subst (λ (r : Result Branch CheckFault). IfOk r (λ _. DeclareNew (names_of c.args.state.now) (block_tree c.args.block.now))) c.in-Ok.is c.requires.new,
 )
 
-pub if_else_way-returns-clause-goes : goal.if_else_way-returns-clause-goes
-if_else_way-returns-clause-goes t c =
-    let now = c.args.state.now in
-    let test = test_tree c.args.test.now in
-    let otherwise = block_tree c.args.otherwise.now in
-    let passed = way_of_block now (where_false now test) otherwise in
-    let first = c.in_ok-first.ensures in
-    Goes-along c.join.result c.join.new.state _ _
-    (ap (λ (r : WayOrFault). join_ways c.args.line r passed) first.3)
-    (c.join.ensures.goes first.0 passed first.1
-    (if_ok_weaker c.block_way-second.result (λ w e. first.2 ∙ sym e) c.block_way-second.ensures.names)
-    (Goes-along c.block_way-second.result c.block_way-second.new.state _ _
-    (ap (λ (s : RegionState). way_of_block now s otherwise) (sym first.4))
-    (c.block_way-second.ensures.goes now (sym (ap names_of first.4 ∙ where_false_names now test)))))
+pub other_way-join-requires-clause-long : goal.other_way-join-requires-clause-long
+other_way-join-requires-clause-long t c =
+    let first = subst (λ (r : Result Branch CheckFault). Awaits r c.args.state.now) c.in-Ok.is c.requires.saved in
+    if_ok_weaker c.block_way-second.result (λ w e. first.1.0 ∙ ap length (first.2 ∙ sym e)) c.block_way-second.ensures.names
 
-pub if_else_way-returns-clause-names : goal.if_else_way-returns-clause-names
-if_else_way-returns-clause-names t c =
-    let first = c.in_ok-first.ensures in
-    if_ok_weaker c.join.result
-    (λ w e. e ∙ first.2 ∙ ap names_of first.4 ∙ where_false_names c.args.state.now (test_tree c.args.test.now))
+pub other_way-join-requires-clause-counted : goal.other_way-join-requires-clause-counted
+other_way-join-requires-clause-counted t c =
+    (subst (λ (r : Result Branch CheckFault). Awaits r c.args.state.now) c.in-Ok.is c.requires.saved).1.2
+
+pub other_way-returns-in-Ok-clause-names : goal.other_way-returns-in-Ok-clause-names
+other_way-returns-in-Ok-clause-names t c = λ names same.
+    let now = c.args.state.now in
+    let first = subst (λ (r : Result Branch CheckFault). Awaits r now) c.in-Ok.is c.requires.saved in
+    let named = subst (λ (r : Result Branch CheckFault). IfOk r (λ _. names_of now ≡ names)) c.in-Ok.is same in
+    if_ok_weaker c.join.result (λ w e. e ∙ first.2 ∙ named)
     (c.join.ensures.names first.0 first.1 (if_ok_weaker c.block_way-second.result (λ w e. first.2 ∙ sym e) c.block_way-second.ensures.names))
 
--- ---- loops
+pub other_way-returns-in-Err-clause-goes : goal.other_way-returns-in-Err-clause-goes
+other_way-returns-in-Err-clause-goes t c = λ outer expected other same is.
+    first_stops c.args.line expected (way_of_block outer other (block_tree c.args.block.now)) c.in-Err.e
+    (subst (λ (r : Result Branch CheckFault). Branches r c.args.state.now expected other) c.in-Err.is is)
 
-pub while_way-returns-clause-goes : goal.while_way-returns-clause-goes
-while_way-returns-clause-goes t c =
+pub other_way-returns-in-Err-clause-names : goal.other_way-returns-in-Err-clause-names
+other_way-returns-in-Err-clause-names t c = λ names same. tt
+
+pub other_way-returns-in-Ok-clause-goes : goal.other_way-returns-in-Ok-clause-goes
+other_way-returns-in-Ok-clause-goes t c = λ outer expected other same is.
     let now = c.args.state.now in
-    let turn = way_of_block now now (block_tree c.args.body.now) in
+    let block = block_tree c.args.block.now in
+    let second = way_of_block outer other block in
+    let first = subst (λ (r : Result Branch CheckFault). Branches r now expected other) c.in-Ok.is is in
     Goes-along c.join.result c.join.new.state _ _
-    (turn_is_join c.args.line now turn)
-    (c.join.ensures.goes now turn c.in_ok-known.ensures
-    (if_ok_weaker c.block_way-turn.result (λ w e. sym e) c.block_way-turn.ensures.names)
-    (c.block_way-turn.ensures.goes now refl))
+    (ap (λ (r : WayOrFault). join_ways c.args.line r second) first.3)
+    (c.join.ensures.goes first.0 second first.1
+    (if_ok_weaker c.block_way-second.result (λ w e. first.2 ∙ sym e) c.block_way-second.ensures.names)
+    (Goes-along c.block_way-second.result c.block_way-second.new.state _ _
+    (ap (λ (s : RegionState). way_of_block outer s block) (sym first.4))
+    (c.block_way-second.ensures.goes outer (same ∙ ap names_of (sym first.4)))))
+
+-- ---- statements with blocks
+
+pub inner_way-returns-in-If-clause-goes : goal.inner_way-returns-in-If-clause-goes
+inner_way-returns-in-If-clause-goes t c =
+    let now = c.args.state.now in
+    Goes-along c.one_way.result c.one_way.new.state _ _
+    (ap (λ (f : FormInMemory). inner_way now (form_tree c.args.line f)) c.in-If.is)
+    (c.one_way.ensures.goes _ (where_false now (test_tree c.in-If.test)) c.then_way-first.ensures)
+
+pub inner_way-returns-in-If-clause-names : goal.inner_way-returns-in-If-clause-names
+inner_way-returns-in-If-clause-names t c =
+    let now = c.args.state.now in
+    if_ok_weaker c.one_way.result
+    (λ w e. e ∙ sym (append-nil (names_of now)) ∙ ap (λ (f : FormInMemory). names_of now ++ own_names (form_tree c.args.line f)) (sym c.in-If.is))
+    (c.one_way.ensures.names (names_of now) (passed_names c.then_way-first.result c.then_way-first.new.state now (test_tree c.in-If.test) _ c.then_way-first.ensures))
+
+pub inner_way-other_way-requires : goal.inner_way-other_way-requires
+inner_way-other_way-requires t c =
+    let now = c.args.state.now in
+    let first = c.then_way-first-in-IfElse in
+    let test = test_tree c.in-IfElse.test in
+    let otherwise = block_tree c.in-IfElse.d in
+    let new = (subst (λ (f : FormInMemory). DeclaresNew (names_of now) (form_tree c.args.line f)) c.in-IfElse.is c.requires).1 in (
+      search (rules, the_lemmas),
+      (
+        branch_awaits first.result first.new.state (where_false now test) _ first.ensures,
+        if_ok_weaker first.result
+            (λ w same. subst (λ (names : List Identifier). DeclareNew names otherwise) (sym same) new)
+            (passed_names first.result first.new.state now test _ first.ensures),
+      ),
+    )
+
+pub inner_way-returns-in-IfElse-clause-goes : goal.inner_way-returns-in-IfElse-clause-goes
+inner_way-returns-in-IfElse-clause-goes t c =
+    let now = c.args.state.now in
+    let test = test_tree c.in-IfElse.test in
+    Goes-along c.other_way.result c.other_way.new.state _ _
+    (ap (λ (f : FormInMemory). inner_way now (form_tree c.args.line f)) c.in-IfElse.is)
+    (c.other_way.ensures.goes now _ (where_false now test) (sym (where_false_names now test)) c.then_way-first-in-IfElse.ensures)
+
+pub inner_way-returns-in-IfElse-clause-names : goal.inner_way-returns-in-IfElse-clause-names
+inner_way-returns-in-IfElse-clause-names t c =
+    let now = c.args.state.now in
+    let first = c.then_way-first-in-IfElse in
+    if_ok_weaker c.other_way.result
+    (λ w e. e ∙ sym (append-nil (names_of now)) ∙ ap (λ (f : FormInMemory). names_of now ++ own_names (form_tree c.args.line f)) (sym c.in-IfElse.is))
+    (c.other_way.ensures.names (names_of now) (passed_names first.result first.new.state now (test_tree c.in-IfElse.test) _ first.ensures))
+
+pub inner_way-returns-in-While-clause-goes : goal.inner_way-returns-in-While-clause-goes
+inner_way-returns-in-While-clause-goes t c =
+    let now = c.args.state.now in
+    Goes-along c.other_way-in-While.result c.other_way-in-While.new.state _ _
+    (ap (λ (f : FormInMemory). inner_way now (form_tree c.args.line f)) c.in-While.is ∙ turn_is_join c.args.line now (way_of_block now now (block_tree c.in-While.b)))
+    (c.other_way-in-While.ensures.goes now (Ok (On now)) now refl c.no_turn-before.ensures)
+
+pub inner_way-returns-in-While-clause-names : goal.inner_way-returns-in-While-clause-names
+inner_way-returns-in-While-clause-names t c =
+    let now = c.args.state.now in
+    if_ok_weaker c.other_way-in-While.result
+    (λ w e. e ∙ sym (append-nil (names_of now)) ∙ ap (λ (f : FormInMemory). names_of now ++ own_names (form_tree c.args.line f)) (sym c.in-While.is))
+    (c.other_way-in-While.ensures.names (names_of now) (if_ok_always c.no_turn-before.result (λ b. refl)))
+
+pub inner_way-then_way-first-requires : goal.inner_way-then_way-first-requires
+inner_way-then_way-first-requires t c = (
+  search (rules, the_lemmas),
+  subst (λ (f : FormInMemory). DeclaresNew (names_of c.args.state.now) (form_tree c.args.line f)) c.in-If.is c.requires,
+)
+
+pub inner_way-one_way-requires : goal.inner_way-one_way-requires
+inner_way-one_way-requires t c =
+    let first = c.then_way-first in
+    branch_awaits first.result first.new.state (where_false c.args.state.now (test_tree c.in-If.test)) _ first.ensures
+
+pub inner_way-then_way-first-requires-in-IfElse : goal.inner_way-then_way-first-requires-in-IfElse
+inner_way-then_way-first-requires-in-IfElse t c = (
+  search (rules, the_lemmas),
+  (subst (λ (f : FormInMemory). DeclaresNew (names_of c.args.state.now) (form_tree c.args.line f)) c.in-IfElse.is c.requires).0,
+)
+
+pub inner_way-other_way-requires-in-While : goal.inner_way-other_way-requires-in-While
+inner_way-other_way-requires-in-While t c =
+    let now = c.args.state.now in
+    let new = subst (λ (f : FormInMemory). DeclaresNew (names_of c.args.state.now) (form_tree c.args.line f)) c.in-While.is c.requires in (
+      search (rules, the_lemmas),
+      (branch_awaits c.no_turn-before.result now now _ c.no_turn-before.ensures, if_ok_always c.no_turn-before.result (λ b. new)),
+    )

@@ -1,4 +1,4 @@
-use Rattle.std.proofs.Common.{◌≡◌, ◌+◌, ◌*◌, max, drop, length}
+use Rattle.std.proofs.Common.{◌≡◌, ◌+◌, ◌*◌, drop, length}
 use Rattle.syntax.specs.declared.stmt.Stmt.{size-Stmt}
 use Rattle.syntax.specs.declared.stmt.Form.{size-Form}
 use Rattle.syntax.specs.declared.stmt.Block.{out-Block, size-Block}
@@ -33,11 +33,5 @@ decreases-inner_way l = 4 * size-Form l.form.now
 abbrev pub decreases-then_way : goal.decreases-then_way
 decreases-then_way l = 4 * size-Block l.then.now + 1
 
-abbrev pub decreases-if_way : goal.decreases-if_way
-decreases-if_way l = 4 * size-Block l.then.now + 2
-
-abbrev pub decreases-if_else_way : goal.decreases-if_else_way
-decreases-if_else_way l = 4 * max (size-Block l.then.now) (size-Block l.otherwise.now) + 2
-
-abbrev pub decreases-while_way : goal.decreases-while_way
-decreases-while_way l = 4 * size-Block l.body.now + 1
+abbrev pub decreases-other_way : goal.decreases-other_way
+decreases-other_way l = 4 * size-Block l.block.now + 1
