@@ -1,7 +1,7 @@
 -- What the rules on sorts say of a unit's names: none that is in scope is declared again.
-use Rattle.std.proofs.Common.{◌≡◌, Bool, true, false, ◌||◌, List, [], ◌∷◌, ◌++◌, map, Option, Some, None, refl, sym, ap₂, ◌∙◌, bytes_eq}
+use Rattle.std.proofs.Common.{◌≡◌, true, false, ◌||◌, List, [], ◌∷◌, ◌++◌, map, Option, Some, None, refl, sym, ap₂, ◌∙◌, bytes_eq}
 use Rattle.std.specs.Prelude.{filter_map, flat_map}
-use Rattle.std.specs.List.{AllByRecursion, IsDistinct, list_any, cons_option}
+use Rattle.std.specs.List.{AllByRecursion, IsDistinct, cons_option}
 use Rattle.std.proofs.lemmas.List.Folds.{list_any-append}
 use Rattle.std.proofs.lemmas.Map.Keys.{IsDistinct-cons}
 use Rattle.base.specs.Bytes.{Identifier}
@@ -9,7 +9,7 @@ use Rattle.base.specs.Options.{some_passes}
 use Rattle.syntax.specs.Parts.{line_of, statements_of, statements_within, declared_name, names_declared, parameter_names}
 use Rattle.syntax.specs.Tree.{ResultType, Void, ParameterType, IntParameter, ReferenceParameter, Parameter, ReferenceVariable, Stmt, Declare, DeclareBuffer, DeclareChars, If, IfElse, While, Block, End, Next, Function, Item, StaticItem, FunctionItem, SourceUnit}
 use Rattle.sorts.specs.Sorts.{Scope, Ref, Global}
-use Rattle.sorts.specs.SortRules.{SortRule, UnknownName, DeclaredTwice, SortMisfit, UnknownFunction, ArgumentCount, ReferenceCopied, BadMode, ReadOnlyWrite, sort_rules, Place, StaticForm, HeadForm, StatementForm, has_name, has_repeated, breaks, broken_at, places_within, places_of, function_places, item_places, with_declared, parameter_sort, IsSorted}
+use Rattle.sorts.specs.SortRules.{Place, StaticForm, HeadForm, StatementForm, has_name, has_repeated, broken_at, places_within, places_of, function_places, item_places, with_declared, parameter_sort, IsSorted}
 use Rattle.region_states.specs.NewNames.{own_names, AreNew, DeclaresNew, DeclareNew, DeclaresOnce, ItemOnce}
 use Rattle.region_rules.specs.RegionStates.{ReferenceAt, parameter_state, state_at_entry}
 use Rattle.region_states.specs.SameStates.{NamedState}

@@ -1,5 +1,5 @@
 -- What the loop over the statements of a block keeps.
-use Rattle.std.proofs.Common.{◌≡◌, ℕ, zero, suc, ◌-◌, ◌<◌, ◌≤◌, Bool, true, false, not, ◌&&◌, List, [], ◌∷◌, ◌++◌, length, Result, Ok, Err, refl, sym, ap, ◌∙◌, arith, add-one}
+use Rattle.std.proofs.Common.{◌≡◌, ℕ, zero, suc, ◌-◌, ◌<◌, ◌≤◌, Bool, true, false, List, [], ◌∷◌, ◌++◌, length, Result, Ok, Err, refl, sym, ap, ◌∙◌, arith, add-one}
 use Rattle.scan.specs.declared.token.Mark.TheVariants as marks
 use Rattle.syntax.specs.Tree.{Block, End, Next}
 use Rattle.syntax.specs.declared.stmt.Stmt.{Stmt as StmtInMemory}
@@ -11,7 +11,6 @@ use Rattle.lexemes.specs.declared.first.Fixed.TheVariants as fixed
 use Rattle.lexemes.specs.Results.{◌>>=◌, Fails}
 use Rattle.lexemes.specs.Lexemes.{Lexed, line_at, fault_at}
 use Rattle.lexemes.specs.Reading.{starts_with, rest_of}
-use Rattle.statements.specs.Steps.{end_at}
 use Rattle.statements.specs.Reading.{is_return, ReadBlock, block_by, inner, statement_at, block_at}
 use Rattle.statements.proofs.Nested.{statement_takes}
 
@@ -36,12 +35,6 @@ before_end (s ∷ ss) line = ap (λ (c : Block). Next (stmt_tree s) c) (before_e
 
 abbrev pub with_before : List StmtInMemory → Result ReadBlock ParseFault → Result ReadBlock ParseFault
 with_before ss read = read >>= λ b. Ok (before ss b.0, b.1, b.2)
-
--- what it means that one more statement may come
-pub neither : (closes was result : Bool) → result ≡ not closes && not was → result ≡ true → (closes ≡ false) × (was ≡ false)
-neither false false result is more = (refl, refl)
-neither false true result is more = absurd (cc)
-neither true was result is more = absurd (cc)
 
 -- What is read from here, after the statements so far, is all that is read.
 pub record Fills (room free : ℕ) (ss : List StmtInMemory) (returned : Bool) (ls : List Lexed) (total : Result ReadBlock ParseFault) : Type 0 where
@@ -96,13 +89,3 @@ module _ (room free : ℕ) (ss : List StmtInMemory) (returned : Bool) (ls : List
       go (suc steps) enough same =
           let one : with_before ss (block_by (inner room) room free (suc (suc steps)) returned ls) ≡ with_before (ss ++ s ∷ []) (block_by (inner room) room left (suc steps) now_returned after) = rw (no_close, r, h, is) (sym (regroup ss s (block_by (inner room) room left (suc steps) (is_return (stmt_tree s)) after))) in
           record { steps = steps; enough = omega (arith, short); same = sym one ∙ same }
-
-  -- nothing more may come
-  pub fills_ends : not (starts_with (fixed.Mark marks.CloseBrace) ls) && not returned ≡ false → total ≡ end_at ss free ls
-  fills_ends over =
-      go (starts_with (fixed.Mark marks.CloseBrace) ls) returned refl refl over
-    where
-      go : (closes was : Bool) → starts_with (fixed.Mark marks.CloseBrace) ls ≡ closes → returned ≡ was → not closes && not was ≡ false → total ≡ end_at ss free ls
-      go true was closes is over = rw closes (fills_done closes)
-      go false true closes is over = rw closes (fills_refuses closes is)
-      go false false closes is over = absurd (cc)

@@ -4,14 +4,13 @@ use Rattle.base.specs.Bytes.{Identifier}
 use Rattle.scan.specs.declared.token.Mark.TheVariants as marks
 use Rattle.scan.specs.declared.reserved.Word.TheVariants as words
 use Rattle.syntax.specs.Tree.{Expr, AssignElement, Test, Stmt, If, IfElse, While, Block}
-use Rattle.syntax.specs.declared.stmt.Stmt.{Stmt as StmtInMemory}
-use Rattle.syntax.specs.Views.{expr_tree, test_tree, statements_tree}
-use Rattle.lexemes.specs.declared.fault.Fault.TheVariants.{NoForm, TooHigh}
+use Rattle.syntax.specs.Views.{expr_tree, test_tree}
+use Rattle.lexemes.specs.declared.fault.Fault.TheVariants.{TooHigh}
 use Rattle.lexemes.specs.declared.fault.ParseFault.{ParseFault}
 use Rattle.lexemes.specs.Results.{◌>>=◌}
 use Rattle.lexemes.specs.declared.first.Fixed.{Fixed}
 use Rattle.lexemes.specs.declared.first.Fixed.TheVariants as fixed
-use Rattle.lexemes.specs.Lexemes.{Lexed, expect, name_at, line_at, fault_at}
+use Rattle.lexemes.specs.Lexemes.{Lexed, expect, name_at, fault_at}
 use Rattle.lexemes.specs.Reading.{number_at, starts_with, rest_of}
 use Rattle.expressions.specs.Reading.{expr_at}
 use Rattle.statements.specs.declared.statements.Head.{Head as InMemory}
@@ -97,17 +96,8 @@ nested_made line (WhileHead test) body other = While line test body
 nested_made line (IfHead test) body None = If line test body
 nested_made line (IfHead test) body (Some other) = IfElse line test body other
 
-abbrev pub StmtRead : Type 0
-StmtRead = Stmt × ℕ × List Lexed
-
 abbrev pub BlockRead : Type 0
 BlockRead = Block × ℕ × List Lexed
-
--- the end of a block of these statements, where its closing brace comes next
-abbrev pub end_at : List StmtInMemory → (free : ℕ) → List Lexed → Result BlockRead ParseFault
-end_at statements free ls =
-    if starts_with (fixed.Mark marks.CloseBrace) ls then Ok (statements_tree statements (line_at ls), free, rest_of ls)
-    else Err (fault_at NoForm ls)
 
 abbrev pub OtherRead : Type 0
 OtherRead = Option Block × ℕ × List Lexed

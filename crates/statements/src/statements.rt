@@ -1,15 +1,13 @@
 //! Statements and blocks (ISO/IEC 9899:1999, 6.8).
 
-ghost use Rattle.std.specs.Prelude.{◌≡◌, ◌≤◌, ◌&&◌, not, false, ℕ, [], ◌∷◌, ◌++◌, Result, Ok, IfOk, IfErr, IfSome};
+ghost use Rattle.std.specs.Prelude.{◌≡◌, ◌≤◌, ℕ, Result, IfOk, IfSome};
 ghost use Rattle.std.specs.Option.{option_map};
 ghost use Rattle.syntax.specs.Views.{expr_tree, test_tree, stmt_tree, block_tree};
 ghost use Rattle.lexemes.specs.declared.fault.ParseFault.{ParseFault};
-ghost use Rattle.lexemes.specs.Results.{Gives, Fails};
-ghost use Rattle.lexemes.specs.Reading.{starts_with};
-ghost use Rattle.syntax.specs.declared.stmt.Stmt.{Stmt as StmtInMemory};
+ghost use Rattle.lexemes.specs.Results.{Gives};
 ghost use Rattle.lexemes.specs.Lexemes.{views};
 ghost use Rattle.expressions.specs.Steps.{made_of, two};
-ghost use Rattle.statements.specs.Steps.{ReadTest, StmtRead, WaysRead, OtherRead, BlockRead, end_at, head_view, nested_head_at, starts_nested, takes_other, nested_made, nested_of, both_of, second_of, other_at, ways_at};
+ghost use Rattle.statements.specs.Steps.{ReadTest, WaysRead, OtherRead, BlockRead, head_view, nested_head_at, starts_nested, takes_other, nested_made, nested_of, both_of, second_of, other_at, ways_at};
 ghost use Rattle.statements.specs.Reading.{simple_at, inner, if_test_at, while_test_at, is_return, statement_at, block_at};
 
 use crate::declarations::{declared, starts_declaration};
@@ -268,79 +266,6 @@ fn statement(
     nested(line_at(lexemes), head, ways)
 }
 
-/// The statements of a block that were read so far.
-#[derive(Drop)]
-struct Filled<'t> {
-    statements: Vec<Stmt>,
-    /// How many more names may be declared after them.
-    free: usize,
-    /// Whether the last one is a return.
-    returned: bool,
-    /// What comes after them.
-    rest: Cursor<'t>,
-}
-
-/// A block of which nothing is read yet.
-#[inline]
-fn start(alloc: Global, free: usize, lexemes: Cursor<'_>) -> Filled<'_>
-    ensures statements { result.statements.items ≡ [] }
-    ensures free { result.free ≡ free }
-    ensures returned { result.returned ≡ false }
-    ensures rest { views result.rest ≡ views lexemes.entry }
-{
-    Filled {
-        statements: Vec::new(alloc),
-        free,
-        returned: false,
-        rest: lexemes,
-    }
-}
-
-/// Whether one more statement may come, before the closing brace and after no return.
-#[inline]
-fn goes_on(filled: &Filled<'_>) -> bool
-    ensures { result ≡ not (starts_with (Fixed.Mark Mark.CloseBrace) (views filled.now.rest)) && not filled.now.returned }
-{
-    !starts_with(Fixed::Mark(Mark::CloseBrace), filled.rest) && !filled.returned
-}
-
-/// One more statement, if it could be read.
-#[inline]
-fn add<'t>(
-    filled: &mut Filled<'t>,
-    read: Result<ReadStmt<'t>, ParseFault>,
-) -> Result<(), ParseFault>
-    ensures added { (from : Result StmtRead ParseFault) → Gives (λ x. (stmt_tree x.0, x.1, views x.2)) read.entry from → IfOk result (λ _. (stmt : StmtInMemory) × (from ≡ Ok (stmt_tree stmt, filled.new.free, views filled.new.rest)) × (filled.new.statements.items ≡ filled.old.statements.items ++ stmt ∷ []) × (filled.new.returned ≡ is_return (stmt_tree stmt))) }
-    ensures fails { (from : Result StmtRead ParseFault) → Gives (λ x. (stmt_tree x.0, x.1, views x.2)) read.entry from → IfErr result (λ fault. Fails fault from) }
-{
-    match read {
-        Ok((stmt, free, rest)) => {
-            filled.returned = is_return(&stmt);
-            filled.free = free;
-            filled.rest = rest;
-            filled.statements.push(stmt)?;
-            Ok(())
-        }
-        Err(fault) => Err(fault),
-    }
-}
-
-/// The block of these statements, where its closing brace comes next.
-#[inline]
-fn end(filled: Filled<'_>) -> Result<ReadBlock<'_>, ParseFault>
-    ensures { Gives (λ x. (block_tree x.0, x.1, views x.2)) result (end_at filled.entry.statements.items filled.entry.free (views filled.entry.rest)) }
-{
-    let rest = filled.rest;
-    if !starts_with(Fixed::Mark(Mark::CloseBrace), rest) {
-        return Err(unexpected(rest));
-    }
-    let block = Block {
-        statements: filled.statements,
-        end_line: line_at(rest),
-    };
-    Ok((block, filled.free, rest_of(rest)))
-}
-
 /// Statements up to the closing brace, where `names` more names may be declared.
 #[cycle(blocks)]
 pub fn block(
@@ -352,10 +277,24 @@ pub fn block(
     requires { room ≤ 32 }
     ensures { Gives (λ x. (block_tree x.0, x.1, views x.2)) result (block_at room names (views lexemes.entry)) }
 {
-    let mut filled = start(alloc, names, lexemes);
-    'statements: while goes_on(&filled) {
-        let read = statement(alloc, room, filled.free, filled.rest);
-        add(&mut filled, read)?;
+    let mut statements = Vec::new(alloc);
+    let mut rest = lexemes;
+    let mut free = names;
+    let mut returned = false;
+    'statements: while !starts_with(Fixed::Mark(Mark::CloseBrace), rest) {
+        if returned {
+            return Err(unexpected(rest));
+        }
+        let (stmt, left, after) = statement(alloc, room, free, rest)?;
+        returned = is_return(&stmt);
+        free = left;
+        statements.push(stmt)?;
+        rest = after;
     }
-    end(filled)
+    let end_line = line_at(rest);
+    let block = Block {
+        statements,
+        end_line,
+    };
+    Ok((block, free, rest_of(rest)))
 }

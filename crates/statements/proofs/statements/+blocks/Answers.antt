@@ -1,48 +1,37 @@
 use Rattle.std.proofs.Common.{◌-◌, sym, ◌∙◌}
 use Rattle.std.proofs.lemmas.Result.{err_from_is_err_and}
 use Rattle.syntax.specs.Views.{stmt_tree, block_tree}
-use Rattle.scan.specs.declared.token.Mark.TheVariants as marks
-use Rattle.lexemes.specs.declared.first.Fixed.TheVariants as fixed
-use Rattle.lexemes.specs.Reading.{starts_with}
-use Rattle.lexemes.specs.Lexemes.{views}
+use Rattle.syntax.proofs.Blocks.{block_made}
+use Rattle.lexemes.specs.Lexemes.{line_at, views}
 use Rattle.statements.specs.Steps.{head_view, takes_other, ways_at, other_at}
 use Rattle.statements.specs.Reading.{inner, block_at}
 use Rattle.statements.proofs.Ways.{statement_fails, statement_simple, statement_nested, ways_fail, ways_on, other_fails, other_on}
 use Rattle.statements.proofs.Nested.{statement_takes}
-use Rattle.statements.proofs.Blocks.{neither, fills_start, fills_ends, fills_fails, fills_on}
+use Rattle.statements.proofs.Blocks.{fills_start, fills_done, fills_refuses, fills_fails, fills_on}
 use Rattle.statements.proofs.statements.+blocks.Goals as goal
 
 pub block-statements-init : goal.block-statements-init
-block-statements-init t c =
-    let s = c.start-filled.ensures in
-    rw (s.statements, s.free, s.returned, s.rest) (fills_start c.args.room c.args.names (views c.args.lexemes))
+block-statements-init t c = rw c.new-statements.ensures.items (fills_start c.args.room c.args.names (views c.args.lexemes))
 
-pub block-returns-in_err-add : goal.block-returns-in_err-add
-block-returns-in_err-add t c =
-    let f = c.statements.filled in
+pub block-returns-then-returned : goal.block-returns-then-returned
+block-returns-then-returned t c =
+    rw c.unexpected.ensures (fills_refuses c.args.room c.statements.free c.statements.statements.items c.statements.returned (views c.statements.rest) (block_at c.args.room c.args.names (views c.args.lexemes)) c.statements.invariant (sym c.starts_with.ensures ∙ c.statements-test.true) c.if-returned.true)
+
+pub block-returns-in_err-stmt : goal.block-returns-in_err-stmt
+block-returns-in_err-stmt t c =
     let p = err_from_is_err_and c.from_residual.result c.from_residual.ensures.1 in
-    let more = neither (starts_with (fixed.Mark marks.CloseBrace) (views f.rest)) f.returned c.goes_on.result c.goes_on.ensures c.statements-test.true in
-    rw (p.1, p.2) (fills_fails c.args.room f.free f.statements.items f.returned (views f.rest) (block_at c.args.room c.args.names (views c.args.lexemes)) c.statements.invariant c.in_err-add.field-0.0 more.0 more.1 (c.in_err-add.ensures.fails _ c.statement-read.ensures))
+    rw (p.1, p.2) (fills_fails c.args.room c.statements.free c.statements.statements.items c.statements.returned (views c.statements.rest) (block_at c.args.room c.args.names (views c.args.lexemes)) c.statements.invariant c.in_err-stmt.field-0.0 (sym c.starts_with.ensures ∙ c.statements-test.true) c.if-returned.false c.in_err-stmt.ensures)
 
 pub block-statements-smaller : goal.block-statements-smaller
-block-statements-smaller t c =
-    let f = c.statements.filled in
-    let new = c.add.new.filled in
-    let a = c.in_ok-add.ensures.added _ c.statement-read.ensures in
-    (statement_takes c.args.room f.free (views f.rest) (stmt_tree a.0, new.free, views new.rest) a.1).shorter
+block-statements-smaller t c = (statement_takes c.args.room c.statements.free (views c.statements.rest) (stmt_tree c.in_ok-stmt.stmt, c.in_ok-stmt.left, views c.in_ok-stmt.after) c.in_ok-stmt.ensures).shorter
 
 pub block-statements-preserved : goal.block-statements-preserved
 block-statements-preserved t c =
-    let f = c.statements.filled in
-    let new = c.add.new.filled in
-    let a = c.in_ok-add.ensures.added _ c.statement-read.ensures in
-    let more = neither (starts_with (fixed.Mark marks.CloseBrace) (views f.rest)) f.returned c.goes_on.result c.goes_on.ensures c.statements-test.true in
-    rw a.2 (fills_on c.args.room f.free f.statements.items f.returned (views f.rest) (block_at c.args.room c.args.names (views c.args.lexemes)) c.statements.invariant a.0 new.free new.returned (views new.rest) more.0 more.1 a.1 a.3)
+    rw c.in_ok-push.ensures.items (fills_on c.args.room c.statements.free c.statements.statements.items c.statements.returned (views c.statements.rest) (block_at c.args.room c.args.names (views c.args.lexemes)) c.statements.invariant c.in_ok-stmt.stmt c.in_ok-stmt.left c.is_return-returned.result (views c.in_ok-stmt.after) (sym c.starts_with.ensures ∙ c.statements-test.true) c.if-returned.false c.in_ok-stmt.ensures c.is_return-returned.ensures)
 
 pub block-returns : goal.block-returns
 block-returns t c =
-    let f = c.statements.filled in
-    rw (fills_ends c.args.room f.free f.statements.items f.returned (views f.rest) (block_at c.args.room c.args.names (views c.args.lexemes)) c.statements.invariant (sym c.goes_on.ensures ∙ c.statements-test.false)) c.end.ensures
+    rw (c.line_at-end_line.ensures, c.rest_of.ensures, block_made (record { statements = c.statements.statements; end_line = line_at (views c.statements.rest) })) (fills_done c.args.room c.statements.free c.statements.statements.items c.statements.returned (views c.statements.rest) (block_at c.args.room c.args.names (views c.args.lexemes)) c.statements.invariant (sym c.starts_with.ensures ∙ c.statements-test.false))
 
 pub statement-returns-in_err-head : goal.statement-returns-in_err-head
 statement-returns-in_err-head t c =

@@ -17,7 +17,7 @@ abbrev pub decreases-other_block : goal.decreases-other_block
 decreases-other_block l = 4 * l.room
 
 abbrev pub invariant-block-statements : goal.invariant-block-statements
-invariant-block-statements l = Fills l.room l.filled.free l.filled.statements.items l.filled.returned (views l.filled.rest) (block_at l.room l.names (views l.lexemes))
+invariant-block-statements l = Fills l.room l.free l.statements.items l.returned (views l.rest) (block_at l.room l.names (views l.lexemes))
 
 abbrev pub decreases-block-statements : goal.decreases-block-statements
-decreases-block-statements l = length (views l.filled.rest)
+decreases-block-statements l = length (views l.rest)
