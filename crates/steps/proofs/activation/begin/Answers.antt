@@ -1,4 +1,4 @@
-use Rattle.std.proofs.Common.{◌≡◌, ◌∷◌, false, Option, Some, None, refl, sym, ◌∙◌, rules}
+use Rattle.std.proofs.Common.{◌≡◌, false, drop, Option, Some, None, refl, sym, ◌∙◌}
 use Rattle.std.specs.Prelude.{is_some}
 use Rattle.steps.specs.declared.activation.Activation.{Activation}
 use Rattle.steps.proofs.ActivationLemmas.{begun_first, begun_range}
@@ -12,16 +12,14 @@ no_task (Some x) h = absurd (cc)
 pub returns-clause-tasks : goal.returns-clause-tasks
 returns-clause-tasks c =
     let old = c.args.activation.now in
-    let rest : old.rest.now ≡ c.in-Some.first.now ∷ c.in-Some.after.now = search rules in
-    let new : Activation = record old { task = c.begin_statement.new.place; rest = c.in-Some.after } in
-    begun_first old new c.in-Some.first.now c.in-Some.after.now (no_task old.task (sym c.is_some.ensures ∙ c.if-is_some.false)) rest c.in_ok-begin_statement.ensures refl refl
+    let new : Activation = record old { task = c.begin_statement.new.place; rest = c.skip_first.new.self } in
+    begun_first old new c.in-Some.first.now (drop 1 old.rest) (no_task old.task (sym c.is_some.ensures ∙ c.if-is_some.false)) c.in-Some.ensures.some c.in_ok-begin_statement.ensures c.skip_first.ensures refl
 
 pub returns-clause-range : goal.returns-clause-range
 returns-clause-range c =
     let old = c.args.activation.now in
-    let rest : old.rest.now ≡ c.in-Some.first.now ∷ c.in-Some.after.now = search rules in
-    let new : Activation = record old { task = c.begin_statement.new.place; rest = c.in-Some.after } in
-    begun_range old new c.in-Some.first.now c.in-Some.after.now rest c.requires c.in_ok-begin_statement.ensures refl refl
+    let new : Activation = record old { task = c.begin_statement.new.place; rest = c.skip_first.new.self } in
+    begun_range old new c.in-Some.first.now (drop 1 old.rest) c.in-Some.ensures.some c.requires c.in_ok-begin_statement.ensures c.skip_first.ensures refl
 
 pub returns-clause-begun : goal.returns-clause-begun
 returns-clause-begun c = λ none. absurd (let bad = sym c.in_ok-begin_statement.ensures.is ∙ none in cc)
