@@ -21,8 +21,8 @@ ghost use Rattle.execution.specs.ThreadAgrees.{ThreadAgrees, ThreadsAgree};
 ghost use Rattle.execution.specs.Loading.{IsNumberOf, IsCallOf, IsFirstOf, refused_calls};
 
 use crate::fault::LoadFault;
-use classes::mangling::unmangle;
 use crate::thread::{Ending, PendingCall, Thread};
+use classes::mangling::unmangle;
 use functions::{Functions, NumberedFunction};
 use lowered::Program;
 use std::alloc::{AllocError, Global};

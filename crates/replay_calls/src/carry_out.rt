@@ -11,8 +11,8 @@ ghost use Rattle.replay_calls.specs.Answers.{FitsFrames, answer_view, frames_aft
 ghost use Rattle.terms.specs.Views.{given_view};
 ghost use Rattle.replay_calls.specs.Shares.{shared_view};
 
-use crate::answer::Answer;
 use crate::Shared;
+use crate::answer::Answer;
 use class_table::table::ClassTable;
 use jni::ResultKind;
 use object_store::{Frames, Store, fresh_values};

@@ -13,10 +13,10 @@ ghost use Rattle.terms.specs.declared.term.Term.TheVariants as term;
 ghost use Rattle.terms.specs.declared.value.Value.TheVariants as value;
 
 use crate::step::step;
-use replay_calls::Shared;
 use class_table::table::ClassTable;
 use object_store::Frames;
 use plain_steps::set_variables;
+use replay_calls::Shared;
 use std::alloc::{AllocError, Global};
 use std::mem;
 use syntax::{Block, Expr, Stmt};

@@ -14,14 +14,13 @@ ghost use Rattle.replay_calls.specs.Shares.{shared_view};
 ghost use Rattle.tasks.specs.Tasks.{OperandInRange, OperandsInRange, OutcomeInRange, PurposeInRange};
 ghost use Rattle.terms.specs.Views.{variables_view};
 
-use replay_calls::carry_out::{carry_out, makes_object, put_local, refuse};
-use replay_calls::work_out;
-use replay_calls::Shared;
-use replay_calls::actual::{Actual, actuals};
-use replay_calls::check::check;
 use class_table::table::ClassTable;
 use object_store::Frames;
 use plain_steps::reduced;
+use replay_calls::actual::{Actual, actuals};
+use replay_calls::carry_out::{carry_out, makes_object, put_local, refuse};
+use replay_calls::check::check;
+use replay_calls::{Shared, work_out};
 use std::alloc::{AllocError, Global};
 use tasks::{Invocation, Outcome, Purpose};
 use terms::{Given, Operand, Reduction, Statics, Term, Variables, is_zero, reduce};

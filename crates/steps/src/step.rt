@@ -7,10 +7,10 @@ ghost use Rattle.replay_calls.specs.Shares.{shared_view};
 ghost use Rattle.tasks.specs.Tasks.{TaskInRange, OutcomeInRange};
 
 use crate::invoke::invoke;
-use replay_calls::Shared;
 use class_table::table::ClassTable;
 use object_store::Frames;
 use plain_steps::plain_step;
+use replay_calls::Shared;
 use std::alloc::{AllocError, Global};
 use tasks::{Outcome, Task};
 use terms::Variables;

@@ -55,7 +55,11 @@ pub struct Locals {
 // Written out, and not derived, so that crates above needn't prove it again.
 impl Drop for Locals {
     fn drop(self) {
-        let Locals { levels, slots, total: _ } = self;
+        let Locals {
+            levels,
+            slots,
+            total: _,
+        } = self;
         drop(levels);
         drop(slots);
     }
