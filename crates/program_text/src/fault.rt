@@ -8,7 +8,7 @@ use lower::LowerFault;
 use thiserror::Error;
 
 /// Why a text is refused, or there is no whole report.
-#[derive(Clone, Copy, Debug, Error)]
+#[derive(Clone, Copy, Debug, PartialEq, Eq, Error)]
 pub enum RunError {
     /// Host memory was refused.
     #[error("out of memory")]
