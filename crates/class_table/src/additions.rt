@@ -16,7 +16,6 @@ ghost use Rattle.class_table.specs.Refusals.{rule_view, first_broken, Answers};
 
 use crate::built_ins::{CLASS, STRING};
 use crate::class::{Field, FieldType};
-use crate::entries::{put_class, put_field};
 use crate::fault::{ClassError, ClassRule, FieldError};
 use crate::table::ClassTable;
 use std::alloc::AllocError;
@@ -76,7 +75,7 @@ impl ClassTable {
     {
         let above = self.superclass_for(name, superclass)?;
         let class = self.classes.len() + 1;
-        match put_class(&mut self.classes, name, above) {
+        match self.classes.put_class(name, above) {
             Ok(()) => Ok(class),
             Err(AllocError) => Err(ClassError::Memory),
         }
@@ -149,7 +148,10 @@ impl ClassTable {
         let Some(class) = class else {
             return Err(FieldError::NoClass);
         };
-        match put_field(&mut self.classes, class - 1, name, field_type, is_static) {
+        match self
+            .classes
+            .put_field(class - 1, name, field_type, is_static)
+        {
             Ok(()) => Ok(()),
             Err(AllocError) => Err(FieldError::Memory),
         }

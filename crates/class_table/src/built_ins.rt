@@ -5,11 +5,10 @@ ghost use Rattle.classes.specs.BuiltIns.{array_class, built_ins, number_array};
 ghost use Rattle.class_table.specs.BuiltInList.{listed_field, listed_class, listed_number_array, array_classes, listed_classes, is_class_list};
 ghost use Rattle.class_table.specs.Tables.{names_differ};
 ghost use Rattle.classes.specs.Class.{class_named};
-ghost use Rattle.class_table.specs.Views.{element_view, field_view, kind_view, classes_view};
+ghost use Rattle.class_table.specs.Views.{element_view, field_view, kind_view};
 
 use crate::class::{ClassKind, ElementType, Entry, Field, FieldType};
-use crate::entries::{Entries, array_name, push_field, put};
-use indexmap::IndexMap;
+use crate::entries::{Entries, array_name, push_field};
 use std::alloc::{AllocError, Global};
 
 /// A built-in class, with the number of its superclass and without statics.
@@ -211,20 +210,18 @@ fn copied_fields(alloc: Global, fields: &[BuiltInField]) -> Result<Vec<Field>, A
 
 /// Puts a built-in class after the others.
 fn put_built_in(alloc: Global, classes: &mut Entries, built_in: &BuiltIn) -> Result<(), AllocError>
-    requires { class_named (classes_view classes.old.entries) built_in.now.name.now ≡ None }
-    ensures { OnOk result (classes_view classes.new.entries ≡ classes_view classes.old.entries ++ listed_class built_in.now ∷ []) }
+    requires { class_named (classes.old) built_in.now.name.now ≡ None }
+    ensures { OnOk result (classes.new ≡ classes.old ++ listed_class built_in.now ∷ []) }
 {
-    classes.reserve(1)?;
     let name = Vec::from_slice(alloc, built_in.name)?;
     let fields = copied_fields(alloc, built_in.fields)?;
-    let entry = Entry {
+    classes.put(Entry {
+        name,
         superclass: built_in.superclass,
         kind: ClassKind::Plain,
         fields,
         statics: Vec::new(alloc),
-    };
-    put(classes, name, entry);
-    Ok(())
+    })
 }
 
 /// Puts a class of arrays after the others.
@@ -234,12 +231,10 @@ fn put_array(
     name: Vec<u8>,
     kind: ClassKind,
 ) -> Result<(), AllocError>
-    requires { class_named (classes_view classes.old.entries) name.items ≡ None }
-    ensures { OnOk result (classes_view classes.new.entries ≡ classes_view classes.old.entries ++ array_class name.items (kind_view kind) ∷ []) }
+    requires { class_named (classes.old) name.items ≡ None }
+    ensures { OnOk result (classes.new ≡ classes.old ++ array_class name.items (kind_view kind) ∷ []) }
 {
-    classes.reserve(1)?;
-    put(classes, name, Entry::of_arrays(alloc, kind));
-    Ok(())
+    classes.put(Entry::of_arrays(alloc, name, kind))
 }
 
 /// Puts these built-in classes after the others.
@@ -248,8 +243,8 @@ fn put_built_ins(
     classes: &mut Entries,
     built_ins: &[BuiltIn],
 ) -> Result<(), AllocError>
-    requires { names_differ (classes_view classes.old.entries ++ map listed_class built_ins.now) ≡ true }
-    ensures { OnOk result (classes_view classes.new.entries ≡ classes_view classes.old.entries ++ map listed_class built_ins.now) }
+    requires { names_differ (classes.old ++ map listed_class built_ins.now) ≡ true }
+    ensures { OnOk result (classes.new ≡ classes.old ++ map listed_class built_ins.now) }
 {
     for built_in in built_ins {
         put_built_in(alloc, classes, built_in)?;
@@ -263,8 +258,8 @@ fn put_number_arrays(
     classes: &mut Entries,
     arrays: &[(&[u8], ElementType)],
 ) -> Result<(), AllocError>
-    requires { names_differ (classes_view classes.old.entries ++ map listed_number_array arrays.now) ≡ true }
-    ensures { OnOk result (classes_view classes.new.entries ≡ classes_view classes.old.entries ++ map listed_number_array arrays.now) }
+    requires { names_differ (classes.old ++ map listed_number_array arrays.now) ≡ true }
+    ensures { OnOk result (classes.new ≡ classes.old ++ map listed_number_array arrays.now) }
 {
     for array in arrays {
         let name = Vec::from_slice(alloc, array.0)?;
@@ -279,8 +274,8 @@ fn put_object_arrays(
     classes: &mut Entries,
     built_ins: &[BuiltIn],
 ) -> Result<(), AllocError>
-    requires { names_differ (classes_view classes.old.entries ++ array_classes (map listed_class built_ins.now)) ≡ true }
-    ensures { OnOk result (classes_view classes.new.entries ≡ classes_view classes.old.entries ++ array_classes (map listed_class built_ins.now)) }
+    requires { names_differ (classes.old ++ array_classes (map listed_class built_ins.now)) ≡ true }
+    ensures { OnOk result (classes.new ≡ classes.old ++ array_classes (map listed_class built_ins.now)) }
 {
     for (place, built_in) in built_ins.iter().enumerate() {
         let name = array_name(alloc, built_in.name)?;
@@ -291,9 +286,9 @@ fn put_object_arrays(
 
 /// Puts the classes of the list, in order, and the classes of arrays after them.
 fn put_listed(alloc: Global, classes: &mut Entries, built_ins: &[BuiltIn]) -> Result<(), AllocError>
-    requires empty { classes_view classes.old.entries ≡ [] }
+    requires empty { classes.old ≡ [] }
     requires list { IsTrue (is_class_list built_ins.now) }
-    ensures { OnOk result (classes_view classes.new.entries ≡ listed_classes built_ins.now) }
+    ensures { OnOk result (classes.new ≡ listed_classes built_ins.now) }
 {
     put_built_ins(alloc, classes, built_ins)?;
     put_number_arrays(alloc, classes, &NUMBER_ARRAYS)?;
@@ -303,9 +298,9 @@ fn put_listed(alloc: Global, classes: &mut Entries, built_ins: &[BuiltIn]) -> Re
 /// The classes of the list, in order, with the classes of arrays after them.
 pub(crate) fn listed(alloc: Global, built_ins: &[BuiltIn]) -> Result<Entries, AllocError>
     requires { IsTrue (is_class_list built_ins.now) }
-    ensures { IfOk result (λ classes. classes_view classes.entries ≡ listed_classes built_ins.now) }
+    ensures { IfOk result (λ classes. classes ≡ listed_classes built_ins.now) }
 {
-    let mut classes: Entries = IndexMap::new(alloc);
+    let mut classes = Entries::new(alloc);
     put_listed(alloc, &mut classes, built_ins)?;
     Ok(classes)
 }

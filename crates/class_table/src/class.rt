@@ -47,9 +47,10 @@ pub struct FieldHandle {
     pub is_static: bool,
 }
 
-/// A class but for its name.
+/// A class as a table holds it.
 #[derive(Drop)]
 pub(crate) struct Entry {
+    pub(crate) name: Vec<u8>,
     pub(crate) superclass: Option<usize>,
     pub(crate) kind: ClassKind,
     pub(crate) fields: Vec<Field>,

@@ -33,12 +33,11 @@ impl Model for ClassTable {
 
     ghost Value = { Classes };
 
-    ghost use Rattle.class_table.specs.Views.{classes_view};
     ghost use Rattle.class_table.specs.Tables.{IsTable};
 
-    ghost view = { λ t. classes_view t.classes.entries };
+    ghost view = { λ t. t.classes };
 
-    ghost invariant = { λ t. IsTable (classes_view t.classes.entries) };
+    ghost invariant = { λ t. IsTable t.classes };
 }
 
 impl ClassTable {
@@ -70,30 +69,25 @@ impl ClassTable {
     pub fn find(&self, name: &[u8]) -> Option<usize>
         ensures { result ≡ class_named self.now name.now }
     {
-        // That there are fewer than 2^63 is told here, for the sum.
-        let _ = self.classes.len();
-        match self.classes.get_index_of(name) {
-            Some(place) => Some(place + 1),
-            None => None,
-        }
+        self.classes.find(name)
     }
 
     /// The number of the class of arrays whose elements are of the class of this name.
     pub fn find_array_of(&self, name: &[u8]) -> Result<Option<usize>, AllocError>
         ensures { IfOk result (λ class. class ≡ class_named self.now (array_name name.now)) }
     {
-        let name = array_name(*self.classes.allocator(), name)?;
+        let name = array_name(self.classes.allocator(), name)?;
         Ok(self.find(&name))
     }
 
-    /// The class of a number: its name, and what else is kept of it.
-    pub(crate) fn entry(&self, class: usize) -> Option<(&Vec<u8>, &Entry)>
-        ensures { option_map (λ p. class_view (p.0.now, p.1.now)) result ≡ class_at self.now class }
+    /// The class of a number.
+    pub(crate) fn entry(&self, class: usize) -> Option<&Entry>
+        ensures { option_map (λ e. class_view e.now) result ≡ class_at self.now class }
     {
         if class == 0 {
             return None;
         }
-        self.classes.get_index(class - 1)
+        self.classes.get(class - 1)
     }
 
     /// Its name, which is empty where there is no class of this number.
@@ -101,7 +95,7 @@ impl ClassTable {
         ensures { result.now ≡ class_name self.now class }
     {
         match self.entry(class) {
-            Some((name, _)) => name,
+            Some(entry) => &entry.name,
             None => &[],
         }
     }
@@ -110,7 +104,7 @@ impl ClassTable {
     pub fn superclass(&self, class: usize) -> Option<usize>
         ensures { result ≡ superclass self.now class }
     {
-        let (_, entry) = self.entry(class)?;
+        let entry = self.entry(class)?;
         entry.superclass
     }
 
@@ -119,7 +113,7 @@ impl ClassTable {
         ensures { kind_view result ≡ class_kind self.now class }
     {
         match self.entry(class) {
-            Some((_, entry)) => entry.kind,
+            Some(entry) => entry.kind,
             None => ClassKind::Plain,
         }
     }

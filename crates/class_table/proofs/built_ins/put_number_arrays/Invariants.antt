@@ -1,7 +1,6 @@
 use Rattle.std.proofs.Common.{◌≡◌, ◌++◌, map, take}
 use Rattle.class_table.specs.BuiltInList.{listed_number_array}
-use Rattle.class_table.specs.Views.{classes_view}
 use Rattle.class_table.proofs.built_ins.put_number_arrays.Given as goal
 
 abbrev pub invariant-loop-array : goal.invariant-loop-array
-invariant-loop-array l = classes_view l.classes.entries ≡ classes_view l.initial.classes.entries ++ take l.array-index (map listed_number_array l.arrays)
+invariant-loop-array l = l.classes ≡ l.initial.classes ++ take l.array-index (map listed_number_array l.arrays)

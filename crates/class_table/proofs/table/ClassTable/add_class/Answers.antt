@@ -5,7 +5,6 @@ use Rattle.classes.specs.Additions.{class_breaks}
 use Rattle.classes.specs.Grown.{IsGrown}
 use Rattle.class_table.specs.Refusals.{first_broken}
 use Rattle.class_table.specs.Tables.{IsTable}
-use Rattle.class_table.specs.Views.{classes_view}
 use Rattle.class_table.proofs.AddedClasses.{not_taken, new-array}
 use Rattle.class_table.proofs.ChangedClasses.{after_either}
 use Rattle.class_table.proofs.KeptTables.{added-table, grown-added}
@@ -13,20 +12,20 @@ use Rattle.class_table.proofs.table.ClassTable.add_class.Goals as goal
 
 pub put_class-requires-clause-new_arrays : goal.put_class-requires-clause-new_arrays
 put_class-requires-clause-new_arrays c =
-    let T = classes_view c.self.inside.classes.entries in
+    let T = c.self.inside.classes in
     let new : class_named T c.args.name.now ≡ None = ap (λ t. class_named t c.args.name.now) c.self.view_is ∙ not_taken _ _ c.in_ok-above.ensures.0 in
     new-array T c.args.name.now new c.self.invariant.elements
 
 pub invariant_of-self : goal.invariant_of-self
 invariant_of-self c =
-    let T = classes_view c.self.inside.classes.entries in
+    let T = c.self.inside.classes in
     let right = ap (λ t. first_broken (λ rule. class_breaks rule t c.args.name.now c.args.superclass.now)) c.self.view_is ∙ c.in_ok-above.ensures.0 in
     subst IsTable (sym c.put_class.ensures)
     (after_either IsTable (is_ok c.put_class.result) _ T (added-table T c.args.name.now c.args.superclass.now c.in_ok-above.above c.requires right c.self.invariant) c.self.invariant)
 
 pub returns-clause-grown : goal.returns-clause-grown
 returns-clause-grown c = λ g.
-    let T = classes_view c.self.inside.classes.entries in
+    let T = c.self.inside.classes in
     let right = ap (λ t. first_broken (λ rule. class_breaks rule t c.args.name.now c.args.superclass.now)) c.self.view_is ∙ c.in_ok-above.ensures.0 in
     let above = ap (λ t. class_named t c.args.superclass.now) c.self.view_is ∙ c.in_ok-above.ensures.1 in
     let before = subst IsGrown (sym c.self.view_is) g in

@@ -5,14 +5,14 @@ use Rattle.classes.specs.Class.{Classes}
 use Rattle.classes.specs.Grown.{IsGrown}
 use Rattle.class_table.specs.Refusals.{first_broken}
 use Rattle.class_table.specs.Tables.{IsTable}
-use Rattle.class_table.specs.Views.{classes_view, field_type_view}
+use Rattle.class_table.specs.Views.{field_type_view}
 use Rattle.class_table.proofs.ChangedClasses.{after_either}
 use Rattle.class_table.proofs.KeptTables.{declared-table, grown-declared, named-low}
 use Rattle.class_table.proofs.table.ClassTable.add_field.Goals as goal
 
 pub invariant_of-self : goal.invariant_of-self
 invariant_of-self c =
-    let T = classes_view c.self.inside.classes.entries in
+    let T = c.self.inside.classes in
     let low : 0 < c.in-Some.class = named-low _ c.in-Some.class (sym c.in-Some.ensures) in
     let place : (c.in-Some.class - 1) + 1 ≡ c.in-Some.class = omega arith in
     let broken = λ (t : Classes) (o : Option ℕ). first_broken (λ rule. field_breaks rule t o c.args.name.now c.args.signature.now) in
@@ -26,6 +26,6 @@ pub returns-clause-grown : goal.returns-clause-grown
 returns-clause-grown c = λ g.
     let before = subst IsGrown (sym c.self.view_is) g in
     subst IsGrown (sym c.put_field.ensures)
-    (after_either IsGrown (is_ok c.put_field.result) _ (classes_view c.self.inside.classes.entries)
-    (grown-declared (classes_view c.self.inside.classes.entries) (Some ((c.in-Some.class - 1) + 1)) (record { name = c.args.name.now; type = field_type_view c.in_ok-field_type.field_type }) c.args.is_static before)
+    (after_either IsGrown (is_ok c.put_field.result) _ c.self.inside.classes
+    (grown-declared c.self.inside.classes (Some ((c.in-Some.class - 1) + 1)) (record { name = c.args.name.now; type = field_type_view c.in_ok-field_type.field_type }) c.args.is_static before)
     before)

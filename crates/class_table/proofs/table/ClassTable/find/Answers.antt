@@ -1,17 +1,6 @@
-use Rattle.std.proofs.Common.{◌+◌, ◌∙◌, sym, ap}
-use Rattle.std.specs.Option.{option_map}
+use Rattle.std.proofs.Common.{◌∙◌, ap}
 use Rattle.classes.specs.Class.{class_named}
-use Rattle.class_table.proofs.Places.{class_named-view}
 use Rattle.class_table.proofs.table.ClassTable.find.Goals as goal
 
-pub returns-in-Some : goal.returns-in-Some
-returns-in-Some c =
-    ap (option_map (λ i. i + 1)) (c.in-Some.ensures.index)
-    ∙ sym (class_named-view c.args.name.now c.self.inside.classes.entries)
-    ∙ ap (λ t. class_named t c.args.name.now) c.self.view_is
-
-pub returns-in-None : goal.returns-in-None
-returns-in-None c =
-    ap (option_map (λ i. i + 1)) (c.in-None.ensures.index)
-    ∙ sym (class_named-view c.args.name.now c.self.inside.classes.entries)
-    ∙ ap (λ t. class_named t c.args.name.now) c.self.view_is
+pub returns : goal.returns
+returns c = c.find.ensures ∙ ap (λ t. class_named t c.args.name.now) c.self.view_is
