@@ -6,7 +6,7 @@ ghost use Rattle.std.specs.Option.{option_map};
 ghost use Rattle.std.specs.Vec.{vec_len, vec_capacity};
 ghost use Rattle.classes.specs.Additions.{new_class, with_class};
 ghost use Rattle.classes.specs.BuiltIns.{array_class};
-ghost use Rattle.classes.specs.Class.{class_named, array_name};
+ghost use Rattle.classes.specs.Class.{ArrayOfObjects, class_named, array_name};
 ghost use Rattle.class_table.specs.FieldViews.{with_declared};
 ghost use Rattle.class_table.specs.Tables.{IsIndexed};
 ghost use Rattle.class_table.specs.Views.{class_view, classes_view, field_view, field_type_view, kind_view};
@@ -46,20 +46,52 @@ impl Model for Entries {
     ghost invariant = { λ e. IsIndexed (classes_view e.classes.items) e.numbers };
 }
 
-impl Entry {
-    /// A plain class without fields.
-    fn without_fields(alloc: Global, name: Vec<u8>, superclass: usize) -> Entry
-        ensures { class_view result ≡ new_class name.items (Some superclass) }
+/// A class that is to be put, with a copy of its name.
+#[derive(Drop)]
+struct NewClass {
+    entry: Entry,
+    name: Vec<u8>,
+    ghost same: { name.items ≡ entry.name.items },
+}
+
+impl NewClass {
+    fn of(alloc: Global, entry: Entry) -> Result<NewClass, AllocError>
+        ensures { IfOk result (λ class. class.entry ≡ entry) }
     {
-        Entry {
-            name,
-            superclass: Some(superclass),
-            kind: ClassKind::Plain,
-            fields: Vec::new(alloc),
-            statics: Vec::new(alloc),
-        }
+        let name = Vec::from_slice(alloc, &entry.name)?;
+        Ok(NewClass { entry, name })
     }
 
+    /// A plain class without fields.
+    fn plain(alloc: Global, name: &[u8], superclass: usize) -> Result<NewClass, AllocError>
+        ensures { IfOk result (λ class. class_view class.entry ≡ new_class name.now (Some superclass)) }
+    {
+        let name = Vec::from_slice(alloc, name)?;
+        NewClass::of(
+            alloc,
+            Entry {
+                name,
+                superclass: Some(superclass),
+                kind: ClassKind::Plain,
+                fields: Vec::new(alloc),
+                statics: Vec::new(alloc),
+            },
+        )
+    }
+
+    /// The class of arrays whose elements are of the class of this name and this number.
+    fn arrays_of(alloc: Global, name: &[u8], class: usize) -> Result<NewClass, AllocError>
+        ensures { IfOk result (λ arrays. class_view arrays.entry ≡ array_class (array_name name.now) (ArrayOfObjects class)) }
+    {
+        let name = array_name(alloc, name)?;
+        NewClass::of(
+            alloc,
+            Entry::of_arrays(alloc, name, ClassKind::ArrayOfObjects(class)),
+        )
+    }
+}
+
+impl Entry {
     /// A class of arrays.
     pub(crate) fn of_arrays(alloc: Global, name: Vec<u8>, kind: ClassKind) -> Entry
         ensures { class_view result ≡ array_class name.items (kind_view kind) }
@@ -97,27 +129,21 @@ fn make_room(
     numbers.reserve(more)
 }
 
-/// Puts a class after the others, and a copy of its name into the table by name. There is room for both.
-fn put_in_room(
-    classes: &mut Vec<Entry>,
-    numbers: &mut HashMap<Vec<u8>, usize>,
-    entry: Entry,
-    name: Vec<u8>,
-)
-    requires same { name.items ≡ entry.name.items }
-    requires new { class_named (classes_view classes.old.items) name.items ≡ None }
+/// Puts a class after the others, and its name into the table by name. There is room for both.
+fn put_in_room(classes: &mut Vec<Entry>, numbers: &mut HashMap<Vec<u8>, usize>, class: NewClass)
+    requires new { class_named (classes_view classes.old.items) class.entry.name.items ≡ None }
     requires indexed { IsIndexed (classes_view classes.old.items) numbers.old }
     requires room { vec_len classes.old < vec_capacity classes.old }
     requires room_for_name { 0 < spare numbers.old }
-    ensures classes { classes_view classes.new.items ≡ classes_view classes.old.items ++ class_view entry ∷ [] }
+    ensures classes { classes_view classes.new.items ≡ classes_view classes.old.items ++ class_view class.entry ∷ [] }
     ensures indexed { IsIndexed (classes_view classes.new.items) numbers.new }
     ensures room { (vec_len classes.new ≡ vec_len classes.old + 1) × (vec_capacity classes.new ≡ vec_capacity classes.old) }
     ensures room_for_names { spare numbers.old ≤ spare numbers.new + 1 }
 {
     let number = classes.len() + 1;
-    let numbered: Result<_, _> = numbers.insert(name, number);
+    let numbered: Result<_, _> = numbers.insert(class.name, number);
     let _ = numbered.unwrap();
-    classes.push_reserved(entry);
+    classes.push_reserved(class.entry);
 }
 
 impl Entries {
@@ -160,9 +186,9 @@ impl Entries {
         ensures ok { OnOk result (self.new ≡ self.old ++ class_view entry ∷ []) }
         ensures err { OnErr result (self.new ≡ self.old) }
     {
-        let name = Vec::from_slice(*self.classes.allocator(), &entry.name)?;
+        let class = NewClass::of(*self.classes.allocator(), entry)?;
         make_room(&mut self.classes, &mut self.numbers, 1)?;
-        put_in_room(&mut self.classes, &mut self.numbers, entry, name);
+        put_in_room(&mut self.classes, &mut self.numbers, class);
         Ok(())
     }
 
@@ -173,24 +199,12 @@ impl Entries {
         ensures { self.new ≡ (if is_ok result then with_class self.old (new_class name.now (Some superclass)) else self.old) }
     {
         let alloc = *self.classes.allocator();
-        let array = array_name(alloc, name)?;
-        let array_copy = Vec::from_slice(alloc, &array)?;
-        let copy = Vec::from_slice(alloc, name)?;
-        let name = Vec::from_slice(alloc, name)?;
         make_room(&mut self.classes, &mut self.numbers, 2)?;
-        let class = self.classes.len() + 1;
-        put_in_room(
-            &mut self.classes,
-            &mut self.numbers,
-            Entry::without_fields(alloc, name, superclass),
-            copy,
-        );
-        put_in_room(
-            &mut self.classes,
-            &mut self.numbers,
-            Entry::of_arrays(alloc, array, ClassKind::ArrayOfObjects(class)),
-            array_copy,
-        );
+        let number = self.classes.len() + 1;
+        let class = NewClass::plain(alloc, name, superclass)?;
+        let arrays = NewClass::arrays_of(alloc, name, number)?;
+        put_in_room(&mut self.classes, &mut self.numbers, class);
+        put_in_room(&mut self.classes, &mut self.numbers, arrays);
         Ok(())
     }
 

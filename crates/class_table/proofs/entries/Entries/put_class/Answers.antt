@@ -1,8 +1,7 @@
-use Rattle.std.proofs.Common.{◌≡◌, ◌+◌, ◌++◌, ◌∷◌, [], ◌∙◌, length, ap, sym, Some}
+use Rattle.std.proofs.Common.{◌≡◌, ◌+◌, ◌++◌, ◌∷◌, [], ◌∙◌, length, ap, sym}
 use Rattle.std.proofs.lemmas.List.{length-map}
 use Rattle.classes.specs.Class.{ArrayOfObjects, array_name}
 use Rattle.classes.specs.BuiltIns.{array_class}
-use Rattle.classes.specs.Additions.{new_class}
 use Rattle.class_table.specs.Views.{class_view, classes_view}
 use Rattle.class_table.proofs.AddedClasses.{with_both}
 use Rattle.class_table.proofs.entries.Entries.put_class.Goals as goal
@@ -11,10 +10,9 @@ pub returns : goal.returns
 returns c =
     let T = c.args.self.now in
     let es = c.self.inside.classes.items in
-    let is_name = c.without_fields.ensures ∙ ap (λ n. new_class n (Some c.args.superclass)) c.in_ok-name.ensures.items in
     let same = ap classes_view c.make_room.ensures.items ∙ c.self.view_is in
-    let number : c.len-class.result + 1 ≡ length T + 1 = ap (λ n. n + 1) (c.len-class.ensures ∙ c.make_room.new.classes.ok.0 ∙ ap length c.make_room.ensures.items ∙ sym (length-map es class_view) ∙ ap length c.self.view_is) in
-    let is_array = c.of_arrays.ensures ∙ ap (λ n. array_class n (ArrayOfObjects (c.len-class.result + 1))) c.in_ok-array.ensures ∙ ap (λ n. array_class (array_name c.args.name.now) (ArrayOfObjects n)) number in
+    let number : c.len-number.result + 1 ≡ length T + 1 = ap (λ n. n + 1) (c.len-number.ensures ∙ c.make_room.new.classes.ok.0 ∙ ap length c.make_room.ensures.items ∙ sym (length-map es class_view) ∙ ap length c.self.view_is) in
     with_both T (classes_view c.put_in_room.new.classes.items) (classes_view c.put_in_room-2.new.classes.items) c.args.name.now c.args.superclass _ _
-    (c.put_in_room.ensures.classes ∙ ap (λ xs. xs ++ class_view c.without_fields.result ∷ []) same)
-    c.put_in_room-2.ensures.classes is_name is_array
+    (c.put_in_room.ensures.classes ∙ ap (λ xs. xs ++ class_view c.in_ok-class.class.entry ∷ []) same)
+    c.put_in_room-2.ensures.classes c.in_ok-class.ensures
+    (c.in_ok-arrays.ensures ∙ ap (λ n. array_class (array_name c.args.name.now) (ArrayOfObjects n)) number)
