@@ -1,5 +1,5 @@
 pub mod Places
-mod NameIndexes
+pub mod NameIndexes
 pub mod Ancestry
 pub mod DistinctNames
 pub mod ArrayNames

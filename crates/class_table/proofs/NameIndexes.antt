@@ -19,7 +19,7 @@ abbrev pub same_key : Vec ℕ → Vec ℕ → Bool
 same_key a b = bytes_eq a.items b.items
 
 -- the test whether a key is the name
-abbrev is_key : Identifier → Vec ℕ → Bool
+abbrev pub is_key : Identifier → Vec ℕ → Bool
 is_key name key = bytes_eq name key.items
 
 -- ---- a table in another order
@@ -43,7 +43,8 @@ reordered T old new same indexed = record { finds = λ name. looked_up name old.
 
 -- ---- one name more
 
-other_names : (k : Vec ℕ) (old new : List (Vec ℕ × ℕ)) → KeepsOthers same_key (same_key k) old new → (name : Identifier) → bytes_eq k.items name ≡ false → lookup (is_key name) new ≡ lookup (is_key name) old
+-- what other names have stays
+pub other_names : (k : Vec ℕ) (old new : List (Vec ℕ × ℕ)) → KeepsOthers same_key (same_key k) old new → (name : Identifier) → bytes_eq k.items name ≡ false → lookup (is_key name) new ≡ lookup (is_key name) old
 unfolding KeepsOthers
 other_names k old new keeps name other =
     keeps (is_key name) (λ x y. nat_list_eq_equiv.congr name x.items y.items)

@@ -210,7 +210,7 @@ fn copied_fields(alloc: Global, fields: &[BuiltInField]) -> Result<Vec<Field>, A
 
 /// Puts a built-in class after the others.
 fn put_built_in(alloc: Global, classes: &mut Entries, built_in: &BuiltIn) -> Result<(), AllocError>
-    requires { class_named (classes.old) built_in.now.name.now ≡ None }
+    requires { class_named classes.old built_in.now.name.now ≡ None }
     ensures { OnOk result (classes.new ≡ classes.old ++ listed_class built_in.now ∷ []) }
 {
     let name = Vec::from_slice(alloc, built_in.name)?;
@@ -231,7 +231,7 @@ fn put_array(
     name: Vec<u8>,
     kind: ClassKind,
 ) -> Result<(), AllocError>
-    requires { class_named (classes.old) name.items ≡ None }
+    requires { class_named classes.old name.items ≡ None }
     ensures { OnOk result (classes.new ≡ classes.old ++ array_class name.items (kind_view kind) ∷ []) }
 {
     classes.put(Entry::of_arrays(alloc, name, kind))
