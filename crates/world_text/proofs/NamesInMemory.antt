@@ -1,6 +1,5 @@
 -- The names of objects in memory, by name and by place.
-use Rattle.std.proofs.Common.{◌≡◌, ℕ, zero, suc, ◌+◌, ◌<◌, Bool, true, false, cond, List, [], ◌∷◌, ◌++◌, length, position, slice_get, slice_index_or, Option, Some, None, Result, Ok, Err, is_err, refl, sym, ap, ◌∙◌, arith}
-use Rattle.std.specs.Prelude.{OnOk}
+use Rattle.std.proofs.Common.{◌≡◌, ℕ, zero, suc, ◌+◌, ◌<◌, Bool, true, false, cond, List, [], ◌∷◌, ◌++◌, length, position, slice_get, slice_index_or, Option, Some, None, refl, sym, ap, ◌∙◌, arith}
 use Rattle.std.specs.Option.{option_map}
 use Rattle.std.specs.List.{position_from}
 use Rattle.std.specs.Str.{bytes_eq}
@@ -99,8 +98,3 @@ placed_more os o k place old new is none last puts placed = record { finds = λ 
         ∙ placed.finds name
         ∙ position_from-zero (has_name name) os
         ∙ sym (position_from-zero (has_name name) (os ++ o ∷ []) ∙ other_place (has_name name) 0 os o (ap (λ x. bytes_eq x name) (sym is) ∙ other))
-
--- what holds on success, where there was no failure
-pub on_ok : {X Y : Type 0} (r : Result X Y) (P : Type 0) → OnOk r P → is_err r ≡ false → P
-on_ok (Ok x) P p h = p
-on_ok (Err y) P p h = absurd (cc)
