@@ -52,8 +52,8 @@ no_place x (y ∷ names) h =
     ap (λ b. if b then Some 0 else option_map suc (place x names)) none.0 ∙ ap (option_map suc) (no_place x names none.1)
 
 -- a name without a place is none of them
-pub none_alike : (x : Identifier) (names : List Identifier) → None ≡ position (bytes_eq x) names → list_any (bytes_eq x) names ≡ false
-none_alike x names h = go names (h ∙ place_is x names)
+pub is_new : (x : Identifier) (names : List Identifier) → None ≡ position (bytes_eq x) names → list_any (bytes_eq x) names ≡ false
+is_new x names h = go names (h ∙ place_is x names)
   where
     test : (b : Bool) (o : Option ℕ) (rest : Bool) → None ≡ (if b then Some 0 else option_map suc o) → (None ≡ o → rest ≡ false) → (b || rest) ≡ false
     test true o rest h more = absurd (cc)
@@ -66,17 +66,18 @@ none_alike x names h = go names (h ∙ place_is x names)
 
 -- ---- one name more
 
+-- two names that are alike don't differ from a third one by one
+pub apart : (a x y : Identifier) → bytes_eq a y ≡ false → bytes_eq x y ≡ true → bytes_eq a x ≡ true → ⊥
+apart a x y differ same own = let is = (bytes_decides a y).1 ((bytes_decides a x).0 own ∙ (bytes_decides x y).0 same) in absurd (cc)
+
 module _ (y x : Identifier) where
   added : (names : List Identifier) → list_any (bytes_eq y) names ≡ false → place x (names ++ y ∷ []) ≡ cond (bytes_eq y x) (Some (length names)) (place x names)
   added [] h = ap (λ b. cond b (Some 0) None) (nat_list_eq_equiv.symm x y)
   added (z ∷ names) h =
       let none = neither (bytes_eq y z) (list_any (bytes_eq y) names) h in
       ap (λ (o : Option ℕ). if bytes_eq x z then Some 0 else option_map suc o) (added names none.1)
-      ∙ by (bytes_eq x z) (bytes_eq y x) (λ same own. absurd (apart none.0 same own)) (length names) (place x names)
+      ∙ by (bytes_eq x z) (bytes_eq y x) (λ same own. absurd (apart y x z none.0 same own)) (length names) (place x names)
     where
-      apart : bytes_eq y z ≡ false → bytes_eq x z ≡ true → bytes_eq y x ≡ true → ⊥
-      apart other same own = let e : y ≡ z = (bytes_decides y x).0 own ∙ (bytes_decides x z).0 same in let is = (bytes_decides y z).1 e in absurd (cc)
-
       by : (b c : Bool) → (b ≡ true → c ≡ true → ⊥) → (k : ℕ) (o : Option ℕ) → (if b then Some 0 else option_map suc (cond c (Some k) o)) ≡ cond c (Some (suc k)) (if b then Some 0 else option_map suc o)
       by true true never k o = absurd (never refl refl)
       by true false never k o = refl

@@ -8,7 +8,7 @@ use Rattle.std.proofs.lemmas.Cmp.{nat_list_eq_equiv}
 use Rattle.std.proofs.lemmas.List.Quantifiers.{position-Some}
 use lib.Pointwise.{bytes_decides}
 use Rattle.base.specs.Bytes.{Identifier, lookup}
-use Rattle.names.proofs.PlaceLemmas.{place, place_is}
+use Rattle.names.proofs.PlaceLemmas.{place, place_is, apart}
 
 module _ {V : Type 0} where
   found_there : (x : Identifier) (names : List Identifier) (vs : List V) → length vs ≡ length names → lookup x (zip names vs) ≡ option_and_then (slice_get vs) (place x names)
@@ -48,6 +48,13 @@ module _ {V : Type 0} where
   put_is v zero (w ∷ vs) h = refl
   put_is v (suc n) (w ∷ vs) h = ap (λ (ws : List V). w ∷ ws) (put_is v n vs (omega (arith, h)))
 
+  -- two tests of which at most one is met, in either order
+  crossed : (b c : Bool) (v w : V) (rest : Option V) → (b ≡ true → c ≡ true → ⊥) → (if b then Some w else (if c then Some v else rest)) ≡ (if c then Some v else (if b then Some w else rest))
+  crossed true true v w rest never = absurd (never refl refl)
+  crossed true false v w rest never = refl
+  crossed false true v w rest never = refl
+  crossed false false v w rest never = refl
+
   module _ (a x : Identifier) (v : V) where
     looked_up : (names : List Identifier) (vs : List V) → length vs ≡ length names → is_some (place a names) ≡ true → lookup x (zip names (put v (place a names) vs)) ≡ (if bytes_eq a x then Some v else lookup x (zip names vs))
     looked_up [] vs h there = absurd (cc)
@@ -60,22 +67,13 @@ module _ {V : Type 0} where
         first false true rest e = absurd (cc)
         first false false rest e = refl
 
-        other : (b c : Bool) (rest : Option V) → (b ≡ true → c ≡ true → ⊥) → (if b then Some w else (if c then Some v else rest)) ≡ (if c then Some v else (if b then Some w else rest))
-        other true true rest never = absurd (never refl refl)
-        other true false rest never = refl
-        other false true rest never = refl
-        other false false rest never = refl
-
-        apart : bytes_eq a y ≡ false → bytes_eq x y ≡ true → bytes_eq a x ≡ true → ⊥
-        apart differ same own = let is = (bytes_decides a y).1 ((bytes_decides a x).0 own ∙ (bytes_decides x y).0 same) in absurd (cc)
-
         by : (b : Bool) → bytes_eq a y ≡ b → (o : Option ℕ) → is_some (if b then Some 0 else option_map suc o) ≡ true
             → (is_some o ≡ true → lookup x (zip names (put v o vs)) ≡ (if bytes_eq a x then Some v else lookup x (zip names vs)))
             → lookup x (zip (y ∷ names) (put v (if b then Some 0 else option_map suc o) (w ∷ vs))) ≡ (if bytes_eq a x then Some v else (if bytes_eq x y then Some w else lookup x (zip names vs)))
         by true same o there more = first (bytes_eq x y) (bytes_eq a x) (lookup x (zip names vs)) (nat_list_eq_equiv.symm a x ∙ ap (bytes_eq x) ((bytes_decides a y).0 same))
         by false differ None there more = absurd (cc)
         by false differ (Some n) there more =
-            ap (λ (r : Option V). if bytes_eq x y then Some w else r) (more refl) ∙ other (bytes_eq x y) (bytes_eq a x) (lookup x (zip names vs)) (apart differ)
+            ap (λ (r : Option V). if bytes_eq x y then Some w else r) (more refl) ∙ crossed (bytes_eq x y) (bytes_eq a x) v w (lookup x (zip names vs)) (apart a x y differ)
 
     -- where a value is set at the number of a name, that name has it, and each other what it had
     pub found_set : (names : List Identifier) (vs : List V) (n : ℕ) → length vs ≡ length names → n < length vs → Some n ≡ position (bytes_eq a) names
@@ -91,22 +89,13 @@ module _ {V : Type 0} where
     last (y ∷ names) [] h none = absurd (omega (arith, h))
     last (y ∷ names) (w ∷ vs) h none = by (bytes_eq a y) refl (place a names) none (last names vs (suc_inj h))
       where
-        other : (b c : Bool) (rest : Option V) → (b ≡ true → c ≡ true → ⊥) → (if b then Some w else (if c then Some v else rest)) ≡ (if c then Some v else (if b then Some w else rest))
-        other true true rest never = absurd (never refl refl)
-        other true false rest never = refl
-        other false true rest never = refl
-        other false false rest never = refl
-
-        apart : bytes_eq a y ≡ false → bytes_eq x y ≡ true → bytes_eq a x ≡ true → ⊥
-        apart differ same own = let is = (bytes_decides a y).1 ((bytes_decides a x).0 own ∙ (bytes_decides x y).0 same) in absurd (cc)
-
         by : (b : Bool) → bytes_eq a y ≡ b → (o : Option ℕ) → None ≡ (if b then Some 0 else option_map suc o)
             → (None ≡ o → lookup x (zip (names ++ a ∷ []) (vs ++ v ∷ [])) ≡ (if bytes_eq a x then Some v else lookup x (zip names vs)))
             → (if bytes_eq x y then Some w else lookup x (zip (names ++ a ∷ []) (vs ++ v ∷ []))) ≡ (if bytes_eq a x then Some v else (if bytes_eq x y then Some w else lookup x (zip names vs)))
         by true same o none more = absurd (cc)
         by false differ (Some n) none more = absurd (cc)
         by false differ None none more =
-            ap (λ (r : Option V). if bytes_eq x y then Some w else r) (more refl) ∙ other (bytes_eq x y) (bytes_eq a x) (lookup x (zip names vs)) (apart differ)
+            ap (λ (r : Option V). if bytes_eq x y then Some w else r) (more refl) ∙ crossed (bytes_eq x y) (bytes_eq a x) v w (lookup x (zip names vs)) (apart a x y differ)
 
     -- a name that was none of them has the value that was added, and each other what it had
     pub found_added : (names : List Identifier) (vs : List V) → length vs ≡ length names → None ≡ position (bytes_eq a) names
