@@ -1,27 +1,30 @@
 //! How many held buffers each array or string has.
 
-ghost use Rattle.std.specs.Prelude.{◌≡◌, ◌+◌, ◌<◌, ◌≤◌, ◌^◌, [], map, length, OnOk, OnErr, IfOk};
+ghost use Rattle.std.specs.Prelude.{◌≡◌, ◌+◌, ◌<◌, ◌≤◌, ◌^◌, [], ◌∷◌, ◌++◌, bytes_eq, map, position, length, None, OnOk, OnErr, IfOk};
 ghost use Rattle.base.specs.Bytes.{Identifier};
 ghost use Rattle.region_states.specs.StatesInMemory.{variable_state, one_of, holders, count_of, HasOneMore, CountsMore, IsCounted};
 
 use crate::states::{VariableState, held_of};
-use indexmap::IndexMap;
+use names::Names;
 use std::alloc::{AllocError, Global};
 use std::marker::Model;
 
 /// How many held buffers each array or string variable has, by its name. The number of a name is found, and changed, in constant time.
 #[derive(Drop)]
 pub struct Holders<'a> {
-    counts: IndexMap<&'a [u8], usize>,
+    names: Names<'a>,
+    counts: Vec<usize>,
 }
 
 impl<'a> Model for Holders<'a> {
-    ghost use Rattle.std.specs.Prelude.{ℕ, map};
+    ghost use Rattle.std.specs.Prelude.{◌≡◌, ℕ, length, zip};
     ghost use Rattle.base.specs.Bytes.{ByName};
 
     ghost Value = { ByName ℕ };
 
-    ghost view = { λ h. map (λ e. (e.0.now, e.1)) h.counts.entries };
+    ghost view = { λ h. zip h.names h.counts.items };
+
+    ghost invariant = { λ h. length h.counts.items ≡ length h.names };
 }
 
 impl<'a> Holders<'a> {
@@ -29,7 +32,8 @@ impl<'a> Holders<'a> {
         ensures { result ≡ [] }
     {
         Holders {
-            counts: IndexMap::new(alloc),
+            names: Names::new(alloc),
+            counts: Vec::new(alloc),
         }
     }
 
@@ -37,6 +41,7 @@ impl<'a> Holders<'a> {
     pub fn clear(&mut self)
         ensures { self.new ≡ [] }
     {
+        self.names.clear();
         self.counts.clear();
     }
 
@@ -44,8 +49,8 @@ impl<'a> Holders<'a> {
     pub fn count(&self, name: &[u8]) -> usize
         ensures { result ≡ count_of self.now name.now }
     {
-        match self.counts.get(name) {
-            Some(count) => *count,
+        match self.names.number_of(name) {
+            Some(number) => self.counts[number],
             None => 0,
         }
     }
@@ -56,21 +61,25 @@ impl<'a> Holders<'a> {
         ensures ok { OnOk result (HasOneMore name.now self.old self.new) }
         ensures err { OnErr result (self.new ≡ self.old) }
     {
-        let count = self.count(name);
-        self.counts.insert(name, count + 1)?;
-        Ok(())
+        match self.names.number_of(name) {
+            Some(number) => {
+                self.counts[number] += 1;
+                Ok(())
+            }
+            None => {
+                push(&mut self.names, &mut self.counts, name)?;
+                Ok(())
+            }
+        }
     }
 
     /// One less.
-    fn remove(&mut self, name: &'a [u8])
+    fn remove(&mut self, name: &[u8])
         requires { 0 < count_of self.old name.now }
         ensures { HasOneMore name.now self.new self.old }
     {
-        let count = self.count(name);
-        match self.counts.insert(name, count - 1) {
-            Ok(_) => {}
-            // The name has a count.
-            Err(_) => unreachable!(),
+        if let Some(number) = self.names.number_of(name) {
+            self.counts[number] -= 1;
         }
     }
 
@@ -106,6 +115,24 @@ impl<'a> Holders<'a> {
             self.forget(*v);
         }
     }
+}
+
+/// A name more, which has one. After a want of memory both are as before.
+fn push<'a>(
+    names: &mut Names<'a>,
+    counts: &mut Vec<usize>,
+    name: &'a [u8],
+) -> Result<(), AllocError>
+    requires { None ≡ position (bytes_eq name.now) names.old }
+    ensures name { OnOk result (names.new ≡ names.old ++ name.now ∷ []) }
+    ensures count { OnOk result (counts.new.items ≡ counts.old.items ++ 1 ∷ []) }
+    ensures no_name { OnErr result (names.new ≡ names.old) }
+    ensures no_count { OnErr result (counts.new.items ≡ counts.old.items) }
+{
+    counts.reserve(1)?;
+    names.add(name)?;
+    counts.push_reserved(1);
+    Ok(())
 }
 
 /// What these hold.

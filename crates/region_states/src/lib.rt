@@ -6,6 +6,5 @@ pub mod calls;
 pub mod changes;
 pub mod holders;
 pub mod names;
-pub mod scope;
 pub mod states;
 pub mod variables;

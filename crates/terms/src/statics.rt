@@ -1,6 +1,6 @@
 //! The statics of a unit: references that outlive calls.
 
-ghost use Rattle.std.specs.Prelude.{◌≡◌, [], IfOk, OnOk, Some};
+ghost use Rattle.std.specs.Prelude.{◌≡◌, [], ◌∷◌, ◌++◌, bytes_eq, position, IfOk, OnOk, OnErr, Some, None};
 ghost use Rattle.std.specs.Option.{option_map};
 ghost use Rattle.base.specs.Bytes.{lookup};
 ghost use Rattle.syntax.specs.Views.{unit_tree};
@@ -10,7 +10,7 @@ ghost use Rattle.source.specs.Value.{Gives};
 ghost use Rattle.source.specs.Variable.{assign};
 ghost use Rattle.terms.specs.Views.{assign_all, held_view};
 
-use indexmap::IndexMap;
+use names::Names;
 use std::alloc::{AllocError, Global};
 use std::marker::Model;
 use syntax::{Item, Name};
@@ -29,16 +29,20 @@ pub enum StaticReference {
 /// The statics of a unit, in its order, seen as those of the definitions. A name is found in constant time.
 #[derive(Drop)]
 pub struct Statics<'a> {
-    held: IndexMap<&'a [u8], StaticReference>,
+    names: Names<'a>,
+    held: Vec<StaticReference>,
 }
 
 impl<'a> Model for Statics<'a> {
+    ghost use Rattle.std.specs.Prelude.{◌≡◌, length, zip};
     ghost use Rattle.source.specs.Variable.{Statics};
-    ghost use Rattle.terms.specs.Views.{by_name, statics_view};
+    ghost use Rattle.terms.specs.Views.{statics_view};
 
     ghost Value = { Statics };
 
-    ghost view = { λ s. statics_view (by_name s.held.entries) };
+    ghost view = { λ s. statics_view (zip s.names s.held.items) };
+
+    ghost invariant = { λ s. length s.held.items ≡ length s.names };
 }
 
 /// Whether it is NULL.
@@ -53,18 +57,46 @@ impl<'a> Statics<'a> {
     pub fn held(&self, name: &Name) -> Option<StaticReference>
         ensures { option_map held_view result ≡ lookup name.now self.now }
     {
-        self.held.get(name.as_bytes()).copied()
+        match self.names.number_of(name.as_bytes()) {
+            Some(number) => Some(self.held[number]),
+            None => None,
+        }
     }
 
     /// Lets the static of this name hold another reference. It is new where there is none, as in no accepted program.
     pub fn set(&mut self, name: &'a [u8], held: StaticReference) -> Result<(), AllocError>
         ensures { IfOk result (λ _. self.new ≡ assign name.now (held_view held) self.old) }
     {
-        if self.held.insert(name, held).is_err() {
-            return Err(AllocError);
+        match self.names.number_of(name) {
+            Some(number) => {
+                self.held[number] = held;
+                Ok(())
+            }
+            None => {
+                push(&mut self.names, &mut self.held, name, held)?;
+                Ok(())
+            }
         }
-        Ok(())
     }
+}
+
+/// A name more, and what it holds. After a want of memory both are as before.
+fn push<'a>(
+    names: &mut Names<'a>,
+    references: &mut Vec<StaticReference>,
+    name: &'a [u8],
+    held: StaticReference,
+) -> Result<(), AllocError>
+    requires { None ≡ position (bytes_eq name.now) names.old }
+    ensures name { OnOk result (names.new ≡ names.old ++ name.now ∷ []) }
+    ensures held { OnOk result (references.new.items ≡ references.old.items ++ held ∷ []) }
+    ensures no_name { OnErr result (names.new ≡ names.old) }
+    ensures not_held { OnErr result (references.new.items ≡ references.old.items) }
+{
+    references.reserve(1)?;
+    names.add(name)?;
+    references.push_reserved(held);
+    Ok(())
 }
 
 /// Adds the statics of a unit, all NULL.
@@ -85,7 +117,8 @@ pub fn null_statics<'a>(alloc: Global, items: &'a [Item]) -> Result<Statics<'a>,
     ensures { IfOk result (λ statics. statics ≡ assign_all (null_statics (unit_tree items.entry.now)) []) }
 {
     let mut statics = Statics {
-        held: IndexMap::new(alloc),
+        names: Names::new(alloc),
+        held: Vec::new(alloc),
     };
     add_nulls(&mut statics, items)?;
     Ok(statics)

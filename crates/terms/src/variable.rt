@@ -1,6 +1,6 @@
 //! The variables of a call in progress.
 
-ghost use Rattle.std.specs.Prelude.{◌≡◌, [], IfOk, Some, None, pos, replicate, slice_set, if◌then◌else◌};
+ghost use Rattle.std.specs.Prelude.{◌≡◌, [], ◌∷◌, ◌++◌, bytes_eq, position, IfOk, OnOk, OnErr, Some, None, pos, replicate, slice_set, if◌then◌else◌};
 ghost use Rattle.std.specs.Option.{option_map};
 ghost use Rattle.base.specs.Bytes.{lookup};
 ghost use Rattle.syntax.specs.Views.{element_tree};
@@ -10,7 +10,7 @@ ghost use Rattle.terms.specs.Views.{content_view, variables_view, written, Write
 
 use crate::value::{Value, convert};
 use class_table::fields::FieldId;
-use indexmap::IndexMap;
+use names::Names;
 use std::alloc::{AllocError, Global};
 use std::marker::Model;
 use syntax::{ElementType, Name};
@@ -32,23 +32,28 @@ pub enum Content<'a> {
 /// The variables of a call in progress, in the order in which they came to be, seen as a list of what each holds by its name. A
 /// name is found in constant time.
 pub struct Variables<'a> {
-    contents: IndexMap<&'a [u8], Content<'a>>,
+    names: Names<'a>,
+    contents: Vec<Content<'a>>,
 }
 
 // Written out, and not derived, so that a crate above drops them by a call and doesn't prove it anew.
 impl Drop for Variables<'_> {
     fn drop(self) {
-        let Variables { contents } = self;
+        let Variables { names, contents } = self;
+        drop(names);
         drop(contents);
     }
 }
 
 impl<'a> Model for Variables<'a> {
-    ghost use Rattle.terms.specs.Views.{Contents, by_name};
+    ghost use Rattle.std.specs.Prelude.{◌≡◌, length, zip};
+    ghost use Rattle.terms.specs.Views.{Contents};
 
     ghost Value = { Contents };
 
-    ghost view = { λ v. by_name v.contents.entries };
+    ghost view = { λ v. zip v.names v.contents.items };
+
+    ghost invariant = { λ v. length v.contents.items ≡ length v.names };
 }
 
 impl<'a> Variables<'a> {
@@ -57,7 +62,8 @@ impl<'a> Variables<'a> {
         ensures { result ≡ [] }
     {
         Variables {
-            contents: IndexMap::new(alloc),
+            names: Names::new(alloc),
+            contents: Vec::new(alloc),
         }
     }
 
@@ -72,28 +78,57 @@ impl<'a> Variables<'a> {
     pub fn content_named(&self, name: &[u8]) -> Option<&Content<'a>>
         ensures { option_map (λ c. content_view c.now) result ≡ lookup name.now (variables_view self.now) }
     {
-        self.contents.get(name)
+        match self.names.number_of(name) {
+            Some(number) => Some(&self.contents[number]),
+            None => None,
+        }
     }
 
     /// Sets the variable of this name. Where there is none, it is new and comes last.
     pub fn set(&mut self, name: &'a Name, content: Content<'a>) -> Result<(), AllocError>
         ensures { IfOk result (λ _. variables_view self.new ≡ assign name.now (content_view content.entry) (variables_view self.old)) }
     {
-        if self.contents.insert(name.as_bytes(), content).is_err() {
-            return Err(AllocError);
+        let name = name.as_bytes();
+        match self.names.number_of(name) {
+            Some(number) => {
+                self.contents[number] = content;
+                Ok(())
+            }
+            None => {
+                push(&mut self.names, &mut self.contents, name, content)?;
+                Ok(())
+            }
         }
-        Ok(())
     }
 
     /// Writes an element of the array of this name, if it is one.
     pub fn write(&mut self, name: &Name, index: usize, number: i32) -> bool
         ensures { WritesElement (variables_view self.old) name.now index number result (variables_view self.new) }
     {
-        match self.contents.get_index_of(name.as_bytes()) {
+        match self.names.number_of(name.as_bytes()) {
             Some(place) => write_content(&mut self.contents[place], index, number),
             None => false,
         }
     }
+}
+
+/// A name more, and what it holds. After a want of memory both are as before.
+fn push<'a>(
+    names: &mut Names<'a>,
+    contents: &mut Vec<Content<'a>>,
+    name: &'a [u8],
+    content: Content<'a>,
+) -> Result<(), AllocError>
+    requires { None ≡ position (bytes_eq name.now) names.old }
+    ensures name { OnOk result (names.new ≡ names.old ++ name.now ∷ []) }
+    ensures content { OnOk result (contents.new.items ≡ contents.old.items ++ content.entry ∷ []) }
+    ensures no_name { OnErr result (names.new ≡ names.old) }
+    ensures no_content { OnErr result (contents.new.items ≡ contents.old.items) }
+{
+    contents.reserve(1)?;
+    names.add(name)?;
+    contents.push_reserved(content);
+    Ok(())
 }
 
 /// `size` zeros.
