@@ -113,7 +113,7 @@ pub(crate) fn array_name(alloc: Global, element: &[u8]) -> Result<Vec<u8>, Alloc
     [b"[L", element, b";"].concat(alloc)
 }
 
-/// Makes room for so many classes more. After a refusal there may be room for some.
+/// Makes room for this many more classes. After a refusal there may be room for some of them.
 fn make_room(
     classes: &mut Vec<Entry>,
     numbers: &mut HashMap<Vec<u8>, usize>,

@@ -1,6 +1,6 @@
 //! Names in an order, each found in constant time.
 
-ghost use Rattle.std.specs.Prelude.{◌≡◌, ◌-◌, false, ◌++◌, ◌∷◌, [], bytes_eq, length, position, take, OnOk, OnErr};
+ghost use Rattle.std.specs.Prelude.{◌≡◌, ◌-◌, false, ◌++◌, ◌∷◌, [], bytes_eq, length, position, take, None, OnOk, OnErr};
 ghost use Rattle.std.specs.List.{IsDistinct, list_any};
 
 use std::alloc::{AllocError, Global};
@@ -75,6 +75,26 @@ impl<'a> Names<'a> {
             }
             Err(_) => Err(AllocError),
         }
+    }
+
+    /// Puts a name that has no number after the others, and what is kept of it after what is kept of these. After a refusal both
+    /// are as before.
+    pub fn add_with<T: Drop>(
+        &mut self,
+        name: &'a [u8],
+        values: &mut Vec<T>,
+        value: T,
+    ) -> Result<(), AllocError>
+        requires { None ≡ position (bytes_eq name.now) self.old }
+        ensures name { OnOk result (self.new ≡ self.old ++ name.now ∷ []) }
+        ensures value { OnOk result (values.new.items ≡ values.old.items ++ value ∷ []) }
+        ensures no_name { OnErr result (self.new ≡ self.old) }
+        ensures no_value { OnErr result (values.new.items ≡ values.old.items) }
+    {
+        values.reserve(1)?;
+        self.add(name)?;
+        values.push_reserved(value);
+        Ok(())
     }
 
     /// Takes back the names after the first `count`.

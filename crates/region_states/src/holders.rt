@@ -67,7 +67,7 @@ impl<'a> Holders<'a> {
                 Ok(())
             }
             None => {
-                push(&mut self.names, &mut self.counts, name)?;
+                self.names.add_with(name, &mut self.counts, 1)?;
                 Ok(())
             }
         }
@@ -115,24 +115,6 @@ impl<'a> Holders<'a> {
             self.forget(*v);
         }
     }
-}
-
-/// A name more, which has one. After a want of memory both are as before.
-fn push<'a>(
-    names: &mut Names<'a>,
-    counts: &mut Vec<usize>,
-    name: &'a [u8],
-) -> Result<(), AllocError>
-    requires { None ≡ position (bytes_eq name.now) names.old }
-    ensures name { OnOk result (names.new ≡ names.old ++ name.now ∷ []) }
-    ensures count { OnOk result (counts.new.items ≡ counts.old.items ++ 1 ∷ []) }
-    ensures no_name { OnErr result (names.new ≡ names.old) }
-    ensures no_count { OnErr result (counts.new.items ≡ counts.old.items) }
-{
-    counts.reserve(1)?;
-    names.add(name)?;
-    counts.push_reserved(1);
-    Ok(())
 }
 
 /// What these hold.

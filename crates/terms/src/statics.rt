@@ -73,30 +73,11 @@ impl<'a> Statics<'a> {
                 Ok(())
             }
             None => {
-                push(&mut self.names, &mut self.held, name, held)?;
+                self.names.add_with(name, &mut self.held, held)?;
                 Ok(())
             }
         }
     }
-}
-
-/// A name more, and what it holds. After a want of memory both are as before.
-fn push<'a>(
-    names: &mut Names<'a>,
-    references: &mut Vec<StaticReference>,
-    name: &'a [u8],
-    held: StaticReference,
-) -> Result<(), AllocError>
-    requires { None ≡ position (bytes_eq name.now) names.old }
-    ensures name { OnOk result (names.new ≡ names.old ++ name.now ∷ []) }
-    ensures held { OnOk result (references.new.items ≡ references.old.items ++ held ∷ []) }
-    ensures no_name { OnErr result (names.new ≡ names.old) }
-    ensures not_held { OnErr result (references.new.items ≡ references.old.items) }
-{
-    references.reserve(1)?;
-    names.add(name)?;
-    references.push_reserved(held);
-    Ok(())
 }
 
 /// Adds the statics of a unit, all NULL.

@@ -95,7 +95,7 @@ impl<'a> Variables<'a> {
                 Ok(())
             }
             None => {
-                push(&mut self.names, &mut self.contents, name, content)?;
+                self.names.add_with(name, &mut self.contents, content)?;
                 Ok(())
             }
         }
@@ -110,25 +110,6 @@ impl<'a> Variables<'a> {
             None => false,
         }
     }
-}
-
-/// A name more, and what it holds. After a want of memory both are as before.
-fn push<'a>(
-    names: &mut Names<'a>,
-    contents: &mut Vec<Content<'a>>,
-    name: &'a [u8],
-    content: Content<'a>,
-) -> Result<(), AllocError>
-    requires { None ≡ position (bytes_eq name.now) names.old }
-    ensures name { OnOk result (names.new ≡ names.old ++ name.now ∷ []) }
-    ensures content { OnOk result (contents.new.items ≡ contents.old.items ++ content.entry ∷ []) }
-    ensures no_name { OnErr result (names.new ≡ names.old) }
-    ensures no_content { OnErr result (contents.new.items ≡ contents.old.items) }
-{
-    contents.reserve(1)?;
-    names.add(name)?;
-    contents.push_reserved(content);
-    Ok(())
 }
 
 /// `size` zeros.

@@ -16,9 +16,9 @@ returns-in-Some-clause-ok c = λ x.
     one_more_at name c.self.inside.names c.self.inside.counts.items c.self.invariant c.in-Some.number c.index_mut.result.now c.in-Some.ensures c.index_mut.ensures.value x
     ∙ ap (λ (counts : ByName ℕ). (if bytes_eq name x then 1 else 0) + count_of counts x) c.self.view_is
 
-pub returns-in_ok-push-in-None-clause-ok : goal.returns-in_ok-push-in-None-clause-ok
-returns-in_ok-push-in-None-clause-ok c = λ x.
+pub returns-in_ok-add_with-in-None-clause-ok : goal.returns-in_ok-add_with-in-None-clause-ok
+returns-in_ok-add_with-in-None-clause-ok c = λ x.
     let name = c.args.name.now in
-    ap (λ (counts : ByName ℕ). count_of counts x) (ap₂ zip c.in_ok-push-in-None.ensures.name c.in_ok-push-in-None.ensures.count)
+    ap (λ (counts : ByName ℕ). count_of counts x) (ap₂ zip c.in_ok-add_with-in-None.ensures.name c.in_ok-add_with-in-None.ensures.value)
     ∙ first_one name c.self.inside.names c.self.inside.counts.items c.self.invariant x c.in-None.ensures
     ∙ ap (λ (counts : ByName ℕ). (if bytes_eq name x then 1 else 0) + count_of counts x) c.self.view_is

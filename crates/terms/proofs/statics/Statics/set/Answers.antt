@@ -9,8 +9,8 @@ returns-in-Some c =
     seen_there held_view c.args.name.now c.self.inside.names c.self.inside.held.items c.in-Some.number c.args.held c.self.invariant c.in-Some.ensures
     ∙ ap (λ (ss : Statics). assign c.args.name.now (held_view c.args.held) ss) c.self.view_is
 
-pub returns-in_ok-push-in-None : goal.returns-in_ok-push-in-None
-returns-in_ok-push-in-None c =
-    ap statics_view (ap₂ zip c.in_ok-push-in-None.ensures.name c.in_ok-push-in-None.ensures.held)
+pub returns-in_ok-add_with-in-None : goal.returns-in_ok-add_with-in-None
+returns-in_ok-add_with-in-None c =
+    ap statics_view (ap₂ zip c.in_ok-add_with-in-None.ensures.name c.in_ok-add_with-in-None.ensures.value)
     ∙ seen_added held_view c.args.name.now c.self.inside.names c.self.inside.held.items c.args.held c.self.invariant c.in-None.ensures
     ∙ ap (λ (ss : Statics). assign c.args.name.now (held_view c.args.held) ss) c.self.view_is

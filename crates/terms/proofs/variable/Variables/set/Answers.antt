@@ -14,12 +14,12 @@ returns-in-Some c =
     ∙ ap (λ (x : Identifier). assign x (content_view content) (variables_view (zip names contents))) c.as_bytes-name.ensures
     ∙ ap (λ (vs : Contents). assign c.args.name.now (content_view content) (variables_view vs)) c.self.view_is
 
-pub returns-in_ok-push-in-None : goal.returns-in_ok-push-in-None
-returns-in_ok-push-in-None c =
+pub returns-in_ok-add_with-in-None : goal.returns-in_ok-add_with-in-None
+returns-in_ok-add_with-in-None c =
     let names = c.self.inside.names in
     let contents = c.self.inside.contents.items in
     let content = c.args.content in
-    ap variables_view (ap₂ zip c.in_ok-push-in-None.ensures.name c.in_ok-push-in-None.ensures.content)
+    ap variables_view (ap₂ zip c.in_ok-add_with-in-None.ensures.name c.in_ok-add_with-in-None.ensures.value)
     ∙ seen_added content_view c.as_bytes-name.result.now names contents content c.self.invariant c.in-None.ensures
     ∙ ap (λ (x : Identifier). assign x (content_view content) (variables_view (zip names contents))) c.as_bytes-name.ensures
     ∙ ap (λ (vs : Contents). assign c.args.name.now (content_view content) (variables_view vs)) c.self.view_is
