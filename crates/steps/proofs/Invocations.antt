@@ -29,7 +29,7 @@ use Rattle.terms.specs.declared.value.Value.{Value}
 use Rattle.steps.specs.Calls.{MakesCall, MakesInvocation, ReducesFirst, ReducesOne}
 use Rattle.tasks.specs.Outcomes.{purpose_view}
 use Rattle.replay_calls.specs.Shares.{sight_in}
-use Rattle.plain_steps.specs.Effects.{HasEffect, reduced}
+use Rattle.tasks.specs.Effects.{HasEffect, reduced}
 use Rattle.steps.specs.Steps.{Scene, Sees, Does, scene_with}
 use Rattle.terms.specs.Views.{operand_view, Contents, term_view, variables_view, Reduces}
 use Rattle.tasks.specs.Tasks.{task_view}

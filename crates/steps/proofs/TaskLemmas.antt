@@ -11,7 +11,7 @@ use Rattle.source.specs.Variable.{Variables}
 use Rattle.tasks.specs.declared.outcome.Outcome.{Outcome}
 use Rattle.tasks.specs.declared.outcome.Outcome.TheVariants as outcome
 use Rattle.tasks.specs.declared.task.Task.{Task as TaskInMemory}
-use Rattle.plain_steps.specs.Effects.{effect_by, HasEffect}
+use Rattle.tasks.specs.Effects.{effect_by, HasEffect}
 use Rattle.steps.specs.Steps.{Scene, Sees, in_frames, left_by, Does}
 use Rattle.tasks.specs.Tasks.{task_view}
 use Rattle.replay_calls.specs.Shares.{sight_in}

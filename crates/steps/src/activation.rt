@@ -15,12 +15,11 @@ ghost use Rattle.terms.specs.declared.value.Value.TheVariants as value;
 use crate::step::step;
 use class_table::table::ClassTable;
 use object_store::Frames;
-use plain_steps::set_variables;
 use replay_calls::Shared;
 use std::alloc::{AllocError, Global};
 use std::mem;
 use syntax::{Block, Expr, Stmt};
-use tasks::{Choice, End, Outcome, Statements, Task, loop_task, task_of};
+use tasks::{Choice, End, Outcome, Statements, Task, loop_task, set_variables, task_of};
 use terms::{Statics, Term, Value, Variables};
 
 /// What is still to do around a block: what comes at the block's end, and the statements after it.

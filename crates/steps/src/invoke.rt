@@ -16,13 +16,12 @@ ghost use Rattle.terms.specs.Views.{variables_view};
 
 use class_table::table::ClassTable;
 use object_store::Frames;
-use plain_steps::reduced;
 use replay_calls::actual::{Actual, actuals};
 use replay_calls::carry_out::{carry_out, makes_object, put_local, refuse};
 use replay_calls::check::check;
 use replay_calls::{Shared, work_out};
 use std::alloc::{AllocError, Global};
-use tasks::{Invocation, Outcome, Purpose};
+use tasks::{Invocation, Outcome, Purpose, reduced};
 use terms::{Given, Operand, Reduction, Statics, Term, Variables, is_zero, reduce};
 
 /// The step of a call: the first of its numbers that isn't worked out takes a step, or else the call is made. With its object

@@ -9,10 +9,9 @@ ghost use Rattle.tasks.specs.Tasks.{TaskInRange, OutcomeInRange};
 use crate::invoke::invoke;
 use class_table::table::ClassTable;
 use object_store::Frames;
-use plain_steps::plain_step;
 use replay_calls::Shared;
 use std::alloc::{AllocError, Global};
-use tasks::{Outcome, Task};
+use tasks::{Outcome, Task, plain_step};
 use terms::Variables;
 
 /// Lets a task take its next step. With its object refused only a call is possible.

@@ -1,1 +1,3 @@
 pub mod RangeLemmas
+mod PutLemmas
+pub mod EffectLemmas

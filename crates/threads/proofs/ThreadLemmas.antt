@@ -23,7 +23,7 @@ use Rattle.threads.specs.declared.thread.Thread.{Thread as ThreadInMemory}
 use Rattle.tasks.specs.declared.outcome.Outcome.TheVariants as outcome
 use Rattle.steps.specs.Activations.{IsInRange, tasks_from, tasks_after, tasks_left, thread_in, scene_of, advance_by, Advances}
 use Rattle.tasks.specs.Tasks.{tasks_of_statements}
-use Rattle.plain_steps.proofs.EffectLemmas.{block_tasks}
+use Rattle.tasks.proofs.EffectLemmas.{block_tasks}
 use Rattle.replay_calls.specs.Shares.{shared_view}
 use Rattle.replay_calls.specs.declared.shared.Shared.{Shared as SharedInMemory}
 use Rattle.steps.specs.Steps.{Sees}

@@ -1,6 +1,6 @@
 use Rattle.terms.specs.Views.{variables_view}
-use Rattle.plain_steps.proofs.EffectLemmas.{return_reduces}
-use Rattle.plain_steps.proofs.step.return_value.Goals as goal
+use Rattle.tasks.proofs.EffectLemmas.{return_reduces}
+use Rattle.tasks.proofs.step.return_value.Goals as goal
 
 pub returns-in_default-clause-step : goal.returns-in_default-clause-step
 returns-in_default-clause-step c =

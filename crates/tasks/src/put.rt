@@ -7,9 +7,9 @@ ghost use Rattle.source.specs.Variable.{LocalArray, assign};
 ghost use Rattle.terms.specs.Views.{given_view, content_view, variables_view};
 ghost use Rattle.tasks.specs.Outcomes.{kind_view, target_view, variable_step, LeavesVariables, LeavesIf};
 
+use crate::outcome::{Outcome, Target, VariableKind};
 use std::alloc::{AllocError, Global};
 use syntax::{ElementType, Name};
-use tasks::{Outcome, Target, VariableKind};
 use terms::{Content, Given, Statics, Value, Variables, static_result, zeros};
 
 /// A variable as its declaration makes it, where there are this many frames.

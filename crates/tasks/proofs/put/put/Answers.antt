@@ -3,8 +3,8 @@ use Rattle.base.specs.Bytes.{lookup}
 use Rattle.source.specs.CallStep.{filled}
 use Rattle.source.specs.Variable.{Variable, assign}
 use Rattle.terms.specs.Views.{given_view, content_view, variables_view}
-use Rattle.plain_steps.proofs.PutLemmas.{assigned_again, assigned_leaves}
-use Rattle.plain_steps.proofs.put.put.Goals as goal
+use Rattle.tasks.proofs.PutLemmas.{assigned_again, assigned_leaves}
+use Rattle.tasks.proofs.put.put.Goals as goal
 
 pub returns-in-None-filled : goal.returns-in-None-filled
 returns-in-None-filled c = λ s t h.

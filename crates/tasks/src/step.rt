@@ -5,12 +5,13 @@ ghost use Rattle.syntax.specs.Views.{expr_tree, block_tree};
 ghost use Rattle.source.specs.Variable.{Statics as StaticsOfUnit};
 ghost use Rattle.tasks.specs.declared.task.Task.TheVariants as task;
 ghost use Rattle.terms.specs.declared.term.Term.TheVariants as term;
-ghost use Rattle.plain_steps.specs.Effects.{HasEffect, HasWays, IsAssignment, IsEvaluation, reduced};
+ghost use Rattle.tasks.specs.Effects.{HasEffect, HasWays, IsAssignment, IsEvaluation, reduced};
 ghost use Rattle.tasks.specs.Tasks.{element_task, ExprInRange, BlockInRange, ElseInRange, TaskInRange, OutcomeInRange, IsPlain};
 ghost use Rattle.terms.specs.Views.{NumbersInRange, variables_view};
 
+use crate::outcome::{End, Outcome};
+use crate::task::{Assignment, Choice, ElementAssignment, Evaluation, Iteration, Task};
 use syntax::Name;
-use tasks::{Assignment, Choice, ElementAssignment, End, Evaluation, Iteration, Outcome, Task};
 use terms::{
     Evaluated, Indexed, Reduction, Statics, Term, Value, Variables, constant, number_in, place_in,
     put_term, reduce,

@@ -1,6 +1,6 @@
 use Rattle.terms.specs.Views.{variables_view}
-use Rattle.plain_steps.proofs.EffectLemmas.{print_reduces}
-use Rattle.plain_steps.proofs.step.print.Goals as goal
+use Rattle.tasks.proofs.EffectLemmas.{print_reduces}
+use Rattle.tasks.proofs.step.print.Goals as goal
 
 pub returns-in_default-clause-step : goal.returns-in_default-clause-step
 returns-in_default-clause-step c =

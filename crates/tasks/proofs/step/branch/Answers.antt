@@ -3,8 +3,8 @@ use Rattle.source.specs.Task.{EndIf}
 use Rattle.terms.specs.declared.term.Term.TheVariants as term
 use Rattle.terms.specs.declared.value.Value.TheVariants as value
 use Rattle.terms.specs.Views.{variables_view}
-use Rattle.plain_steps.proofs.EffectLemmas.{block_entered, else_entered, branch_reduces}
-use Rattle.plain_steps.proofs.step.branch.Goals as goal
+use Rattle.tasks.proofs.EffectLemmas.{block_entered, else_entered, branch_reduces}
+use Rattle.tasks.proofs.step.branch.Goals as goal
 
 pub returns-in_default-clause-step : goal.returns-in_default-clause-step
 returns-in_default-clause-step c =

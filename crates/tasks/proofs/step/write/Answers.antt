@@ -2,8 +2,8 @@ use Rattle.std.proofs.Common.{refl, ap, ◌∙◌, rules}
 use Rattle.source.specs.Effect.{SetsElement, at_line}
 use Rattle.terms.specs.declared.sight.Indexed.{Indexed}
 use Rattle.terms.specs.Views.{indexed_view, variables_view}
-use Rattle.plain_steps.proofs.EffectLemmas.{written_at}
-use Rattle.plain_steps.proofs.step.write.Goals as goal
+use Rattle.tasks.proofs.EffectLemmas.{written_at}
+use Rattle.tasks.proofs.step.write.Goals as goal
 
 pub returns-in-At-clause-step : goal.returns-in-At-clause-step
 returns-in-At-clause-step c =

@@ -2,8 +2,8 @@ use Rattle.std.proofs.Common.{◌≡◌, sym, subst, rules}
 use Rattle.terms.specs.Views.{variables_view}
 use Rattle.tasks.specs.declared.task.Task.{Task}
 use Rattle.tasks.specs.declared.task.Task.TheVariants as task
-use Rattle.plain_steps.specs.Effects.{HasEffect}
-use Rattle.plain_steps.proofs.step.take_way.Goals as goal
+use Rattle.tasks.specs.Effects.{HasEffect}
+use Rattle.tasks.proofs.step.take_way.Goals as goal
 
 pub returns-in-Branch-clause-step : goal.returns-in-Branch-clause-step
 returns-in-Branch-clause-step c =

@@ -24,7 +24,7 @@ use Rattle.terms.specs.declared.sight.Indexed.{Indexed}
 use Rattle.terms.specs.declared.value.Value.{Value as ValueInMemory}
 use Rattle.terms.specs.declared.value.Value.TheVariants as value
 use Rattle.tasks.specs.declared.task.Task.{Task as TaskInMemory}
-use Rattle.plain_steps.specs.Effects.{HasEffect, reduced}
+use Rattle.tasks.specs.Effects.{HasEffect, reduced}
 use Rattle.tasks.specs.Tasks.{task_view, branch_task, element_task, loop_task, print_task, return_task, value_task, statements_in, tasks_of_statements}
 use Rattle.tasks.specs.Outcomes.{else_tree}
 use Rattle.terms.specs.Views.{value_view, indexed_view, term_view, place_in, Reduces}

@@ -3,9 +3,9 @@ use Rattle.terms.specs.declared.term.Term.{Term}
 use Rattle.terms.specs.declared.term.Term.TheVariants as term
 use Rattle.terms.specs.Views.{variables_view}
 use Rattle.tasks.specs.Tasks.{element_task}
-use Rattle.plain_steps.specs.Effects.{HasEffect}
-use Rattle.plain_steps.proofs.EffectLemmas.{index_reduces}
-use Rattle.plain_steps.proofs.step.set_element.Goals as goal
+use Rattle.tasks.specs.Effects.{HasEffect}
+use Rattle.tasks.proofs.EffectLemmas.{index_reduces}
+use Rattle.tasks.proofs.step.set_element.Goals as goal
 
 pub returns-in-Done-clause-step : goal.returns-in-Done-clause-step
 returns-in-Done-clause-step c =

@@ -1,2 +1,0 @@
-mod PutLemmas
-pub mod EffectLemmas
