@@ -2,23 +2,27 @@
 
 ghost use Rattle.std.specs.Prelude.{◌≡◌, ◌==◌, ◌≤◌, ◌<◌, ℕ, List, [], ◌∷◌, length};
 
-use arrayvec::ArrayVec;
 use std::marker::Model;
+
+/// How many words there may be.
+const MOST_WORDS: usize = 64;
 
 /// At most 64 words, seen as the list of them with the topmost first. It never allocates.
 #[derive(Drop)]
 pub struct Stack {
-    words: ArrayVec<u32, 64>,
+    words: [u32; MOST_WORDS],
+    /// How many of them are on the stack, the topmost last.
+    len: usize,
 }
 
 impl Model for Stack {
-    ghost use Rattle.std.specs.Prelude.{List, ℕ, reverse, length, ◌≤◌};
+    ghost use Rattle.std.specs.Prelude.{List, ℕ, reverse, take, ◌≤◌};
 
     ghost Value = { List ℕ };
 
-    ghost view = { λ s. reverse s.words.items };
+    ghost view = { λ s. reverse (take s.len s.words) };
 
-    ghost invariant = { λ s. length s.words.items ≤ 64 };
+    ghost invariant = { λ s. s.len ≤ 64 };
 }
 
 impl Stack {
@@ -27,7 +31,8 @@ impl Stack {
         ensures { result ≡ [] }
     {
         Stack {
-            words: ArrayVec::new(),
+            words: [0; MOST_WORDS],
+            len: 0,
         }
     }
 
@@ -36,14 +41,15 @@ impl Stack {
         requires { length self.old < 64 }
         ensures { self.new ≡ word ∷ self.old }
     {
-        self.words.push(word);
+        self.words[self.len] = word;
+        self.len += 1;
     }
 
     /// Whether there is no word.
     pub fn is_empty(&self) -> bool
         ensures { result ≡ (length self.now == 0) }
     {
-        self.words.is_empty()
+        self.len == 0
     }
 
     /// The topmost word.
@@ -51,7 +57,7 @@ impl Stack {
         requires { 0 < length self.now }
         ensures { (top : ℕ) (rest : List ℕ) → self.now ≡ top ∷ rest → result ≡ top }
     {
-        self.words[self.words.len() - 1]
+        self.words[self.len - 1]
     }
 
     /// Another word in place of the topmost.
@@ -59,15 +65,14 @@ impl Stack {
         requires { 0 < length self.old }
         ensures { (top : ℕ) (rest : List ℕ) → self.old ≡ top ∷ rest → self.new ≡ word ∷ rest }
     {
-        let last = self.words.len() - 1;
-        self.words[last] = word;
+        self.words[self.len - 1] = word;
     }
 
     /// Takes all words.
     pub fn clear(&mut self)
         ensures { self.new ≡ [] }
     {
-        self.words.clear();
+        self.len = 0;
     }
 
     /// Takes the topmost word.
@@ -76,6 +81,7 @@ impl Stack {
         ensures words { self.old ≡ result ∷ self.new }
         ensures room { length self.new < 64 }
     {
-        self.words.pop().unwrap()
+        self.len -= 1;
+        self.words[self.len]
     }
 }
