@@ -9,8 +9,8 @@ use jnirun::{COMMAND_LINE, FileSystem, fail};
 use report::StdSink;
 use std::process::ExitCode;
 
-/// Does what the words ask for.
-fn run(rt: &HostRuntime, words: &[String]) -> u8 {
+/// Answers what the words ask for, and gives the status.
+fn answer_words(rt: &HostRuntime, words: &[String]) -> u8 {
     let request = words::read(rt.alloc(), words);
     answer(
         rt.alloc(),
@@ -26,7 +26,7 @@ fn main(rt: HostRuntime) -> ExitCode {
         return ExitCode::from(COMMAND_LINE);
     };
     let status = match args.collect::<Vec<String>>(rt.alloc()) {
-        Ok(words) => run(&rt, &words),
+        Ok(words) => answer_words(&rt, &words),
         Err(_) => fail(&mut StdSink::new(rt.stderr()), b"memory\n"),
     };
     ExitCode::from(status)
