@@ -9,17 +9,25 @@ use jnirun::{COMMAND_LINE, FileSystem, fail};
 use report::StdSink;
 use std::process::ExitCode;
 
+/// Answers what the words ask for, and gives the status.
+fn answer_words(rt: &HostRuntime, words: &[String]) -> u8 {
+    let request = words::read(rt.alloc(), words);
+    answer(
+        rt.alloc(),
+        &request,
+        &mut FileSystem::new(rt),
+        &mut StdSink::new(rt.stdout()),
+        &mut StdSink::new(rt.stderr()),
+    )
+}
+
 fn main(rt: HostRuntime) -> ExitCode {
-    let mut out = StdSink::new(rt.stdout());
-    let mut err = StdSink::new(rt.stderr());
-    let mut files = FileSystem::new(&rt);
     let Ok(args) = std::env::args(&rt) else {
         return ExitCode::from(COMMAND_LINE);
     };
-    let Ok(words) = args.collect::<Vec<String>>(rt.alloc()) else {
-        return ExitCode::from(fail(&mut err, b"memory\n"));
+    let status = match args.collect::<Vec<String>>(rt.alloc()) {
+        Ok(words) => answer_words(&rt, &words),
+        Err(_) => fail(&mut StdSink::new(rt.stderr()), b"memory\n"),
     };
-    let request = words::read(rt.alloc(), words.as_slice());
-    let status = answer(rt.alloc(), &request, &mut files, &mut out, &mut err);
     ExitCode::from(status)
 }

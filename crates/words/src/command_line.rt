@@ -1,14 +1,13 @@
 //! The command line, as `clap` takes it.
 
 use crate::table::{Word, Words, commands};
-use clap::{Arg, ArgAction};
+use clap::{Arg, Command};
 use std::alloc::{AllocError, Global};
 
 /// A word of a command.
 fn arg<'a>(alloc: Global, word: &Word) -> Arg<'a> {
     let arg = Arg::new(alloc, word.name)
         .required(word.is_required)
-        .action(ArgAction::Set)
         .help(word.help);
     match word.option {
         Some(option) => arg.long(option),
@@ -16,38 +15,35 @@ fn arg<'a>(alloc: Global, word: &Word) -> Arg<'a> {
     }
 }
 
-/// The words of a command.
-fn args<'a>(alloc: Global, words: &[Word]) -> Result<Vec<Arg<'a>>, AllocError> {
-    let mut args = Vec::new(alloc);
-    for word in words {
-        args.push(arg(alloc, word))?;
-    }
-    Ok(args)
-}
-
 /// A command.
-fn command<'a>(alloc: Global, words: &Words) -> Result<clap::Command<'a>, AllocError> {
-    let args = args(alloc, words.words)?;
-    clap::Command::new(alloc, words.name)
-        .about(words.about)
-        .args(args)
+fn command<'a>(alloc: Global, words: &Words) -> Result<Command<'a>, AllocError> {
+    let mut command = Command::new(alloc, words.name).about(words.about);
+    for word in words.words {
+        command = command.arg(arg(alloc, word))?;
+    }
+    Ok(command)
 }
 
-/// The commands.
-fn all<'a>(alloc: Global) -> Result<Vec<clap::Command<'a>>, AllocError> {
-    let mut all = Vec::new(alloc);
+/// With the commands. A line that memory is refused to goes by a call: the drop of its parts in turn is many steps here.
+fn with_commands<'a>(alloc: Global, line: Command<'a>) -> Result<Command<'a>, AllocError> {
+    let mut line = line;
     for words in commands() {
-        all.push(command(alloc, words)?)?;
+        match command(alloc, words) {
+            Ok(command) => line = line.subcommand(command)?,
+            Err(refused) => {
+                drop(line);
+                return Err(refused);
+            }
+        }
     }
-    Ok(all)
+    Ok(line)
 }
 
 /// The words that are taken.
-pub fn command_line<'a>(alloc: Global) -> Result<clap::Command<'a>, AllocError> {
-    let all = all(alloc)?;
-    clap::Command::new(alloc, "jnirun")
+pub fn command_line<'a>(alloc: Global) -> Result<Command<'a>, AllocError> {
+    let line = Command::new(alloc, "jnirun")
         .version("0.1.0")
         .about("Runs Java native methods on a heap whose objects move")
-        .subcommand_required(true)
-        .subcommands(all)
+        .subcommand_required(true);
+    with_commands(alloc, line)
 }

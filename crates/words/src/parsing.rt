@@ -12,29 +12,37 @@ use explanations::Explanation;
 use std::alloc::{AllocError, Global};
 use std::convert::AsStr;
 
-/// The file of a check.
-fn check_of<'a>(given: &ArgMatches<'a>) -> Option<Command<'a>> {
-    Some(Command::Check {
-        program: given.get_str("PROG")?,
-    })
+/// What is to be done with files, by which are given: the schedule tells a run from a replay, and the world both from a check.
+fn command_of<'a>(
+    program: Option<&'a str>,
+    world: Option<&'a str>,
+    schedule: Option<&'a str>,
+    journal: Option<&'a str>,
+) -> Option<Command<'a>> {
+    match (program, world, schedule, journal) {
+        (Some(program), None, _, _) => Some(Command::Check { program }),
+        (Some(program), Some(world), Some(schedule), _) => Some(Command::Run {
+            program,
+            world,
+            schedule,
+        }),
+        (Some(program), Some(world), None, Some(journal)) => Some(Command::Replay {
+            program,
+            world,
+            journal,
+        }),
+        _ => None,
+    }
 }
 
-/// The files of a run, where the words say how to schedule.
-fn run_of<'a>(given: &ArgMatches<'a>) -> Option<Command<'a>> {
-    Some(Command::Run {
-        program: given.get_str("PROG")?,
-        world: given.get_str("WORLD")?,
-        schedule: given.get_str("FILE")?,
-    })
-}
-
-/// The files of a replay.
-fn replay_of<'a>(given: &ArgMatches<'a>) -> Option<Command<'a>> {
-    Some(Command::Replay {
-        program: given.get_str("PROG")?,
-        world: given.get_str("WORLD")?,
-        journal: given.get_str("JOURNAL")?,
-    })
+/// What is to be done with files, as the words say.
+fn served<'a>(given: &ArgMatches<'a>) -> Option<Command<'a>> {
+    command_of(
+        given.get_str("PROG"),
+        given.get_str("WORLD"),
+        given.get_str("FILE"),
+        given.get_str("JOURNAL"),
+    )
 }
 
 /// What the words after `explain` ask for: a fault by its number, or a trap by `trap` and its number.
@@ -51,29 +59,25 @@ fn explained(given: &ArgMatches<'_>) -> Option<Explanation> {
     explanation_of(given.get_str("N")?, given.get_str("NUMBER"))
 }
 
-/// What is to be done with files, by the words after this one.
-fn served<'a>(name: &str, given: &ArgMatches<'a>) -> Option<Command<'a>> {
-    match name {
-        "check" => check_of(given),
-        "run" => run_of(given),
-        "replay" => replay_of(given),
-        _ => None,
-    }
-}
-
 /// What words ask for that `clap` takes.
 fn asked_of<'a>(matches: &ArgMatches<'a>) -> Request<'a>
     ensures { ShowsNone result }
 {
-    let Some((name, given)) = matches.subcommand() else {
-        return Request::LacksSchedule;
-    };
-    if name == "explain" {
-        return Request::Explain(explained(given));
-    }
-    match served(name, given) {
-        Some(command) => Request::Serve(command),
+    match matches.subcommand() {
+        Some(("explain", given)) => Request::Explain(explained(given)),
+        Some((_, given)) => match served(given) {
+            Some(command) => Request::Serve(command),
+            None => Request::LacksSchedule,
+        },
         None => Request::LacksSchedule,
+    }
+}
+
+/// The words, as `clap` reads them.
+fn matches_of<'a, S: AsStr>(alloc: Global, words: &'a [S]) -> Result<ArgMatches<'a>, Error> {
+    match command_line(alloc) {
+        Ok(command) => command.try_get_matches_from(words),
+        Err(refused) => Err(Error::from(refused)),
     }
 }
 
@@ -82,9 +86,10 @@ fn asked_of<'a>(matches: &ArgMatches<'a>) -> Request<'a>
 pub fn parse<'a, S: AsStr>(alloc: Global, words: &'a [S]) -> Result<Request<'a>, Error>
     ensures { IfOk result ShowsNone }
 {
-    let command = command_line(alloc)?;
-    let matches = command.try_get_matches_from(words)?;
-    Ok(asked_of(&matches))
+    match matches_of(alloc, words) {
+        Ok(matches) => Ok(asked_of(&matches)),
+        Err(error) => Err(error),
+    }
 }
 
 /// Whether a word asks for the usage or the version.
