@@ -1,10 +1,10 @@
 //! Instructions that work on the operand stack and the number slots alone.
 
-ghost use Rattle.std.specs.Prelude.{◌≡◌, ◌<◌, ℕ, List, IsSome, Some, length, replicate};
+ghost use Rattle.std.specs.Prelude.{◌≡◌, ◌<◌, ℕ, List, IsSome, Some, true, length, replicate};
 ghost use Rattle.code.specs.declared.instr.Instr.TheVariants.{Complement, Not, Operate, OperateOrTrap, JumpIfFalseOrPop, JumpIfTrueOrPop, JumpIfFalse, LoadElement, StoreElement};
 ghost use Rattle.code.specs.declared.instr.Plain.TheVariants.{Next};
 ghost use Rattle.code.specs.Depth.{depth_after};
-ghost use Rattle.code.specs.Effect.{truth_word, operate, operate_or_trap, element_word, plain_of};
+ghost use Rattle.code.specs.Effect.{truth_word, operate, operate_or_trap, element_word, can_lead, plain_of};
 
 use crate::instr::{ElementType, Instr, LocalArray, Operator, Plain, PlainTrap, TrappingOperator};
 use crate::stack::Stack;
@@ -23,23 +23,36 @@ pub fn plain(instr: &Instr, stack: &mut Stack, numbers: &mut [u32]) -> Plain
         Instr::Not => invert(stack),
         Instr::Convert => {}
         Instr::Operate(operator) => operate(*operator, stack),
-        Instr::OperateOrTrap(operator, line) => return operate_or_trap(*operator, *line, stack),
-        Instr::JumpIfFalseOrPop(n) => return jump_if_false_or_pop(*n, stack),
-        Instr::JumpIfTrueOrPop(n) => return jump_if_true_or_pop(*n, stack),
-        Instr::JumpIfFalse(n) => return jump_if_false(*n, stack),
-        Instr::Jump(n) => return Plain::Skip(*n),
-        Instr::JumpBack(n) => return Plain::Back(*n),
-        Instr::LoadElement(array, line) => return load_element(*array, *line, stack, numbers),
-        Instr::StoreElement(element, array, line) => {
-            return store_element(*element, *array, *line, stack, numbers);
-        }
         Instr::ClearArray(array) => {
             let start = array.start as usize;
             clear(&mut numbers[start..start + array.len as usize]);
         }
-        _ => unreachable!(),
+        _ => return lead(instr, stack, numbers),
     }
     Plain::Next
+}
+
+/// Does an instruction that can lead elsewhere than to the next.
+#[inline(always)]
+fn lead(instr: &Instr, stack: &mut Stack, numbers: &mut [u32]) -> Plain
+    requires leads { can_lead instr.now ≡ true }
+    requires operands { IsSome (plain_of instr.now stack.old numbers.old) }
+    requires room { IsSome (depth_after instr.now (length stack.old)) }
+    ensures { plain_of instr.now stack.old numbers.old ≡ Some (result, stack.new, numbers.new) }
+{
+    match instr {
+        Instr::OperateOrTrap(operator, line) => operate_or_trap(*operator, *line, stack),
+        Instr::JumpIfFalseOrPop(n) => jump_if_false_or_pop(*n, stack),
+        Instr::JumpIfTrueOrPop(n) => jump_if_true_or_pop(*n, stack),
+        Instr::JumpIfFalse(n) => jump_if_false(*n, stack),
+        Instr::Jump(n) => Plain::Skip(*n),
+        Instr::JumpBack(n) => Plain::Back(*n),
+        Instr::LoadElement(array, line) => load_element(*array, *line, stack, numbers),
+        Instr::StoreElement(element, array, line) => {
+            store_element(*element, *array, *line, stack, numbers)
+        }
+        _ => unreachable!(),
+    }
 }
 
 fn complement(stack: &mut Stack)

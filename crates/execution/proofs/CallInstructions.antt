@@ -1,7 +1,7 @@
 -- A call that the machine makes does what the source's call does.
 use Rattle.std.proofs.Common.{◌≡◌, ◌≢◌, ◌⊎◌, inl, inr, map, ℕ, pos, Bool, true, false, not, List, [], ◌∷◌, length, Option, Some, None, refl, sym, ap, ◌∙◌, subst, arith, append-nil}
 use Rattle.std.specs.Global.{Vec}
-use Rattle.std.specs.Prelude.{slice_get, slice_set, ◌&&◌, nat_le, if◌then◌else◌}
+use Rattle.std.specs.Prelude.{slice_get, slice_set, is_some, ◌&&◌, nat_le, if◌then◌else◌}
 use Rattle.std.specs.List.{AllZip}
 use Rattle.classes.specs.Class.{Classes}
 use Rattle.heap.specs.Heap.{Space}
@@ -48,15 +48,15 @@ use Rattle.jni_calls.specs.Answers.{HoldsObject, IsAnswer}
 use Rattle.jni_calls.specs.Asked.{IsAsked, references_of}
 use Rattle.jni_calls.specs.Statics.{all_held}
 use Rattle.jni_calls.specs.CarriedOut.{CarriesOut, IsLeft, IsPossible, can_fail, frames_left, pending_after, result_after, shared_after}
-use Rattle.jni_calls.specs.Checked.{puts_local}
+use Rattle.jni_calls.specs.Checked.{puts_local, trap_found}
 use Rattle.tables.specs.Locals.{has_room}
 use Rattle.jni_calls.specs.Given.{held_in, key_at, operand_of}
-use Rattle.execution.specs.Invoked.{AtCall}
+use Rattle.execution.specs.Invoked.{AtCall, trap_at}
 use Rattle.execution.specs.Received.{HasRoom, HasTarget, Receives, HasStatic, statics_with}
 use Rattle.jni_calls.specs.Traps.{trap_view}
 use Rattle.jni_calls.proofs.AnswerCases.{gives_it, makes_it, writes_it}
 use Rattle.execution.proofs.Arguments.{all_given, none_left_after}
-use Rattle.jni_calls.proofs.CallTraps.{room_left}
+use Rattle.jni_calls.proofs.CallTraps.{found_is, room_left}
 use Rattle.execution.proofs.Calls.{Ready, fields_count, ready, ready_owners, slots_of}
 use Rattle.execution.proofs.Effects.{call_cases}
 use Rattle.execution.proofs.EffectFrames.{left_is}
@@ -258,6 +258,12 @@ module _ (p : Lowered) (w : World) (store : Store) (pending : Option ℕ) (call 
   -- the step is the call
   next_is : next_effect shared s s.tasks ≡ Calls called.line called.target called.f called.args
   next_is = ap (next_effect shared s) h.tasks ∙ called.is
+
+  -- the trap that is found of it is the source's
+  pub trap_is : trap_at w store pending call in_memory ≡ trap_of_call w.classes shared s called.target called.f called.args
+  trap_is =
+      (λ i. trap_found w.classes store.heap (is_some pending) (has_room (locals_after (called.asked.same_function i) call.locals)) (references_of store call) call.fields.items (called.asked.same_function i) in_memory.operands.items)
+      ∙ found_is p w store pending call function shared s called.f called.args called.asked called.target
 
   -- the key that DeleteLocalRef is given
   deleted : called.f ≡ DeleteLocalRef → DeletesKey p w.classes store.heap call h.code own shared s task rest r function.operands called.args
@@ -496,7 +502,7 @@ module _ (p : Lowered) (w : World) (store : Store) (pending : Option ℕ) (call 
         subst (λ (e : Effect). GoesOn p w store.heap (record store' { statics = statics }) lent k own shared s rest after pending' e refused event.Quiet) (sym called.is) (record {
           next_shared = ends.now;
           next = going called.line called.f called.args ends.tasks s left q c ends.variables;
-          steps = stepped refused (going called.line called.f called.args ends.tasks s left q c ends.variables) ends.now (steps ∙ ends.steps);
+          steps = stepped refused (going called.line called.f called.args ends.tasks s left q c ends.variables) ends.now (◌∙◌ {c = source.Advances ends.now (going called.line called.f called.args ends.tasks s left q c ends.variables) source.Quiet} steps ends.steps);
           store_agrees = ends.store_agrees;
           keeps = ends.keeps;
           work = ends.stands;

@@ -1,12 +1,15 @@
 -- Where a call of a function of the JNI is made.
-use Rattle.std.specs.Prelude.{◌≡◌, ℕ, List, [], ◌∷◌, slice_get, Option, Some}
+use Rattle.std.specs.Prelude.{◌≡◌, ℕ, Bool, true, false, List, [], ◌∷◌, slice_get, Option, Some, None, is_some}
 use Rattle.code.specs.Call.{call_view}
 use Rattle.code.specs.Depth.{Listing}
 use Rattle.code.specs.declared.instr.Call.{Call as InMemory}
 use Rattle.code.specs.declared.instr.Instr.TheVariants as instr
 use Rattle.source.specs.Task.{Task}
 use Rattle.source.specs.Thread.{Shared, Thread, viewed_by}
+use Rattle.source.specs.Value.{Trap as SourceTrap}
 use Rattle.source.specs.World.{World}
+use Rattle.world.specs.SoundWorlds.{IsSound}
+use Rattle.jni.specs.Table.{function_value}
 use Rattle.safety.specs.Owners.{Owners}
 use Rattle.lowered.specs.Lowered.{Lowered, IsLowered}
 use Rattle.lowered.specs.Slots.{visible_to}
@@ -15,9 +18,15 @@ use Rattle.execution.specs.declared.invoke.Invoked.TheVariants as invoked
 use Rattle.execution.specs.declared.execute.Event.TheVariants.{Quiet, Trapped}
 use Rattle.execution.specs.declared.execute.Executed.{Executed}
 use Rattle.execution.specs.declared.execute.Executed.TheVariants.{Did, Refused}
+use Rattle.tables.specs.Locals.{has_room}
+use Rattle.jni_calls.specs.declared.answer.Answer.{Answer}
 use Rattle.jni_calls.specs.declared.store.Store.{Store}
 use Rattle.jni_calls.specs.declared.activation.Activation.{Activation}
+use Rattle.jni_calls.specs.Asked.{references_of}
+use Rattle.jni_calls.specs.Checked.{trap_found}
+use Rattle.jni_calls.specs.Locals.{locals_after}
 use Rattle.jni_calls.specs.StoreAgrees.{StoreAgrees}
+use Rattle.jni_calls.specs.WorkedOut.{IsWorkedOut}
 use Rattle.execution.specs.Executes.{CallStands, IsSteady}
 use Rattle.jni_calls.specs.HeapAgrees.{ReferenceAgrees}
 
@@ -34,6 +43,22 @@ pub record AtCall (p : Lowered) (w : World) (store : Store) (pending : Option �
   pub code : Listing
   pub of_function : slice_get p.codes call.function ≡ Some code
   pub at : slice_get code.instrs call.place ≡ Some (instr.Call (call_view function))
+
+-- the trap of a call before it does anything
+abbrev pub trap_at : World → Store → (pending : Option ℕ) → Activation → InMemory → Option SourceTrap
+trap_at w store pending call function =
+    trap_found w.classes store.heap (is_some pending) (has_room (locals_after (function_value function.function) call.locals)) (references_of store call) call.fields.items (function_value function.function) function.operands.items
+
+-- No check stops a call, and this is what it answers.
+pub record IsAnswered (w : World) (store : Store) (pending : Option ℕ) (call : Activation) (function : InMemory) (answer : Answer) : Type 0 where
+  pub sound : IsSound w
+  pub free : trap_at w store pending call function ≡ None
+  pub works : IsWorkedOut w.classes store.heap store.loaded.items (references_of store call) call.fields.items call.stack (call_view function) (function_value function.function) answer
+
+-- what a call came to that wasn't stopped
+abbrev pub done_or_refused : (refused : Bool) → Invoked
+done_or_refused true = invoked.Refused
+done_or_refused false = invoked.Done
 
 -- what the instruction of a call on this line did, by what the call came to
 abbrev pub executed_as : (line : ℕ) → Invoked → Executed

@@ -1,6 +1,6 @@
 //! Calls of functions of the JNI (JNI Specification, chapter 4).
 
-ghost use Rattle.std.specs.Prelude.{◌≡◌, ◌+◌, ◌<◌, ◌^◌, ℕ, List, Option, IfOk, OnErr};
+ghost use Rattle.std.specs.Prelude.{◌≡◌, ◌+◌, ◌<◌, ◌^◌, ℕ, List, Option, Some, IfOk, IfErr, OnErr};
 ghost use Rattle.code.specs.Call.{IsPrepared};
 ghost use Rattle.source.specs.Effect.{effect_of};
 ghost use Rattle.source.specs.Task.{Task};
@@ -8,13 +8,14 @@ ghost use Rattle.source.specs.Thread.{BuffersInUse, Shared, Thread as SourceThre
 ghost use Rattle.safety.specs.Owners.{Owners};
 ghost use Rattle.lowered.specs.Lowered.{Lowered};
 ghost use Rattle.execution.specs.Executes.{Executes};
-ghost use Rattle.execution.specs.Invoked.{AtCall, executed_as};
+ghost use Rattle.jni_calls.specs.Traps.{trap_view};
+ghost use Rattle.execution.specs.Invoked.{AtCall, IsAnswered, trap_at, done_or_refused, executed_as};
 
 use crate::receive::receive;
 use code::instr::Call;
 use heap::Addr;
 use jni_calls::activation::Activation;
-use jni_calls::answer::work_out;
+use jni_calls::answer::{Answer, work_out};
 use jni_calls::carry_out::carry_out;
 use jni_calls::check::check;
 use jni_calls::references::References;
@@ -50,6 +51,27 @@ pub fn invoke(
     ensures pending { OnErr result (pending.new ≡ pending.old) }
     ensures call { OnErr result (call.new ≡ call.old) }
 {
+    match answer_or_trap(world, store, *pending, call, function) {
+        Ok(answer) => finish(world, store, pending, call, function, answer),
+        Err(trap) => Ok(Invoked::Trapped(trap)),
+    }
+}
+
+/// What a call answers, or the trap that a check found.
+#[inline(always)]
+fn answer_or_trap(
+    world: &World,
+    store: &Store,
+    pending: Option<Addr>,
+    call: &Activation,
+    function: &Call,
+) -> Result<Answer, Trap>
+    requires at_call { (p : Lowered) × (own : Owners) × (shared : Shared) × (s : SourceThread) × (task : Task) × (rest : List Task) × AtCall p world.now store.now pending call.now function.now own shared s task rest }
+    requires prepared { IsPrepared function.now }
+    ensures answer { IfOk result (IsAnswered world.now store.now pending call.now function.now) }
+    ensures trap { IfErr result (λ trap. trap_at world.now store.now pending call.now function.now ≡ Some (trap_view trap)) }
+{
+    let classes = world.classes();
     let references = References::new(
         &call.references,
         &call.locals,
@@ -57,7 +79,7 @@ pub fn invoke(
         &store.globals,
     );
     let trap = check(
-        world.classes(),
+        classes,
         &store.heap,
         pending.is_some(),
         &call.locals,
@@ -65,18 +87,40 @@ pub fn invoke(
         &call.fields,
         function,
     );
-    if let Some(trap) = trap {
-        return Ok(Invoked::Trapped(trap));
+    match trap {
+        Some(trap) => Err(trap),
+        None => Ok(work_out(
+            classes,
+            &store.heap,
+            &store.loaded,
+            &references,
+            &call.fields,
+            &call.stack,
+            function,
+        )),
     }
-    let answer = work_out(
-        world.classes(),
-        &store.heap,
-        &store.loaded,
-        &references,
-        &call.fields,
-        &call.stack,
-        function,
-    );
+}
+
+/// Does what a call answers, and puts what it gives where it goes.
+#[inline(always)]
+fn finish(
+    world: &World,
+    store: &mut Store,
+    pending: &mut Option<Addr>,
+    call: &mut Activation,
+    function: &Call,
+    answer: Answer,
+) -> Result<Invoked, AllocError>
+    requires at_call { (p : Lowered) × (own : Owners) × (shared : Shared) × (s : SourceThread) × (task : Task) × (rest : List Task) × AtCall p world.now store.old pending.old call.old function.now own shared s task rest }
+    requires place { call.old.place + 1 < 2 ^ 64 }
+    requires prepared { IsPrepared function.now }
+    requires answered { IsAnswered world.now store.old pending.old call.old function.now answer }
+    ensures done { IfOk result (λ done. (p : Lowered) (lent : BuffersInUse) (k : ℕ) (own : Owners) (shared : Shared) (s : SourceThread) (task : Task) (rest : List Task) → AtCall p world.now store.old pending.old call.old function.now own shared s task rest
+        → Executes p world.now store.old.heap store.new lent k own shared s rest call.new pending.new (effect_of (sight_of shared s) task) (executed_as function.now.line done)) }
+    ensures store { OnErr result (store.new ≡ store.old) }
+    ensures pending { OnErr result (pending.new ≡ pending.old) }
+    ensures call { OnErr result (call.new ≡ call.old) }
+{
     let kind = function.result;
     let carried = carry_out(world, store, pending, &mut call.locals, kind, answer)?;
     // Here the proof takes up what is known of a table.
@@ -88,9 +132,17 @@ pub fn invoke(
         kind,
         &carried.given,
     );
-    if carried.refused {
-        Ok(Invoked::Refused)
+    Ok(done_or_refused(carried.refused))
+}
+
+/// What a call came to that wasn't stopped.
+#[inline(always)]
+fn done_or_refused(refused: bool) -> Invoked
+    ensures { result ≡ done_or_refused refused }
+{
+    if refused {
+        Invoked::Refused
     } else {
-        Ok(Invoked::Done)
+        Invoked::Done
     }
 }

@@ -48,9 +48,7 @@ use Rattle.jni_calls.specs.Traps.{trap_view}
 use Rattle.machine.specs.Run as run
 use Rattle.source.specs.Run.{UnmarkedFit}
 use Rattle.jni_calls.specs.declared.store.Store.{Store}
-use Rattle.machine.specs.declared.fault.ReportFault.{ReportFault}
-use Rattle.machine.specs.declared.fault.ReportFault.TheVariants as reporting
-use Rattle.machine.specs.Run.{Run, Corresponds, WritesRun, ReportsRun, ReportsRows, IsFinished}
+use Rattle.machine.specs.Run.{Run, Corresponds, WritesRun, AreShown, ShowsObjects, IsFinished}
 use Rattle.machine.proofs.Standings.{standings}
 use Rattle.execution.proofs.Threads.{unblocked}
 use Rattle.machine.specs.Roots.{AreAddresses, name_of, thread_names, ThreadsAreStacked, ThreadsAreThere}
@@ -221,35 +219,39 @@ module _ (p : Lowered) (world : World) (store : Store) (ts : List Thread) (print
         complete = λ m there. subst (λ (ns : List ℕ). Contains ns m) (sym same) (among_last (from_one loaded) names source_names often m there);
       })
 
--- what is written of these parts is what the run writes
-pub writes_run : {T E : Type 0} (p : Lowered) (world : World) (store : Store) (ts : List Thread) (printed : List Printed) (stop : Option Stop) (journal : List Entry) (c : Corresponds p world store ts printed stop journal) (now : Run)
-    → ◌≡◌ {A = Run} (record { unit = p.unit; world = world; journal = journal; left = left_of store.heap }) now
-    → (old new : Written) (result : Result T E) (numbers : List Printed) (told : List ThreadStatus) (rows : List ShownRow) (entries : List Entry)
-    → numbers ≡ printed → map standing_view told ≡ standings world.classes stop 1 ts → rows ≡ map (shown_row world.classes c.state.shared.heap) (shown world c.state) → entries ≡ journal
-    → sink.Writes old new result (report_text (report_with numbers told rows) ++ journal_line entries)
-    → WritesRun now old new result
-writes_run p world store ts printed stop journal c now view old new result numbers told rows entries n s o e h =
-    let same : report_text (report_with numbers told rows) ++ journal_line entries ≡ report_text (report world c.state) ++ journal_line journal =
-    ap (λ (l : List Printed). report_text (report_with l told rows) ++ journal_line entries) n
-    ∙ ap (λ (l : List Entry). report_text (report_with printed told rows) ++ journal_line l) e
-    ∙ ap (λ (r : Report). report_text r ++ journal_line journal) (sym (report_is p world store ts printed stop journal c told rows s o)) in
-    let written : run_text.Writes (unit_tree p.unit) world journal (report_text (report_with numbers told rows) ++ journal_line entries) = record { end = c.state; replays = c.replays; same = same } in
-    record {
-      text = report_text (report_with numbers told rows) ++ journal_line entries;
-      is = subst (λ (r : Run). run_text.Writes (unit_tree r.unit) r.world r.journal (report_text (report_with numbers told rows) ++ journal_line entries)) view written;
-      fits = subst (λ (r : Run). UnmarkedFit (unit_tree r.unit) r.world r.journal) view c.fits;
-      written = h;
-    }
+module _ (p : Lowered) (world : World) (store : Store) (ts : List Thread) (printed : List Printed) (stop : Option Stop) (journal : List Entry) (c : Corresponds p world store ts printed stop journal) (now : Run)
+    (view : ◌≡◌ {A = Run} (record { unit = p.unit; world = world; journal = journal; left = left_of store.heap }) now) where
+  -- the names of the tables lead to what is shown
+  pub are_shown : (objects : Heap) (names : List ℕ) → objects ≡ c.state.shared.heap → names ≡ map (name_of store.heap) (references_in store.globals) ++ flat_map (thread_names store.heap) ts → ThreadsAreStacked ts → AreShown now objects names
+  are_shown objects names h n stacked =
+      subst (λ (r : Run). AreShown r objects names) view
+      (λ rows told. (c.state, c.replays, rows_are p world store ts printed stop journal c world.classes objects (length (loaded_objects world)) names rows refl h (sym c.store_agrees.table.counted) n stacked told))
 
--- the same of the rows of what the names lead to
-pub reports_run : {T : Type 0} (p : Lowered) (world : World) (store : Store) (ts : List Thread) (printed : List Printed) (stop : Option Stop) (journal : List Entry) (c : Corresponds p world store ts printed stop journal) (now : Run)
-    → ◌≡◌ {A = Run} (record { unit = p.unit; world = world; journal = journal; left = left_of store.heap }) now
-    → (classes : Classes) (objects : Heap) (loaded : ℕ) (names : List ℕ) (numbers : List Printed) (told : List ThreadStatus) (entries : List Entry) (old new : Written) (result : Result T ReportFault)
-    → classes ≡ world.classes → objects ≡ c.state.shared.heap → loaded ≡ length store.loaded.items → names ≡ map (name_of store.heap) (references_in store.globals) ++ flat_map (thread_names store.heap) ts → ThreadsAreStacked ts
-    → numbers ≡ printed → map standing_view told ≡ standings world.classes stop 1 ts → entries ≡ journal
-    → ReportsRows classes objects loaded names numbers told entries old new result → ReportsRun now old new result
-reports_run p world store ts printed stop journal c now view classes objects loaded names numbers told entries old new (Ok x) k h l m stacked n s e r =
-    writes_run p world store ts printed stop journal c now view old new (Ok x) numbers told r.rows entries n s (rows_are p world store ts printed stop journal c classes objects loaded names r.rows k h l m stacked r.are) e r.written
-reports_run p world store ts printed stop journal c now view classes objects loaded names numbers told entries old new (Err reporting.Memory) k h l m stacked n s e r = r
-reports_run p world store ts printed stop journal c now view classes objects loaded names numbers told entries old new (Err reporting.Sink) k h l m stacked n s e r =
-    writes_run p world store ts printed stop journal c now view old new (Err reporting.Sink) numbers told r.rows entries n s (rows_are p world store ts printed stop journal c classes objects loaded names r.rows k h l m stacked r.are) e r.written
+  -- and so the rows of what they lead to are shown
+  pub shows_objects : (classes : Classes) (objects : Heap) (loaded : ℕ) (names : List ℕ) (rows : List ShownRow) → classes ≡ world.classes → loaded ≡ length store.loaded.items → AreShown now objects names → AreReported classes objects loaded names rows → ShowsObjects now rows
+  shows_objects classes objects loaded names rows k l shown told =
+      shown rows
+      (subst (λ (r : Run). AreReported r.world.classes objects (length (loaded_objects r.world)) names rows) view
+      (subst (λ n. AreReported world.classes objects n names rows) (l ∙ c.store_agrees.table.counted)
+      (subst (λ (t : Classes). AreReported t objects loaded names rows) k told)))
+
+  -- what is written with them is what the run writes
+  pub writes_run : {T E : Type 0} (old new : Written) (result : Result T E) (numbers : List Printed) (told : List ThreadStatus) (rows : List ShownRow) (entries : List Entry)
+      → numbers ≡ printed → map standing_view told ≡ standings world.classes stop 1 ts → ShowsObjects now rows → entries ≡ journal
+      → sink.Writes old new result (report_text (report_with numbers told rows) ++ journal_line entries)
+      → WritesRun now old new result
+  writes_run old new result numbers told rows entries n s shows e h =
+      let there : ShowsObjects (record { unit = p.unit; world = world; journal = journal; left = left_of store.heap }) rows = subst (λ (r : Run). ShowsObjects r rows) (sym view) shows in
+      let state_is : there.0 ≡ c.state = cc (there.1, c.replays) in
+      let rows_shown = subst (λ (x : State). rows ≡ map (shown_row world.classes x.shared.heap) (shown world x)) state_is there.2 in
+      let same : report_text (report_with numbers told rows) ++ journal_line entries ≡ report_text (report world c.state) ++ journal_line journal =
+      ap (λ (l : List Printed). report_text (report_with l told rows) ++ journal_line entries) n
+      ∙ ap (λ (l : List Entry). report_text (report_with printed told rows) ++ journal_line l) e
+      ∙ ap (λ (r : Report). report_text r ++ journal_line journal) (sym (report_is p world store ts printed stop journal c told rows s rows_shown)) in
+      let written : run_text.Writes (unit_tree p.unit) world journal (report_text (report_with numbers told rows) ++ journal_line entries) = record { end = c.state; replays = c.replays; same = same } in
+      record {
+        text = report_text (report_with numbers told rows) ++ journal_line entries;
+        is = subst (λ (r : Run). run_text.Writes (unit_tree r.unit) r.world r.journal (report_text (report_with numbers told rows) ++ journal_line entries)) view written;
+        fits = subst (λ (r : Run). UnmarkedFit (unit_tree r.unit) r.world r.journal) view c.fits;
+        written = h;
+      }

@@ -18,10 +18,6 @@ use Rattle.report.specs.RunText as run_text
 use Rattle.source.specs.Report.{ShownRow}
 use Rattle.source.specs.ReportOf.{shown, shown_row}
 use Rattle.source.specs.Heap.{Heap}
-use Rattle.source.specs.JournalText.{journal_line}
-use Rattle.report.specs.declared.thread_status.ThreadStatus.{ThreadStatus}
-use Rattle.report.specs.ReportText.{report_text}
-use Rattle.report.specs.Shown.{report_with}
 use Rattle.reached.specs.Rows.{AreReported}
 use Rattle.source.specs.Run.{replay, Follows, UnmarkedFit}
 use Rattle.source.specs.State.{State, thread_at}
@@ -216,6 +212,10 @@ IsFinished r answer = InState r (λ s. answer ≡ is_finished r.world.classes s)
 abbrev pub ShowsObjects : Run → List ShownRow → Type 0
 ShowsObjects r rows = InState r (λ s. rows ≡ map (shown_row r.world.classes s.shared.heap) (shown r.world s))
 
+-- the objects that these names lead to, beside those made at load, are those that are shown
+abbrev pub AreShown : Run → Heap → (names : List ℕ) → Type 0
+AreShown r objects names = (rows : List ShownRow) → AreReported r.world.classes objects (length (loaded_objects r.world)) names rows → ShowsObjects r rows
+
 -- what a run writes in all was written, or a beginning of it
 pub record WritesRun {T E : Type 0} (r : Run) (old new : Written) (result : Result T E) : Type 0 where
   pub text : List ℕ
@@ -228,15 +228,3 @@ abbrev pub ReportsRun : {T : Type 0} → Run → Written → Written → Result 
 ReportsRun {T = T} r old new (Ok x) = WritesRun {T = T} {E = ReportFault} r old new (Ok x)
 ReportsRun r old new (Err reporting.Memory) = new ≡ old
 ReportsRun {T = T} r old new (Err reporting.Sink) = WritesRun {T = T} {E = ReportFault} r old new (Err reporting.Sink)
-
--- the rows of what the names lead to were written with these numbers, these standings and this journal, or a beginning of it
-pub record WritesRows {T E : Type 0} (classes : Classes) (objects : Heap) (loaded : ℕ) (names : List ℕ) (numbers : List Printed) (told : List ThreadStatus) (entries : List Entry) (old new : Written) (result : Result T E) : Type 0 where
-  pub rows : List ShownRow
-  pub are : AreReported classes objects loaded names rows
-  pub written : sink.Writes old new result (report_text (report_with numbers told rows) ++ journal_line entries)
-
--- the same, or nothing where memory was refused
-abbrev pub ReportsRows : {T : Type 0} → Classes → Heap → (loaded : ℕ) → (names : List ℕ) → List Printed → List ThreadStatus → List Entry → Written → Written → Result T ReportFault → Type 0
-ReportsRows {T = T} classes objects loaded names numbers told entries old new (Ok x) = WritesRows {T = T} {E = ReportFault} classes objects loaded names numbers told entries old new (Ok x)
-ReportsRows classes objects loaded names numbers told entries old new (Err reporting.Memory) = new ≡ old
-ReportsRows {T = T} classes objects loaded names numbers told entries old new (Err reporting.Sink) = WritesRows {T = T} {E = ReportFault} classes objects loaded names numbers told entries old new (Err reporting.Sink)

@@ -11,7 +11,7 @@ ghost use Rattle.source.specs.Object.{sizes};
 ghost use Rattle.source.specs.World.{loaded_objects};
 ghost use Rattle.execution.specs.Loading.{IsLoadFault};
 ghost use Rattle.source.specs.declared.journal.Entry.TheVariants.{Step};
-ghost use Rattle.machine.specs.Run.{replay_of, Corresponds, IsUnstarted, CouldStep, TurnHolds, RunsAlong, RunsInto, PrintedBy, IsFinished, has_ended, ReportsRun, ReportsRows, GivesNoStep, GivesStep, StoppedBy, event_of, is_refused, printed_after, turn_after};
+ghost use Rattle.machine.specs.Run.{replay_of, Corresponds, IsUnstarted, CouldStep, TurnHolds, RunsAlong, RunsInto, PrintedBy, IsFinished, has_ended, ReportsRun, AreShown, ShowsObjects, GivesNoStep, GivesStep, StoppedBy, event_of, is_refused, printed_after, turn_after};
 ghost use Rattle.machine.specs.Stops.{stop_after, standing_of, standing_by_ending};
 
 use crate::fault::{ReportFault, RunFault};
@@ -30,7 +30,7 @@ use execution::thread::{Ending, Thread};
 use jni_calls::store::Store;
 use lowered::Program;
 use reached::reached_rows;
-use report::{Sink, ThreadStatus, write_run};
+use report::{Rows, Sink, ThreadStatus, write_run};
 use safety::accepted_is_safe;
 use source::{Entry, Printed, ScheduleWord};
 use std::alloc::{AllocError, Global};
@@ -148,16 +148,45 @@ impl<'a> Machine<'a> {
         ensures err { OnErr result ((self.new ≡ self.old) × CouldStep self.old k) }
         ensures runs { IsSome (replay_of self.new) }
     {
+        match self.hindrance(k) {
+            Some(turn) => Ok(turn),
+            None => self.take_step(k),
+        }
+    }
+
+    /// The turn of thread `k`, where it can't take a step or the journal has no room for one.
+    #[inline(always)]
+    fn hindrance(&self, k: u8) -> Option<Turn>
+        requires counted { 0 < k }
+        requires is_thread { k ≤ length self.now.world.threads }
+        ensures turn { IfSome result (TurnHolds self.now k self.now) }
+        ensures none { IfNone result (CouldStep self.now k) }
+        ensures runs { IsSome (replay_of self.now) }
+    {
         if self.stop.is_some() {
-            return Ok(Turn::Stopped);
+            return Some(Turn::Stopped);
         }
         let index = usize::from(k) - 1;
         if has_ended(&self.threads[index]) {
-            return Ok(Turn::Ended);
+            return Some(Turn::Ended);
         }
         if self.journal.len() >= MOST_ENTRIES {
-            return Ok(Turn::Full);
+            return Some(Turn::Full);
         }
+        None
+    }
+
+    /// Lets thread `k`, which can step, take one step.
+    #[inline(always)]
+    fn take_step(&mut self, k: u8) -> Result<Turn, AllocError>
+        requires counted { 0 < k }
+        requires is_thread { k ≤ length self.old.world.threads }
+        requires could { CouldStep self.old k }
+        ensures turn { IfOk result (TurnHolds self.old k self.new) }
+        ensures err { OnErr result ((self.new ≡ self.old) × CouldStep self.old k) }
+        ensures runs { IsSome (replay_of self.new) }
+    {
+        let index = usize::from(k) - 1;
         self.journal.reserve(1)?;
         self.printed.reserve(1)?;
         let advanced = advance(
@@ -277,46 +306,54 @@ impl<'a> Machine<'a> {
         ensures run { ReportsRun self.now (S.written sink.old) (S.written sink.new) result }
         ensures none_waits { OnOk result ((S.written sink.new).waiting ≡ 0) }
     {
-        let classes = self.world.classes();
-        let standings = standings_of(classes, &self.threads, self.stop);
+        match self.shown(alloc) {
+            Ok((objects, names)) => self.write(alloc, &objects, &names, sink),
+            Err(_) => Err(ReportFault::Memory),
+        }
+    }
+
+    /// The objects by their names, and the names of those that references lead to.
+    fn shown(&self, alloc: Global) -> Result<(NamedBlocks<'_>, Vec<usize>), AllocError>
+        ensures { IfOk result (λ parts. AreShown self.now parts.0 parts.1.items) }
+    {
         let heap = &self.store.heap;
         let objects = named_blocks(alloc, heap, self.store.births)?;
         let names = root_names(alloc, heap, &self.store.globals, &self.threads)?;
-        write_rows(
-            alloc,
-            classes,
-            &objects,
-            self.store.loaded.len(),
-            &names,
-            self.printed.as_slice(),
-            standings.as_slice(),
-            self.journal.as_slice(),
-            sink,
-        )
+        Ok((objects, names))
     }
-}
 
-/// Writes the report of these numbers, these standings and the objects that the names lead to, beside the `loaded` that were made
-/// at load, and the line of the journal.
-fn write_rows<S: Sink>(
-    alloc: Global,
-    classes: &ClassTable,
-    objects: &NamedBlocks<'_>,
-    loaded: usize,
-    names: &[usize],
-    printed: &[Printed],
-    standings: &[ThreadStatus<'_>],
-    journal: &[Entry],
-    sink: &mut S,
-) -> Result<(), ReportFault>
-    requires { CanFail (S.written sink.old) }
-    ensures rows { ReportsRows classes.now objects.now loaded names.now printed.now standings.now journal.now (S.written sink.old) (S.written sink.new) result }
-    ensures none_waits { OnOk result ((S.written sink.new).waiting ≡ 0) }
-{
-    let rows = reached_rows(alloc, classes, objects, loaded, names)?;
-    match write_run(sink, printed, standings, &rows, journal) {
-        Ok(()) => Ok(()),
-        Err(_) => Err(ReportFault::Sink),
+    /// Writes the report with the objects that these names lead to, beside those made at load.
+    fn write<S: Sink>(
+        &self,
+        alloc: Global,
+        objects: &NamedBlocks<'_>,
+        names: &[usize],
+        sink: &mut S,
+    ) -> Result<(), ReportFault>
+        requires can_fail { CanFail (S.written sink.old) }
+        requires shown { AreShown self.now objects.now names.now }
+        ensures run { ReportsRun self.now (S.written sink.old) (S.written sink.new) result }
+        ensures none_waits { OnOk result ((S.written sink.new).waiting ≡ 0) }
+    {
+        let classes = self.world.classes();
+        match reached_rows(alloc, classes, objects, self.store.loaded.len(), names) {
+            Ok(rows) => self.write_rows(&rows, sink),
+            Err(_) => Err(ReportFault::Memory),
+        }
+    }
+
+    /// Writes the report with these rows.
+    fn write_rows<S: Sink, R: Rows>(&self, rows: &R, sink: &mut S) -> Result<(), ReportFault>
+        requires can_fail { CanFail (S.written sink.old) }
+        requires rows { ShowsObjects self.now (R.rows rows.now) }
+        ensures run { ReportsRun self.now (S.written sink.old) (S.written sink.new) result }
+        ensures none_waits { OnOk result ((S.written sink.new).waiting ≡ 0) }
+    {
+        let standings = standings_of(self.world.classes(), &self.threads, self.stop);
+        match write_run(sink, &self.printed, standings.as_slice(), rows, &self.journal) {
+            Ok(()) => Ok(()),
+            Err(_) => Err(ReportFault::Sink),
+        }
     }
 }
 
