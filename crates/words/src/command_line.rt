@@ -24,12 +24,13 @@ fn command<'a>(alloc: Global, words: &Words) -> Result<Command<'a>, AllocError> 
     Ok(command)
 }
 
-/// With the commands. A line that memory is refused to goes by a call: the drop of its parts in turn is many steps here.
+/// The line with the commands added.
 fn with_commands<'a>(alloc: Global, line: Command<'a>) -> Result<Command<'a>, AllocError> {
     let mut line = line;
     for words in commands() {
         match command(alloc, words) {
             Ok(command) => line = line.subcommand(command)?,
+            // To drop the line by a call is cheaper to prove than to leave it to the return.
             Err(refused) => {
                 drop(line);
                 return Err(refused);

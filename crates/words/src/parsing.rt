@@ -12,21 +12,22 @@ use explanations::Explanation;
 use std::alloc::{AllocError, Global};
 use std::convert::AsStr;
 
-/// What is to be done with files, by which are given: the schedule tells a run from a replay, and the world both from a check.
+/// What is to be done with files, by the command's name and the words that are given.
 fn command_of<'a>(
-    program: Option<&'a str>,
+    name: &str,
+    program: &'a str,
     world: Option<&'a str>,
     schedule: Option<&'a str>,
     journal: Option<&'a str>,
 ) -> Option<Command<'a>> {
-    match (program, world, schedule, journal) {
-        (Some(program), None, _, _) => Some(Command::Check { program }),
-        (Some(program), Some(world), Some(schedule), _) => Some(Command::Run {
+    match (name, world, schedule, journal) {
+        ("check", _, _, _) => Some(Command::Check { program }),
+        ("run", Some(world), Some(schedule), _) => Some(Command::Run {
             program,
             world,
             schedule,
         }),
-        (Some(program), Some(world), None, Some(journal)) => Some(Command::Replay {
+        ("replay", Some(world), _, Some(journal)) => Some(Command::Replay {
             program,
             world,
             journal,
@@ -35,10 +36,11 @@ fn command_of<'a>(
     }
 }
 
-/// What is to be done with files, as the words say.
-fn served<'a>(given: &ArgMatches<'a>) -> Option<Command<'a>> {
+/// What is to be done with files, as the words after the command's name say.
+fn served<'a>(name: &str, given: &ArgMatches<'a>) -> Option<Command<'a>> {
     command_of(
-        given.get_str("PROG"),
+        name,
+        given.get_str("PROG")?,
         given.get_str("WORLD"),
         given.get_str("FILE"),
         given.get_str("JOURNAL"),
@@ -65,7 +67,7 @@ fn asked_of<'a>(matches: &ArgMatches<'a>) -> Request<'a>
 {
     match matches.subcommand() {
         Some(("explain", given)) => Request::Explain(explained(given)),
-        Some((_, given)) => match served(given) {
+        Some((name, given)) => match served(name, given) {
             Some(command) => Request::Serve(command),
             None => Request::LacksSchedule,
         },
