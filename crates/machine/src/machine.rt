@@ -350,7 +350,13 @@ impl<'a> Machine<'a> {
         ensures none_waits { OnOk result ((S.written sink.new).waiting ≡ 0) }
     {
         let standings = standings_of(self.world.classes(), &self.threads, self.stop);
-        match write_run(sink, &self.printed, standings.as_slice(), rows, &self.journal) {
+        match write_run(
+            sink,
+            &self.printed,
+            standings.as_slice(),
+            rows,
+            &self.journal,
+        ) {
             Ok(()) => Ok(()),
             Err(_) => Err(ReportFault::Sink),
         }

@@ -92,8 +92,7 @@ advance-requires-clause-agrees c =
     let a = (goal.at.advance-requires-clause-agrees c).After-reserve-2 in
     let t = c.index_mut.result.now in
     let at = there a t c.index_mut.ensures.value in
-    let f = the_thread _ _ _ _ _ _ _ c.self.invariant c.args.k (c.from-index.result - 1) t (number a) at in
-    (
+    let f = the_thread _ _ _ _ _ _ _ c.self.invariant c.args.k (c.from-index.result - 1) t (number a) at in (
       _,
       c.self.invariant.state.shared,
       f.source,
