@@ -1,10 +1,10 @@
 //! Instructions that work on the operand stack and the number slots alone.
 
-ghost use Rattle.std.specs.Prelude.{◌≡◌, ◌<◌, ℕ, List, IsSome, Some, true, length, replicate};
+ghost use Rattle.std.specs.Prelude.{◌≡◌, ◌+◌, ◌≤◌, ◌<◌, ℕ, List, IsSome, Some, true, length, replicate};
 ghost use Rattle.code.specs.declared.instr.Instr.TheVariants.{Complement, Not, Operate, OperateOrTrap, JumpIfFalseOrPop, JumpIfTrueOrPop, JumpIfFalse, LoadElement, StoreElement};
 ghost use Rattle.code.specs.declared.instr.Plain.TheVariants.{Next};
 ghost use Rattle.code.specs.Depth.{depth_after};
-ghost use Rattle.code.specs.Effect.{truth_word, operate, operate_or_trap, element_word, can_lead, plain_of};
+ghost use Rattle.code.specs.Effect.{truth_word, operate, operate_or_trap, element_word, cleared, can_lead, plain_of};
 
 use crate::instr::{ElementType, Instr, LocalArray, Operator, Plain, PlainTrap, TrappingOperator};
 use crate::stack::Stack;
@@ -23,10 +23,7 @@ pub fn plain(instr: &Instr, stack: &mut Stack, numbers: &mut [u32]) -> Plain
         Instr::Not => invert(stack),
         Instr::Convert => {}
         Instr::Operate(operator) => operate(*operator, stack),
-        Instr::ClearArray(array) => {
-            let start = array.start as usize;
-            clear(&mut numbers[start..start + array.len as usize]);
-        }
+        Instr::ClearArray(array) => clear_array(*array, numbers),
         _ => return lead(instr, stack, numbers),
     }
     Plain::Next
@@ -221,6 +218,16 @@ pub fn element_word(element: ElementType, word: u32) -> u32
         ElementType::Byte => i32::from(((word % 256) as u8).cast_signed()).cast_unsigned(),
         ElementType::Char => word % 65_536,
     }
+}
+
+/// Writes zeros into an array.
+#[inline(always)]
+fn clear_array(array: LocalArray, numbers: &mut [u32])
+    requires { array.start + array.len ≤ length numbers.old }
+    ensures { numbers.new ≡ cleared array numbers.old }
+{
+    let start = array.start as usize;
+    clear(&mut numbers[start..start + array.len as usize]);
 }
 
 fn clear(words: &mut [u32])

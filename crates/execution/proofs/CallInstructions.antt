@@ -507,7 +507,7 @@ module _ (p : Lowered) (w : World) (store : Store) (pending : Option ℕ) (call 
           keeps = ends.keeps;
           work = ends.stands;
           pending_agrees = carried.pending_agrees;
-          calls = refl;
-          ending = refl;
+          calls = refl {a = s.calls};
+          ending = refl {a = s.ending};
           viewless = ends.viewless;
         })

@@ -1,6 +1,6 @@
 -- A step of the machine is a step of the state that its journal leads to.
 use Rattle.std.proofs.Common.{◌≡◌, ℕ, suc, ◌*◌, ◌≤◌, Bool, true, false, List, [], ◌∷◌, ◌++◌, ◌+◌, length, take, drop, arith, Option, Some, None, refl, sym, ap, ◌∙◌, subst}
-use Rattle.std.specs.Prelude.{slice_get, slice_set, is_none, not, ◌&&◌}
+use Rattle.std.specs.Prelude.{slice_get, slice_set}
 use Rattle.std.specs.Option.{option_map}
 use Rattle.std.proofs.Math.ListN.{length-set}
 use Rattle.syntax.specs.declared.unit.Item.{Item}
@@ -10,9 +10,8 @@ use Rattle.source.specs.declared.journal.Entry.{Entry}
 use Rattle.source.specs.declared.journal.Entry.TheVariants.{Step}
 use Rattle.source.specs.declared.printed.Printed.{Printed}
 use Rattle.source.specs.World.{World, loaded_objects}
-use Rattle.source.specs.State as state
 use Rattle.source.specs.State.{State, thread_at, set_thread, lent, with_event, advanced}
-use Rattle.source.specs.Step.{can_step, is_blocked, is_live, is_unfinished, world_step}
+use Rattle.source.specs.Step.{can_step, is_unfinished, world_step}
 use Rattle.source.specs.Thread as source
 use Rattle.source.specs.Thread.{BuffersInUse, Shared}
 use Rattle.source.proofs.RunLaws.{replay_more, each-more}
@@ -98,22 +97,6 @@ has_room p w store s next k shares kept step some =
     let size_made : sizes (made (unit_tree p.unit) w s k) ≡ sizes (drop (length s.shared.heap) next.shared.heap) = ap sizes made_now in
     omega (arith, live, split, filled, within, cells, size_made, kept)
 
--- ---- what a thread that can step is
-
-both : (a b c : Bool) → (a && b && c) ≡ true → (a ≡ true) × (b ≡ true)
-both true true c h = (refl, refl)
-both true false c h = absurd (cc)
-both false b c h = absurd (cc)
-
-no_stop : (o : Option Stop) (s : Option state.Stop) → s ≡ option_map stop_view o → is_none s ≡ true → o ≡ None
-no_stop None s same h = refl
-no_stop (Some x) s same h = let off : false ≡ true = ap is_none (sym same) ∙ h in absurd (cc)
-
-unended : (e : Ending) (f : source.Ending) → f ≡ ending_view e → is_unfinished f ≡ true → e ≡ Unfinished
-unended Unfinished f same h = refl
-unended Ended f same h = let off : false ≡ true = ap is_unfinished (sym same) ∙ h in absurd (cc)
-unended (Uncaught n) f same h = let off : false ≡ true = ap is_unfinished (sym same) ∙ h in absurd (cc)
-
 -- ---- thread k of the state that the journal leads to, which is the machine's at i
 
 module _ (p : Lowered) (world : World) (store : Store) (ts : List Thread) (printed : List Printed) (stop : Option Stop) (journal : List Entry) (c : Corresponds p world store ts printed stop journal) (k i : ℕ) (t : Thread) (counted : k ≡ suc i) (at : slice_get ts i ≡ Some t) where
@@ -158,16 +141,6 @@ module _ (p : Lowered) (world : World) (store : Store) (ts : List Thread) (print
 
   pub has_ended : stop ≡ None → (t.ending ≡ Unfinished → ⊥) → HasEnded c.state k
   has_ended goes ended = record { running = running goes; thread = the_thread.source; is = there; ended = ap is_unfinished the_thread.agrees.ending ∙ is_over t.ending ended }
-
-  -- where the state's thread can step, the machine hasn't stopped and the thread hasn't ended
-  module _ (can : can_step classes c.state k ≡ true) where
-    pub goes_on : stop ≡ None
-    goes_on = no_stop stop c.state.stop c.same_stop (both (is_none c.state.stop) (is_live (thread_at c.state k)) (not (is_blocked classes c.state k)) can).0
-
-    pub is_unended : t.ending ≡ Unfinished
-    is_unended =
-        unended t.ending the_thread.source.ending the_thread.agrees.ending
-        (ap is_live (sym there) ∙ (both (is_none c.state.stop) (is_live (thread_at c.state k)) (not (is_blocked classes c.state k)) can).1)
 
   -- what is asked of the entry
   fits_entry : (store' : Store) (refused : Bool) (next : State) → StoreAgrees p world store' next.shared → sizes (take (length c.state.shared.heap) next.shared.heap) ≡ sizes c.state.shared.heap

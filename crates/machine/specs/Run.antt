@@ -154,6 +154,13 @@ TurnHolds old k new turn.Full = (new ≡ old) × (1000000 ≤ length old.journal
 TurnHolds old k new turn.Short = (new ≡ refused old k new.left) × CouldStep old k
 TurnHolds old k new turn.Stepped = (new ≡ stepped old k new.left) × CouldStep old k
 
+-- the turn of a thread that takes no step, by what is known before
+abbrev pub hindrance : (stopped ended full : Bool) → Option Answer
+hindrance true ended full = Some turn.Stopped
+hindrance false true full = Some turn.Ended
+hindrance false false true = Some turn.Full
+hindrance false false false = None
+
 -- the numbers printed so far
 abbrev pub PrintedBy : Run → List Printed → Type 0
 PrintedBy r printed = InState r (λ s. printed ≡ s.printed)

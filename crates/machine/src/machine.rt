@@ -1,6 +1,6 @@
 //! The machine.
 
-ghost use Rattle.std.specs.Prelude.{◌≡◌, ℕ, ◌+◌, ◌-◌, ◌<◌, ◌≤◌, [], ◌∷◌, ◌++◌, length, map, replicate, take, IfOk, IfErr, OnOk, OnErr, IfSome, IfNone, IsSome, Err, None, vec_len, vec_capacity};
+ghost use Rattle.std.specs.Prelude.{◌≡◌, ℕ, ◌+◌, ◌-◌, ◌<◌, ◌≤◌, [], ◌∷◌, ◌++◌, length, map, replicate, take, IfOk, IfErr, OnOk, OnErr, IfSome, IfNone, IsSome, Err, None, is_some, nat_le, vec_len, vec_capacity};
 ghost use Rattle.std.specs.List.{list_all, enumerate_from};
 ghost use Rattle.syntax.specs.Views.{unit_tree};
 ghost use Rattle.report.specs.Sink.{CanFail};
@@ -11,7 +11,7 @@ ghost use Rattle.source.specs.Object.{sizes};
 ghost use Rattle.source.specs.World.{loaded_objects};
 ghost use Rattle.execution.specs.Loading.{IsLoadFault};
 ghost use Rattle.source.specs.declared.journal.Entry.TheVariants.{Step};
-ghost use Rattle.machine.specs.Run.{replay_of, Corresponds, IsUnstarted, CouldStep, TurnHolds, RunsAlong, RunsInto, PrintedBy, IsFinished, has_ended, ReportsRun, AreShown, ShowsObjects, GivesNoStep, GivesStep, StoppedBy, event_of, is_refused, printed_after, turn_after};
+ghost use Rattle.machine.specs.Run.{replay_of, Corresponds, IsUnstarted, CouldStep, TurnHolds, RunsAlong, RunsInto, PrintedBy, IsFinished, has_ended, ReportsRun, AreShown, ShowsObjects, GivesNoStep, GivesStep, StoppedBy, event_of, is_refused, printed_after, turn_after, hindrance};
 ghost use Rattle.machine.specs.Stops.{stop_after, standing_of, standing_by_ending};
 
 use crate::fault::{ReportFault, RunFault};
@@ -148,47 +148,12 @@ impl<'a> Machine<'a> {
         ensures err { OnErr result ((self.new ≡ self.old) × CouldStep self.old k) }
         ensures runs { IsSome (replay_of self.new) }
     {
-        match self.hindrance(k) {
-            Some(turn) => Ok(turn),
-            None => self.take_step(k),
-        }
-    }
-
-    /// The turn of thread `k`, where it can't take a step or the journal has no room for one.
-    #[inline(always)]
-    fn hindrance(&self, k: u8) -> Option<Turn>
-        requires counted { 0 < k }
-        requires is_thread { k ≤ length self.now.world.threads }
-        ensures turn { IfSome result (TurnHolds self.now k self.now) }
-        ensures none { IfNone result (CouldStep self.now k) }
-        ensures runs { IsSome (replay_of self.now) }
-    {
-        if self.stop.is_some() {
-            return Some(Turn::Stopped);
-        }
         let index = usize::from(k) - 1;
-        if has_ended(&self.threads[index]) {
-            return Some(Turn::Ended);
+        let entries = self.journal.len();
+        if let Some(turn) = hindrance(&self.stop, &self.threads[index], entries) {
+            return Ok(turn);
         }
-        if self.journal.len() >= MOST_ENTRIES {
-            return Some(Turn::Full);
-        }
-        None
-    }
-
-    /// Lets thread `k`, which can step, take one step.
-    #[inline(always)]
-    fn take_step(&mut self, k: u8) -> Result<Turn, AllocError>
-        requires counted { 0 < k }
-        requires is_thread { k ≤ length self.old.world.threads }
-        requires could { CouldStep self.old k }
-        ensures turn { IfOk result (TurnHolds self.old k self.new) }
-        ensures err { OnErr result ((self.new ≡ self.old) × CouldStep self.old k) }
-        ensures runs { IsSome (replay_of self.new) }
-    {
-        let index = usize::from(k) - 1;
-        self.journal.reserve(1)?;
-        self.printed.reserve(1)?;
+        make_room(&mut self.printed, &mut self.journal)?;
         let advanced = advance(
             &self.program,
             &self.world,
@@ -307,7 +272,13 @@ impl<'a> Machine<'a> {
         ensures none_waits { OnOk result ((S.written sink.new).waiting ≡ 0) }
     {
         match self.shown(alloc) {
-            Ok((objects, names)) => self.write(alloc, &objects, &names, sink),
+            Ok((objects, names)) => {
+                let loaded = self.store.loaded.len();
+                match reached_rows(alloc, self.world.classes(), &objects, loaded, &names) {
+                    Ok(rows) => self.write_rows(&rows, sink),
+                    Err(_) => Err(ReportFault::Memory),
+                }
+            }
             Err(_) => Err(ReportFault::Memory),
         }
     }
@@ -320,26 +291,6 @@ impl<'a> Machine<'a> {
         let objects = named_blocks(alloc, heap, self.store.births)?;
         let names = root_names(alloc, heap, &self.store.globals, &self.threads)?;
         Ok((objects, names))
-    }
-
-    /// Writes the report with the objects that these names lead to, beside those made at load.
-    fn write<S: Sink>(
-        &self,
-        alloc: Global,
-        objects: &NamedBlocks<'_>,
-        names: &[usize],
-        sink: &mut S,
-    ) -> Result<(), ReportFault>
-        requires can_fail { CanFail (S.written sink.old) }
-        requires shown { AreShown self.now objects.now names.now }
-        ensures run { ReportsRun self.now (S.written sink.old) (S.written sink.new) result }
-        ensures none_waits { OnOk result ((S.written sink.new).waiting ≡ 0) }
-    {
-        let classes = self.world.classes();
-        match reached_rows(alloc, classes, objects, self.store.loaded.len(), names) {
-            Ok(rows) => self.write_rows(&rows, sink),
-            Err(_) => Err(ReportFault::Memory),
-        }
     }
 
     /// Writes the report with these rows.
@@ -382,6 +333,35 @@ fn load_parts(
         Ok(threads) => Ok((store, threads)),
         Err(fault) => Err(fault),
     }
+}
+
+/// The turn of a thread that takes no step: a trap has stopped the machine, the thread has ended, or the journal has no room
+/// beside these entries.
+#[inline(always)]
+fn hindrance(stop: &Option<Stop>, thread: &Thread, entries: usize) -> Option<Turn>
+    ensures { result ≡ hindrance (is_some stop.now) (has_ended thread.now.ending) (nat_le 1000000 entries) }
+{
+    if stop.is_some() {
+        Some(Turn::Stopped)
+    } else if has_ended(thread) {
+        Some(Turn::Ended)
+    } else if entries >= MOST_ENTRIES {
+        Some(Turn::Full)
+    } else {
+        None
+    }
+}
+
+/// Makes room for a number and an entry more.
+#[inline(always)]
+fn make_room(printed: &mut Vec<Printed>, journal: &mut Vec<Entry>) -> Result<(), AllocError>
+    ensures printed { printed.new.items ≡ printed.old.items }
+    ensures journal { journal.new.items ≡ journal.old.items }
+    ensures printed_room { OnOk result (vec_len printed.new < vec_capacity printed.new) }
+    ensures journal_room { OnOk result (vec_len journal.new < vec_capacity journal.new) }
+{
+    journal.reserve(1)?;
+    printed.reserve(1)
 }
 
 /// Writes down what thread `k` did, and tells the turn.

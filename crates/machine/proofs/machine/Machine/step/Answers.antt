@@ -1,0 +1,196 @@
+use Rattle.std.proofs.Common.{◌≡◌, ℕ, suc, ◌-◌, ◌<◌, ◌≤◌, Bool, true, false, Option, Some, None, [], ◌∷◌, ◌++◌, List, length, get_or, refl, sym, ap, ◌∙◌, subst, arith}
+use Rattle.std.specs.Prelude.{slice_get, is_some, nat_le, Result, Ok, Err, OnErr, IsSome}
+use Rattle.std.specs.Option.{option_map}
+use Rattle.std.proofs.lemmas.Bool.{leb-false, leb-true}
+use Rattle.std.proofs.lemmas.Option.{slice_get_read}
+use Rattle.syntax.specs.declared.unit.Item.{Item}
+use Rattle.source.specs.declared.journal.Entry.{Entry}
+use Rattle.source.specs.declared.journal.Entry.TheVariants.{Step}
+use Rattle.source.specs.State as state
+use Rattle.source.specs.World.{World}
+use Rattle.heap.specs.Heap.{left_of}
+use Rattle.execution.specs.declared.thread.Ending.{Ending}
+use Rattle.execution.specs.declared.thread.Ending.TheVariants.{Unfinished, Ended, Uncaught}
+use Rattle.machine.specs.declared.stop.Stop.{Stop}
+use Rattle.machine.specs.declared.turn.Turn.{Turn}
+use Rattle.machine.specs.declared.turn.Turn.TheVariants as turn
+use Rattle.machine.specs.Stops.{stop_view}
+use Rattle.execution.specs.declared.thread.Thread.{Thread}
+use Rattle.machine.specs.Run.{has_ended as ended, Run, InState, CouldStep, TurnHolds, hindrance, replay_of, printed_after, can_turn, event_of, is_refused}
+use Rattle.jni_calls.specs.declared.store.Store.{Store}
+use Rattle.machine.proofs.Steps.{steady, the_thread, can_turn_here, has_ended, steps_by, turn_holds}
+use Rattle.machine.proofs.machine.Machine.step.Goals as goal
+use Rattle.machine.proofs.machine.Machine.step.Goals.{After-index, After-make_room}
+
+-- the machine hasn't stopped
+goes_on : (o : Option Stop) → is_some o ≡ false → o ≡ None
+goes_on None h = refl
+goes_on (Some x) h = absurd (cc)
+
+is_live : (e : Ending) → ended e ≡ false → e ≡ Unfinished
+is_live Unfinished h = refl
+is_live Ended h = absurd (cc)
+is_live (Uncaught class) h = absurd (cc)
+
+is_over : (e : Ending) → ended e ≡ true → e ≡ Unfinished → ⊥
+is_over Unfinished h same = absurd (cc)
+is_over Ended h same = cc
+is_over (Uncaught class) h same = cc
+
+-- thread k is the one at k - 1
+thread_there : (ts : List Thread) (k n count : ℕ) (t : Thread) → n ≡ k → 0 < k → k ≤ count → length ts ≡ count → t ≡ get_or ts (n - 1) t → slice_get ts (n - 1) ≡ Some t
+thread_there ts k n count t same low high long h = slice_get_read ts count (n - 1) t (sym long) (omega arith) h
+
+counted : (k n : ℕ) → n ≡ k → 0 < k → k ≡ suc (n - 1)
+counted k n same h = omega arith
+
+-- how many threads there are
+threads_of : (a b : Run) (threads : List Thread) → length threads ≡ length a.world.threads → a ≡ b → length threads ≡ length b.world.threads
+threads_of a b threads h e = h ∙ ap (λ (r : Run). length r.world.threads) e
+
+-- the machine has
+stops : (o : Option Stop) (s : Option state.Stop) → s ≡ option_map stop_view o → is_some o ≡ true → IsSome s
+stops None s same h = absurd (cc)
+stops (Some x) s same h = rw same refl
+
+-- ---- where no step is taken
+
+held : (old : Run) (k : ℕ) (stopped over full : Bool) (t : Turn) → hindrance stopped over full ≡ Some t → (stopped ≡ true → TurnHolds old k old turn.Stopped) → (stopped ≡ false → over ≡ true → TurnHolds old k old turn.Ended)
+    → (stopped ≡ false → over ≡ false → full ≡ true → TurnHolds old k old turn.Full) → TurnHolds old k old t
+held old k true over full t is a b c = let same : turn.Stopped ≡ t = cc in subst (λ (x : Turn). TurnHolds old k old x) same (a refl)
+held old k false true full t is a b c = let same : turn.Ended ≡ t = cc in subst (λ (x : Turn). TurnHolds old k old x) same (b refl refl)
+held old k false false true t is a b c = let same : turn.Full ≡ t = cc in subst (λ (x : Turn). TurnHolds old k old x) same (c refl refl refl)
+held old k false false false t is a b c = absurd (cc)
+
+none_held : (stopped over full : Bool) → hindrance stopped over full ≡ None → (stopped ≡ false) × (over ≡ false) × (full ≡ false)
+none_held true over full h = absurd (cc)
+none_held false true full h = absurd (cc)
+none_held false false true h = absurd (cc)
+none_held false false false h = (refl, refl, refl)
+
+below : (n : ℕ) → nat_le 1000000 n ≡ false → n < 1000000
+below n h = leb-false 1000000 n h
+
+-- ---- what is known once thread k was looked at
+
+there : (c : After-index) (t : Thread) → t ≡ get_or c.self.inside.threads.items (c.from-index.result - 1) t → slice_get c.self.inside.threads.items (c.from-index.result - 1) ≡ Some t
+there c t h = thread_there c.self.inside.threads.items c.args.k c.from-index.result _ t c.from-index.ensures c.requires.counted c.requires.is_thread (threads_of _ _ _ c.self.invariant.count c.self.view_is) h
+
+number : (c : After-index) → c.args.k ≡ suc (c.from-index.result - 1)
+number c = counted c.args.k c.from-index.result c.from-index.ensures c.requires.counted
+
+replays : (c : After-index) → replay_of c.args.self.now ≡ Some c.self.invariant.state
+replays c = subst (λ (r : Run). replay_of r ≡ Some c.self.invariant.state) c.self.view_is c.self.invariant.replays
+
+-- the run is defined at the start
+runs : (c : After-index) → IsSome (replay_of c.args.self.now)
+runs c = rw (replays c) refl
+
+-- it can step where the machine goes on and it hasn't ended
+can_step : (c : After-index) → c.self.inside.stop ≡ None → c.index.result.now.ending ≡ Unfinished → InState c.args.self.now (λ s. can_turn c.args.self.now s c.args.k ≡ true)
+can_step c running live = (
+  c.self.invariant.state,
+  replays c,
+  subst (λ (r : Run). can_turn r c.self.invariant.state c.args.k ≡ true) c.self.view_is
+      (can_turn_here _ _ _ _ _ _ _ c.self.invariant c.args.k (c.from-index.result - 1) c.index.result.now (number c) (there c c.index.result.now c.index.ensures) running live),
+)
+
+pub returns-in-Some-clause-turn : goal.returns-in-Some-clause-turn
+returns-in-Some-clause-turn c =
+    let a = (goal.at.returns-in-Some-clause-turn c).After-index in
+    held c.args.self.now c.args.k (is_some c.self.inside.stop) (ended c.index.result.now.ending) (nat_le 1000000 c.len-entries.result) c.in-Some.turn (sym c.hindrance.ensures ∙ c.in-Some.is)
+    (λ stopped. (refl, (c.self.invariant.state, replays a, stops c.self.inside.stop c.self.invariant.state.stop c.self.invariant.same_stop stopped)))
+    (λ goes over. (refl, (c.self.invariant.state, replays a, has_ended _ _ _ _ _ _ _ c.self.invariant c.args.k (c.from-index.result - 1) c.index.result.now (number a) (there a c.index.result.now c.index.ensures) (goes_on c.self.inside.stop goes) (is_over _ over))))
+    (λ goes lives full.
+    let many : 1000000 ≤ length c.self.inside.journal.items = omega (arith, c.len-entries.ensures, leb-true 1000000 c.len-entries.result full) in
+    (refl, subst (λ (r : Run). 1000000 ≤ length r.journal) c.self.view_is many, can_step a (goes_on c.self.inside.stop goes) (is_live _ lives)))
+
+pub returns-in-Some-clause-runs : goal.returns-in-Some-clause-runs
+returns-in-Some-clause-runs c = runs (goal.at.returns-in-Some-clause-runs c).After-index
+
+-- ---- where nothing holds the thread
+
+-- what none of the tests has found
+tested : (c : After-make_room) → (is_some c.self.inside.stop ≡ false) × (ended c.index.result.now.ending ≡ false) × (nat_le 1000000 c.len-entries.result ≡ false)
+tested c = none_held (is_some c.self.inside.stop) (ended c.index.result.now.ending) (nat_le 1000000 c.len-entries.result) (sym c.hindrance.ensures ∙ c.in_default.is)
+
+abbrev Free : After-index → Type 0
+Free a = (is_some a.self.inside.stop ≡ false) × (ended a.index.result.now.ending ≡ false) × (nat_le 1000000 a.len-entries.result ≡ false)
+
+running : (a : After-index) → Free a → a.self.inside.stop ≡ None
+running a free = goes_on a.self.inside.stop free.0
+
+live : (a : After-index) → Free a → a.index.result.now.ending ≡ Unfinished
+live a free = is_live _ free.1
+
+could_step : (a : After-index) → Free a → CouldStep a.args.self.now a.args.k
+could_step a free =
+    let room : length a.self.inside.journal.items < 1000000 = omega (arith, a.len-entries.ensures, below a.len-entries.result free.2) in
+    (subst (λ (r : Run). length r.journal < 1000000) a.self.view_is room, can_step a (running a free) (live a free))
+
+pub invariant_of-self : goal.invariant_of-self
+invariant_of-self c = rw (c.make_room.ensures.printed, c.make_room.ensures.journal) c.self.invariant
+
+pub returns-in_err-make_room-clause-runs : goal.returns-in_err-make_room-clause-runs
+returns-in_err-make_room-clause-runs c = rw (invariant_of-self c).replays refl
+
+-- with this journal and this store the machine is seen as it was
+err_so : {T E : Type 0} (unit : List Item) (world : World) (journal before : List Entry) (store had : Store) (now : Run) (k : ℕ) (r : Result T E) → journal ≡ before → store ≡ had
+    → ◌≡◌ {A = Run} (record { unit = unit; world = world; journal = before; left = left_of had.heap }) now → CouldStep now k
+    → OnErr r ((◌≡◌ {A = Run} (record { unit = unit; world = world; journal = journal; left = left_of store.heap }) now) × CouldStep now k)
+err_so unit world journal before store had now k (Ok x) same kept view could = tt
+err_so unit world journal before store had now k (Err e) same kept view could = (
+  ap (λ (j : List Entry). let r : Run = record { unit = unit; world = world; journal = j; left = left_of store.heap } in r) same
+      ∙ ap (λ (h : Store). let r : Run = record { unit = unit; world = world; journal = before; left = left_of h.heap } in r) kept ∙ view,
+  could,
+)
+
+pub returns-in_err-make_room-clause-err : goal.returns-in_err-make_room-clause-err
+returns-in_err-make_room-clause-err c =
+    err_so c.self.inside.program.unit c.self.inside.world _ _ c.self.inside.store _ _ _ _ c.make_room.ensures.journal refl c.self.view_is (could_step (goal.at.returns-in_err-make_room-clause-err c).After-index (tested (goal.at.returns-in_err-make_room-clause-err c).After-make_room))
+
+pub returns-in_err-advanced-clause-err : goal.returns-in_err-advanced-clause-err
+returns-in_err-advanced-clause-err c =
+    err_so c.self.inside.program.unit c.self.inside.world _ _ c.advance.new.store _ _ _ _ c.make_room.ensures.journal c.in_err-advanced.ensures.store c.self.view_is (could_step (goal.at.returns-in_err-advanced-clause-err c).After-index (tested (goal.at.returns-in_err-advanced-clause-err c).After-make_room))
+
+-- the thread that steps is the one that was looked at
+same_thread : (ts : List Thread) (i : ℕ) (a b : Thread) → slice_get ts i ≡ Some a → slice_get ts i ≡ Some b → a.ending ≡ Unfinished → b.ending ≡ Unfinished
+same_thread ts i a b e f live = let same : a ≡ b = cc in ap (λ (t : Thread). t.ending) (sym same) ∙ live
+
+pub advance-requires-clause-agrees : goal.advance-requires-clause-agrees
+advance-requires-clause-agrees c =
+    let a = (goal.at.advance-requires-clause-agrees c).After-index in
+    let free = tested (goal.at.advance-requires-clause-agrees c).After-make_room in
+    let seen = there a c.index.result.now c.index.ensures in
+    let at = there a c.index_mut.result.now c.index_mut.ensures.value in
+    let f = the_thread _ _ _ _ _ _ _ c.self.invariant c.args.k (c.from-index.result - 1) c.index_mut.result.now (number a) at in
+    (_, c.self.invariant.state.shared, f.source, c.self.invariant.store_agrees, f.agrees, same_thread c.self.inside.threads.items (c.from-index.result - 1) _ _ seen at (live a free), steady _ _ _ _ _ _ _ c.self.invariant c.args.k (c.from-index.result - 1) c.index_mut.result.now (number a) at)
+
+-- the journal has one more entry
+one_more : (old before after : List Entry) (e : Entry) → after ≡ before ++ e ∷ [] → before ≡ old → after ≡ old ++ e ∷ []
+one_more old before after e written kept = written ∙ ap (λ (j : List Entry). j ++ e ∷ []) kept
+
+pub invariant_of-self-2 : goal.invariant_of-self-2
+invariant_of-self-2 c =
+    let a = (goal.at.invariant_of-self-2 c).After-index in
+    let free = tested (goal.at.invariant_of-self-2 c).After-make_room in
+    let i = c.self.inside in
+    let x = c.in_ok-advanced.advanced in
+    let seen = there a c.index.result.now c.index.ensures in
+    let at = there a c.index_mut.result.now c.index_mut.ensures.value in
+    let stays = same_thread i.threads.items (c.from-index.result - 1) _ _ seen at (live a free) in
+    let s = steps_by _ _ _ _ _ _ _ c.self.invariant c.args.k (c.from-index.result - 1) c.index_mut.result.now (number a) at c.advance.new.store c.advance.new.thread x (running a free) stays c.in_ok-advanced.ensures.advances in
+    let printed : c.write_step.new.printed.items ≡ printed_after i.printed.items c.args.k (event_of x) = c.write_step.ensures.printed ∙ ap (λ l. printed_after l c.args.k (event_of x)) c.make_room.ensures.printed in
+    let journal = one_more i.journal.items c.make_room.new.journal.items c.write_step.new.journal.items (Step c.args.k (is_refused x)) c.write_step.ensures.journal c.make_room.ensures.journal in
+    rw (printed, c.write_step.ensures.stop, journal) s
+
+pub returns-clause-turn : goal.returns-clause-turn
+returns-clause-turn c =
+    let i = c.self.inside in
+    let x = c.in_ok-advanced.advanced in
+    let journal = one_more i.journal.items c.make_room.new.journal.items c.write_step.new.journal.items (Step c.args.k (is_refused x)) c.write_step.ensures.journal c.make_room.ensures.journal in
+    rw c.write_step.ensures.turn (turn_holds c.args.self.now i.program.unit i.world i.journal.items c.write_step.new.journal.items (left_of i.store.heap) (left_of c.advance.new.store.heap) c.args.k x c.self.view_is journal
+    (could_step (goal.at.returns-clause-turn c).After-index (tested (goal.at.returns-clause-turn c).After-make_room)))
+
+pub returns-clause-runs : goal.returns-clause-runs
+returns-clause-runs c = rw (invariant_of-self-2 c).replays refl
