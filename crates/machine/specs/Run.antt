@@ -155,11 +155,11 @@ TurnHolds old k new turn.Short = (new ≡ refused old k new.left) × CouldStep o
 TurnHolds old k new turn.Stepped = (new ≡ stepped old k new.left) × CouldStep old k
 
 -- the turn of a thread that takes no step, by what is known before
-abbrev pub hindrance : (stopped ended full : Bool) → Option Answer
-hindrance true ended full = Some turn.Stopped
-hindrance false true full = Some turn.Ended
-hindrance false false true = Some turn.Full
-hindrance false false false = None
+abbrev pub turn_without_step : (stopped ended full : Bool) → Option Answer
+turn_without_step true ended full = Some turn.Stopped
+turn_without_step false true full = Some turn.Ended
+turn_without_step false false true = Some turn.Full
+turn_without_step false false false = None
 
 -- the numbers printed so far
 abbrev pub PrintedBy : Run → List Printed → Type 0

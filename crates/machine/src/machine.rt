@@ -11,7 +11,7 @@ ghost use Rattle.source.specs.Object.{sizes};
 ghost use Rattle.source.specs.World.{loaded_objects};
 ghost use Rattle.execution.specs.Loading.{IsLoadFault};
 ghost use Rattle.source.specs.declared.journal.Entry.TheVariants.{Step};
-ghost use Rattle.machine.specs.Run.{replay_of, Corresponds, IsUnstarted, CouldStep, TurnHolds, RunsAlong, RunsInto, PrintedBy, IsFinished, has_ended, ReportsRun, AreShown, ShowsObjects, GivesNoStep, GivesStep, StoppedBy, event_of, is_refused, printed_after, turn_after, hindrance};
+ghost use Rattle.machine.specs.Run.{replay_of, Corresponds, IsUnstarted, CouldStep, TurnHolds, RunsAlong, RunsInto, PrintedBy, IsFinished, has_ended, ReportsRun, AreShown, ShowsObjects, GivesNoStep, GivesStep, StoppedBy, event_of, is_refused, printed_after, turn_after, turn_without_step};
 ghost use Rattle.machine.specs.Stops.{stop_after, standing_of, standing_by_ending};
 
 use crate::fault::{ReportFault, RunFault};
@@ -150,7 +150,7 @@ impl<'a> Machine<'a> {
     {
         let index = usize::from(k) - 1;
         let entries = self.journal.len();
-        if let Some(turn) = hindrance(&self.stop, &self.threads[index], entries) {
+        if let Some(turn) = turn_without_step(&self.stop, &self.threads[index], entries) {
             return Ok(turn);
         }
         make_room(&mut self.printed, &mut self.journal)?;
@@ -338,8 +338,8 @@ fn load_parts(
 /// The turn of a thread that takes no step: a trap has stopped the machine, the thread has ended, or the journal has no room
 /// beside these entries.
 #[inline(always)]
-fn hindrance(stop: &Option<Stop>, thread: &Thread, entries: usize) -> Option<Turn>
-    ensures { result ≡ hindrance (is_some stop.now) (has_ended thread.now.ending) (nat_le 1000000 entries) }
+fn turn_without_step(stop: &Option<Stop>, thread: &Thread, entries: usize) -> Option<Turn>
+    ensures { result ≡ turn_without_step (is_some stop.now) (has_ended thread.now.ending) (nat_le 1000000 entries) }
 {
     if stop.is_some() {
         Some(Turn::Stopped)

@@ -16,7 +16,7 @@ use Rattle.machine.specs.declared.turn.Turn.{Turn}
 use Rattle.machine.specs.declared.turn.Turn.TheVariants as turn
 use Rattle.machine.specs.Stops.{stop_view}
 use Rattle.execution.specs.declared.thread.Thread.{Thread}
-use Rattle.machine.specs.Run.{has_ended as ended, Run, InState, CouldStep, TurnHolds, hindrance, replay_of, printed_after, can_turn, event_of, is_refused}
+use Rattle.machine.specs.Run.{has_ended as ended, Run, InState, CouldStep, TurnHolds, turn_without_step, replay_of, printed_after, can_turn, event_of, is_refused}
 use Rattle.jni_calls.specs.declared.store.Store.{Store}
 use Rattle.machine.proofs.Steps.{steady, the_thread, can_turn_here, has_ended, steps_by, turn_holds}
 use Rattle.machine.proofs.machine.Machine.step.Goals as goal
@@ -55,14 +55,14 @@ stops (Some x) s same h = rw same refl
 
 -- ---- where no step is taken
 
-held : (old : Run) (k : ℕ) (stopped over full : Bool) (t : Turn) → hindrance stopped over full ≡ Some t → (stopped ≡ true → TurnHolds old k old turn.Stopped) → (stopped ≡ false → over ≡ true → TurnHolds old k old turn.Ended)
+held : (old : Run) (k : ℕ) (stopped over full : Bool) (t : Turn) → turn_without_step stopped over full ≡ Some t → (stopped ≡ true → TurnHolds old k old turn.Stopped) → (stopped ≡ false → over ≡ true → TurnHolds old k old turn.Ended)
     → (stopped ≡ false → over ≡ false → full ≡ true → TurnHolds old k old turn.Full) → TurnHolds old k old t
 held old k true over full t is a b c = let same : turn.Stopped ≡ t = cc in subst (λ (x : Turn). TurnHolds old k old x) same (a refl)
 held old k false true full t is a b c = let same : turn.Ended ≡ t = cc in subst (λ (x : Turn). TurnHolds old k old x) same (b refl refl)
 held old k false false true t is a b c = let same : turn.Full ≡ t = cc in subst (λ (x : Turn). TurnHolds old k old x) same (c refl refl refl)
 held old k false false false t is a b c = absurd (cc)
 
-none_held : (stopped over full : Bool) → hindrance stopped over full ≡ None → (stopped ≡ false) × (over ≡ false) × (full ≡ false)
+none_held : (stopped over full : Bool) → turn_without_step stopped over full ≡ None → (stopped ≡ false) × (over ≡ false) × (full ≡ false)
 none_held true over full h = absurd (cc)
 none_held false true full h = absurd (cc)
 none_held false false true h = absurd (cc)
@@ -98,7 +98,7 @@ can_step c running live = (
 pub returns-in-Some-clause-turn : goal.returns-in-Some-clause-turn
 returns-in-Some-clause-turn c =
     let a = (goal.at.returns-in-Some-clause-turn c).After-index in
-    held c.args.self.now c.args.k (is_some c.self.inside.stop) (ended c.index.result.now.ending) (nat_le 1000000 c.len-entries.result) c.in-Some.turn (sym c.hindrance.ensures ∙ c.in-Some.is)
+    held c.args.self.now c.args.k (is_some c.self.inside.stop) (ended c.index.result.now.ending) (nat_le 1000000 c.len-entries.result) c.in-Some.turn (sym c.turn_without_step.ensures ∙ c.in-Some.is)
     (λ stopped. (refl, (c.self.invariant.state, replays a, stops c.self.inside.stop c.self.invariant.state.stop c.self.invariant.same_stop stopped)))
     (λ goes over. (refl, (c.self.invariant.state, replays a, has_ended _ _ _ _ _ _ _ c.self.invariant c.args.k (c.from-index.result - 1) c.index.result.now (number a) (there a c.index.result.now c.index.ensures) (goes_on c.self.inside.stop goes) (is_over _ over))))
     (λ goes lives full.
@@ -112,7 +112,7 @@ returns-in-Some-clause-runs c = runs (goal.at.returns-in-Some-clause-runs c).Aft
 
 -- what none of the tests has found
 tested : (c : After-make_room) → (is_some c.self.inside.stop ≡ false) × (ended c.index.result.now.ending ≡ false) × (nat_le 1000000 c.len-entries.result ≡ false)
-tested c = none_held (is_some c.self.inside.stop) (ended c.index.result.now.ending) (nat_le 1000000 c.len-entries.result) (sym c.hindrance.ensures ∙ c.in_default.is)
+tested c = none_held (is_some c.self.inside.stop) (ended c.index.result.now.ending) (nat_le 1000000 c.len-entries.result) (sym c.turn_without_step.ensures ∙ c.in_default.is)
 
 abbrev Free : After-index → Type 0
 Free a = (is_some a.self.inside.stop ≡ false) × (ended a.index.result.now.ending ≡ false) × (nat_le 1000000 a.len-entries.result ≡ false)
