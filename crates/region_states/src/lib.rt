@@ -5,6 +5,6 @@
 pub mod calls;
 pub mod changes;
 pub mod holders;
-pub mod names;
+pub mod names_used;
 pub mod states;
 pub mod variables;

@@ -17,7 +17,7 @@ use crate::fault::RegionRule;
 use region_states::calls::{
     MadeCall, Release, called, deleted, got, is_forbidden, popped, released,
 };
-use region_states::names::{reads, uses};
+use region_states::names_used::{reads, uses};
 use region_states::states::{
     Condition, StaticState, VariableState, frames, has_young_array, holds_buffer, holds_critical,
     is_level, is_same, is_some_in_use, known_of, meets, some_meets,

@@ -3,7 +3,7 @@ use Rattle.std.specs.List.{list_any}
 use Rattle.syntax.specs.Views.{argument_tree}
 use Rattle.region_states.specs.StatesInMemory.{asks}
 use Rattle.sorts.specs.Uses.{argument_uses}
-use Rattle.region_states.proofs.names.call_uses.Given as goal
+use Rattle.region_states.proofs.names_used.call_uses.Given as goal
 
 abbrev pub invariant-loop-argument : goal.invariant-loop-argument
 invariant-loop-argument l =
