@@ -2,6 +2,7 @@
 -- one invariant; where they are nested it is told part by part.
 use Rattle.std.proofs.Common.{ℕ, List, [], ◌∷◌}
 use Rattle.std.proofs.Crossing.{crosses, Vec-sync, Vec-send, Box-send}
+use Rattle.std.proofs.MapsCrossing as maps
 use Rattle.std.proofs.vec.Vec.TheSendSync as vec
 use Rattle.std.proofs.sync.Mutex.TheSendSync as mutex-sent
 use Rattle.std.specs.contracts.sync.Mutex as mutex
@@ -88,7 +89,7 @@ pub program_send : (k : _) → IsSend (program.the_row k)
 program_send k = view_send (program-inside.the_row k) _ _ _ _ (recorded_send (program-inside.the_field k).row _ _ (program-inside.the_type k).to_one (struct_send (shape (program-inside.the_type k)) (shr_send _ _ checked.the_row checked_sync, (Vec-send code.the_row code_send, tt))))
 
 world_send : IsSend world.the_row
-world_send = search (crosses, sendable) depth 60 fits 20000
+world_send = search (maps.crosses, crosses, sendable) depth 60 fits 20000
 
 heap_send : IsSend heap.the_row
 heap_send = search (crosses, sendable) depth 60 fits 20000
