@@ -42,9 +42,26 @@ pub fn load_threads(
     ensures refused { IfErr result (IsFirstOf (flat_map (refused_calls (unit_tree program.now.unit) world.now.classes) world.now.threads)) }
 {
     let functions = Functions::of(alloc, program.items())?;
+    load_all(alloc, program, &functions, world)
+}
+
+/// The world's threads before their first calls, by the unit's functions.
+#[inline]
+fn load_all(
+    alloc: Global,
+    program: &Program<'_>,
+    functions: &Functions<'_>,
+    world: &World,
+) -> Result<Vec<Thread>, LoadFault>
+    requires { functions.now ≡ program.now.unit }
+    ensures agree { IfOk result (λ threads. (space : Space) (owners : AllOwners) (k : ℕ) (shared : Shared) → ThreadsAgree program.now world.now.classes space (length (loaded_objects world.now)) owners k shared threads.items
+        (map waiting_thread world.now.threads)) }
+    ensures all { OnOk result (flat_map (refused_calls (unit_tree program.now.unit) world.now.classes) world.now.threads ≡ []) }
+    ensures refused { IfErr result (IsFirstOf (flat_map (refused_calls (unit_tree program.now.unit) world.now.classes) world.now.threads)) }
+{
     let mut threads = Vec::new(alloc);
     for calls in world.threads() {
-        match load_thread(alloc, program, &functions, world, calls) {
+        match load_thread(alloc, program, functions, world, calls) {
             Ok(thread) => threads.push(thread)?,
             Err(fault) => return Err(fault),
         }

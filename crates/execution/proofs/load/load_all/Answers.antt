@@ -14,7 +14,7 @@ use Rattle.execution.specs.declared.thread.Thread.{Thread}
 use Rattle.execution.specs.ThreadAgrees.{ThreadAgrees, ThreadsAgree}
 use Rattle.execution.specs.Loading.{IsFirstOf, refused_calls}
 use Rattle.execution.proofs.ThreadLoads.{AgreeSoFar, all_agree, loads_at, none_refused, one_more, refused_at}
-use Rattle.execution.proofs.load.load_threads.Goals as goal
+use Rattle.execution.proofs.load.load_all.Goals as goal
 
 -- the calls of a thread
 thread_at : (ts : List (Vec Invocation)) (threads : List (List Invocation)) (k : ℕ) (t : Vec Invocation) → map (λ (v : Vec Invocation). v.items) ts ≡ threads → slice_get ts k ≡ Some t → slice_get threads k ≡ Some t.items

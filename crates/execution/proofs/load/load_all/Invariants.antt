@@ -4,7 +4,7 @@ use Rattle.heap.specs.Heap.{Space}
 use Rattle.source.specs.World.{loaded_objects}
 use Rattle.source.specs.Thread.{Shared}
 use Rattle.execution.proofs.ThreadLoads.{AgreeSoFar, refused_of}
-use Rattle.execution.proofs.load.load_threads.Given as goal
+use Rattle.execution.proofs.load.load_all.Given as goal
 
 abbrev pub invariant-loop-calls : goal.invariant-loop-calls
 invariant-loop-calls l = record {
