@@ -41,8 +41,10 @@ pub fn load_threads(
     ensures all { OnOk result (flat_map (refused_calls (unit_tree program.now.unit) world.now.classes) world.now.threads ≡ []) }
     ensures refused { IfErr result (IsFirstOf (flat_map (refused_calls (unit_tree program.now.unit) world.now.classes) world.now.threads)) }
 {
-    let functions = Functions::of(alloc, program.items())?;
-    load_all(alloc, program, &functions, world)
+    match Functions::of(alloc, program.items()) {
+        Ok(functions) => load_all(alloc, program, &functions, world),
+        Err(_) => Err(LoadFault::Memory),
+    }
 }
 
 /// The world's threads before their first calls, by the unit's functions.
@@ -87,9 +89,10 @@ fn load_thread(
 {
     let mut nexts = VecDeque::new(alloc);
     for call in calls {
-        match load_call(alloc, program, functions, world, call)? {
-            Some(next) => nexts.push_back(next)?,
-            None => return Err(LoadFault::DoesNotFit(call.line())),
+        match load_call(alloc, program, functions, world, call) {
+            Ok(Some(next)) => nexts.push_back(next)?,
+            Ok(None) => return Err(LoadFault::DoesNotFit(call.line())),
+            Err(_) => return Err(LoadFault::Memory),
         }
     }
     Ok(Thread {
