@@ -53,17 +53,18 @@ pub fn advance(
     ensures thread { OnErr result (thread.new ≡ thread.old) }
 {
     match &mut thread.call {
-        None => {
-            enter(program, &store.loaded, thread)?;
-            Ok(Advanced::Did(Event::Quiet))
-        }
-        Some(call) => match execute(program, world, store, &mut thread.pending, call)? {
-            Executed::Did(event) => Ok(Advanced::Did(event)),
-            Executed::Refused => Ok(Advanced::Refused),
-            Executed::Returned => {
+        None => match enter(program, &store.loaded, thread) {
+            Ok(()) => Ok(Advanced::Did(Event::Quiet)),
+            Err(refused) => Err(refused),
+        },
+        Some(call) => match execute(program, world, store, &mut thread.pending, call) {
+            Ok(Executed::Did(event)) => Ok(Advanced::Did(event)),
+            Ok(Executed::Refused) => Ok(Advanced::Refused),
+            Ok(Executed::Returned) => {
                 leave(&store.heap, thread);
                 Ok(Advanced::Did(Event::Quiet))
             }
+            Err(refused) => Err(refused),
         },
     }
 }
