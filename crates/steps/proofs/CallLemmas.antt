@@ -251,17 +251,23 @@ module _ (classes : Classes) (s : Shared) (vs : Contents) (frames : List Frame) 
         ∙ ap (by_effect refused) (effects classes lent k s calls args f built ∙ ap (λ (us : Variables). effect_as classes s calls (worked_out classes s.heap us frames args f)) sees.variables)
 
   -- a trap
-  pub call_traps : (found : TrapInMemory) → trap ≡ Some (trap_view found) → MakesCall false scene line purpose f args (outcome.Trapped found line) scene
+  call_traps : (found : TrapInMemory) → trap ≡ Some (trap_view found) → MakesCall false scene line purpose f args (outcome.Trapped found line) scene
   call_traps found some = λ lent k t rest new sees has.
       by_trap lent k t rest sees false
       ∙ ap (λ (o : Option Trap). by_effect lent k t rest sees false (checks lent k t rest sees o)) some
       ∙ ap (λ (u : Thread). Advances s u (Trapped (trap_view found) line)) (same_thread (in_frames t frames pending) (task_view new ∷ rest) has)
 
   -- a call that traps has no object that can be refused
-  pub trap_refuses : (found : Trap) → trap ≡ Some found → MakesCall true scene line purpose f args outcome.Impossible scene
+  trap_refuses : (found : Trap) → trap ≡ Some found → MakesCall true scene line purpose f args outcome.Impossible scene
   trap_refuses found some = λ lent k t rest new sees has.
       by_trap lent k t rest sees true
       ∙ ap (λ (o : Option Trap). by_effect lent k t rest sees true (checks lent k t rest sees o)) some
+
+  -- so it is, refused or not
+  pub call_stopped : (refused : Bool) (found : TrapInMemory) → trap ≡ Some (trap_view found)
+      → MakesCall refused scene line purpose f args (if refused then outcome.Impossible else outcome.Trapped found line) scene
+  call_stopped true found some = trap_refuses (trap_view found) some
+  call_stopped false found some = call_traps found some
 
   module _ (none : trap ≡ None) where
     -- the call is made

@@ -1,5 +1,6 @@
 -- A task that is no call does to a thread what its effect does.
-use Rattle.std.proofs.Common.{◌≡◌, ℕ, true, false, List, ◌∷◌, Option, Some, refl, sym, ap, ◌∙◌}
+use Rattle.std.proofs.Common.{◌≡◌, ℕ, Bool, true, false, List, ◌∷◌, Option, Some, refl, sym, ap, ◌∙◌}
+use Rattle.std.specs.Prelude.{if◌then◌else◌}
 use Rattle.source.specs.Effect.{effect_of}
 use Rattle.source.specs.Heap.{Heap}
 use Rattle.source.specs.Sight.{Sight, seen}
@@ -90,3 +91,8 @@ module _ (scene : Scene) (old new : TaskInMemory) where
   does_without outcome.Returned h = by_refusal outcome.Returned h (λ lent k t rest. refl)
   does_without (outcome.Trapped trap line) h = by_refusal (outcome.Trapped trap line) h.0 (λ lent k t rest. refl)
   does_without outcome.Impossible h = by_refusal outcome.Impossible h (λ lent k t rest. refl)
+
+  -- so it is, refused or not
+  pub does_unless : (refused : Bool) (took : Outcome) → HasEffect variables shared.statics old took new → Does refused scene old (if refused then outcome.Impossible else took) scene new
+  does_unless true took h = does_without took h
+  does_unless false took h = does took h

@@ -1,6 +1,6 @@
 -- What a call in memory does.
-use Rattle.std.specs.Prelude.{◌≡◌, ℕ, Bool, true, false, List, ◌∷◌, map, Option, Some, None}
-use Rattle.jni.specs.JniFunction.{JniFunction}
+use Rattle.std.specs.Prelude.{◌≡◌, ℕ, Bool, true, false, List, ◌∷◌, map, Option, Some, None, is_some}
+use Rattle.jni.specs.JniFunction.{JniFunction, is_built_function}
 use Rattle.jni.specs.Table.{function_value}
 use Rattle.source.specs.Arguments.{Actual, actuals}
 use Rattle.source.specs.CallStep.{call_step}
@@ -19,8 +19,11 @@ use Rattle.tasks.specs.declared.task.Task.{Task as TaskInMemory}
 use Rattle.terms.specs.declared.reduction.Reduction.{Reduction as ReductionInMemory}
 use Rattle.terms.specs.declared.reduction.Reduction.TheVariants as reduction
 use Rattle.tasks.specs.Outcomes.{purpose_view}
+use Rattle.replay_calls.specs.Answers.{Answer}
+use Rattle.replay_calls.specs.Checked.{trap_found}
+use Rattle.replay_calls.specs.WorkedOut.{worked_out}
 use Rattle.steps.specs.Steps.{Scene, Sees, in_frames, left_by}
-use Rattle.terms.specs.Views.{operand_view, trap_view}
+use Rattle.terms.specs.Views.{operand_view, trap_view, variables_view}
 use Rattle.replay_calls.specs.Shares.{sight_in}
 use Rattle.tasks.specs.Tasks.{task_view}
 
@@ -50,3 +53,10 @@ MakesCall refused before line purpose f args took after =
 abbrev pub MakesInvocation : (refused : Bool) → Scene → Invocation → Outcome → Scene → Type 0
 MakesInvocation refused before i took after =
     MakesCall refused before i.line i.purpose (function_value i.function) (actuals (sight_in before.shared before.variables) (function_value i.function) (map operand_view i.operands.items)) took after
+
+-- A call of this function, with these arguments, passes the checks in this scene, and this is its answer.
+abbrev pub HasAnswer : Scene → JniFunction → List Actual → Answer → Type 0
+HasAnswer scene f args a =
+    (is_built_function f ≡ true)
+    × (trap_found scene.classes scene.shared.heap scene.frames (is_some scene.pending) f args ≡ None)
+    × (a ≡ worked_out scene.classes scene.shared.heap (variables_view scene.variables) scene.frames args f)

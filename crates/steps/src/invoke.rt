@@ -1,28 +1,33 @@
 //! Calls of functions of the JNI (JNI Specification, chapter 4).
 
-ghost use Rattle.std.specs.Prelude.{◌≡◌, IfOk, IfSome, IsTrue, None, is_some, map};
+ghost use Rattle.std.specs.Prelude.{◌≡◌, IfOk, IfSome, IsTrue, List, None, if◌then◌else◌, is_some, map, true, false};
+ghost use Rattle.std.specs.Option.{option_map};
 ghost use Rattle.classes.specs.Grown.{IsGrown};
 ghost use Rattle.jni.specs.JniFunction.{is_built_function};
 ghost use Rattle.jni.specs.Table.{function_value};
+ghost use Rattle.tasks.specs.declared.outcome.Outcome.TheVariants as outcome;
 ghost use Rattle.tasks.specs.declared.task.Task.TheVariants as task;
+ghost use Rattle.source.specs.Arguments.{Actual as ActualOfCall};
+ghost use Rattle.source.specs.Thread.{Frame, Shared as SharedOfThreads};
 ghost use Rattle.replay_calls.specs.Actuals.{actual_view};
+ghost use Rattle.replay_calls.specs.Answers.{FitsFrames, answer_view};
 ghost use Rattle.replay_calls.specs.Checked.{trap_found};
-ghost use Rattle.steps.specs.Calls.{MakesCall, MakesInvocation, ReducesFirst, ReducesOne};
+ghost use Rattle.steps.specs.Calls.{HasAnswer, MakesCall, MakesInvocation, ReducesFirst, ReducesOne};
 ghost use Rattle.tasks.specs.Outcomes.{outcome_for};
 ghost use Rattle.steps.specs.Steps.{Does, scene_with};
 ghost use Rattle.replay_calls.specs.Shares.{shared_view};
 ghost use Rattle.tasks.specs.Tasks.{OperandInRange, OperandsInRange, OutcomeInRange, PurposeInRange};
-ghost use Rattle.terms.specs.Views.{variables_view};
+ghost use Rattle.terms.specs.Views.{Contents, trap_view, variables_view};
 
 use class_table::table::ClassTable;
 use object_store::Frames;
 use replay_calls::actual::{Actual, actuals};
 use replay_calls::carry_out::{carry_out, makes_object, put_local, refuse};
 use replay_calls::check::check;
-use replay_calls::{Shared, work_out};
+use replay_calls::{Answer, Shared, work_out};
 use std::alloc::{AllocError, Global};
 use tasks::{Invocation, Outcome, Purpose, reduced};
-use terms::{Given, Operand, Reduction, Statics, Term, Variables, is_zero, reduce};
+use terms::{Given, Operand, Reduction, Statics, Term, Trap, Variables, is_zero, reduce};
 
 /// The step of a call: the first of its numbers that isn't worked out takes a step, or else the call is made. With its object
 /// refused it is possible only where it makes one.
@@ -49,10 +54,7 @@ pub(crate) fn invoke<'a>(
 {
     let line = i.line;
     if let Some(reduction) = reduce_number(&shared.statics, variables, i) {
-        if refused {
-            return Ok(Outcome::Impossible);
-        }
-        return Ok(reduced(line, reduction));
+        return Ok(unless_refused(refused, reduced(line, reduction)));
     }
     make_call(
         alloc, classes, shared, variables, frames, pending, refused, i,
@@ -152,6 +154,42 @@ fn outcome_for<'a>(line: usize, purpose: Purpose<'a>, given: Given<'a>) -> Outco
     }
 }
 
+/// What a step did that makes no object: with an object refused it isn't possible.
+#[inline]
+pub(crate) fn unless_refused<'a>(refused: bool, took: Outcome<'a>) -> Outcome<'a>
+    requires { OutcomeInRange took }
+    ensures step { result ≡ (if refused then outcome.Impossible else took.entry) }
+    ensures range { OutcomeInRange result }
+{
+    if refused {
+        return Outcome::Impossible;
+    }
+    took
+}
+
+/// The trap of a call, if a check of it fails.
+#[inline]
+fn trap_of(
+    classes: &ClassTable,
+    shared: &Shared<'_>,
+    frames: &Frames,
+    pending: &Option<usize>,
+    i: &Invocation<'_>,
+    actuals: &[Actual<'_>],
+) -> Option<Trap>
+    ensures { option_map trap_view result ≡ trap_found classes.now shared.now.store frames.now (is_some pending.now) (function_value i.now.function) (map actual_view actuals.now) }
+{
+    let is_pending = pending.is_some();
+    check(
+        classes,
+        &shared.store,
+        frames,
+        is_pending,
+        i.function,
+        actuals,
+    )
+}
+
 /// The call's own step: what is checked, and what is done.
 fn call<'a>(
     alloc: Global,
@@ -171,46 +209,9 @@ fn call<'a>(
         (scene_with classes.now (shared_view shared.new) variables.now frames.new pending.new)) }
     ensures range { IfOk result OutcomeInRange }
 {
-    let is_pending = pending.is_some();
-    if let Some(trap) = check(
-        classes,
-        &shared.store,
-        frames,
-        is_pending,
-        i.function,
-        actuals,
-    ) {
-        if refused {
-            return Ok(Outcome::Impossible);
-        }
-        return Ok(Outcome::Trapped(trap, i.line));
+    if let Some(trap) = trap_of(classes, shared, frames, pending, i, actuals) {
+        return Ok(unless_refused(refused, Outcome::Trapped(trap, i.line)));
     }
-    answer(
-        alloc, classes, shared, variables, frames, pending, refused, i, actuals,
-    )
-}
-
-/// What a call does that passed the checks.
-#[inline]
-fn answer<'a>(
-    alloc: Global,
-    classes: &'a ClassTable,
-    shared: &mut Shared<'a>,
-    variables: &Variables<'a>,
-    frames: &mut Frames,
-    pending: &mut Option<usize>,
-    refused: bool,
-    i: &Invocation<'a>,
-    actuals: &[Actual<'a>],
-) -> Result<Outcome<'a>, AllocError>
-    requires built { IsTrue (is_built_function (function_value i.now.function)) }
-    requires ways { PurposeInRange i.now.purpose }
-    requires grown { IsGrown classes.now }
-    requires passed { trap_found classes.now shared.old.store frames.old (is_some pending.old) (function_value i.now.function) (map actual_view actuals.now) ≡ None }
-    ensures step { IfOk result (λ o. MakesCall refused (scene_with classes.now (shared_view shared.old) variables.now frames.old pending.old) i.entry.now.line i.entry.now.purpose (function_value i.entry.now.function) (map actual_view actuals.entry.now) o
-        (scene_with classes.now (shared_view shared.new) variables.now frames.new pending.new)) }
-    ensures range { IfOk result OutcomeInRange }
-{
     let answer = work_out(
         classes,
         &shared.store,
@@ -219,14 +220,53 @@ fn answer<'a>(
         i.function,
         actuals,
     );
-    let kind = i.function.prototype().result;
     if refused {
-        if !makes_object(answer) {
-            return Ok(Outcome::Impossible);
-        }
-        let given = refuse(classes, pending, kind);
-        return Ok(outcome_for(i.line, i.purpose, given));
+        return Ok(refuse_object(classes, pending, i, answer));
     }
+    complete(alloc, classes, shared, frames, pending, i, answer)
+}
+
+/// What a call does whose object is refused: it fails if its answer makes one, and else isn't possible.
+#[inline]
+fn refuse_object<'a>(
+    classes: &ClassTable,
+    pending: &mut Option<usize>,
+    i: &Invocation<'a>,
+    answer: Answer<'_>,
+) -> Outcome<'a>
+    requires { PurposeInRange i.now.purpose }
+    ensures step { (s : SharedOfThreads) (vs : Contents) (frames : List Frame) (args : List ActualOfCall)
+        → HasAnswer (scene_with classes.now s vs frames pending.old) (function_value i.now.function) args (answer_view answer.entry)
+        → MakesCall true (scene_with classes.now s vs frames pending.old) i.now.line i.now.purpose (function_value i.now.function) args result (scene_with classes.now s vs frames pending.new) }
+    ensures range { OutcomeInRange result }
+{
+    if !makes_object(answer) {
+        return Outcome::Impossible;
+    }
+    let given = refuse(classes, pending, i.function.prototype().result);
+    outcome_for(i.line, i.purpose, given)
+}
+
+/// What a call does by its answer, with no object refused.
+#[inline]
+fn complete<'a>(
+    alloc: Global,
+    classes: &ClassTable,
+    shared: &mut Shared<'a>,
+    frames: &mut Frames,
+    pending: &mut Option<usize>,
+    i: &Invocation<'a>,
+    answer: Answer<'a>,
+) -> Result<Outcome<'a>, AllocError>
+    requires ways { PurposeInRange i.now.purpose }
+    requires fits { FitsFrames frames.old (answer_view answer) }
+    ensures step { (vs : Contents) (args : List ActualOfCall)
+        → HasAnswer (scene_with classes.now (shared_view shared.old) vs frames.old pending.old) (function_value i.now.function) args (answer_view answer.entry)
+        → IfOk result (λ o. MakesCall false (scene_with classes.now (shared_view shared.old) vs frames.old pending.old) i.now.line i.now.purpose (function_value i.now.function) args o
+        (scene_with classes.now (shared_view shared.new) vs frames.new pending.new)) }
+    ensures range { IfOk result OutcomeInRange }
+{
+    let kind = i.function.prototype().result;
     let given = carry_out(alloc, classes, shared, frames, pending, kind, answer)?;
     put_local(frames, kind, given)?;
     Ok(outcome_for(i.line, i.purpose, given))

@@ -6,7 +6,7 @@ ghost use Rattle.steps.specs.Steps.{Does, scene_with};
 ghost use Rattle.replay_calls.specs.Shares.{shared_view};
 ghost use Rattle.tasks.specs.Tasks.{TaskInRange, OutcomeInRange};
 
-use crate::invoke::invoke;
+use crate::invoke::{invoke, unless_refused};
 use class_table::table::ClassTable;
 use object_store::Frames;
 use replay_calls::Shared;
@@ -38,8 +38,5 @@ pub(crate) fn step<'a>(
         );
     }
     let outcome = plain_step(&shared.statics, variables, task);
-    if refused {
-        return Ok(Outcome::Impossible);
-    }
-    Ok(outcome)
+    Ok(unless_refused(refused, outcome))
 }

@@ -1,34 +1,21 @@
-use Rattle.std.proofs.Common.{sym, ap, ◌∙◌, subst, map}
+use Rattle.std.proofs.Common.{IfOk, sym, ap, ◌∙◌, subst, map}
 use Rattle.std.specs.Option.{option_map}
 use Rattle.jni.specs.Table.{function_value}
-use Rattle.tasks.specs.declared.outcome.Outcome.TheVariants as outcome
 use Rattle.replay_calls.specs.Actuals.{actual_view}
-use Rattle.steps.specs.Calls.{MakesCall}
-use Rattle.replay_calls.specs.Checked.{trap_found}
+use Rattle.replay_calls.specs.Answers.{FitsFrames}
 use Rattle.replay_calls.specs.Shares.{shared_view}
+use Rattle.terms.specs.Views.{trap_view, variables_view}
+use Rattle.steps.specs.Calls.{MakesCall}
 use Rattle.steps.specs.Steps.{Scene, scene_with}
-use Rattle.terms.specs.Views.{trap_view}
-use Rattle.steps.proofs.CallLemmas.{call_traps, trap_refuses}
+use Rattle.replay_calls.proofs.FittingFrames.{answer_fits}
+use Rattle.steps.proofs.CallLemmas.{call_stopped}
 use Rattle.steps.proofs.invoke.call.Goals as goal
 
-pub answer-requires-clause-passed : goal.answer-requires-clause-passed
-answer-requires-clause-passed c =
-    let s = shared_view c.args.shared.now in
-    ap (λ b. trap_found c.args.classes.now s.heap c.args.frames.now b (function_value c.args.i.now.function) (map actual_view c.args.actuals.now)) (sym c.is_some-is_pending.ensures) ∙ sym c.check.ensures ∙ ap (option_map trap_view) c.in_default.is
-
-pub returns-then-refused-clause-step : goal.returns-then-refused-clause-step
-returns-then-refused-clause-step c =
+pub complete-requires-clause-fits : goal.complete-requires-clause-fits
+complete-requires-clause-fits c =
     let i = c.args.i.now in
-    let classes = c.args.classes.now in
-    let s = shared_view c.args.shared.now in
-    let vs = c.args.variables.now in
     let frames = c.args.frames.now in
-    let f = function_value i.function in
-    let args = map actual_view c.args.actuals.now in
-    let scene : Scene = scene_with classes s vs frames c.args.pending.now in
-    let found = ap (λ b. trap_found classes s.heap frames b f args) (sym c.is_some-is_pending.ensures) ∙ sym c.check.ensures ∙ ap (option_map trap_view) c.in-Some.is in
-    subst (λ b. MakesCall b scene i.line i.purpose f args outcome.Impossible scene) (sym c.if-refused.true)
-    (trap_refuses classes s vs frames c.args.pending.now i.line i.purpose f args c.requires.built (trap_view c.in-Some.trap) found)
+    subst (FitsFrames frames) (sym c.work_out-answer.ensures) (answer_fits frames c.args.classes.now c.args.shared.now.store (variables_view c.args.variables.now) (map actual_view c.args.actuals.now) (function_value i.function))
 
 pub returns-in-Some-clause-step : goal.returns-in-Some-clause-step
 returns-in-Some-clause-step c =
@@ -40,6 +27,57 @@ returns-in-Some-clause-step c =
     let f = function_value i.function in
     let args = map actual_view c.args.actuals.now in
     let scene : Scene = scene_with classes s vs frames c.args.pending.now in
-    let found = ap (λ b. trap_found classes s.heap frames b f args) (sym c.is_some-is_pending.ensures) ∙ sym c.check.ensures ∙ ap (option_map trap_view) c.in-Some.is in
-    subst (λ b. MakesCall b scene i.line i.purpose f args (outcome.Trapped c.in-Some.trap i.line) scene) (sym c.if-refused.false)
-    (call_traps classes s vs frames c.args.pending.now i.line i.purpose f args c.requires.built c.in-Some.trap found)
+    let found = sym c.trap_of.ensures ∙ ap (option_map trap_view) c.in-Some.is in
+    subst (λ took. MakesCall c.args.refused scene i.line i.purpose f args took scene) (sym c.unless_refused.ensures.step)
+    (call_stopped classes s vs frames c.args.pending.now i.line i.purpose f args c.requires.built c.args.refused c.in-Some.trap found)
+
+pub returns-then-refused-clause-step : goal.returns-then-refused-clause-step
+returns-then-refused-clause-step c =
+    let i = c.args.i.now in
+    let classes = c.args.classes.now in
+    let s = shared_view c.args.shared.now in
+    let vs = c.args.variables.now in
+    let frames = c.args.frames.now in
+    let f = function_value i.function in
+    let args = map actual_view c.args.actuals.now in
+    let before : Scene = scene_with classes s vs frames c.args.pending.now in
+    let after : Scene = scene_with classes s vs frames c.refuse_object.new.pending in
+    let passed = sym c.trap_of.ensures ∙ ap (option_map trap_view) c.in_default.is in
+    subst (λ b. MakesCall b before i.line i.purpose f args c.refuse_object.result after) (sym c.if-refused.true)
+    (c.refuse_object.ensures.step s vs frames args (c.requires.built, passed, c.work_out-answer.ensures))
+
+pub returns-clause-step : goal.returns-clause-step
+returns-clause-step c =
+    let i = c.args.i.now in
+    let classes = c.args.classes.now in
+    let s = shared_view c.args.shared.now in
+    let vs = c.args.variables.now in
+    let frames = c.args.frames.now in
+    let f = function_value i.function in
+    let args = map actual_view c.args.actuals.now in
+    let before : Scene = scene_with classes s vs frames c.args.pending.now in
+    let after : Scene = scene_with classes (shared_view c.complete.new.shared) vs c.complete.new.frames c.complete.new.pending in
+    let passed = sym c.trap_of.ensures ∙ ap (option_map trap_view) c.in_default.is in
+    subst (λ b. IfOk c.complete.result (λ o. MakesCall b before i.line i.purpose f args o after)) (sym c.if-refused.false)
+    (c.complete.ensures.step vs args (c.requires.built, passed, c.work_out-answer.ensures))
+
+pub work_out-answer-requires-clause-built : goal.work_out-answer-requires-clause-built
+work_out-answer-requires-clause-built c = c.requires.built
+
+pub work_out-answer-requires-clause-grown : goal.work_out-answer-requires-clause-grown
+work_out-answer-requires-clause-grown c = c.requires.grown
+
+pub refuse_object-requires : goal.refuse_object-requires
+refuse_object-requires c = c.requires.ways
+
+pub complete-requires-clause-ways : goal.complete-requires-clause-ways
+complete-requires-clause-ways c = c.requires.ways
+
+pub returns-in-Some-clause-range : goal.returns-in-Some-clause-range
+returns-in-Some-clause-range c = c.unless_refused.ensures.range
+
+pub returns-then-refused-clause-range : goal.returns-then-refused-clause-range
+returns-then-refused-clause-range c = c.refuse_object.ensures.range
+
+pub returns-clause-range : goal.returns-clause-range
+returns-clause-range c = c.complete.ensures.range

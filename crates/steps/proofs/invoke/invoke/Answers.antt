@@ -1,8 +1,26 @@
+use Rattle.std.proofs.Common.{sym, subst}
 use Rattle.replay_calls.specs.Shares.{shared_view}
-use Rattle.steps.specs.Steps.{scene_with}
+use Rattle.steps.specs.Steps.{Does, Scene, scene_with}
+use Rattle.tasks.specs.Effects.{HasEffect}
+use Rattle.tasks.specs.declared.outcome.Outcome.{Outcome}
+use Rattle.tasks.specs.declared.task.Task.TheVariants as task
+use Rattle.terms.specs.Views.{variables_view}
 use Rattle.std.proofs.lemmas.Result.{IfOk-weaker}
-use Rattle.steps.proofs.Invocations.{invocation_does}
+use Rattle.steps.proofs.Invocations.{invocation_does, number_reduces}
+use Rattle.steps.proofs.TaskLemmas.{does_unless}
 use Rattle.steps.proofs.invoke.invoke.Goals as goal
+
+pub returns-in-Some-clause-step : goal.returns-in-Some-clause-step
+returns-in-Some-clause-step c =
+    let i = c.args.i.now in
+    let vs = c.args.variables.now in
+    let s = shared_view c.args.shared.now in
+    let scene : Scene = scene_with c.args.classes.now s vs c.args.frames.now c.args.pending.now in
+    let left = c.in-Some.ensures in
+    subst (λ (took : Outcome). Does c.args.refused scene (task.Invoke i) took scene (task.Invoke c.reduce_number.new.i)) (sym c.unless_refused.ensures.step)
+    (does_unless scene (task.Invoke i) (task.Invoke c.reduce_number.new.i) c.args.refused c.reduced.result
+    (subst (λ (took : Outcome). HasEffect (variables_view vs) s.statics (task.Invoke i) took (task.Invoke c.reduce_number.new.i)) (sym c.reduced.ensures.view)
+    (number_reduces (variables_view vs) s.statics i c.reduce_number.new.i left.line left.purpose left.function c.in-Some.reduction left.step)))
 
 pub returns-clause-step : goal.returns-clause-step
 returns-clause-step c =
