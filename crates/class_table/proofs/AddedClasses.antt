@@ -1,5 +1,5 @@
 -- A table with one more class and its array class.
-use Rattle.std.proofs.Common.{◌≡◌, ℕ, suc, ◌+◌, Bool, true, false, cond, [], ◌∷◌, ◌++◌, length, Option, Some, None, nat_lt, is_some, refl, sym, ap, ◌∙◌, append_assoc, arith}
+use Rattle.std.proofs.Common.{◌≡◌, ℕ, suc, ◌+◌, Bool, true, false, cond, [], ◌∷◌, ◌++◌, length, Option, Some, None, nat_lt, is_some, refl, sym, ap, ◌∙◌, append_assoc, length-append, arith}
 use Rattle.std.specs.Prelude.{not, ◌||◌}
 use Rattle.std.specs.Option.{option_map}
 use Rattle.std.specs.List.{prefix_len}
@@ -13,6 +13,7 @@ use Rattle.classes.specs.Mangling.{is_class_name}
 use Rattle.class_table.specs.Tables.{ArraysHaveElements}
 use Rattle.class_table.proofs.ArrayNames.{same_name, is_same, element_name, no_array, cases, either-append, first_of_both, second_of_both}
 use Rattle.class_table.proofs.DistinctNames.{has_name, unnamed}
+use Rattle.class_table.proofs.Places.{named-other}
 
 -- the class and its array class, put one by one
 pub with_both : (T U V : Classes) (name : Identifier) (s : ℕ) (a b : Class) → U ≡ T ++ a ∷ [] → V ≡ U ++ b ∷ [] → a ≡ new_class name (Some s) → b ≡ array_class (array_name name) (ArrayOfObjects (length T + 1)) → V ≡ with_class T (new_class name (Some s))
@@ -21,6 +22,23 @@ with_both T U V name s a b first second is_a is_b =
     ∙ ap (λ u. u ++ b ∷ []) first
     ∙ append_assoc T (a ∷ []) (b ∷ [])
     ∙ (λ i. T ++ is_a i ∷ is_b i ∷ [])
+
+-- no class has the name of its arrays
+not_its_arrays : (name : Identifier) → bytes_eq name (array_name name) ≡ false
+not_its_arrays name = by_test (bytes_eq name (array_name name)) refl
+  where
+    by_test : (b : Bool) → bytes_eq name (array_name name) ≡ b → b ≡ false
+    by_test true e =
+        let longer : length name ≡ length (array_name name) = ap length (same_name name (array_name name) e) in
+        absurd (omega (arith, longer, length-append name (59 ∷ [])))
+    by_test false e = refl
+
+-- the array class is new after its class too
+pub arrays_are_new : (T U : Classes) (name : Identifier) (s : ℕ) (a b : Class) → U ≡ T ++ a ∷ [] → a ≡ new_class name (Some s) → b.name ≡ array_name name → class_named T (array_name name) ≡ None → class_named U b.name ≡ None
+arrays_are_new T U name s a b more is_a is_b none =
+    (λ i. class_named (more i) (is_b i))
+    ∙ named-other (array_name name) T a (ap (λ (c : Class). bytes_eq c.name (array_name name)) is_a ∙ not_its_arrays name)
+    ∙ none
 
 module _ (name : Identifier) where
   abbrev before : Classes → ℕ
