@@ -1,6 +1,5 @@
 -- A thread in memory steps as the thread that it stands for.
 use Rattle.std.proofs.Common.{◌≡◌, ℕ, Bool, true, false, List, [], ◌∷◌, Option, Some, None, refl, sym, ap, ◌∙◌, IsTrue, subst, append-nil}
-use Rattle.std.specs.Prelude.{Result, Ok, Err, IfOk, is_ok}
 use Rattle.std.specs.List.{list_all}
 use Rattle.std.specs.Option.{option_map}
 use Rattle.source.specs.World.{Invocation}
@@ -54,13 +53,6 @@ begun_tasks body a none rest outer =
 pub goes_on : (store : Heap) (pending : Option ℕ) (t : ThreadInMemory) (o : Outcome) (took : Step) → (o ≡ outcome.Returned → ⊥) → took ≡ step_of o → EndsStep store pending t o took t
 goes_on store pending t outcome.Returned took none is = absurd (none refl)
 goes_on store pending t o took none is = (is, refl)
-
--- what follows where a first result is good, and a second with it
-pub if_both : {X Y E F : Type 0} (o : Result X E) (r : Result Y F) (P : X → Y → Type 0) (Q : X → Type 0) (R : Y → Type 0) → is_ok r ≡ is_ok o → IfOk o (λ x. IfOk r (λ y. P x y)) → IfOk o Q → ((x : X) (y : Y) → P x y → Q x → R y) → IfOk r R
-if_both (Ok x) (Ok y) P Q R same p q f = f x y p q
-if_both (Err e) (Ok y) P Q R same p q f = absurd (cc)
-if_both (Ok x) (Err e) P Q R same p q f = tt
-if_both (Err d) (Err e) P Q R same p q f = tt
 
 -- what is known of it stays known
 pub ended_range : (store : Heap) (t : ThreadInMemory) (new : Activation) (o : Outcome) (took : Step) (left : ThreadInMemory) → EndsStep store new.pending (record t { activation = Some new }) o took left → IsInRange new → WorkInRange left.activation

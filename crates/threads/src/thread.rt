@@ -1,6 +1,6 @@
 //! Threads: calls in progress and to come.
 
-ghost use Rattle.std.specs.Prelude.{◌≡◌, ◌++◌, ◌∷◌, [], IfOk, OnErr, is_ok, IsTrue, Some, None, filter_map, map, zip};
+ghost use Rattle.std.specs.Prelude.{◌≡◌, ◌++◌, ◌∷◌, [], IfOk, IsTrue, Some, None, filter_map, map, zip};
 ghost use Rattle.std.specs.Option.{option_map};
 ghost use Rattle.syntax.specs.Limits.{IsTree};
 ghost use Rattle.syntax.specs.Views.{function_tree, parameter_tree, unit_tree};
@@ -303,24 +303,22 @@ fn leave(store: &Store, thread: &mut Thread<'_>, pending: Option<usize>)
     }
 }
 
-/// Leaves the call in progress if it returned, with this exception pending. Tells what others see of what it did, or that memory was refused.
+/// Leaves the call in progress if it returned, with this exception pending. Tells what others see of what it did.
 #[inline]
 fn end_step(
     store: &Store,
     thread: &mut Thread<'_>,
     pending: Option<usize>,
-    outcome: Result<Outcome<'_>, AllocError>,
-) -> Result<Step, AllocError>
-    ensures ok { is_ok result ≡ is_ok outcome.entry }
-    ensures step { IfOk outcome.entry (λ o. IfOk result (λ took. EndsStep store.now pending thread.old o took thread.new)) }
-    ensures err { OnErr outcome.entry (thread.new ≡ thread.old) }
+    outcome: Outcome<'_>,
+) -> Step
+    ensures { EndsStep store.now pending thread.old outcome.entry result thread.new }
 {
-    match outcome? {
+    match outcome {
         Outcome::Returned => {
             leave(store, thread, pending);
-            Ok(Step::Quiet)
+            Step::Quiet
         }
-        outcome => Ok(step_of(outcome)),
+        outcome => step_of(outcome),
     }
 }
 
@@ -343,7 +341,11 @@ pub(crate) fn take_step<'a>(
     let Some(activation) = &mut thread.activation else {
         return enter(alloc, functions, world, refused, thread);
     };
-    let outcome = advance(alloc, world.classes(), shared, refused, activation);
-    let pending = activation.pending;
-    end_step(&shared.store, thread, pending, outcome)
+    match advance(alloc, world.classes(), shared, refused, activation) {
+        Ok(outcome) => {
+            let pending = activation.pending;
+            Ok(end_step(&shared.store, thread, pending, outcome))
+        }
+        Err(error) => Err(error),
+    }
 }
