@@ -1,7 +1,7 @@
 //! The names of the functions that implement native methods, after the JNI Specification, chapter 2,
 //! "Resolving Native Method Names".
 
-ghost use Rattle.std.specs.Prelude.{◌≡◌, ◌<◌, ◌+◌, length, take, drop, IfSome, IfNone, IfOk, OnOk, false, true, ◌++◌, ◌∷◌, [], Some, None, flat_map, is_some, List, ℕ, if◌then◌else◌};
+ghost use Rattle.std.specs.Prelude.{◌≡◌, ◌<◌, ◌+◌, length, take, drop, IfSome, IfNone, IfOk, OnOk, false, true, ◌++◌, ◌∷◌, Some, None, flat_map, is_some, List, ℕ, if◌then◌else◌};
 ghost use Rattle.std.specs.Option.{option_map};
 ghost use Rattle.base.specs.Bytes.{is_letter};
 ghost use Rattle.classes.specs.Mangling.{escaped_byte, mangle, unescaped, split_last, unmangle};

@@ -2,7 +2,7 @@
 
 ghost use Rattle.std.specs.Prelude.{◌≡◌, ◌+◌, ◌-◌, ◌<◌, ◌≤◌, [], ◌∷◌, ◌++◌, slice_set, vec_len, map, zip, IfOk, OnOk, IsTrue};
 ghost use Rattle.base.specs.Bytes.{lookup};
-ghost use Rattle.syntax.specs.Views.{element_tree, expr_tree, argument_tree, call_tree, right_side_tree, test_tree, variable_type_tree, form_tree, block_tree};
+ghost use Rattle.syntax.specs.Views.{expr_tree, argument_tree, call_tree, right_side_tree, test_tree, variable_type_tree, form_tree, block_tree};
 ghost use Rattle.jni.specs.JniFunction.{function_named};
 ghost use Rattle.jni.specs.Table.{function_value, parameter_value};
 ghost use Rattle.sorts.specs.SortRules.{variable_sort};

@@ -1,6 +1,6 @@
 //! The files that are read.
 
-ghost use Rattle.std.specs.Prelude.{◌≡◌, ◌≤◌, ℕ, List, IfOk, length, vec_len};
+ghost use Rattle.std.specs.Prelude.{◌≡◌, ◌≤◌, ℕ, List, IfOk, vec_len};
 ghost use Rattle.commands.specs.Files.{AreGiven, AreTexts};
 
 use crate::command::Command;
@@ -15,7 +15,7 @@ use thiserror::Error;
 pub const MOST_BYTES: usize = 4_194_304;
 
 /// A file is not read.
-#[derive(Clone, Copy, Debug, PartialEq, Eq, Error)]
+#[derive(Clone, Copy, Debug, Error)]
 pub enum FileFault {
     #[error("out of memory")]
     Memory,

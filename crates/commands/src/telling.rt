@@ -1,6 +1,6 @@
 //! Where and why a text is refused, for standard error.
 
-ghost use Rattle.std.specs.Prelude.{◌≡◌, ◌++◌, ◌-◌, ◌==◌, if◌then◌else◌, codes, decimal};
+ghost use Rattle.std.specs.Prelude.{◌≡◌, ◌-◌, ◌==◌};
 ghost use Rattle.report.specs.Sink.{CanFail, Writes};
 ghost use Rattle.commands.specs.Telling.{from_line, shown_byte, shown_line, most_shown, excerpt, place_text, reason_text, told};
 

@@ -16,7 +16,7 @@ use Rattle.source.specs.Effect.{Calls, Effect, effect_of}
 use Rattle.source.specs.Heap.{Heap}
 use Rattle.source.specs.Task.{Assigned, Declared, Dropped, Target, Task, Tested}
 use Rattle.source.specs.Thread as source
-use Rattle.source.specs.Thread.{BuffersInUse, Shared, sight_of, viewed_by}
+use Rattle.source.specs.Thread.{BuffersInUse, Shared, sight_of}
 use Rattle.source.specs.Value.{Int, Trap as SourceTrap}
 use Rattle.source.specs.World.{World}
 use Rattle.base.specs.Bytes.{Identifier, lookup}

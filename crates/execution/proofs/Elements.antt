@@ -5,7 +5,7 @@ use Rattle.syntax.specs.Tree.{Expr, Block, Null}
 use Rattle.jni.specs.JniFunction.{JniFunction}
 use Rattle.source.specs.Arguments.{actuals}
 use Rattle.source.specs.Effect as effect
-use Rattle.source.specs.Effect.{Effect, SetsElement, Calls, at_line, goes_on, with_value, print_effect, branch_effect, loop_effect, element_effect, reduce_first, is_ready, call_effect_of, returned_name, return_effect, effect_of}
+use Rattle.source.specs.Effect.{Effect, SetsElement, Calls, at_line, goes_on, with_value, print_effect, branch_effect, loop_effect, element_effect, reduce_first, is_ready, returned_name, return_effect, effect_of}
 use Rattle.source.specs.Sight.{Sight}
 use Rattle.source.specs.Task.{Task, SetScalar, SetElement, SetNull, MakeArray, Invoke, Print, Branch, EndIf, Loop, EndTurn, Return, ReturnValue, Impossible, Target, Operand}
 use Rattle.source.specs.Term.{Term, Done, Named, Read, index_of, reduce}

@@ -1,6 +1,6 @@
 //! The heap.
 
-ghost use Rattle.std.specs.Prelude.{◌≡◌, ℕ, ◌+◌, ◌-◌, ◌<◌, ◌≤◌, [], Some, length, take, replicate, slice_get, slice_index, IfOk, OnOk, OnErr};
+ghost use Rattle.std.specs.Prelude.{◌≡◌, ℕ, ◌+◌, ◌-◌, ◌<◌, ◌≤◌, [], Some, length, replicate, slice_get, IfOk, OnOk, OnErr};
 ghost use Rattle.heap.specs.declared.value.Value.TheVariants.{Number};
 ghost use Rattle.heap.specs.Heap.{IsAddress, IsNumberAt, IsLaidOut, block_at, class_at, name_at, values_at, pins_at, addresses, left_of, end_of, fresh_block, with_block, with_value, with_pins};
 ghost use Rattle.heap.specs.Cells.{cells_from};
@@ -23,7 +23,7 @@ pub const MOST_PINS: u8 = 255;
 const HEADER: usize = 3;
 
 /// Too few cells are left after the highest block.
-#[derive(Clone, Copy, Debug, PartialEq, Eq, Error)]
+#[derive(Clone, Copy, Debug, Error)]
 #[error("no room in the heap")]
 pub struct NoRoom;
 

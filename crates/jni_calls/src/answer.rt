@@ -1,7 +1,7 @@
 //! What a function of the JNI does, as data.
 
-ghost use Rattle.std.specs.Prelude.{◌≡◌, ◌<◌, ◌^◌, ℕ, [], Some, None, IsSome, true, false, unwrap_or, slice_get, map};
-ghost use Rattle.std.specs.Int.{cast_signed, w32};
+ghost use Rattle.std.specs.Prelude.{◌≡◌, ◌<◌, ℕ, [], Some, None, IsSome, true, false, unwrap_or, slice_get, map};
+ghost use Rattle.std.specs.Int.{cast_signed};
 ghost use Rattle.class_table.specs.FieldViews.{field_of, find_as};
 ghost use Rattle.classes.specs.Fields.{layout, own_statics};
 ghost use Rattle.classes.specs.Grown.{IsGrown};

@@ -1,6 +1,6 @@
 //! What a call does to the store, and which exception is pending then.
 
-ghost use Rattle.std.specs.Prelude.{◌≡◌, ◌-◌, ◌<◌, ◌≤◌, ◌^◌, ℕ, length, slice_get, true, false, IfOk, OnErr};
+ghost use Rattle.std.specs.Prelude.{◌≡◌, ◌-◌, ◌<◌, ◌≤◌, ◌^◌, length, slice_get, true, false, IfOk, OnErr};
 ghost use Rattle.jni.specs.Prototype.{ResultKind as SourceKind};
 ghost use Rattle.jni.specs.Table.{result_value};
 ghost use Rattle.source.specs.CallEffects.{CallEffect};

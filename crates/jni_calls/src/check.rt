@@ -1,6 +1,6 @@
 //! What is checked of a call before it does anything, in one order for all functions.
 
-ghost use Rattle.std.specs.Prelude.{◌≡◌, ℕ, Bool, List, ◌++◌, ◌&&◌, not, Some, IsSome, IfSome, IfNone, map, false};
+ghost use Rattle.std.specs.Prelude.{◌≡◌, ℕ, Bool, List, ◌++◌, ◌&&◌, not, Some, IfSome, IfNone, map, false};
 ghost use Rattle.std.specs.List.{list_any};
 ghost use Rattle.std.specs.Option.{option_map};
 ghost use Rattle.classes.specs.Class.{Classes};

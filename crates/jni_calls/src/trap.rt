@@ -8,7 +8,7 @@ ghost use Rattle.jni_calls.specs.Traps.{trap_view};
 use code::instr::PlainTrap;
 
 /// Why the machine stops.
-#[derive(Clone, Copy, Debug, PartialEq, Eq)]
+#[derive(Clone, Copy)]
 pub enum Trap {
     /// Division by zero (C99, 6.5.5).
     DivisionByZero,

@@ -1,7 +1,7 @@
 //! The check of native methods for programs in C: `include/jnirun_check.h` declares it.
 #![tactic(auto)]
 
-ghost use Rattle.std.specs.Prelude.{◌≡◌, ◌≢◌, pos};
+ghost use Rattle.std.specs.Prelude.{◌≢◌, pos};
 ghost use Rattle.program_text.specs.Checks.{PassesCheck};
 ghost use Rattle.jnirun_c.specs.Answers.{Answers};
 

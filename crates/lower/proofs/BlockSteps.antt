@@ -8,7 +8,7 @@ use Rattle.std.proofs.lemmas.Bool.{ltb-true, ltb-false, lt-ltb}
 use Rattle.base.specs.Bytes.{Identifier}
 use Rattle.syntax.specs.Tree as tree
 use Rattle.syntax.specs.Tree.{Expr, Block, BitOr}
-use Rattle.sorts.specs.Sorts.{Sort, Jint, Ref, Array}
+use Rattle.sorts.specs.Sorts.{Jint, Ref, Array}
 use Rattle.sorts.specs.Sorts as sort
 use Rattle.code.specs.declared.instr.ReferenceOperand.TheVariants.{Null, Local}
 use Rattle.code.specs.declared.instr.Instr.TheVariants as instr

@@ -7,7 +7,7 @@ use std::alloc::{AllocError, AllocFailed};
 use thiserror::Error;
 
 /// Why `lower` gave no program.
-#[derive(Clone, Copy, Debug, PartialEq, Eq, Error)]
+#[derive(Clone, Copy, Debug, Error)]
 pub enum LowerFault {
     /// Fault 51: a function has more than 65,535 instructions for steps of its source.
     #[error("a function has more than 65535 instructions")]

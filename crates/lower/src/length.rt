@@ -2,7 +2,6 @@
 
 ghost use Rattle.std.specs.Prelude.{◌≡◌, ℕ, ◌+◌, ◌<◌, is_some, nat_lt, IfSome, IfNone, IsTrue, map, zip};
 ghost use Rattle.std.specs.List.{list_any, sum_by};
-ghost use Rattle.std.specs.Option.{option_map};
 ghost use Rattle.syntax.specs.Parts.{null_tested};
 ghost use Rattle.syntax.specs.Tree.{Binary};
 ghost use Rattle.syntax.specs.Views.{expr_tree, binary_tree, argument_tree, call_tree, right_side_tree, test_tree, result_tree, form_tree, block_tree, function_tree, item_tree, unit_tree};

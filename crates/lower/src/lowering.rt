@@ -1,6 +1,6 @@
 //! From checked programs to code.
 
-ghost use Rattle.std.specs.Prelude.{◌≡◌, ◌<◌, [], length, Err, IfOk, OnOk, IsTrue};
+ghost use Rattle.std.specs.Prelude.{◌≡◌, ◌<◌, Err, IfOk, OnOk, IsTrue};
 ghost use Rattle.syntax.specs.Tree.{FunctionItem};
 ghost use Rattle.syntax.specs.Views.{function_tree, item_tree, unit_tree};
 ghost use Rattle.code.specs.Depth.{IsValid};

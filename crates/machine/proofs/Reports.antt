@@ -1,5 +1,5 @@
 -- The report of the state that a machine's journal leads to.
-use Rattle.std.proofs.Common.{append-nil, append_assoc, ◌≡◌, ℕ, zero, suc, ◌+◌, Bool, false, cond, List, [], ◌∷◌, ◌++◌, length, map, Option, Some, None, Result, Ok, Err, refl, sym, ap, ◌∙◌, subst}
+use Rattle.std.proofs.Common.{append-nil, append_assoc, ◌≡◌, ℕ, zero, suc, ◌+◌, Bool, false, cond, List, [], ◌∷◌, ◌++◌, length, map, Option, Some, None, Result, refl, sym, ap, ◌∙◌, subst}
 use Rattle.std.specs.Prelude.{slice_get, flat_map, ◌==◌, is_some, not, ◌||◌, ◌&&◌}
 use Rattle.std.specs.List.{list_all, enumerate_from, AllZip}
 use Rattle.std.specs.Option.{option_map}

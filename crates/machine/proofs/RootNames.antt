@@ -6,7 +6,7 @@ use Rattle.std.specs.List.{AllZip}
 use Rattle.std.proofs.lemmas.List.{reverse-append}
 use Rattle.std.proofs.lemmas.List.Concat.{flat_map-cons}
 use Rattle.tables.specs.Locals as tables
-use Rattle.tables.specs.Locals.{AreStacked, FrameSlots, LocalTable, by_frame, slots_by_frame}
+use Rattle.tables.specs.Locals.{AreStacked, LocalTable, slots_by_frame}
 use Rattle.tables.specs.References.{references_in}
 use Rattle.heap.specs.Heap.{Space, name_at}
 use Rattle.source.specs.Object.{Reference}

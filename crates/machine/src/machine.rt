@@ -1,6 +1,6 @@
 //! The machine.
 
-ghost use Rattle.std.specs.Prelude.{◌≡◌, ℕ, ◌+◌, ◌-◌, ◌<◌, ◌≤◌, [], ◌∷◌, ◌++◌, length, map, replicate, take, IfOk, IfErr, OnOk, OnErr, IfSome, IfNone, IsSome, Err, None, is_some, nat_le, vec_len, vec_capacity};
+ghost use Rattle.std.specs.Prelude.{◌≡◌, ◌+◌, ◌-◌, ◌<◌, ◌≤◌, [], ◌∷◌, ◌++◌, length, map, replicate, IfOk, IfErr, OnOk, OnErr, IfSome, IfNone, IsSome, Err, None, is_some, nat_le, vec_len, vec_capacity};
 ghost use Rattle.std.specs.List.{list_all, enumerate_from};
 ghost use Rattle.syntax.specs.Views.{unit_tree};
 ghost use Rattle.report.specs.Sink.{CanFail};

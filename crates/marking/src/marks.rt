@@ -2,7 +2,7 @@
 
 ghost use Rattle.std.specs.Prelude.{◌≡◌, ℕ, ◌<◌, false, true, Some, length, replicate, slice_set, Contains, IfOk, OnOk, OnErr};
 ghost use Rattle.marking.specs.Reach.{IsClosed};
-ghost use Rattle.marking.specs.Marks.{is_marked, Adds, IsFollowed, WaitsFor, AreReached};
+ghost use Rattle.marking.specs.Marks.{is_marked, Adds, IsFollowed, AreReached};
 
 use crate::graph::Graph;
 use std::alloc::{AllocError, Global};

@@ -1,6 +1,6 @@
 //! Parameters of functions.
 
-ghost use Rattle.std.specs.Prelude.{◌≡◌, ◌≤◌, length, map, IfOk};
+ghost use Rattle.std.specs.Prelude.{◌≤◌, length, map, IfOk};
 ghost use Rattle.syntax.specs.Views.{parameter_tree};
 ghost use Rattle.lexemes.specs.Results.{Gives};
 ghost use Rattle.lexemes.specs.Lexemes.{views};

@@ -1,6 +1,6 @@
 //! A check of a program text.
 
-ghost use Rattle.std.specs.Prelude.{◌≡◌, IsOkUnless};
+ghost use Rattle.std.specs.Prelude.{IsOkUnless};
 ghost use Rattle.program_text.specs.Checks.{PassesCheck, ChecksText, IsProgramText, IsCheckedOrFails};
 
 use crate::fault::{RunError, of_lower};

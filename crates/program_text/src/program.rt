@@ -1,6 +1,6 @@
 //! From a program text to a checked unit.
 
-ghost use Rattle.std.specs.Prelude.{◌≡◌, IfOk, IfErr, IsOkUnless};
+ghost use Rattle.std.specs.Prelude.{◌≡◌, IfOk, IfErr};
 ghost use Rattle.syntax.specs.Tree.{SourceUnit};
 ghost use Rattle.syntax.specs.Views.{unit_tree};
 ghost use Rattle.program_text.specs.Errors.{of_scan, of_parse, of_types, of_regions};

@@ -1,6 +1,6 @@
 //! Roots.
 
-ghost use Rattle.std.specs.Prelude.{◌≡◌, ◌<◌, ◌^◌, ◌++◌, Contains, IfOk, OnErr};
+ghost use Rattle.std.specs.Prelude.{◌<◌, ◌^◌, ◌++◌, Contains, IfOk};
 ghost use Rattle.source.specs.Reachable.{from_one};
 ghost use Rattle.reached.specs.Names.{AreRoots};
 

@@ -1,6 +1,6 @@
 //! The rows.
 
-ghost use Rattle.std.specs.Prelude.{◌≡◌, ◌+◌, ◌<◌, ◌≤◌, length, IfOk};
+ghost use Rattle.std.specs.Prelude.{◌≡◌, ◌+◌, ◌<◌, length, IfOk};
 ghost use Rattle.report.specs.Shown.{row_lines};
 ghost use Rattle.report.specs.Sink.{CanFail, Writes};
 ghost use Rattle.reached.specs.Rows.{marked_rows, AreReported};

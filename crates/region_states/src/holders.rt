@@ -1,6 +1,6 @@
 //! How many held buffers each array or string has.
 
-ghost use Rattle.std.specs.Prelude.{◌≡◌, ◌+◌, ◌<◌, ◌≤◌, ◌^◌, [], ◌∷◌, ◌++◌, bytes_eq, map, position, length, None, OnOk, OnErr, IfOk};
+ghost use Rattle.std.specs.Prelude.{◌≡◌, ◌+◌, ◌<◌, ◌≤◌, ◌^◌, [], map, length, None, OnOk, OnErr, IfOk};
 ghost use Rattle.base.specs.Bytes.{Identifier};
 ghost use Rattle.region_states.specs.StatesInMemory.{variable_state, one_of, holders, count_of, HasOneMore, CountsMore, IsCounted};
 

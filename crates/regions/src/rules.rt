@@ -1,6 +1,6 @@
 //! The rules on buffers, references and frames that one statement can break.
 
-ghost use Rattle.std.specs.Prelude.{◌≡◌, ℕ, bytes_eq, IsTrue};
+ghost use Rattle.std.specs.Prelude.{◌≡◌, ℕ, bytes_eq};
 ghost use Rattle.std.specs.Option.{option_map, is_some};
 ghost use Rattle.base.specs.Options.{some_passes};
 ghost use Rattle.syntax.specs.Parts.{assigned_name};

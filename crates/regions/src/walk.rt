@@ -5,7 +5,7 @@ ghost use Rattle.base.specs.Bytes.{Identifier};
 ghost use Rattle.std.specs.List.{AllByRecursion};
 ghost use Rattle.syntax.specs.Tree.{End};
 ghost use Rattle.syntax.specs.Views.{block_tree, stmt_tree, test_tree, form_tree, function_tree, item_tree};
-ghost use Rattle.region_rules.specs.RegionStates.{RegionState, state_at_entry, state_after};
+ghost use Rattle.region_rules.specs.RegionStates.{RegionState, state_at_entry};
 ghost use Rattle.region_rules.specs.Regions.{where_true, where_false};
 ghost use Rattle.regions.specs.Ways.{join_ways, way_of, way_of_block};
 ghost use Rattle.region_states.specs.StatesInMemory.{names_of, Grows};

@@ -1,7 +1,7 @@
 //! Where a run stopped.
 
 /// The trap that stopped a run.
-#[derive(Clone, Copy, Debug, PartialEq, Eq)]
+#[derive(Clone, Copy, PartialEq, Eq)]
 pub struct TrapAt {
     /// The number under which the trap is reported.
     pub number: u8,

@@ -7,7 +7,7 @@ ghost use Rattle.syntax.specs.Views.{argument_tree, expr_tree};
 ghost use Rattle.class_table.specs.FieldViews.{field_id_view};
 ghost use Rattle.jni.specs.Prototype.{ParameterKind as Kind};
 ghost use Rattle.jni.specs.Table.{function_value, parameter_value};
-ghost use Rattle.source.specs.Arguments.{actuals, field_argument, field_given, look_up, look_up_expression, mode_of, named_variable, number_given, number_in_actual, object_given, name_or_zero, reference_argument, reference_given, reference_in_actual, text_given, text_in_actual, field_in_actual, variable_given, variable_in_actual};
+ghost use Rattle.source.specs.Arguments.{actuals, field_argument, field_given, look_up, look_up_expression, mode_of, named_variable, number_given, object_given, reference_argument, reference_given, text_given, variable_given};
 ghost use Rattle.source.specs.CallEffects.{level_of};
 ghost use Rattle.source.specs.Sight.{Sight, held_field, held_reference};
 ghost use Rattle.source.specs.Task.{Given, NumberOperand};

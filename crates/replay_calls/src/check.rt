@@ -1,6 +1,6 @@
 //! What is checked of a call before it does anything, in one order for all functions.
 
-ghost use Rattle.std.specs.Prelude.{◌≡◌, ◌||◌, IsTrue, map, slice_get, zip};
+ghost use Rattle.std.specs.Prelude.{◌≡◌, ◌||◌, map, slice_get, zip};
 ghost use Rattle.std.specs.List.{list_any};
 ghost use Rattle.std.specs.Option.{option_map};
 ghost use Rattle.class_table.specs.Views.{element_view, field_type_view};

@@ -1,6 +1,6 @@
 //! Where text goes.
 
-ghost use Rattle.std.specs.Prelude.{◌≡◌, ℕ, ◌+◌, ◌^◌, ◌<◌, ◌≤◌, List, [], length, take, IfOk, OnOk, OnErr};
+ghost use Rattle.std.specs.Prelude.{◌≡◌, ◌+◌, ◌<◌, ◌≤◌, length, take, IfOk, OnOk, OnErr};
 ghost use Rattle.std.specs.List.{flat_map};
 ghost use Rattle.std.specs.Io.KnownBytes.{Appends, Keeps};
 ghost use Rattle.report.specs.Sink.{Written, CanFail, Writes};
@@ -8,7 +8,7 @@ ghost use Rattle.report.specs.Sink.{Written, CanFail, Writes};
 use thiserror::Error;
 
 /// A sink didn't take what it was given.
-#[derive(Clone, Copy, Debug, PartialEq, Eq, Error)]
+#[derive(Clone, Copy, Debug, Error)]
 #[error("the writer failed")]
 pub struct SinkFailed;
 

@@ -1,6 +1,6 @@
 //! A sink made of a writer.
 
-ghost use Rattle.std.specs.Prelude.{◌≡◌, ℕ, ◌+◌, ◌-◌, ◌<◌, ◌≤◌, ◌^◌, Option, List, [], OnOk, OnErr, length, drop};
+ghost use Rattle.std.specs.Prelude.{◌≡◌, ◌+◌, ◌-◌, ◌<◌, ◌≤◌, ◌^◌, [], OnOk, OnErr, length, drop};
 ghost use Rattle.std.specs.Io.KnownBytes.{Keeps, append_known};
 
 use crate::sink::{Sink, SinkFailed};

@@ -1,6 +1,6 @@
 //! Values that have a text.
 
-ghost use Rattle.std.specs.Prelude.{◌≡◌, ℕ, List};
+ghost use Rattle.std.specs.Prelude.{ℕ, List};
 ghost use Rattle.std.specs.List.{flat_map};
 ghost use Rattle.report.specs.Sink.{CanFail, Writes};
 

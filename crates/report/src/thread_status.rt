@@ -1,6 +1,6 @@
 //! What a run printed, and how its threads stand.
 
-ghost use Rattle.std.specs.Prelude.{◌≡◌, ℕ, List, [], ◌∷◌, ◌++◌, codes, decimal, map};
+ghost use Rattle.std.specs.Prelude.{◌++◌, codes, decimal, map};
 ghost use Rattle.std.specs.List.{flat_map, enumerate_from};
 ghost use Rattle.report.specs.Sink.{CanFail, Writes};
 ghost use Rattle.report.specs.ReportText.{thread_line};
@@ -12,7 +12,7 @@ use itoa::Buffer;
 use source::Printed;
 
 /// How a thread stands when the run is over.
-#[derive(Clone, Copy, PartialEq, Eq)]
+#[derive(Clone, Copy)]
 pub enum ThreadStatus<'a> {
     /// Its step was a trap, of this number, in a statement of this line.
     Trapped(u8, usize),

@@ -9,7 +9,7 @@ use Rattle.syntax.specs.Parts.{names_in, elements_in, argument_expressions}
 use Rattle.syntax.specs.Tree.{Null, Expr, Number, Named, Variable, Element, Prefix, Binary, Paren, Argument, Value, Text, AddressOf}
 use Rattle.jni.specs.Access.{Access, ElementsCopy, ArrayView, CharsCopy, CharsView}
 use Rattle.jni.specs.Prototype.{ParameterKind, Nullable, NonNull, ClassObject, AnyArray, ObjectArray, StringObject, NumberArray, LocalVariable, StaticVariable, FieldID, IntNumber, TextBytes, ArrayVariable, BufferVariable, Mode, IsCopy}
-use Rattle.sorts.specs.Sorts.{Sort, Word, Jint, Flag, Truth, Ref, Global, Buffer, Array, Scope, sort_in, sort_of, is_jint, is_flag, is_ref, is_global, is_reference, is_field, is_array_of, is_buffer_for, is_null, name_sort, argument_fits, arguments_fit}
+use Rattle.sorts.specs.Sorts.{Sort, Jint, Flag, Ref, Global, Buffer, Array, sort_in, sort_of, is_jint, is_flag, is_ref, is_global, is_reference, is_field, is_array_of, is_buffer_for, is_null, name_sort, argument_fits, arguments_fit}
 use Rattle.sorts.specs.Sorts as sort
 use Rattle.sorts.specs.SortRules.{is_mode, is_mode_parameter, modes_fit}
 use Rattle.region_rules.specs.RegionRules.{is_dead, is_untested, is_free}

@@ -14,10 +14,10 @@ use Rattle.syntax.specs.Tree.{ResultType, Expr, Argument, Call, RightSide, FromE
 use Rattle.jni.specs.Access.{Access}
 use Rattle.jni.specs.JniFunction.{JniFunction, GetBuffer, prototype}
 use Rattle.jni.specs.Prototype.{ResultKind, NewLocal, NewGlobal, GivesFlag, GivesInt, GivesField, GivesNothing, GivesBuffer}
-use Rattle.sorts.specs.Sorts.{Sort, Word, Jint, Flag, Ref, Global, Buffer, sort_in, sort_of, is_word, is_ref, is_field, is_null, name_sort}
+use Rattle.sorts.specs.Sorts.{Sort, Word, Jint, Flag, Ref, Global, Buffer, sort_in, sort_of, is_ref, is_field, is_null, name_sort}
 use Rattle.sorts.specs.Sorts as sort
 use Rattle.sorts.specs.SortRules as rules
-use Rattle.sorts.specs.SortRules.{has_name, result_fits, call_fits, value_sets}
+use Rattle.sorts.specs.SortRules.{result_fits, call_fits, value_sets}
 use Rattle.region_rules.specs.RegionRules.{HeldBuffer, ArrayInUse, WrongLevel, is_reference_now, is_level, is_held, is_array_in_use, Obeys}
 use Rattle.region_rules.specs.RegionStates.{VariableState, BufferState, Free, Untested, Usable, ReferenceAt, BufferIn, RegionState, state_of, held_by, held_buffers, function_called, get_of, Release, release_of, deleted_name, pops, frame_count_after, made_free, killed, killed_from, with_changed, with_some_changed, after_release, after_pop, after_call, buffer_from, set_to, FunctionCall}
 use Rattle.source.specs.Task.{Assigned, set_task}

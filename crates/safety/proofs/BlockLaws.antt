@@ -9,7 +9,7 @@ use Rattle.sorts.specs.Sorts.{Sort, sort_in}
 use Rattle.sorts.specs.Sorts as sort
 use Rattle.region_rules.specs.RegionStates.{get_of}
 use Rattle.source.specs.Task as task
-use Rattle.source.specs.Task.{Task, SetScalar, SetElement, SetNull, MakeArray, Invoke, Print, Branch, EndIf, Loop, EndTurn, Impossible, Target, Declared, Assigned, Tested, Dropped, VariableKind, ScalarKind, ReferenceKind, FieldKind, BufferKind, invocation, call_task, task_of, tasks_of}
+use Rattle.source.specs.Task.{Task, SetScalar, SetElement, SetNull, MakeArray, Invoke, Print, Target, Declared, Assigned, Tested, Dropped, VariableKind, ScalarKind, ReferenceKind, FieldKind, BufferKind, invocation, task_of, tasks_of}
 use Rattle.source.specs.Term.{Term, term_of}
 use Rattle.safety.specs.Points.{Point}
 use Rattle.safety.specs.Wanted.{Outside, DeclaresNull, AssignsNull, SetsNullThere, DeclaresResult, AssignsResult, ResultGoes, call_seen, RunsPlain, RunsPush, RunsTest, RunsBlock, RunsStmt, Runs, GoesOn}

@@ -11,7 +11,7 @@ use Rattle.classes.specs.Class.{Classes}
 use Rattle.classes.specs.BuiltIns.{array_index_out_of_bounds, string_index_out_of_bounds}
 use Rattle.jni.specs.JniFunction.{JniFunction, DeleteGlobalRef, GetArrayRegion, GetStringRegion, PushLocalFrame, prototype}
 use Rattle.jni.specs.Prototype.{ResultKind, NewLocal, GivesNothing, NumberArray, StringObject, IntNumber, ArrayVariable}
-use Rattle.sorts.specs.Sorts.{Sort, sort_in}
+use Rattle.sorts.specs.Sorts.{sort_in}
 use Rattle.sorts.specs.Sorts as sort
 use Rattle.source.specs.Arguments.{Actual, actuals, object_given, reference_given, number_given, variable_given}
 use Rattle.source.specs.CallEffects.{CallEffect, Throws, NoResult, delete_global_effect, without_one, at_region, get_region_effect, begun_with, overwritten, local_array}

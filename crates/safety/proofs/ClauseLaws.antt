@@ -17,7 +17,7 @@ use Rattle.source.specs.Object.{Reference}
 use Rattle.region_rules.specs.RegionRules.{is_critical_call}
 use Rattle.region_rules.specs.RegionStates.{VariableState, Untested, Usable, ReferenceAt, BufferIn, state_of}
 use Rattle.source.specs.Task as task
-use Rattle.source.specs.Task.{Task, SetScalar, SetElement, SetNull, MakeArray, Invoke, Print, Branch, EndIf, Loop, EndTurn, Target, Declared, Assigned, Tested, Dropped, Operand, NumberOperand, Given}
+use Rattle.source.specs.Task.{Task, SetScalar, SetElement, Invoke, Print, Branch, Loop, Target, Declared, Assigned, Tested, Dropped, Operand, NumberOperand, Given}
 use Rattle.source.specs.Term as term
 use Rattle.source.specs.Term.{Term, Done, Read, IsNull, Prefix, And, Or, Binary}
 use Rattle.source.specs.Thread.{Frame}

@@ -4,7 +4,7 @@ use Rattle.std.specs.Option.{is_some}
 use Rattle.base.specs.Bytes.{Identifier}
 use Rattle.base.specs.Element.{ElementType, JChar}
 use Rattle.syntax.specs.Tree as tree
-use Rattle.syntax.specs.Tree.{VariableType, UInt32, JIntVariable, JSize, JBoolean, JFieldId, ReferenceVariable, Null, Expr, Argument, Call, FromExpr, FromCall, Stmt}
+use Rattle.syntax.specs.Tree.{VariableType, UInt32, JIntVariable, JSize, JBoolean, JFieldId, ReferenceVariable, Expr, Argument, Call, FromExpr, FromCall}
 use Rattle.jni.specs.Access.{Access}
 use Rattle.jni.specs.JniFunction.{JniFunction, GetBuffer, prototype}
 use Rattle.jni.specs.Prototype.{ResultKind, NewLocal, NewGlobal, GivesFlag, GivesInt, GivesField, GivesBuffer}

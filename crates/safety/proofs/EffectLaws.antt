@@ -18,7 +18,7 @@ use Rattle.source.specs.Sight.{Sight, seen, scalar}
 use Rattle.source.specs.Task as task
 use Rattle.source.specs.Task.{Task, SetScalar, SetElement, SetNull, MakeArray, Invoke, Print, Branch, EndIf, Loop, EndTurn, Impossible, Target, Declared, Assigned, Tested, Dropped, Operand, NumberOperand, Given, tasks_of}
 use Rattle.source.specs.Term as term
-use Rattle.source.specs.Term.{Term, Done, Read, IsNull, Prefix, And, Or, Binary, Reduction, done, index_of, term_of, reduce}
+use Rattle.source.specs.Term.{Term, Done, Read, IsNull, Prefix, And, Or, Binary, Reduction, done, index_of, reduce}
 use Rattle.source.specs.Thread.{Frame}
 use Rattle.source.specs.Value.{Value, Int, Truth, Outcome, Gives, Traps, Stuck, outcome_map}
 use Rattle.source.specs.Variable.{Variable, LocalRef, Variables, Statics}

@@ -2,7 +2,7 @@
 use Rattle.std.proofs.Common.{◌≡◌, List, [], ◌∷◌, ◌++◌, map, refl, ap, subst}
 use Rattle.syntax.specs.Parts.{parameter_names}
 use Rattle.syntax.specs.Tree as tree
-use Rattle.syntax.specs.Tree.{RightSide, FromExpr, FromCall, Stmt, Function}
+use Rattle.syntax.specs.Tree.{FromExpr, FromCall, Stmt, Function}
 use Rattle.sorts.specs.Sorts.{Scope}
 use Rattle.region_rules.specs.Regions.{On, Returned}
 use Rattle.region_rules.specs.RegionStates.{RegionState}

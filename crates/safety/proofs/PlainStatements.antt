@@ -9,13 +9,13 @@ use Rattle.base.specs.Element.{ElementType}
 use Rattle.base.specs.Options.{some_passes}
 use Rattle.syntax.specs.Parts.{elements_in, used_names, names_in}
 use Rattle.syntax.specs.Tree as tree
-use Rattle.syntax.specs.Tree.{ResultType, Void, IntResult, ReferenceResult, VariableType, UInt32, JIntVariable, JSize, JBoolean, JFieldId, ReferenceVariable, Constant, True, False, Commit, Abort, Null, Expr, Argument, Call, RightSide, FromExpr, FromCall, Stmt}
+use Rattle.syntax.specs.Tree.{ResultType, Void, IntResult, ReferenceResult, Null, Expr, Call, Stmt}
 use Rattle.jni.specs.Access.{Access, is_critical}
 use Rattle.jni.specs.JniFunction.{prototype}
 use Rattle.jni.specs.Prototype.{ResultKind, NewGlobal, GivesBuffer}
 use Rattle.sorts.specs.Sorts.{Sort, Jint, Array, sort_in, sort_of, is_jint, is_ref, is_index, has_elements, is_null, name_sort}
 use Rattle.sorts.specs.SortRules as rules
-use Rattle.sorts.specs.SortRules.{has_name, variable_sort, result_fits, call_fits, may_be_dropped, is_droppable, return_fits, value_sets}
+use Rattle.sorts.specs.SortRules.{may_be_dropped, is_droppable, return_fits}
 use Rattle.region_rules.specs.RegionRules.{CallWhileCritical, ReturnWithBuffer, ReturnInFrame, UntestedBuffer, WrongBuffer, is_return, is_put_jint, is_critical_call, is_dead, is_held, is_free, is_untested, holds_buffer, Obeys}
 use Rattle.region_rules.specs.RegionStates.{VariableState, BufferState, Free, Untested, Usable, BufferIn, state_of, held_by, held_buffers, function_called, after_call}
 use Rattle.source.specs.Task.{Target, Dropped, set_task}

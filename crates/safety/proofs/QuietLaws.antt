@@ -11,7 +11,7 @@ use Rattle.source.specs.Arguments.{Actual, variable_given}
 use Rattle.source.specs.CallEffects.{CallResult, ReferenceResult, CallEffect, Throws, Halts, Leaves, with_local, out_of_memory}
 use Rattle.source.specs.CallStep.{put, received, tell_copy, failure, is_zero, completed, after_call, after_refusal}
 use Rattle.region_rules.specs.RegionStates as states
-use Rattle.region_rules.specs.RegionStates.{RegionState, get_of}
+use Rattle.region_rules.specs.RegionStates.{RegionState}
 use Rattle.source.specs.Effect.{Calls, tasks_after}
 use Rattle.source.specs.Heap.{next_name}
 use Rattle.source.specs.Task.{Task, Target, Declared, Assigned, Tested, Dropped}

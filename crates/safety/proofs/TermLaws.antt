@@ -3,11 +3,11 @@ use Rattle.std.proofs.Common.{◌≡◌, ℕ, Bool, true, false, not, Some, sym,
 use Rattle.std.specs.Prelude.{ℤ}
 use Rattle.base.specs.Bytes.{Identifier}
 use Rattle.syntax.specs.Tree as tree
-use Rattle.sorts.specs.Sorts.{Sort, group, sort_in}
+use Rattle.sorts.specs.Sorts.{Sort, sort_in}
 use Rattle.sorts.specs.Sorts as sort
 use Rattle.source.specs.Sight.{Sight}
 use Rattle.source.specs.Term as term
-use Rattle.source.specs.Term.{Term, Done, Read, IsNull, Prefix, And, Or, Binary, Reduction, done, with_part, and_then, or_else, element_value, index_of, literal, reduce}
+use Rattle.source.specs.Term.{Term, Done, Read, IsNull, Prefix, And, Or, Binary, Reduction, done, with_part, and_then, or_else, element_value, index_of, reduce}
 use Rattle.source.specs.Value.{Value, Int, Truth, Outcome, Gives, Traps, Stuck, outcome_map, outcome_then, prefix_value, binary_value}
 use Rattle.safety.specs.Points.{Point, value_sort, IsNumberSort, NullTestFits, ElementsFit, HasSort}
 use Rattle.safety.proofs.Values.{ValueFits, binary_fits, prefix_fits, IndexFits, index_fits}

@@ -7,7 +7,7 @@ use Rattle.syntax.specs.Tree.{SourceUnit}
 use Rattle.classes.specs.Class.{Classes}
 use Rattle.classes.specs.Fields.{FieldId}
 use Rattle.jni.specs.Access.{Access, is_critical}
-use Rattle.sorts.specs.Sorts.{Sort, Word, Jint, Flag, Truth, Ref, Global, Buffer, Array, sort_in}
+use Rattle.sorts.specs.Sorts.{Sort, Truth, Ref, Global, Buffer, Array, sort_in}
 use Rattle.sorts.specs.Sorts as sort
 use Rattle.source.specs.Object.{Reference}
 use Rattle.source.specs.Load.{call_loads}

@@ -3,7 +3,7 @@
 use crate::reserved::Word;
 
 /// A punctuator (ISO/IEC 9899:1999, 6.4.6), of those that the language uses.
-#[derive(Clone, Copy, PartialEq, Eq)]
+#[derive(Clone, Copy)]
 pub enum Mark {
     /// `(`
     OpenParen,

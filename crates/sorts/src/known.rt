@@ -1,7 +1,6 @@
 //! Names that are declared one after another, each with what it is.
 
 ghost use Rattle.std.specs.Prelude.{◌≡◌, ◌-◌, [], ◌∷◌, length, drop, map, IfOk, OnOk};
-ghost use Rattle.std.specs.Option.{option_copied};
 ghost use Rattle.base.specs.Bytes.{lookup};
 
 use std::alloc::{AllocError, Global};

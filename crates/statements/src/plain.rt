@@ -1,6 +1,6 @@
 //! Statements that declare no name and have no block (ISO/IEC 9899:1999, 6.8.3 and 6.8.6.4).
 
-ghost use Rattle.std.specs.Prelude.{◌≡◌, ◌≤◌};
+ghost use Rattle.std.specs.Prelude.{◌≤◌};
 ghost use Rattle.syntax.specs.Views.{expr_tree, stmt_tree};
 ghost use Rattle.lexemes.specs.Results.{Gives};
 ghost use Rattle.statements.specs.Steps.{ended_at, parenthesized_at, assigned_at, element_set_at};

@@ -1,6 +1,6 @@
 //! Calls of functions of the JNI (JNI Specification, chapter 4).
 
-ghost use Rattle.std.specs.Prelude.{◌≡◌, IfOk, IfSome, IsTrue, List, None, if◌then◌else◌, is_some, map, true, false};
+ghost use Rattle.std.specs.Prelude.{◌≡◌, IfOk, IsTrue, List, None, if◌then◌else◌, is_some, map, true, false};
 ghost use Rattle.std.specs.Option.{option_map};
 ghost use Rattle.classes.specs.Grown.{IsGrown};
 ghost use Rattle.jni.specs.JniFunction.{is_built_function};

@@ -7,7 +7,7 @@ use std::alloc::{AllocError, AllocFailed};
 use thiserror::Error;
 
 /// A rule that a line breaks.
-#[derive(Clone, Copy, Debug, PartialEq, Eq)]
+#[derive(Clone, Copy, Debug)]
 pub enum Rule {
     /// A class of this name is there already, or the class declares a field of this name.
     NameTaken = 61,
@@ -39,7 +39,7 @@ impl Rule {
 }
 
 /// A text is refused: the first line that breaks a rule, and the rule of the least number there.
-#[derive(Clone, Copy, Debug, PartialEq, Eq, Error)]
+#[derive(Clone, Copy, Debug, Error)]
 #[error("fault {} line {line}", .rule.number())]
 pub struct TextFault {
     pub rule: Rule,
@@ -48,7 +48,7 @@ pub struct TextFault {
 }
 
 /// A text is not read.
-#[derive(Clone, Copy, Debug, PartialEq, Eq, Error)]
+#[derive(Clone, Copy, Debug, Error)]
 pub enum ReadError {
     #[error("out of memory")]
     Memory,

@@ -1,6 +1,6 @@
 //! The entries of a run.
 
-ghost use Rattle.std.specs.Prelude.{◌≡◌, ℕ, List, Some, None, IfOk};
+ghost use Rattle.std.specs.Prelude.{Some, None, IfOk};
 ghost use Rattle.texts.specs.JournalMeaning.{IsJournalText};
 ghost use Rattle.texts.specs.ReadingLaws.{JournalsAreRead};
 ghost use Rattle.texts.specs.Reading.{Gives};

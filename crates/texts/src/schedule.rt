@@ -1,6 +1,6 @@
 //! In which order the threads step.
 
-ghost use Rattle.std.specs.Prelude.{◌≡◌, ℕ, List, ◌≤◌, IfOk, option_and_then};
+ghost use Rattle.std.specs.Prelude.{◌≡◌, List, IfOk, option_and_then};
 ghost use Rattle.texts.specs.Numbers.{natural_of};
 ghost use Rattle.texts.specs.ScheduleText.{IsScheduleText};
 ghost use Rattle.texts.specs.ReadingLaws.{SchedulesAreRead};

@@ -1,7 +1,7 @@
 //! The parts of a text between separators.
 
-ghost use Rattle.std.specs.Prelude.{◌≡◌, ◌==◌, ◌≤◌, ◌+◌, ◌<◌, ◌^◌, length};
-ghost use Rattle.std.specs.List.{position, slice_split};
+ghost use Rattle.std.specs.Prelude.{◌≡◌, ◌==◌, ◌+◌, ◌<◌, ◌^◌, length};
+ghost use Rattle.std.specs.List.{position};
 ghost use Rattle.std.specs.Iterator.{YieldsFirstRef, item_count};
 
 /// The parts of a text between separators, of which there is one more than separators.

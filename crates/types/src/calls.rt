@@ -1,8 +1,8 @@
 //! What fits in a call.
 
 ghost use Rattle.std.specs.Prelude.{◌≡◌, ◌||◌, Some, map};
-ghost use Rattle.std.specs.List.{list_any, list_all};
-ghost use Rattle.std.specs.Option.{option_map, is_none};
+ghost use Rattle.std.specs.List.{list_all};
+ghost use Rattle.std.specs.Option.{option_map};
 ghost use Rattle.syntax.specs.Parts.{call_expressions};
 ghost use Rattle.syntax.specs.Views.{expr_tree, argument_tree, call_tree};
 ghost use Rattle.base.specs.Options.{some_passes};

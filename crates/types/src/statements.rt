@@ -6,7 +6,7 @@ ghost use Rattle.std.specs.Option.{option_map};
 ghost use Rattle.base.specs.Options.{some_passes};
 ghost use Rattle.syntax.specs.Parts.{own_call, call_of_right_side, assigned_name, call_expressions};
 ghost use Rattle.syntax.specs.Tree.{Void};
-ghost use Rattle.syntax.specs.Views.{expr_tree, right_side_tree, test_tree, call_tree, form_tree, stmt_tree, result_tree};
+ghost use Rattle.syntax.specs.Views.{expr_tree, right_side_tree, test_tree, form_tree, stmt_tree, result_tree};
 ghost use Rattle.jni.specs.JniFunction.{function_named};
 ghost use Rattle.jni.specs.Table.{function_value};
 ghost use Rattle.sorts.specs.Sorts.{sort_in, is_unknown, sort_of, has_elements, is_index, is_jint, call_arguments_fit};

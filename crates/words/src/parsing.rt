@@ -1,6 +1,6 @@
 //! From words to what they ask for.
 
-ghost use Rattle.std.specs.Prelude.{◌≡◌, ◌↔◌, IsTrue, IfOk, IfSome};
+ghost use Rattle.std.specs.Prelude.{◌≡◌, ◌↔◌, IsTrue, IfOk};
 ghost use Rattle.words.specs.Requests.{is_help_word, asks_for_help, IsHelp, IsTold, ShowsHelp, ShowsNone};
 
 use crate::command_line::command_line;

@@ -1,6 +1,6 @@
 //! What the lines of a world have said so far.
 
-ghost use Rattle.std.specs.Prelude.{◌≡◌, ◌≤◌, length};
+ghost use Rattle.std.specs.Prelude.{◌≤◌, length};
 
 use crate::names::ObjectNames;
 use class_table::table::ClassTable;

@@ -2,7 +2,7 @@ use Rattle.std.proofs.Common.{◌+◌, slice_get, ◌≡◌, ℕ, Bool, true, Li
 use Rattle.std.specs.Option.{option_map}
 use Rattle.classes.specs.Class.{Classes}
 use Rattle.class_table.specs.declared.class.FieldHandle.{FieldHandle}
-use Rattle.jni.specs.JniFunction.{JniFunction, is_built_function}
+use Rattle.jni.specs.JniFunction.{is_built_function}
 use Rattle.jni.specs.Table.{function_value}
 use Rattle.source.specs.Effect.{effect_of}
 use Rattle.source.specs.Task.{Task}

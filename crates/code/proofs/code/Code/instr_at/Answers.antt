@@ -1,4 +1,4 @@
-use Rattle.std.proofs.Common.{◌<◌, length, refl, sym, ap, ◌∙◌, subst}
+use Rattle.std.proofs.Common.{◌<◌, length, refl, sym, subst}
 use Rattle.std.proofs.lemmas.Option.{slice_get_read}
 use Rattle.code.specs.Depth.{Listing}
 use Rattle.code.specs.Running.{RunsAt}
