@@ -6,7 +6,7 @@ ghost use Rattle.scan.specs.Words.{word_of};
 ghost use Rattle.scan.specs.WordTable.{row_value, rows_value};
 
 /// A reserved word.
-#[derive(Clone, Copy)]
+#[derive(Clone, Copy, PartialEq, Eq)]
 pub enum Word {
     /// `static`
     Static,

@@ -3,7 +3,7 @@
 use crate::reserved::Word;
 
 /// A punctuator (ISO/IEC 9899:1999, 6.4.6), of those that the language uses.
-#[derive(Clone, Copy)]
+#[derive(Clone, Copy, PartialEq, Eq)]
 pub enum Mark {
     /// `(`
     OpenParen,

@@ -1,5 +1,5 @@
 -- What words ask for, by what `clap` says of them.
-use Rattle.std.specs.Prelude.{◌≢◌, ℕ, Bool, IsTrue, List, codes, bytes_eq}
+use Rattle.std.specs.Prelude.{◌≢◌, ℕ, Bool, IsTrue, ◌||◌, List, codes, bytes_eq}
 use Rattle.std.specs.List.{list_any}
 use Rattle.clap.specs.declared.error.Error.{Error}
 use Rattle.clap.specs.declared.error.kind.ErrorKind.TheVariants.{DisplayHelp, DisplayVersion}
