@@ -4,7 +4,6 @@
 mod command_line;
 mod parsing;
 mod request;
-mod table;
 
-pub use parsing::{parse, read, told};
+pub use parsing::read;
 pub use request::Request;

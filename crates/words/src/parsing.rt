@@ -1,7 +1,13 @@
 //! From words to what they ask for.
 
-ghost use Rattle.std.specs.Prelude.{◌≡◌, ◌↔◌, IsTrue, IfOk};
-ghost use Rattle.words.specs.Requests.{is_help_word, asks_for_help, IsHelp, IsTold, ShowsHelp, ShowsNone};
+ghost use Rattle.std.specs.Prelude.{◌≡◌, IfOk, IfSome, List, codes, map, option_map};
+ghost use Rattle.clap.specs.Faults.{fault_of};
+ghost use Rattle.clap.specs.Kinds.{FailsBy};
+ghost use Rattle.clap.specs.Matches.{found_of};
+ghost use Rattle.clap.specs.Simple.{subcommand_of, subcommand_rows_of};
+ghost use Rattle.clap.specs.Walk.{Row, first_of, rows_of};
+ghost use Rattle.words.specs.CommandLine.{command_line};
+ghost use Rattle.words.specs.Requests.{HasValue, HasNumber, AreNamed, AsksFor, IsTold, AreParsed, AreRead};
 
 use crate::command_line::command_line;
 use crate::request::Request;
@@ -19,7 +25,11 @@ fn command_of<'a>(
     world: Option<&'a str>,
     schedule: Option<&'a str>,
     journal: Option<&'a str>,
-) -> Option<Command<'a>> {
+) -> Option<Command<'a>>
+    ensures { (rows : List Row) → HasValue rows (codes "PROG") program.entry.now → option_map (λ w. w.now) world.entry ≡ first_of (codes "WORLD") rows
+        → option_map (λ w. w.now) schedule.entry ≡ first_of (codes "FILE") rows → option_map (λ w. w.now) journal.entry ≡ first_of (codes "JOURNAL") rows
+        → AreNamed name.now rows result }
+{
     match (name, world, schedule, journal) {
         ("check", _, _, _) => Some(Command::Check { program }),
         ("run", Some(world), Some(schedule), _) => Some(Command::Run {
@@ -37,7 +47,9 @@ fn command_of<'a>(
 }
 
 /// What is to be done with files, as the words after the command's name say.
-fn served<'a>(name: &str, given: &ArgMatches<'a>) -> Option<Command<'a>> {
+fn served<'a>(name: &str, given: &ArgMatches<'a>) -> Option<Command<'a>>
+    ensures { AreNamed name.now (rows_of (found_of given.now)) result }
+{
     command_of(
         name,
         given.get_str("PROG")?,
@@ -48,7 +60,10 @@ fn served<'a>(name: &str, given: &ArgMatches<'a>) -> Option<Command<'a>> {
 }
 
 /// What the words after `explain` ask for: a fault by its number, or a trap by `trap` and its number.
-fn explanation_of(first: &str, second: Option<&str>) -> Option<Explanation> {
+fn explanation_of(first: &str, second: Option<&str>) -> Option<Explanation>
+    ensures { (rows : List Row) → HasValue rows (codes "N") first.now → option_map (λ w. w.now) second.entry ≡ first_of (codes "NUMBER") rows
+        → IfSome result (λ e. HasNumber rows e.number) }
+{
     match second {
         None => explanations::fault(first.parse::<u32>().ok()?),
         Some(number) if first == "trap" => explanations::trap(number.parse::<u32>().ok()?),
@@ -57,13 +72,15 @@ fn explanation_of(first: &str, second: Option<&str>) -> Option<Explanation> {
 }
 
 /// What is to be explained.
-fn explained(given: &ArgMatches<'_>) -> Option<Explanation> {
+fn explained(given: &ArgMatches<'_>) -> Option<Explanation>
+    ensures { IfSome result (λ e. HasNumber (rows_of (found_of given.now)) e.number) }
+{
     explanation_of(given.get_str("N")?, given.get_str("NUMBER"))
 }
 
 /// What words ask for that `clap` takes.
 fn asked_of<'a>(matches: &ArgMatches<'a>) -> Request<'a>
-    ensures { ShowsNone result }
+    ensures { AsksFor (subcommand_rows_of matches.now) result }
 {
     match matches.subcommand() {
         Some(("explain", given)) => Request::Explain(explained(given)),
@@ -76,17 +93,19 @@ fn asked_of<'a>(matches: &ArgMatches<'a>) -> Request<'a>
 }
 
 /// The words, as `clap` reads them.
-fn matches_of<'a, S: AsStr>(alloc: Global, words: &'a [S]) -> Result<ArgMatches<'a>, Error> {
+fn matches_of<'a, S: AsStr>(alloc: Global, words: &'a [S]) -> Result<ArgMatches<'a>, Error>
+    ensures kinds { FailsBy (fault_of command_line (map S.text words.now)) result }
+    ensures found { IfOk result (λ m. subcommand_rows_of m ≡ subcommand_of command_line (map S.text words.now)) }
+{
     match command_line(alloc) {
         Ok(command) => command.try_get_matches_from(words),
         Err(refused) => Err(Error::from(refused)),
     }
 }
 
-/// What the words ask for, as `clap` reads them. Which word is the program, the world, the schedule and the journal is `clap`'s doing; no clause
-/// tells it, and tests show it.
-pub fn parse<'a, S: AsStr>(alloc: Global, words: &'a [S]) -> Result<Request<'a>, Error>
-    ensures { IfOk result ShowsNone }
+/// What the words ask for, as `clap` reads them.
+fn parse<'a, S: AsStr>(alloc: Global, words: &'a [S]) -> Result<Request<'a>, Error>
+    ensures { AreParsed (map S.text words.now) result }
 {
     match matches_of(alloc, words) {
         Ok(matches) => Ok(asked_of(&matches)),
@@ -94,51 +113,27 @@ pub fn parse<'a, S: AsStr>(alloc: Global, words: &'a [S]) -> Result<Request<'a>,
     }
 }
 
-/// Whether a word asks for the usage or the version.
-fn is_help_word(word: &str) -> bool
-    ensures { result ≡ is_help_word word.now }
-{
-    matches!(word, "--help" | "-h" | "help" | "--version" | "-V")
-}
-
-/// Whether one of the words does.
-fn asks_for_help<S: AsStr>(words: &[S]) -> bool
-    ensures { result ≡ asks_for_help S.text words.now }
-{
-    words.iter().any(|word| is_help_word(word.as_str()))
-}
-
-/// Whether a word asks for help and `clap` answers with its help or its version.
-fn is_help(asks: bool, error: &Error) -> bool
-    ensures { IsTrue result ↔ IsHelp asks error.now }
-{
-    asks && !error.use_stderr()
-}
-
-/// What words ask for of which `clap` says this: its help or its version, where a word asks for it, or else nothing that there is.
-pub fn told<'a>(alloc: Global, asks: bool, error: &Error) -> Request<'a>
-    ensures { IsTold asks error.now result }
+/// What words ask for that `clap` doesn't take: its help or its version, or nothing that there is.
+fn told<'a>(alloc: Global, error: &Error) -> Request<'a>
+    ensures { IsTold error.now result }
 {
     let text = match format!(in alloc; "{error}") {
         Ok(text) => text,
         Err(_) => return Request::LacksMemory,
     };
-    if is_help(asks, error) {
-        return Request::Show(text);
-    }
     match error.kind() {
+        ErrorKind::DisplayHelp | ErrorKind::DisplayVersion => Request::Show(text),
         ErrorKind::OutOfMemory => Request::LacksMemory,
         _ => Request::Misuse(text),
     }
 }
 
-/// What the words ask for.
+/// What the words ask for. The first is the program's name.
 pub fn read<'a, S: AsStr>(alloc: Global, words: &'a [S]) -> Request<'a>
-    // A text is shown only where a word asks for the help or the version.
-    ensures { ShowsHelp (asks_for_help S.text words.now) result }
+    ensures { AreRead (map S.text words.now) result }
 {
     match parse(alloc, words) {
         Ok(request) => request,
-        Err(error) => told(alloc, asks_for_help(words), &error),
+        Err(error) => told(alloc, &error),
     }
 }
