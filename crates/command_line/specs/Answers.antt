@@ -28,10 +28,10 @@ Declines words err err_after status = (status ≡ 2) × Tells err err_after word
 -- ---- the program
 
 -- what the program answers
-abbrev pub Answers : (gives : List ℕ → List ℕ → Type 0) → Request → (out out_after err err_after : Written) → (status : ℕ) → Type 0
-Answers gives (Serve command) out out_after err err_after status = Serves gives command out out_after err err_after status
-Answers gives (Explain explanation) out out_after err err_after status = Shows (IsTextOf explanation) out out_after err err_after status
-Answers gives (Show text) out out_after err err_after status = Shows (λ t. t ≡ string_bytes text) out out_after err err_after status
-Answers gives (Misuse text) out out_after err err_after status = (out_after ≡ out) × Declines (string_bytes text) err err_after status
-Answers gives LacksSchedule out out_after err err_after status = (out_after ≡ out) × Declines (codes "error: run needs --schedule FILE\n") err err_after status
-Answers gives LacksMemory out out_after err err_after status = (out_after ≡ out) × (status ≡ 3) × Tells err err_after (codes "memory\n")
+abbrev pub Answers : (gives : List ℕ → List ℕ → Type 0) → (lacks : List ℕ → Type 0) → Request → (out out_after err err_after : Written) → (status : ℕ) → Type 0
+Answers gives lacks (Serve command) out out_after err err_after status = Serves gives lacks command out out_after err err_after status
+Answers gives lacks (Explain explanation) out out_after err err_after status = Shows (IsTextOf explanation) out out_after err err_after status
+Answers gives lacks (Show text) out out_after err err_after status = Shows (λ t. t ≡ string_bytes text) out out_after err err_after status
+Answers gives lacks (Misuse text) out out_after err err_after status = (out_after ≡ out) × Declines (string_bytes text) err err_after status
+Answers gives lacks LacksSchedule out out_after err err_after status = (out_after ≡ out) × Declines (codes "error: run needs --schedule FILE\n") err err_after status
+Answers gives lacks LacksMemory out out_after err err_after status = (out_after ≡ out) × (status ≡ 3) × Tells err err_after (codes "memory\n")

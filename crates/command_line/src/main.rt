@@ -4,9 +4,10 @@
 
 mod answering;
 
-use crate::answering::answer;
-use jnirun::{COMMAND_LINE, FileSystem, fail};
+use crate::answering::{answer, lacks_words};
+use jnirun::{FileSystem, fail};
 use report::StdSink;
+use std::env::Args;
 use std::process::ExitCode;
 
 /// Answers what the words ask for, and gives the status.
@@ -21,13 +22,18 @@ fn answer_words(rt: &HostRuntime, words: &[String]) -> u8 {
     )
 }
 
-fn main(rt: HostRuntime) -> ExitCode {
-    let Ok(args) = std::env::args(&rt) else {
-        return ExitCode::from(COMMAND_LINE);
-    };
-    let status = match args.collect::<Vec<String>>(rt.alloc()) {
-        Ok(words) => answer_words(&rt, &words),
+/// Gathers the words, and answers what they ask for.
+fn answer_args(rt: &HostRuntime, args: Args) -> u8 {
+    match args.collect::<Vec<String>>(rt.alloc()) {
+        Ok(words) => answer_words(rt, &words),
         Err(_) => fail(&mut StdSink::new(rt.stderr()), b"memory\n"),
+    }
+}
+
+fn main(rt: HostRuntime) -> ExitCode {
+    let status = match std::env::args(&rt) {
+        Ok(args) => answer_args(&rt, args),
+        Err(error) => lacks_words(error.kind(), &mut StdSink::new(rt.stderr())),
     };
     ExitCode::from(status)
 }

@@ -1,2 +1,3 @@
 mod Puts
 mod TellingLemmas
+pub mod SayingLemmas

@@ -1,5 +1,5 @@
 -- What files may be read as.
-use Rattle.std.specs.Prelude.{ℕ, List}
+use Rattle.std.specs.Prelude.{◌⊎◌, ℕ, List}
 use Rattle.commands.specs.declared.command.Command.{Command}
 use Rattle.commands.specs.declared.command.Command.TheVariants.{Check, Run, Replay}
 
@@ -22,3 +22,13 @@ pub record OfFiles (gives : List ℕ → List ℕ → Type 0) (command : Command
   pub order : List ℕ
   pub given : AreTexts gives command program world order
   pub holds : Holds program world order
+
+-- the file of one of these names is lacking
+abbrev pub LacksAny : (lacks : List ℕ → Type 0) → (program_name world_name order_name : List ℕ) → Type 0
+LacksAny lacks program_name world_name order_name = lacks program_name ⊎ (lacks world_name ⊎ lacks order_name)
+
+-- one of the command's files is lacking
+abbrev pub LacksOne : (lacks : List ℕ → Type 0) → Command → Type 0
+LacksOne lacks (Check p) = lacks p.now
+LacksOne lacks (Run p w s) = LacksAny lacks p.now w.now s.now
+LacksOne lacks (Replay p w j) = LacksAny lacks p.now w.now j.now

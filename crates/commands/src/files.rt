@@ -1,7 +1,7 @@
 //! The files that are read.
 
-ghost use Rattle.std.specs.Prelude.{◌≡◌, ◌≤◌, ℕ, List, IfOk, vec_len};
-ghost use Rattle.commands.specs.Files.{AreGiven, AreTexts};
+ghost use Rattle.std.specs.Prelude.{◌≡◌, ◌≤◌, ℕ, List, Err, IfOk, vec_len};
+ghost use Rattle.commands.specs.Files.{AreGiven, AreTexts, LacksAny, LacksOne};
 
 use crate::command::Command;
 use crate::place::Text;
@@ -28,10 +28,15 @@ pub trait Files {
     /// A file of this name may be read as these bytes.
     ghost gives: { Self → List ℕ → List ℕ → Type 0 };
 
+    /// A file of this name may be one that can't be read, or is too large.
+    ghost lacks: { Self → List ℕ → Type 0 };
+
     /// The bytes of the file, at most `MOST_BYTES`.
     fn read(&mut self, alloc: Global, name: &str) -> Result<Vec<u8>, FileFault>
         ensures content { IfOk result (λ bytes. gives self.old name.now bytes.items) }
+        ensures lacking { result ≡ Err FileFault.File → lacks self.old name.now }
         ensures kept { (other bytes : List ℕ) → gives self.new other bytes → gives self.old other bytes }
+        ensures still { (other : List ℕ) → lacks self.new other → lacks self.old other }
         ensures small { IfOk result (λ bytes. vec_len bytes ≤ MOST_BYTES) };
 }
 
@@ -67,7 +72,8 @@ fn read_three<F: Files>(
     world: &str,
     order: &str,
 ) -> Result<Texts, FileFault>
-    ensures { IfOk result (λ texts. AreGiven (F.gives files.old) program.now world.now order.now texts.program.items texts.world.items texts.order.items) }
+    ensures given { IfOk result (λ texts. AreGiven (F.gives files.old) program.now world.now order.now texts.program.items texts.world.items texts.order.items) }
+    ensures lacking { result ≡ Err FileFault.File → LacksAny (F.lacks files.old) program.now world.now order.now }
 {
     let program = files.read(alloc, program)?;
     let world = files.read(alloc, world)?;
@@ -85,7 +91,8 @@ pub fn read_texts<F: Files>(
     files: &mut F,
     command: Command<'_>,
 ) -> Result<Texts, FileFault>
-    ensures { IfOk result (λ texts. AreTexts (F.gives files.old) command.entry texts.program.items texts.world.items texts.order.items) }
+    ensures given { IfOk result (λ texts. AreTexts (F.gives files.old) command.entry texts.program.items texts.world.items texts.order.items) }
+    ensures lacking { result ≡ Err FileFault.File → LacksOne (F.lacks files.old) command.entry }
 {
     match command {
         Command::Check { program } => Ok(Texts {
@@ -127,6 +134,8 @@ fn fault_of(error: io::Error) -> FileFault {
 
 impl<R: System> Files for FileSystem<'_, R> {
     ghost gives = { λ _ _ _. Unit {0} };
+
+    ghost lacks = { λ _ _. Unit {0} };
 
     fn read(&mut self, alloc: Global, name: &str) -> Result<Vec<u8>, FileFault> {
         let file = fs::open(self.rt, name).map_err(fault_of)?;

@@ -1,6 +1,6 @@
 //! Where and why a text is refused, for standard error.
 
-ghost use Rattle.std.specs.Prelude.{◌≡◌, ◌-◌, ◌==◌};
+ghost use Rattle.std.specs.Prelude.{◌≡◌, ◌-◌, ◌==◌, OnOk};
 ghost use Rattle.report.specs.Sink.{CanFail, Writes};
 ghost use Rattle.commands.specs.Telling.{from_line, shown_byte, shown_line, most_shown, excerpt, place_text, reason_text, told};
 
@@ -128,7 +128,8 @@ pub fn tell<E: Sink>(
     words: &[u8],
 ) -> Result<(), SinkFailed>
     requires { CanFail (E.written err.old) }
-    ensures { Writes (E.written err.old) (E.written err.new) result (told kind.now name.now text.now number place words.now) }
+    ensures text { Writes (E.written err.old) (E.written err.new) result (told kind.now name.now text.now number place words.now) }
+    ensures none_waits { OnOk result ((E.written err.new).waiting ≡ 0) }
 {
     put_all(err, name)?;
     put_place(err, place)?;

@@ -137,11 +137,12 @@ module _ (program world schedule : List ℕ) (old : Written) where
   meaning_of items meant words is w s l = record { unit = unit_tree items; of_program = is; world = meant; of_world = w; words = words; of_schedule = s; loads = l }
 
   -- the run that a machine wrote
-  abbrev is_run : (items : List Item) (meant : World) (words : Schedule) (begun ended : Run) (text : List ℕ) (is : IsProgram program (unit_tree items)) (w : world_of_text world ≡ Ok meant) (s : schedule_of schedule (length meant.threads) ≡ Ok words) (l : first_load_fault (unit_tree items) meant ≡ None)
+  abbrev is_run : (items : List Item) (meant : World) (words : Schedule) (begun ended : Run) (text : List ℕ) (is : IsProgram program (unit_tree items)) → (IsTooLong (unit_tree items) → ⊥) → (w : world_of_text world ≡ Ok meant) (s : schedule_of schedule (length meant.threads) ≡ Ok words) (l : first_load_fault (unit_tree items) meant ≡ None)
       → IsWorldText world meant → IsScheduleText (length meant.threads) schedule words
       → IsUnstarted items meant begun → RunsAlong begun ended words → Writes (unit_tree ended.unit) ended.world ended.journal text → UnmarkedFit (unit_tree ended.unit) ended.world ended.journal → IsRun program world schedule text
-  is_run items meant words begun ended text is w s l of_world of_schedule un along writes fits = record {
+  is_run items meant words begun ended text is short w s l of_world of_schedule un along writes fits = record {
     meaning = meaning_of items meant words is w s l;
+    short = short;
     of_world = of_world;
     of_schedule = of_schedule;
     journal = ended.journal;
@@ -151,12 +152,12 @@ module _ (program world schedule : List ℕ) (old : Written) where
   }
 
   pub ran : (items : List Item) (meant : World) (words : Schedule) (begun ended : Run) (stop : Option Stop) (new : Written) {T : Type 0} (result : Result T ReportFault) → StoppedBy ended stop → OnOk result (new.waiting ≡ 0)
-      → IsProgram program (unit_tree items) → world_of_text world ≡ Ok meant → schedule_of schedule (length meant.threads) ≡ Ok words → first_load_fault (unit_tree items) meant ≡ None
+      → IsProgram program (unit_tree items) → (IsTooLong (unit_tree items) → ⊥) → world_of_text world ≡ Ok meant → schedule_of schedule (length meant.threads) ≡ Ok words → first_load_fault (unit_tree items) meant ≡ None
       → IsWorldText world meant → IsScheduleText (length meant.threads) schedule words
       → IsUnstarted items meant begun → RunsAlong begun ended words → ReportsRun ended old new result
       → RunsTexts old new (as_run (option_map (λ s. trap_at (stop_view s)) stop) result) (EndsRun program world schedule) (AreRefused program world schedule)
-  ran items meant words begun ended stop new (Ok x) halts none is w s l of_world of_schedule un along h =
-      let run : IsRun program world schedule h.text = is_run items meant words begun ended h.text is w s l of_world of_schedule un along h.is h.fits in
+  ran items meant words begun ended stop new (Ok x) halts none is short w s l of_world of_schedule un along h =
+      let run : IsRun program world schedule h.text = is_run items meant words begun ended h.text is short w s l of_world of_schedule un along h.is h.fits in
       let there : replay_of ended ≡ Some run.writes.end = ap replay_of (same_parts items meant begun ended words un along) ∙ run.writes.replays in
       let same : run.writes.end ≡ halts.0 = cc (there, halts.1) in
       record {
@@ -165,9 +166,9 @@ module _ (program world schedule : List ℕ) (old : Written) where
         appended = h.written;
         none_waits = none;
       }
-  ran items meant words begun ended stop new (Err reporting.Memory) halts none is w s l of_world of_schedule un along h = h
-  ran items meant words begun ended stop new (Err reporting.Sink) halts none is w s l of_world of_schedule un along h =
-      let run : IsRun program world schedule h.text = is_run items meant words begun ended h.text is w s l of_world of_schedule un along h.is h.fits in
+  ran items meant words begun ended stop new (Err reporting.Memory) halts none is short w s l of_world of_schedule un along h = h
+  ran items meant words begun ended stop new (Err reporting.Sink) halts none is short w s l of_world of_schedule un along h =
+      let run : IsRun program world schedule h.text = is_run items meant words begun ended h.text is short w s l of_world of_schedule un along h.is h.fits in
       record { text = h.text; runs = (option_map trap_at run.writes.end.stop, record { run = run; stopped = refl }); stopped = h.written }
 
   -- texts that mean a run load

@@ -1,7 +1,7 @@
 -- What is said on standard error, as how a command goes.
-use Rattle.std.proofs.Common.{◌≡◌, ℕ, List, Some, Result, Ok, Err, inl, inr, refl, subst}
-use Rattle.std.specs.Prelude.{codes}
-use Rattle.report.specs.Sink.{Written, AppendsText, Writes}
+use Rattle.std.proofs.Common.{◌≡◌, ℕ, List, Some, Result, refl, subst}
+use Rattle.std.specs.Prelude.{OnOk, codes}
+use Rattle.report.specs.Sink.{Written, Writes}
 use Rattle.commands.specs.declared.command.Command.{Command}
 use Rattle.commands.specs.declared.place.Place.{Place}
 use Rattle.commands.specs.declared.place.Place.TheVariants.{Line}
@@ -9,27 +9,23 @@ use Rattle.commands.specs.declared.place.Text.{Text}
 use Rattle.commands.specs.declared.place.Text.TheVariants as which
 use Rattle.replay.specs.declared.trap_at.TrapAt.{TrapAt}
 use Rattle.commands.specs.Commands.{name_of, text_of, text_at}
-use Rattle.commands.specs.Saying.{Tells, fault_line}
+use Rattle.commands.specs.Saying.{SendsText, fault_line}
 use Rattle.jnirun.specs.Serve.{TextsEarn, error_text, trap_text, TellsTrap, ServesTexts, is_refused}
 use Rattle.commands.specs.Telling.{told}
-
--- a text that is written is told, or the sink failed within it
-pub tells : {T E : Type 0} (old new : Written) (r : Result T E) (text : List ℕ) → Writes old new r text → Tells old new text
-tells old new (Ok v) text h = inl h
-tells old new (Err e) text h = inr h
+use Rattle.commands.proofs.SayingLemmas.{tells}
 
 -- a trap is told
 pub trap_told : (command : Command) (program : List ℕ) (err err_after : Written) (trap : TrapAt) (words name : List ℕ) {T E : Type 0} (r : Result T E) → name ≡ name_of command which.Program
-    → Writes err err_after r (told (codes "trap") name program trap.number (Line which.Program trap.line) words) → TellsTrap command program err err_after (Some trap)
-trap_told command program err err_after trap words name r named h =
+    → Writes err err_after r (told (codes "trap") name program trap.number (Line which.Program trap.line) words) → OnOk r (err_after.waiting ≡ 0) → TellsTrap command program err err_after (Some trap)
+trap_told command program err err_after trap words name r named h none =
     let same : told (codes "trap") name program trap.number (Line which.Program trap.line) words ≡ trap_text command program trap words = rw named refl in
-    (words, tells err err_after r (trap_text command program trap words) (subst (λ (t : List ℕ). Writes err err_after r t) same h))
+    (words, tells err err_after r (trap_text command program trap words) (subst (λ (t : List ℕ). Writes err err_after r t) same h) none)
 
 -- a fault that is written and told is a refusal
 pub refused : (command : Command) (program world order : List ℕ) (number : ℕ) (place : Place) (words name text : List ℕ) (which : Text) (out out_after err err_after : Written) {T E : Type 0} (r : Result T E)
     → which ≡ text_at place → name ≡ name_of command which → text ≡ text_of program world order which
-    → TextsEarn command program world order number place → AppendsText out out_after (fault_line number place) → out_after.waiting ≡ 0
-    → Writes err err_after r (told (codes "error") name text number place words) → ServesTexts command program world order out out_after err err_after 1
-refused command program world order number place words name text which out out_after err err_after r at named is earned appended none h =
+    → TextsEarn command program world order number place → SendsText out out_after (fault_line number place)
+    → Writes err err_after r (told (codes "error") name text number place words) → OnOk r (err_after.waiting ≡ 0) → ServesTexts command program world order out out_after err err_after 1
+refused command program world order number place words name text which out out_after err err_after r at named is earned sent h none =
     let same : told (codes "error") name text number place words ≡ error_text command program world order number place words = rw (named, is, at) refl in
-    is_refused number place words earned appended none (tells err err_after r (error_text command program world order number place words) (subst (λ (t : List ℕ). Writes err err_after r t) same h))
+    is_refused number place words earned sent (tells err err_after r (error_text command program world order number place words) (subst (λ (t : List ℕ). Writes err err_after r t) same h) none)

@@ -1,6 +1,7 @@
 -- What a run of three texts writes.
 use Rattle.std.specs.Prelude.{◌≡◌, ℕ, List, length, Option, Result, Ok, Err}
 use Rattle.std.specs.Option.{option_map}
+use Rattle.lowered.specs.Length.{IsTooLong}
 use Rattle.source.specs.Journal.{Journal}
 use Rattle.texts.specs.ScheduleText.{IsScheduleText}
 use Rattle.report.specs.Sink.{Written, AppendsText, StopsWithin}
@@ -17,10 +18,11 @@ use Rattle.program_text.specs.declared.fault.RunError.{RunError}
 use Rattle.program_text.specs.declared.fault.RunError.TheVariants.{Memory, Fault, Writer}
 
 -- The text is the report of the source run that its journal names, on a heap where objects have names and never move,
--- and then that journal. It has the schedule's thread steps in order, none left out but where the thread is blocked,
--- ended or stopped, and an allocation is marked refused only where live and new objects exceed the heap or something is pinned.
+-- and then that journal. The code of no function is too long. The journal has the schedule's thread steps in order, none left out but where the
+-- thread is blocked, ended or stopped, and an allocation that it doesn't mark as refused has room beside what can be reached.
 pub record IsRun (program world schedule text : List ℕ) : Type 0 where
   pub meaning : Meaning program world schedule
+  pub short : IsTooLong meaning.unit → ⊥
   pub of_world : IsWorldText world meaning.world
   pub of_schedule : IsScheduleText (length meaning.world.threads) schedule meaning.words
   pub journal : Journal

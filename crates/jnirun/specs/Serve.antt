@@ -1,18 +1,18 @@
 -- What the commands do with files, standard output and standard error.
 use Rattle.std.specs.Prelude.{◌≡◌, ℕ, List, Option, Some, None, codes}
-use Rattle.report.specs.Sink.{Written, AppendsText, StopsWithin}
+use Rattle.report.specs.Sink.{Written, StopsWithin}
 use Rattle.commands.specs.declared.command.Command.{Command}
 use Rattle.commands.specs.declared.command.Command.TheVariants.{Check, Run, Replay}
 use Rattle.commands.specs.declared.place.Place.{Place}
 use Rattle.commands.specs.declared.place.Place.TheVariants.{Line}
 use Rattle.program_text.specs.Checks.{PassesCheck, FailsCheck}
 use Rattle.commands.specs.Commands.{name_of, text_of, text_at}
-use Rattle.commands.specs.Files.{OfFiles}
+use Rattle.commands.specs.Files.{OfFiles, LacksOne}
 use Rattle.replay.specs.declared.trap_at.TrapAt.{TrapAt}
 use Rattle.commands.specs.declared.place.Text.TheVariants as which
 use Rattle.jnirun.specs.Replays.{EndsReplay, AreRefusedReplays}
 use Rattle.jnirun.specs.Runs.{EndsRun, AppendsRun, StopsRun}
-use Rattle.commands.specs.Saying.{Tells, fault_line}
+use Rattle.commands.specs.Saying.{SendsText, Tells, fault_line}
 use Rattle.commands.specs.Telling.{told}
 use Rattle.jnirun.specs.Texts.{AreRefused}
 
@@ -58,9 +58,9 @@ pub data ServesTexts (command : Command) (program world order : List ℕ) (out o
   -- what it writes is written, and a trap that stopped the run is told
   is_done : (trap : Option TrapAt) → AppendsRun out out_after (TextsWrite command program world order trap) → TellsTrap command program err err_after trap
       → ServesTexts command program world order out out_after err err_after 0
-  -- a fault that the texts earn is written, none of its line waits, and it is told
+  -- the line of a fault that the texts earn is sent, and the fault is told
   is_refused : (number : ℕ) (place : Place) (words : List ℕ) → TextsEarn command program world order number place
-      → AppendsText out out_after (fault_line number place) → out_after.waiting ≡ 0
+      → SendsText out out_after (fault_line number place)
       → Tells err err_after (error_text command program world order number place words)
       → ServesTexts command program world order out out_after err err_after 1
   -- memory was refused, and nothing is written
@@ -72,10 +72,10 @@ pub data ServesTexts (command : Command) (program world order : List ℕ) (out o
       → StopsWithin out out_after (fault_line number place) → Tells err err_after (codes "writer\n")
       → ServesTexts command program world order out out_after err err_after 3
 
--- What is done by a command.
-pub data Serves (gives : List ℕ → List ℕ → Type 0) (command : Command) (out out_after err err_after : Written) : (status : ℕ) → Type 0 where
+-- What is done by a command, where files may be read as some texts and others may be lacking.
+pub data Serves (gives : List ℕ → List ℕ → Type 0) (lacks : List ℕ → Type 0) (command : Command) (out out_after err err_after : Written) : (status : ℕ) → Type 0 where
   -- its files were read
-  on_texts : (status : ℕ) → OfFiles gives command (λ p w o. ServesTexts command p w o out out_after err err_after status) → Serves gives command out out_after err err_after status
-  -- memory was refused, or a file can't be read, and nothing is written
-  cannot_read : out_after ≡ out → Tells err err_after (codes "memory\n") → Serves gives command out out_after err err_after 3
-  has_no_file : out_after ≡ out → Tells err err_after (codes "file\n") → Serves gives command out out_after err err_after 3
+  on_texts : (status : ℕ) → OfFiles gives command (λ p w o. ServesTexts command p w o out out_after err err_after status) → Serves gives lacks command out out_after err err_after status
+  -- memory was refused, or a file of the command is lacking, and nothing is written
+  cannot_read : out_after ≡ out → Tells err err_after (codes "memory\n") → Serves gives lacks command out out_after err err_after 3
+  has_no_file : LacksOne lacks command → out_after ≡ out → Tells err err_after (codes "file\n") → Serves gives lacks command out out_after err err_after 3

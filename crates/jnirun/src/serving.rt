@@ -164,7 +164,7 @@ pub fn serve<F: Files, O: Sink, E: Sink>(
 ) -> u8
     requires out { CanFail (O.written out.old) }
     requires err { CanFail (E.written err.old) }
-    ensures { Serves (F.gives files.old) command.entry (O.written out.old) (O.written out.new) (E.written err.old) (E.written err.new) result }
+    ensures { Serves (F.gives files.old) (F.lacks files.old) command.entry (O.written out.old) (O.written out.new) (E.written err.old) (E.written err.new) result }
 {
     match read_texts(alloc, files, command) {
         Ok(texts) => serve_texts(alloc, command, &texts, out, err),

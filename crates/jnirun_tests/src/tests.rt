@@ -44,6 +44,8 @@ struct Folder {
 impl Files for Folder {
     ghost gives = { λ _ _ _. Unit {0} };
 
+    ghost lacks = { λ _ _. Unit {0} };
+
     fn read(&mut self, alloc: Global, name: &str) -> Result<Vec<u8>, FileFault> {
         let bytes = match name {
             "p" => self.program,
