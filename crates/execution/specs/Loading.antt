@@ -1,5 +1,5 @@
 -- What loading answers.
-use Rattle.std.specs.Prelude.{◌≡◌, ℕ, true, false, not, List, filter, map, Option, Some, None, slice_get}
+use Rattle.std.specs.Prelude.{◌≡◌, ℕ, true, false, List, map, Option, Some, None, slice_get}
 use Rattle.syntax.specs.Parts.{functions_of}
 use Rattle.syntax.specs.declared.unit.Function.{Function as FunctionInMemory}
 use Rattle.syntax.specs.Tree.{SourceUnit}
@@ -24,10 +24,6 @@ pub record IsNumberOf (p : Lowered) (name : List ℕ) (number : ℕ) (f : Functi
 abbrev pub IsCallOf : Lowered → Classes → (made : ℕ) → Invocation → Option PendingCall → Type 0
 IsCallOf p classes made call None = call_loads (unit_tree p.unit) classes call ≡ false
 IsCallOf p classes made call (Some next) = CallAgrees p classes made next call × (call_loads (unit_tree p.unit) classes call ≡ true)
-
--- the calls that don't load
-abbrev pub refused_calls : SourceUnit → Classes → List Invocation → List Invocation
-refused_calls unit classes calls = filter (λ c. not (call_loads unit classes c)) calls
 
 -- the fault's line is that of the first of these
 abbrev pub IsFirstOf : List Invocation → LoadFault → Type 0

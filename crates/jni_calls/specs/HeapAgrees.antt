@@ -5,7 +5,6 @@ use Rattle.heap.specs.declared.value.Value.{Value}
 use Rattle.heap.specs.declared.value.Value.TheVariants.{Number as Word, Null, Block as Address}
 use Rattle.heap.specs.Heap.{Block, Space, IsLaidOut, end_of, name_at, AreNamesUnique}
 use Rattle.source.specs.Object.{Object, ObjectValue, Number, Refers, Reference, sizes}
-use Rattle.source.specs.World.{World, loaded_objects}
 use Rattle.source.specs.Heap.{Heap, object_at}
 use Rattle.source.specs.Reachable.{IsName}
 use Rattle.tables.specs.References.{references_in}
@@ -91,9 +90,3 @@ pub record AreMade (space : Space) (addresses : List ℕ) (objects : Heap) : Typ
   pub table : IsTable space addresses (length objects)
   pub laid_out : IsLaidOut space
   pub filled : end_of space ≡ sizes objects
-
--- The heap stands for the objects that were made at load, each at its address in the table.
-pub record AgreesAtLoad (space : Space) (addresses : List ℕ) (w : World) : Type 0 where
-  pub agree : HeapAgrees space (loaded_objects w) (IsName (loaded_objects w))
-  pub table : IsTable space addresses (length (loaded_objects w))
-  pub cells : space.cells ≡ w.cells

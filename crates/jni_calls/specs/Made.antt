@@ -2,6 +2,7 @@
 use Rattle.std.specs.Prelude.{◌≡◌, ℕ, ◌+◌, ◌<◌, ◌≤◌, List, map, length, Option, Some, None}
 use Rattle.classes.specs.Class.{Classes, FieldType, NumberField, ReferenceField}
 use Rattle.classes.specs.Fields.{FieldId, layout}
+use Rattle.source.specs.Object.{object_size}
 use Rattle.heap.specs.Heap.{Block, end_of, left_of, with_block}
 use Rattle.heap.specs.declared.value.Value.{Value}
 use Rattle.heap.specs.declared.value.Value.TheVariants as value
@@ -25,7 +26,7 @@ new_block classes store class = record { address = end_of store.heap; class = cl
 
 -- the store with a new object of a class
 pub record HasMade (classes : Classes) (old : Store) (class : ℕ) (new : Store) (a : ℕ) : Type 0 where
-  pub room : 3 + length (layout classes class) ≤ left_of old.heap
+  pub room : object_size (length (layout classes class)) ≤ left_of old.heap
   pub address : a ≡ end_of old.heap
   pub heap : new.heap ≡ with_block old.heap (new_block classes old class)
   pub loaded : new.loaded ≡ old.loaded
@@ -35,7 +36,7 @@ pub record HasMade (classes : Classes) (old : Store) (class : ℕ) (new : Store)
 
 -- a new object of a class, where it has room, and else the store as it was
 abbrev pub Makes : Classes → Store → (class : ℕ) → Store → Option ℕ → Type 0
-Makes classes old class new None = (new ≡ old) × (left_of old.heap < 3 + length (layout classes class))
+Makes classes old class new None = (new ≡ old) × (left_of old.heap < object_size (length (layout classes class)))
 Makes classes old class new (Some a) = HasMade classes old class new a
 
 -- a global reference to the object at an address is made, and none for NULL

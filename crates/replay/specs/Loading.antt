@@ -1,15 +1,8 @@
 -- Threads before their first calls, and calls that don't fit.
-use Rattle.std.specs.Prelude.{◌≡◌, ℕ, not, List, [], ◌∷◌, ◌++◌, filter, map, slice_get, Option, None}
-use Rattle.syntax.specs.Tree.{SourceUnit}
-use Rattle.classes.specs.Class.{Classes}
+use Rattle.std.specs.Prelude.{◌≡◌, ℕ, List, [], ◌∷◌, ◌++◌, map, slice_get, Option, None}
 use Rattle.source.specs.World.{Invocation}
-use Rattle.source.specs.Load.{call_loads}
 use Rattle.threads.specs.declared.thread.Ending.TheVariants.{Unfinished}
 use Rattle.threads.specs.declared.thread.Thread.{Thread as ThreadInMemory}
-
--- the calls that don't fit
-abbrev pub refused_calls : SourceUnit → Classes → List Invocation → List Invocation
-refused_calls unit classes calls = filter (λ c. not (call_loads unit classes c)) calls
 
 -- the line of the first of these
 abbrev pub first_line : List Invocation → Option ℕ

@@ -4,10 +4,11 @@ use Rattle.std.specs.Prelude.{◌==◌, ◌&&◌}
 use Rattle.std.specs.List.{prefix_len}
 use Rattle.std.proofs.lemmas.Bool.{or_cases, or_from, ne_eqb}
 use Rattle.std.proofs.lemmas.List.{append-nil, get_or-drop, get_or-take, length-take-le, take-append-drop, take_more}
+use Rattle.base.specs.Bytes.{is_from_to}
 use Rattle.scan.specs.declared.token.Kind.{Kind}
 use Rattle.scan.specs.declared.token.Kind.TheVariants.{Number}
 use Rattle.scan.specs.declared.fault.Fault.{Fault}
-use Rattle.scan.specs.Bytes.{is_within, is_word, is_digit, digit_value, base_value}
+use Rattle.scan.specs.Bytes.{is_word, is_digit, digit_value, base_value}
 use Rattle.scan.specs.Spelling.{Every, IsDigits, IsNumber}
 use Rattle.scan.specs.Reading.{Piece, number_at, number_of, number_piece, is_e, is_sign}
 use Rattle.scan.proofs.Words.{within_parts, every_append, prefix_front}
@@ -49,7 +50,7 @@ no_e b le = or_from (b == 101) (b == 69) (ne_eqb b 101 (λ e. omega arith)) (ne_
 
 figure_low : (b : ℕ) → is_digit 10 b ≡ true → b ≤ 57
 figure_low b e =
-    elim (or_cases (is_within 48 57 b) false e) [
+    elim (or_cases (is_from_to 48 57 b) false e) [
       | inl w ↦ (within_parts 48 57 b w).1
       | inr w ↦ absurd cc
     ]

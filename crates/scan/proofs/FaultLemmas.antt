@@ -4,13 +4,14 @@ use Rattle.std.specs.Prelude.{◌≢◌, ◌==◌, ◌&&◌}
 use Rattle.std.specs.List.{prefix_len}
 use Rattle.std.specs.Option.{option_map}
 use Rattle.std.proofs.lemmas.Bool.{and_parts, or_cases, eqb-true, eq-eqb}
+use Rattle.base.specs.Bytes.{is_from_to}
 use Rattle.scan.specs.declared.token.Kind.{Kind}
 use Rattle.scan.specs.declared.token.Kind.TheVariants.{Name, Reserved, Number, Text, Symbol}
 use Rattle.scan.specs.declared.token.Mark.{Mark}
 use Rattle.scan.specs.declared.token.Mark.TheVariants.{OpenParen, CloseParen, OpenBrace, CloseBrace, OpenBracket, CloseBracket, Semicolon, Comma, Assign, Star, Arrow, Ampersand, Bar, Caret, Tilde, Exclamation, Plus, Minus, Slash, Percent, Less, Greater, LessEqual, GreaterEqual, Equal, NotEqual, LogicalAnd, LogicalOr, ShiftLeft, ShiftRight}
 use Rattle.scan.specs.declared.fault.Fault.{Fault}
 use Rattle.scan.specs.declared.fault.Fault.TheVariants.{BadByte, OpenComment, BadNumber, BadText}
-use Rattle.scan.specs.Bytes.{is_blank, is_name_start, is_word, is_text, is_in_line, is_within}
+use Rattle.scan.specs.Bytes.{is_blank, is_name_start, is_word, is_text, is_in_line}
 use Rattle.scan.specs.Spelling.{IsLexeme, IsToken, mark_bytes}
 use Rattle.scan.specs.Faults.{BeginsNothing, HasFault}
 use Rattle.scan.specs.Reading.{Piece, piece_at, name_at, number_at, number_of, number_piece, text_at, comment_or_mark, mark_piece, mark_of, pair_of, block_piece, close_len}
@@ -141,8 +142,8 @@ comment_refused a (b ∷ inside) fault bare e =
     block first second None is e = subst (HasFault (a ∷ b ∷ inside)) (same_fault OpenComment fault e) (inside, rw (first, second) refl, unclosed inside is)
 
 -- a word that begins with no letter begins with a digit
-digit_first : (a : ℕ) → is_name_start a ≡ false → is_word a ≡ true → is_within 48 57 a ≡ true
-digit_first a letter word = elim (or_cases (is_name_start a) (is_within 48 57 a) word) [ inl w ↦ let f : true ≡ false = sym w ∙ letter in absurd cc | inr w ↦ w ]
+digit_first : (a : ℕ) → is_name_start a ≡ false → is_word a ≡ true → is_from_to 48 57 a ≡ true
+digit_first a letter word = elim (or_cases (is_name_start a) (is_from_to 48 57 a) word) [ inl w ↦ let f : true ≡ false = sym w ∙ letter in absurd cc | inr w ↦ w ]
 
 pub fault_here : (s : List ℕ) (fault : Fault) → 0 < length s → piece_at s ≡ Err fault → HasFault s fault
 unfolding piece_at number_at text_at

@@ -3,13 +3,14 @@ use Rattle.std.proofs.Common.{◌≡◌, ℕ, zero, suc, ◌+◌, ◌<◌, true,
 use Rattle.std.specs.Prelude.{◌⊎◌}
 use Rattle.std.proofs.lemmas.Bool.{or_left}
 use Rattle.std.proofs.lemmas.List.{drop_all}
+use Rattle.base.specs.Bytes.{is_from_to}
 use Rattle.scan.specs.declared.token.Kind.{Kind}
 use Rattle.scan.specs.declared.token.Kind.TheVariants.{Name, Reserved, Number, Text, Symbol}
 use Rattle.scan.specs.declared.token.Mark.TheVariants.{Slash}
 use Rattle.scan.specs.declared.token.Token.{Token}
 use Rattle.scan.specs.declared.fault.Fault.{Fault}
 use Rattle.scan.specs.declared.fault.Fault.TheVariants.{BadByte, OpenComment, BadNumber, BadText}
-use Rattle.scan.specs.Bytes.{is_within, is_blank, base_value}
+use Rattle.scan.specs.Bytes.{is_blank, base_value}
 use Rattle.scan.specs.Spelling.{IsName, IsLexeme, IsGap, IsToken, SpellsFrom, ends, passes, takes, Spells, line_of}
 use Rattle.scan.specs.Faults.{IsFilledTo, begins, with_gap, with_token, BeginsNothing, HasFault, OneFirstFault, NoFaultWhereSpelled}
 use Rattle.scan.specs.Reading.{Piece, piece_at}
@@ -30,8 +31,8 @@ not_blank byte is_none is_one = let f : true ≡ false = sym is_one ∙ is_none 
 slash_of : (byte : ℕ) (rest text more : List ℕ) → text ≡ byte ∷ rest → text ≡ 47 ∷ more → byte ≡ 47
 slash_of byte rest text more e f = let g : byte ∷ rest ≡ 47 ∷ more = sym e ∙ f in cc
 
-no_figure : (digit : ℕ) → is_within 48 57 digit ≡ true → digit ≡ 47 → ⊥
-no_figure digit figure e = let f : false ≡ true = subst (λ b. is_within 48 57 b ≡ true) e figure in absurd cc
+no_figure : (digit : ℕ) → is_from_to 48 57 digit ≡ true → digit ≡ 47 → ⊥
+no_figure digit figure e = let f : false ≡ true = subst (λ b. is_from_to 48 57 b ≡ true) e figure in absurd cc
 
 no_gap : (text : List ℕ) (fault : Fault) → HasFault text fault → (n : ℕ) → IsGap text n → ⊥
 no_gap text BadByte h n (inl w) = let g : h.0 ∷ h.1 ≡ w.0 ∷ w.1 = sym h.2 ∙ w.2 in let e : h.0 ≡ w.0 = cc in not_blank h.0 h.3.no_blank (ap is_blank e ∙ w.3)
@@ -58,7 +59,7 @@ no_lexeme_of : (byte : ℕ) (rest : List ℕ) (kind : Kind) (n : ℕ) → Begins
 no_lexeme_of byte rest kind zero none lt form = absurd (omega (arith, lt))
 no_lexeme_of byte rest kind (suc n) none lt form = none.no_lexeme kind (take n rest) form
 
-figure_no_name : (digit : ℕ) (rest : List ℕ) (n : ℕ) → is_within 48 57 digit ≡ true → IsName (take n (digit ∷ rest)) → ⊥
+figure_no_name : (digit : ℕ) (rest : List ℕ) (n : ℕ) → is_from_to 48 57 digit ≡ true → IsName (take n (digit ∷ rest)) → ⊥
 figure_no_name digit rest n figure name = let f : true ≡ false = sym (front_name n digit rest name) ∙ figure_no_letter digit figure in absurd cc
 
 quote_no_name : (rest : List ℕ) (n : ℕ) → IsName (take n (34 ∷ rest)) → ⊥
@@ -86,13 +87,13 @@ no_piece text fault h (Some kind) n e = no_token text fault h kind n (token_take
 -- ---- one fault at a place
 
 -- a digit is a number
-digit_lexeme : (digit : ℕ) → is_within 48 57 digit ≡ true → IsLexeme (Number false (base_value 10 0 (digit ∷ []))) (digit ∷ [])
+digit_lexeme : (digit : ℕ) → is_from_to 48 57 digit ≡ true → IsLexeme (Number false (base_value 10 0 (digit ∷ []))) (digit ∷ [])
 digit_lexeme digit figure = record {
   base = 10;
   sign = [];
   digits = digit ∷ [];
   based = inl (refl, refl);
-  formed = ((or_left (is_within 48 57 digit) _ figure, tt), λ _ _. refl);
+  formed = ((or_left (is_from_to 48 57 digit) _ figure, tt), λ _ _. refl);
   parts = refl;
   value_is = refl;
   small = small;
@@ -108,7 +109,7 @@ no_byte_and_number : (text : List ℕ) → HasFault text BadByte → HasFault te
 no_byte_and_number text h k =
     let g : h.0 ∷ h.1 ≡ k.0 ∷ k.1 = sym h.2 ∙ k.2 in
     let e : h.0 ≡ k.0 = cc in
-    h.3.no_lexeme (Number false (base_value 10 0 (h.0 ∷ []))) [] (digit_lexeme h.0 (ap (is_within 48 57) e ∙ k.3))
+    h.3.no_lexeme (Number false (base_value 10 0 (h.0 ∷ []))) [] (digit_lexeme h.0 (ap (is_from_to 48 57) e ∙ k.3))
 
 no_byte_and_text : (text : List ℕ) → HasFault text BadByte → HasFault text BadText → ⊥
 no_byte_and_text text h k =

@@ -1,5 +1,6 @@
 -- The faults of a text: where and why it has no tokens, and their numbers.
 use Rattle.std.specs.Prelude.{◌≡◌, ◌≢◌, ℕ, ◌+◌, false, IsTrue, List, ◌∷◌, ◌++◌, drop, Bool}
+use Rattle.base.specs.Bytes.{is_from_to}
 use Rattle.scan.specs.declared.token.Kind.{Kind}
 use Rattle.scan.specs.declared.token.Kind.TheVariants.{Number, Text}
 use Rattle.scan.specs.declared.token.Token.{Token}
@@ -7,7 +8,7 @@ use Rattle.scan.specs.declared.fault.Fault.{Fault}
 use Rattle.scan.specs.declared.fault.Fault.TheVariants.{BadByte, OpenComment, BadNumber, BadText}
 use Rattle.scan.specs.declared.fault.ScanFault.{ScanFault}
 use Rattle.scan.specs.declared.fault.ScanFault.TheVariants.{Memory, Found}
-use Rattle.scan.specs.Bytes.{is_within, is_blank}
+use Rattle.scan.specs.Bytes.{is_blank}
 use Rattle.scan.specs.Spelling.{IsLexeme, IsGap, IsToken, Spells, line_of}
 
 -- blanks, comments and tokens fill the text up to a place
@@ -25,7 +26,7 @@ pub record BeginsNothing (byte : ℕ) : Type 0 where
 abbrev pub HasFault : List ℕ → Fault → Type 0
 HasFault text BadByte = (byte : ℕ) × (rest : List ℕ) × (text ≡ byte ∷ rest) × BeginsNothing byte
 HasFault text OpenComment = (rest : List ℕ) × (text ≡ 47 ∷ 42 ∷ rest) × ((inside rest_of : List ℕ) → rest ≢ inside ++ 42 ∷ 47 ∷ rest_of)
-HasFault text BadNumber = (digit : ℕ) × (rest : List ℕ) × (text ≡ digit ∷ rest) × IsTrue (is_within 48 57 digit) × ((value : ℕ) (unsigned : Bool) (n : ℕ) → IsToken (Number unsigned value) text n → ⊥)
+HasFault text BadNumber = (digit : ℕ) × (rest : List ℕ) × (text ≡ digit ∷ rest) × IsTrue (is_from_to 48 57 digit) × ((value : ℕ) (unsigned : Bool) (n : ℕ) → IsToken (Number unsigned value) text n → ⊥)
 HasFault text BadText = (rest : List ℕ) × (text ≡ 34 ∷ rest) × ((n : ℕ) → IsToken Text text n → ⊥)
 
 -- The text is filled up to a place of this line, where it has this fault.

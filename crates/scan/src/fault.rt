@@ -14,7 +14,7 @@ pub enum Fault {
     /// Fault 2: a comment that opens with `/*` and has no end (ISO/IEC 9899:1999, 6.4.9).
     OpenComment,
     /// Fault 3: a digit with which no number begins, one out of its range, or one glued to what
-    /// stands after it (6.4.4.1, 6.4.8).
+    /// comes after it (6.4.4.1, 6.4.8).
     BadNumber,
     /// Fault 4: a quote with which no string begins (6.4.5).
     BadText,

@@ -1,4 +1,4 @@
-//! Tokens: their kinds, and where they stand in a text.
+//! Tokens: their kinds, and where they are in a text.
 
 use crate::reserved::Word;
 

@@ -74,7 +74,7 @@ entry_step unit classes s t = entry_advance s (enter unit classes t t.calls)
 
 -- ---- return
 
--- how a thread stands after its call
+-- the ending of a thread after its call
 abbrev pub ending_after : Heap → Reference → List Invocation → Ending
 ending_after heap (Some n) calls = Uncaught (class_of heap n)
 ending_after heap None [] = Ended

@@ -19,7 +19,7 @@ use Rattle.source.specs.Variable.{StaticReference, Empty, Live}
 pub data ReleaseMode : Type 0 where
   CopyBackAndFree CopyBack FreeUncopied : ReleaseMode
 
--- an argument, looked up; a reference with the variable that holds it, and a variable that is meant itself
+-- an argument, looked up; a reference with the variable that holds it, and a variable itself, not its value
 pub data Actual : Type 0 where
   ReferenceActual : Identifier → StaticReference → Actual
   FieldActual : Option FieldId → Actual
@@ -78,7 +78,7 @@ abbrev pub reference_in_actual : Option Actual → Reference
 reference_in_actual (Some (ReferenceActual x (Live n))) = Some n
 reference_in_actual a = None
 
--- the reference that stands there
+-- the reference at this place
 abbrev pub reference_given : List Actual → ℕ → Reference
 reference_given args i = reference_in_actual (slice_get args i)
 
@@ -96,7 +96,7 @@ abbrev pub number_in_actual : Option Actual → ℤ
 number_in_actual (Some (NumberActual z)) = z
 number_in_actual a = pos 0
 
--- the number that stands there
+-- the number at this place
 abbrev pub number_given : List Actual → ℕ → ℤ
 number_given args i = number_in_actual (slice_get args i)
 
@@ -105,7 +105,7 @@ abbrev pub text_in_actual : Option Actual → List ℕ
 text_in_actual (Some (TextActual bytes)) = bytes
 text_in_actual a = []
 
--- the text that stands there
+-- the text at this place
 abbrev pub text_given : List Actual → ℕ → List ℕ
 text_given args i = text_in_actual (slice_get args i)
 
@@ -114,7 +114,7 @@ abbrev pub field_in_actual : Option Actual → FieldId
 field_in_actual (Some (FieldActual (Some f))) = f
 field_in_actual a = record { class = 0; is_static = false; field = record { name = []; type = NumberField JInt } }
 
--- the field that stands there
+-- the field at this place
 abbrev pub field_given : List Actual → ℕ → FieldId
 field_given args i = field_in_actual (slice_get args i)
 
@@ -124,7 +124,7 @@ variable_in_actual (Some (ReferenceActual x r)) = x
 variable_in_actual (Some (VariableActual x)) = x
 variable_in_actual a = []
 
--- the variable that stands there
+-- the variable at this place
 abbrev pub variable_given : List Actual → ℕ → Identifier
 variable_given args i = variable_in_actual (slice_get args i)
 
@@ -133,6 +133,6 @@ abbrev pub mode_in_actual : Option Actual → ReleaseMode
 mode_in_actual (Some (ModeActual m)) = m
 mode_in_actual a = CopyBackAndFree
 
--- the mode that stands there
+-- the mode at this place
 abbrev pub mode_given : List Actual → ℕ → ReleaseMode
 mode_given args i = mode_in_actual (slice_get args i)

@@ -85,7 +85,7 @@ module _ (classes : Classes) (lent : BuffersInUse) (k : ℕ) (s : Shared) (t : T
   abbrev pub count : ℕ → ℕ
   count n = length (values_of s.heap n)
 
-  -- where the field or static of argument 1 stands: in the object of argument 0, or in the class that declares it
+  -- where the field or static of argument 1 is: in the object of argument 0, or in the class that declares it
   abbrev pub place : ℕ
   place = field_place classes s.heap (object 0) (field_given args 1)
 

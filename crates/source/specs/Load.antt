@@ -32,9 +32,13 @@ call_loads unit classes call = some_passes (is_callable classes call.arguments) 
 abbrev pub Loads : SourceUnit → World → Type 0
 Loads unit w = IsTrue (list_all (list_all (call_loads unit w.classes)) w.threads)
 
--- the lines of the calls that don't, in text order
+-- the calls that don't
+abbrev pub refused_calls : SourceUnit → Classes → List Invocation → List Invocation
+refused_calls unit classes calls = filter (λ c. not (call_loads unit classes c)) calls
+
+-- the lines of these, in text order
 abbrev pub load_faults : SourceUnit → World → List ℕ
-load_faults unit w = map (λ (c : Invocation). c.line) (flat_map (filter (λ c. not (call_loads unit w.classes c))) w.threads)
+load_faults unit w = map (λ (c : Invocation). c.line) (flat_map (refused_calls unit w.classes) w.threads)
 
 -- the line of the fault that is answered
 abbrev pub first_load_fault : SourceUnit → World → Option ℕ

@@ -6,6 +6,7 @@ use Rattle.source.specs.World.{World}
 use Rattle.source.specs.Heap.{Heap, reference_in, values_of}
 use Rattle.source.specs.State.{State, views}
 use Rattle.source.specs.Thread.{Frame, Thread, Monitor}
+use Rattle.source.specs.Object.{object_size}
 
 -- the numbers from one on, n of them
 abbrev pub from_one : ℕ → List ℕ
@@ -82,7 +83,7 @@ ReachableIsComputed = (w : World) (s : State) → ListsReachable w s (reachable 
 
 -- the size of an object in cells
 abbrev pub size_at : Heap → ℕ → ℕ
-size_at heap n = 3 + length (values_of heap n)
+size_at heap n = object_size (length (values_of heap n))
 
 -- the cells of the reachable objects together
 abbrev pub live_size : World → State → ℕ

@@ -3,7 +3,7 @@ use Rattle.std.specs.Prelude.{ℕ, ℤ, List}
 use Rattle.base.specs.Bytes.{Identifier}
 use Rattle.source.specs.declared.printed.Printed.{Printed}
 
--- how a thread stands: it trapped, it ended, it ended with an exception of this class, it waits for a monitor, or none of these
+-- the status of a thread: it trapped, it ended, it ended with an exception of this class, it waits for a monitor, or none of these
 pub data ThreadStanding : Type 0 where
   HasTrapped : (number line : ℕ) → ThreadStanding
   HasEnded : ThreadStanding
@@ -23,7 +23,7 @@ pub record ShownRow : Type 0 where
   pub class : Identifier
   pub values : List ShownValue
 
--- what a run printed, how its threads stand, and the objects that can still be reached
+-- what a run printed, the status of each thread, and the objects that can still be reached
 pub record Report : Type 0 where
   pub printed : List Printed
   pub standings : List ThreadStanding

@@ -1,5 +1,5 @@
 -- States that lie in memory, as those of the language, and what an entry does to one.
-use Rattle.std.specs.Prelude.{◌≡◌, ℕ, ◌+◌, ◌<◌, ◌==◌, length, slice_get, is_some, Bool, true, false, if◌then◌else◌, List, [], ◌∷◌, ◌++◌, map, Option, Some, None}
+use Rattle.std.specs.Prelude.{◌≡◌, ℕ, ◌+◌, ◌<◌, length, slice_get, is_some, Bool, true, false, List, [], ◌∷◌, ◌++◌, map, Option, Some, None}
 use Rattle.std.specs.List.{enumerate_from}
 use Rattle.std.specs.Option.{option_map}
 use Rattle.syntax.specs.Tree.{SourceUnit}
@@ -7,13 +7,12 @@ use Rattle.classes.specs.Class.{Classes}
 use Rattle.source.specs.declared.journal.Entry.{Entry}
 use Rattle.source.specs.declared.journal.Entry.TheVariants as entry
 use Rattle.source.specs.declared.printed.Printed.{Printed}
-use Rattle.source.specs.Report.{ThreadStanding, HasTrapped}
-use Rattle.source.specs.ReportOf.{standing_by_ending}
+use Rattle.source.specs.Report.{ThreadStanding}
 use Rattle.source.specs.World.{World}
 use Rattle.source.specs.Thread.{Thread}
 use Rattle.source.specs.State.{State, Stop}
 use Rattle.source.specs.Step.{world_step, is_unfinished}
-use Rattle.source.specs.Value.{trap_number}
+use Rattle.source.specs.ReportOf.{standing_at}
 use Rattle.threads.specs.declared.thread.Thread.{Thread as ThreadInMemory}
 use Rattle.threads.specs.declared.thread.Step.{Step}
 use Rattle.threads.specs.declared.thread.Step.TheVariants as step
@@ -92,11 +91,10 @@ TakesNone m k = (unit : SourceUnit) (refused : Bool) → TakesEntry unit m (entr
 
 -- ---- the report
 
--- how thread k stands
+-- the standing of thread k
 abbrev pub standing_in : Classes → Option StopInMemory → ℕ × ThreadInMemory → ThreadStanding
-standing_in classes None (k, t) = standing_by_ending classes false (ending_view t.ending)
-standing_in classes (Some stop) (k, t) = if stop.thread == k then HasTrapped (trap_number (trap_view stop.trap)) stop.line else standing_by_ending classes false (ending_view t.ending)
+standing_in classes stop (k, t) = standing_at classes false (option_map stop_view stop) k (ending_view t.ending)
 
--- how all threads stand
+-- the standings of all threads
 abbrev pub standings_in : StateInMemory → List ThreadStanding
 standings_in m = map (standing_in m.world.now.classes m.stop) (enumerate_from 1 m.threads.items)

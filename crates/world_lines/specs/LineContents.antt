@@ -1,6 +1,7 @@
 -- What a line says by itself, as the rules on it ask for it.
-use Rattle.std.specs.Prelude.{ℕ, ◌+◌, Bool, true, false, List, [], length, Option, Some, None}
+use Rattle.std.specs.Prelude.{ℕ, Bool, true, false, List, [], length, Option, Some, None}
 use Rattle.base.specs.Bytes.{Identifier}
+use Rattle.source.specs.Object.{object_size}
 use Rattle.world.specs.WorldLines.{WorldValue, NumberValue, WorldLine, ClassLine, StaticLine, ObjectLine, ObjectsLine, ArrayLine, StringLine, ThreadLine, CallLine}
 
 -- the values that it writes; a string writes none
@@ -24,10 +25,10 @@ name_given line = None
 abbrev pub cells_added : WorldLine → ℕ
 cells_added (ClassLine name superclass) = 6
 cells_added (StaticLine class name signature) = 1
-cells_added (ObjectLine x class values) = 3 + length values
-cells_added (ObjectsLine x class values) = 3 + length values
-cells_added (ArrayLine x t values) = 3 + length values
-cells_added (StringLine x text) = 3 + length text
+cells_added (ObjectLine x class values) = object_size (length values)
+cells_added (ObjectsLine x class values) = object_size (length values)
+cells_added (ArrayLine x t values) = object_size (length values)
+cells_added (StringLine x text) = object_size (length text)
 cells_added line = 0
 
 -- whether it is a number

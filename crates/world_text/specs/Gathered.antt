@@ -7,7 +7,7 @@ use Rattle.base.specs.Options.{some_passes}
 use Rattle.classes.specs.Additions.{ClassRule, new_class, with_class, with_field, with_static}
 use Rattle.classes.specs.BuiltIns.{class_class, string_class, number_array}
 use Rattle.classes.specs.Class.{FieldType, NumberField, ReferenceField, Classes, class_named, array_name, assignable}
-use Rattle.source.specs.Object.{ObjectValue, Number, Refers, Object}
+use Rattle.source.specs.Object.{ObjectValue, Number, Refers, Object, object_size}
 use Rattle.source.specs.World.{Invocation, World}
 use Rattle.texts.specs.declared.fault.ReadError.{ReadError}
 use Rattle.texts.specs.declared.fault.Rule.TheVariants as held
@@ -128,7 +128,7 @@ abbrev pub with_object : Gathered → Identifier → (class : ℕ) → List Obje
 with_object g x class values = record g {
   names = g.names ++ (x, class) ∷ [];
   objects = g.objects ++ (record { class = class; values = values }) ∷ [];
-  used = g.used + (3 + length values);
+  used = g.used + object_size (length values);
   part = 1;
 }
 

@@ -7,7 +7,7 @@ use Rattle.texts.specs.Reading.{◌>>=◌, refused}
 use Rattle.texts.specs.declared.fault.Rule.{Rule}
 use Rattle.texts.specs.declared.fault.Rule.TheVariants as held
 use Rattle.texts.specs.declared.fault.TextFault.{TextFault}
-use Rattle.source.specs.World.{World}
+use Rattle.source.specs.World.{World, least_cells, most_cells}
 use Rattle.world_lines.specs.ReadingLines.{heap_of_line, line_of}
 use Rattle.world.specs.WorldLines.{WorldLine, Lines, text_lines}
 use Rattle.world.specs.WorldMeaning.{world_of}
@@ -59,7 +59,7 @@ lines_read cells earlier ((number, bytes) ∷ more) = line_read cells earlier nu
 -- the size of the heap, by the first line
 unfoldable pub heap_read : (number : ℕ) → Option ℕ → Result ℕ TextFault
 heap_read number None = refused held.Form number
-heap_read number (Some cells) = if nat_le 512 cells && nat_le cells 1048576 then Ok cells else refused held.Limit number
+heap_read number (Some cells) = if nat_le least_cells cells && nat_le cells most_cells then Ok cells else refused held.Limit number
 
 -- the number of the last line
 abbrev pub last_number : (number : ℕ) → List (ℕ × List ℕ) → ℕ
