@@ -30,7 +30,7 @@ same_last [] (y ∷ ys) a b = shorter b ys (a == y)
 same_last (x ∷ xs) [] a b = longer a xs b (x == b)
 same_last (x ∷ xs) (y ∷ ys) a b = ap (λ t. (x == y) && t) (same_last xs ys a b) ∙ and_assoc (x == y) (bytes_eq xs ys) (b == a)
 
--- the last byte and what stands before it
+-- the last byte and what comes before it
 pub ended : (name bytes front : List ℕ) (last : ℕ) → bytes ≡ front ++ last ∷ [] → bytes_eq (name ++ 59 ∷ []) bytes ≡ (bytes_eq name front && (last == 59))
 ended name bytes front last e = ap (bytes_eq (name ++ 59 ∷ [])) e ∙ same_last name front 59 last
 

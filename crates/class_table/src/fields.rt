@@ -43,7 +43,7 @@ fn is_reference_to(name: &[u8], text: &[u8]) -> bool
     }
 }
 
-/// What stands before a last semicolon.
+/// What comes before a last semicolon.
 fn ended_name(bytes: &[u8]) -> Option<&[u8]>
     ensures { MatchOption result ((name : _) → bytes_eq (name ++ 59 ∷ []) bytes.now ≡ false) (λ name. bytes.now ≡ name.now ++ 59 ∷ []) }
 {

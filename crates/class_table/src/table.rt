@@ -154,7 +154,7 @@ impl ClassTable {
         }
     }
 
-    /// Whether an object of the first can stand where one of the second is wanted. The cost goes by the depth of the hierarchy.
+    /// Whether an object of the first can be used where one of the second is wanted. The cost goes by the depth of the hierarchy.
     pub fn assignable(&self, class: usize, other: usize) -> bool
         ensures { result ≡ assignable self.now class other }
     {

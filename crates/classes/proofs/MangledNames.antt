@@ -26,7 +26,7 @@ abbrev is_method_name : List ℕ → Bool
 is_method_name [] = false
 is_method_name (b ∷ bs) = is_letter b && list_all is_name_part bs
 
--- what stands between parts
+-- what comes between parts
 abbrev is_slash : ℕ → Bool
 is_slash c = c == 47
 

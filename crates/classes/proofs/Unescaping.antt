@@ -31,7 +31,7 @@ filter-some {A = A} test (Some x) h = go (test x) refl
     go true e = ap (λ t. if t then Some x else None) e
     go false e = let no : false ≡ true = sym (ap (λ t. is_some (if t then Some x else None)) e) ∙ h in absurd cc
 
--- a mangled name's class and method stand about the last slash
+-- a mangled name's class is before the last slash, and its method after it
 pub unmangle-parts : (name : List ℕ) → is_some (unmangle name) ≡ true → unmangle name ≡ split_last (unescaped (drop 5 name))
 unfolding unmangle
 unmangle-parts name h = filter-some (is_unmangled name) (split_last (unescaped (drop 5 name))) h

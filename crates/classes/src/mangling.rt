@@ -169,7 +169,7 @@ pub fn unmangle(alloc: Global, name: &[u8]) -> Result<Option<Native>, AllocError
     split(alloc, &path)
 }
 
-/// What stands before and after the last slash.
+/// What comes before and after the last slash.
 fn split(alloc: Global, path: &[u8]) -> Result<Option<Native>, AllocError>
     ensures { IfOk result (λ o. option_map (λ n. (n.class.items, n.method.items)) o ≡ split_last path.now) }
 {

@@ -148,7 +148,7 @@ piece_cons i code entry middle exit h piece lands =
 pub piece_one : (i : Instr) (entry exit : ℕ) → depth_after i entry ≡ Some exit → LandsWithin (i ∷ []) entry 0 entry i → IsPiece (i ∷ []) entry exit
 piece_one i entry exit h lands = piece_cons i [] entry exit exit h (piece_none exit) lands
 
--- the end of the code that stands after an instruction
+-- the end of the code that comes after an instruction
 pub lands_after : (i : Instr) (code : List Instr) (entry middle exit : ℕ) → depth_after i entry ≡ Some middle → depths code middle ≡ Some exit → Reaches (i ∷ code) entry (0 + 1 + length code) exit
 lands_after i code entry middle exit h k = reaches_end (i ∷ code) entry exit (0 + 1 + length code) (ap (option_and_then (depths code)) h ∙ k) (omega arith)
 

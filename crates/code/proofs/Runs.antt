@@ -103,7 +103,7 @@ module _ (code : List Instr) (place : ℕ) where
 
 -- ---- in valid code
 
--- something stands after an instruction that doesn't leave
+-- something comes after an instruction that doesn't leave
 inside_or_last : (code : List Instr) (place : ℕ) (i : Instr) (b : Bool) → EndsByLeaving code → slice_get code place ≡ Some i → (Leaves i → ⊥) → nat_lt (place + 1) (length code) ≡ b → place + 1 < length code
 inside_or_last code place i true ends at stays h = ltb-true (place + 1) (length code) h
 inside_or_last code place i false ends at stays h =

@@ -65,7 +65,7 @@ fn words_taken(operands: &[Operand]) -> usize
     }
 }
 
-/// So many words less.
+/// This many words less, where there are as many.
 fn fewer(taken: usize, depth: usize) -> Option<usize>
     ensures { result ≡ with_fewer taken depth }
 {

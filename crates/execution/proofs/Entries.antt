@@ -99,7 +99,7 @@ statics_in items = filter_map (elim [ StaticItem s ↦ Some s | FunctionItem f �
 abbrev functions_in : List Item → List Function
 functions_in items = filter_map (elim [ StaticItem s ↦ None | FunctionItem f ↦ Some f ]) items
 
--- the code of a function, where these statics stand in front of the items
+-- the code of a function, where these statics come before the items
 code_among : (front : List Static) (statics : Known) (items : List Item) (codes : List Listing) (n : ℕ) (f : Function) → AreFirst statics front → AreCodesOf statics items codes → slice_get (functions_in items) n ≡ Some f
     → HasCode (front ++ statics_in items) codes n f
 code_among front statics [] [] n f placed h e = absurd (cc)
@@ -118,7 +118,7 @@ code_of p n f lowered e = code_among [] [] (unit_tree p.unit).items p.codes n f 
 
 -- ---- statics
 
--- the statics that are known stand among those shared, each at its place
+-- the statics that are known are among those shared, each at its place
 statics_shared : (shared : Shared) (all : List Static) (codes : List Listing) (n : ℕ) (f : Function) (h : HasCode all codes n f) → map (λ (s : Identifier × StaticReference). s.0) shared.statics ≡ names_of all → AreShared h.statics shared
 statics_shared shared all codes n f h named x slot at =
     let first : name_place x (names_of h.first) ≡ Some slot.index = sym (h.placed.placed x) ∙ ap (option_map (λ (t : Slot). t.index)) at in

@@ -260,7 +260,7 @@ others_put kind x own vs y other = by_test (bytes_eq y x) refl
 put_here : (kind : VariableKind) (x : Identifier) (v : Variable) (own : Owners) (vs : Variables) → put_owners (Declared kind x) own (assign x v vs) x ≡ level_held (Some v)
 put_here kind x v own vs = ap (λ (b : Bool). if b then level_held (lookup x (assign x v vs)) else own x) ((bytes_eq-Decides x x).1 refl) ∙ ap level_held (lookup_same x v vs)
 
--- a call stands where fewer references are variables' own
+-- a call stands for its tasks also where fewer references are variables' own
 fewer_stands : (p : Lowered) (classes : Classes) (space : Space) (call : Activation) (own own' : Owners) (shared : Shared) (s : source.Thread) (frames : List source.Frame) (tasks : List Task) → ((x : Identifier) (level : ℕ) → own' x ≡ Some level → own x ≡ Some level)
     → CallStands p classes space call (visible_to own shared s) frames tasks → CallStands p classes space call (visible_to own' shared s) frames tasks
 fewer_stands p classes space call own own' shared s frames tasks among h = record {

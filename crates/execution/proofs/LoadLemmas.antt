@@ -28,14 +28,14 @@ use Rattle.world.specs.Views.{object_value_view}
 use Rattle.world.specs.WorldRules.{is_in_range}
 use Rattle.world.proofs.LoadedWorlds.{class_within, passes_at}
 use Rattle.source.specs.Activation.{class_of_function, function_at}
-use Rattle.source.specs.Load.{call_loads, is_callable, fits_parameter, fit_parameters}
+use Rattle.source.specs.Load.{call_loads, is_callable, fits_parameter, fit_parameters, refused_calls}
 use Rattle.lowered.specs.Lowered.{Lowered}
 use Rattle.lowered.specs.Slots.{ArgumentFits, ArgumentsFit}
 use Rattle.execution.specs.declared.thread.PendingCall.{PendingCall}
 use Rattle.execution.specs.ThreadAgrees.{CallAgrees, CallsAgree}
 use Rattle.execution.proofs.Lists.{drop_next}
 use Rattle.texts.proofs.WordLaws.{both_true}
-use Rattle.execution.specs.Loading.{IsNumberOf, IsCallOf, refused_calls}
+use Rattle.execution.specs.Loading.{IsNumberOf, IsCallOf}
 
 -- ---- functions
 

@@ -11,6 +11,7 @@ use Rattle.source.specs.World.{Invocation}
 use Rattle.source.specs.Start.{waiting_thread}
 use Rattle.source.specs.Thread as source
 use Rattle.source.specs.Thread.{Shared}
+use Rattle.source.specs.Load.{refused_calls}
 use Rattle.safety.specs.Owners.{Owners, AllOwners}
 use Rattle.lowered.specs.Lowered.{Lowered}
 use Rattle.execution.specs.declared.fault.LoadFault.{LoadFault}
@@ -18,7 +19,7 @@ use Rattle.execution.specs.declared.fault.LoadFault.TheVariants.{DoesNotFit, Mem
 use Rattle.execution.specs.declared.thread.Thread.{Thread}
 use Rattle.execution.specs.ThreadAgrees.{ThreadAgrees, ThreadsAgree}
 use Rattle.execution.proofs.Lists.{drop_next}
-use Rattle.execution.specs.Loading.{IsFirstOf, refused_calls}
+use Rattle.execution.specs.Loading.{IsFirstOf}
 
 -- the calls of each thread in memory
 abbrev pub called : List (Vec Invocation) → List (List Invocation)

@@ -125,7 +125,7 @@ module _ (p : Lowered) (w : World) (old : Space) (lent : BuffersInUse) (k : ℕ)
 
 -- ---- a return
 
--- how a thread stands that has these calls to come, with an exception of this class pending or none
+-- the ending of a thread that has these calls to come, with an exception of this class pending or none
 pub ending_of : Option ℕ → List Invocation → source.Ending
 ending_of (Some class) calls = source.Uncaught class
 ending_of None [] = source.Ended

@@ -12,7 +12,7 @@ use Rattle.jni_calls.specs.Traps.{trap_view}
 use Rattle.execution.specs.declared.execute.Event.{Event}
 use Rattle.execution.specs.declared.execute.Event.TheVariants as event
 
--- the call stands at a place, with these operands, number slots, keys and field IDs, and its table as it was
+-- the call is at a place, with these operands, number slots, keys and field IDs, and its table as it was
 pub record HasMoved (call after : Activation) (to : ℕ) (words slots : List ℕ) (keys : List (Option ℕ)) (handles : List (Option FieldHandle)) : Type 0 where
   pub function : after.function ≡ call.function
   pub place : after.place ≡ to

@@ -13,12 +13,12 @@ ghost use Rattle.world.specs.SoundWorlds.{has_call};
 ghost use Rattle.world.specs.Views.{object_value_view};
 ghost use Rattle.source.specs.World.{loaded_objects};
 ghost use Rattle.source.specs.Activation.{function_at};
-ghost use Rattle.source.specs.Load.{fits_parameter, fit_parameters};
+ghost use Rattle.source.specs.Load.{fits_parameter, fit_parameters, refused_calls};
 ghost use Rattle.source.specs.Start.{waiting_thread};
 ghost use Rattle.source.specs.Thread.{Shared};
 ghost use Rattle.safety.specs.Owners.{Owners, AllOwners};
 ghost use Rattle.execution.specs.ThreadAgrees.{ThreadAgrees, ThreadsAgree};
-ghost use Rattle.execution.specs.Loading.{IsNumberOf, IsCallOf, IsFirstOf, refused_calls};
+ghost use Rattle.execution.specs.Loading.{IsNumberOf, IsCallOf, IsFirstOf};
 
 use crate::fault::LoadFault;
 use crate::thread::{Ending, PendingCall, Thread};

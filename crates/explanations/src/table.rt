@@ -119,7 +119,7 @@ static FAULTS_30: [Explanation; 9] = [
     Explanation {
         number: 33,
         title: b"a buffer is lost",
-        text: b"fault 33: a buffer is lost\n\nA Get is into a variable that holds no buffer, and a block ends with the buffers that it declares released (JNI Specification, chapter 4, \"Array Operations\"). Release it\nfirst.\n\n    JNIEXPORT void JNICALL Java_A_f(JNIEnv *env, jclass cls, jintArray array)\n    {\n        jint *numbers = (*env)->GetIntArrayElements(env, array, NULL);\n        numbers = (*env)->GetIntArrayElements(env, array, NULL);\n        if (numbers == NULL) {\n            return;\n        }\n        (*env)->ReleaseIntArrayElements(env, array, numbers, JNI_ABORT);\n        return;\n    }\n\nfault 33 line 4 (today 24, since its functions can't be called yet)\n",
+        text: b"fault 33: a buffer is lost\n\nA Get goes into a variable that holds no buffer, and the buffers that a block declares have to be released before it ends (JNI Specification, chapter 4, \"Array Operations\"). Release it\nfirst.\n\n    JNIEXPORT void JNICALL Java_A_f(JNIEnv *env, jclass cls, jintArray array)\n    {\n        jint *numbers = (*env)->GetIntArrayElements(env, array, NULL);\n        numbers = (*env)->GetIntArrayElements(env, array, NULL);\n        if (numbers == NULL) {\n            return;\n        }\n        (*env)->ReleaseIntArrayElements(env, array, numbers, JNI_ABORT);\n        return;\n    }\n\nfault 33 line 4 (today 24, since its functions can't be called yet)\n",
     },
     Explanation {
         number: 34,
@@ -163,7 +163,7 @@ static FAULTS_40: [Explanation; 3] = [
     Explanation {
         number: 40,
         title: b"ways that meet don't agree",
-        text: b"fault 40: ways that meet don't agree\n\nWhere the ways of an if join, and at the end of a while's body, each variable is in the state that it has on the other way, and as many frames are pushed: what may be done after it\ncan't hang on the way taken. The line is that of the if or while. Do the same on the other way.\n\n    JNIEXPORT void JNICALL Java_A_f(JNIEnv *env, jclass cls, jobject object, jint n)\n    {\n        if (n != 0) {\n            (*env)->DeleteLocalRef(env, object);\n        }\n        return;\n    }\n\nfault 40 line 3\n",
+        text: b"fault 40: ways that meet don't agree\n\nWhere the ways of an if join, each variable has to be in the same state on both, and the same number of frames pushed; at the end of a while's body, the same as before the loop. What may be done\nafter it can't depend on the way that was taken. The line is that of the if or while. Do the same on the other way.\n\n    JNIEXPORT void JNICALL Java_A_f(JNIEnv *env, jclass cls, jobject object, jint n)\n    {\n        if (n != 0) {\n            (*env)->DeleteLocalRef(env, object);\n        }\n        return;\n    }\n\nfault 40 line 3\n",
     },
     Explanation {
         number: 41,
@@ -186,7 +186,7 @@ fn faults_40() -> &'static [Explanation] {
 static FAULTS_50: [Explanation; 1] = [Explanation {
     number: 51,
     title: b"a function is too long",
-    text: b"fault 51: a function is too long\n\nIts code has more than 65,535 instructions, which are its steps, each counted once. It has line 0. Split the function.\n\n    JNIEXPORT void JNICALL Java_A_f(JNIEnv *env, jclass cls)\n    {\n        put_jint(1);\n        return;\n    }\n\nLine 3 for each number from 1 to 32768: fault 51 line 0\n",
+    text: b"fault 51: a function is too long\n\nThe function has more than 65,535 steps, each counted once, however often it is taken. The fault has line 0. Split the function.\n\n    JNIEXPORT void JNICALL Java_A_f(JNIEnv *env, jclass cls)\n    {\n        put_jint(1);\n        return;\n    }\n\nLine 3 for each number from 1 to 32768: fault 51 line 0\n",
 }];
 
 /// These, as a slice.
@@ -310,7 +310,7 @@ static TRAPS_0: [Explanation; 9] = [
     Explanation {
         number: 6,
         title: b"an object isn't of the kind that is wanted",
-        text: b"trap 6: an object isn't of the kind that is wanted\n\nWhat is wanted stands with each function (JNI Specification, chapter 4): an array, for GetArrayLength; a class object, for GetSuperclass; an object that has the field, of the function's type, for\nGetIntField; a class whose objects no other function makes, for AllocObject. Give an object of that kind.\n\n    JNIEXPORT void JNICALL Java_A_f(JNIEnv *env, jclass cls, jobject object)\n    {\n        jint length = (*env)->GetArrayLength(env, object);\n        return;\n    }\n\n    heap 512\n    class A\n    thread Java_A_f class:A\n\nT1 trap 6 line 3\n",
+        text: b"trap 6: an object isn't of the kind that is wanted\n\nChapter 4 of the JNI Specification says with each function what is wanted: an array, for GetArrayLength; a class object, for GetSuperclass; an object that has the field, of the function's type, for\nGetIntField; a class whose objects no other function makes, for AllocObject. Give an object of that kind.\n\n    JNIEXPORT void JNICALL Java_A_f(JNIEnv *env, jclass cls, jobject object)\n    {\n        jint length = (*env)->GetArrayLength(env, object);\n        return;\n    }\n\n    heap 512\n    class A\n    thread Java_A_f class:A\n\nT1 trap 6 line 3\n",
     },
     Explanation {
         number: 7,

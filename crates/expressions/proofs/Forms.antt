@@ -3,7 +3,7 @@ use Rattle.std.proofs.Common.{ℕ, ◌+◌, ◌≤◌, List, [], ◌∷◌}
 use Rattle.syntax.specs.Tree.{Expr, Number, Named, Variable, Element, Prefix, Binary, Paren, Argument, Value, Text, AddressOf, RightSide, FromExpr, FromCall, Test, TestExpr, TestCall}
 use Rattle.syntax.specs.Limits.{operator_level, prefix_level, height}
 
--- The expression stands where operators of this level or tighter do. All associate to the left.
+-- The expression may be where operators of this level or tighter may. All associate to the left.
 abbrev pub IsLevelled : ℕ → Expr → Type 0
 IsLevelled least (Number value unsigned) = Unit {0}
 IsLevelled least (Named c) = Unit {0}

@@ -297,7 +297,7 @@ call_again room c ls rest h is =
     let f = expect_again (fixed.Mark marks.CloseParen) [] parts.0 rest parts.2 in
     rw (a.1, n, b.1, d.1, add-one (length d.0), e, f.1) (ap (call_read c) f.2)
 
--- what stands after the first two tokens of a call
+-- what comes after the first two tokens of a call
 abbrev call_after : Call → List Spelled
 call_after c = word words.Env ∷ mark marks.CloseParen ∷ mark marks.Arrow ∷ Anywhere (Name' c.function) ∷ mark marks.OpenParen ∷ word words.Env ∷ (argument_tokens c.arguments ++ mark marks.CloseParen ∷ [])
 

@@ -24,7 +24,7 @@ use Rattle.lexemes.proofs.Singles.{Begins, bind_ok, ok_is, chosen, begins_append
 use Rattle.lexemes.proofs.TypeWords.{constant_again, constant_is}
 use Rattle.expressions.proofs.Table.{operator_is, operator_again, operator_no_index, level_small, NoIndex, Closes, closes_mark}
 
--- an expression that stands at a operator_level stands at a looser one
+-- an expression that may be at a level may be at a looser one
 pub weaker : (e : Expr) (m n : ℕ) → n ≤ m → IsLevelled m e → IsLevelled n e
 weaker (Number value unsigned) m n le h = tt
 weaker (Named c) m n le h = h
@@ -59,7 +59,7 @@ pub record Takes (least : ℕ) (ls : List Lexed) (x : ReadExpr) : Type 0 where
 abbrev pub AllTakes : Reader → ℕ → Type 0
 AllTakes deep room = (least : ℕ) (ls : List Lexed) (x : ReadExpr) → deep least ls ≡ Ok x → Takes least ls x × (height x.0 < room)
 
--- an operand, which stands at each operator_level
+-- an operand, which may be at each level
 record TakesOperand (room : ℕ) (ls : List Lexed) (x : ReadExpr) : Type 0 where
   parts : Begins (expression x.0) ls x.2
   levelled : (least : ℕ) → IsLevelled least x.0
@@ -276,7 +276,7 @@ record Climbed (deep : Reader) (room least : ℕ) (ls : List Lexed) (e : Expr) (
   enough : room < height e + steps
   same : expr_by room deep least ls ≡ climb deep room least steps e (height e) rest
 
--- what stands one deeper is lower
+-- what is one deeper is lower
 under : (n room : ℕ) → 1 + n ≤ room → n < room
 under n room le = omega (arith, le)
 
@@ -511,7 +511,7 @@ index_reads room ls y e = index_takes (deeper room) room (deeper_takes room) ls 
 pub index_reads_again : (room : ℕ) (i : Expr) (ls rest : List Lexed) → Begins (index_tokens i) ls rest → IsLevelled 0 i → height i < room → index_at room ls ≡ Ok (i, height i, rest)
 index_reads_again room i ls rest h levelled low = index_again (deeper room) room (deeper_again room) i ls rest h levelled low
 
--- what stands after an index
+-- what comes after an index
 pub index_more : (i : Expr) (more : List Spelled) (ls rest : List Lexed) → Begins (index_tokens i ++ more) ls rest → Begins (mark marks.OpenBracket ∷ (expression i ++ mark marks.CloseBracket ∷ more)) ls rest
 index_more i more ls rest h = subst (λ (es : List Spelled). Begins (mark marks.OpenBracket ∷ es) ls rest) (append_assoc (expression i) (mark marks.CloseBracket ∷ []) more) h
 

@@ -95,7 +95,7 @@ pub operator_first : (m : Meaning) (es : List Spelled) (ls rest : List Lexed) �
 operator_first m es [] rest h = absurd h
 operator_first m es (l ∷ ls) rest h = ap binary_of h.0
 
--- ---- what may stand after an expression
+-- ---- what may come after an expression
 
 -- no index
 abbrev pub NoIndex : List Lexed → Type 0

@@ -67,7 +67,7 @@ joined_by op left read = read >>= λ r. Ok (Binary op left.0 r.0, 1 + max left.1
 
 -- ---- operands
 
--- what stands in an operand before an expression inside it
+-- what comes in an operand before an expression inside it
 pub data Opening : Type 0 where
   OfPrefix : PrefixOp → Opening
   OfParen : Opening
@@ -88,7 +88,7 @@ level_inside (OfPrefix op) = prefix_level
 level_inside OfParen = 0
 level_inside (OfElement name) = 0
 
--- an expression inside an operand, with what stands around it
+-- an expression inside an operand, with what is around it
 abbrev pub around : Opening → Expr → Expr
 around (OfPrefix op) e = Prefix op e
 around OfParen e = Paren e

@@ -22,7 +22,7 @@ use syntax::{BinaryOp, Constant, Expr, Name, PrefixOp};
 /// An expression, its height, and what comes after it.
 type ReadExpr<'t> = (Expr, u32, Cursor<'t>);
 
-/// What stands in an operand before an expression inside it.
+/// What comes in an operand before an expression inside it.
 #[derive(Clone, Copy)]
 enum Opening<'t> {
     Prefix(PrefixOp),
@@ -161,7 +161,7 @@ fn primary(alloc: Global, lexemes: Cursor<'_>) -> Result<ReadExpr<'_>, ParseFaul
     }
 }
 
-/// An expression inside an operand, with what stands around it.
+/// An expression inside an operand, with what is around it.
 fn around(alloc: Global, opening: Opening<'_>, inside: Expr) -> Result<Expr, AllocError>
     ensures { IfOk result (λ e. expr_tree e ≡ around (opening_view opening.entry) (expr_tree inside)) }
 {
@@ -231,7 +231,7 @@ fn operand_of<'t>(
     Ok((operand, 1 + height, rest))
 }
 
-/// What stands to the left of an operator, and what was read after it.
+/// What is to the left of an operator, and what was read after it.
 #[inline(always)]
 fn joined<'t>(
     alloc: Global,

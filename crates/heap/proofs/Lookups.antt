@@ -117,7 +117,7 @@ address_above from (b ∷ bs) cells (suc i) a h e =
     let later : block_end b ≤ a = address_above (block_end b) bs cells i a h.1 e in
     omega arith
 
--- at the address of a place stands the block of that place, since no two have one address
+-- at the address of a place is the block of that place, since no two have one address
 pub found_at_place : (from : ℕ) (bs : List Block) (cells i a : ℕ) → LieFrom from bs cells → slice_get (map (λ (b : Block). b.address) bs) i ≡ Some a → find (λ (b : Block). eqb b.address a) bs ≡ slice_get bs i
 found_at_place from [] cells i a h e = absurd (cc)
 found_at_place from (b ∷ bs) cells zero a h e =

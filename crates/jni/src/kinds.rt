@@ -20,9 +20,9 @@ pub enum ParameterKind {
     StringObject,
     /// An array of numbers.
     NumberArray(ElementType),
-    /// A local reference that is meant itself; it may be NULL.
+    /// A local reference: the variable itself, not its value, which may be NULL.
     LocalVariable,
-    /// A static that is meant itself; it may be NULL.
+    /// A static: the variable itself, not its value, which may be NULL.
     StaticVariable,
     /// A field ID.
     FieldID,

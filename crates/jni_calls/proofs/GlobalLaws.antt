@@ -138,7 +138,7 @@ put_back m (k ∷ names) n h =
     ∙ exchanged n m k (without_one m names)
     ∙ behind n k (m ∷ without_one m names) names (put_back m names n there))
 
--- what is equally often behind a name
+-- what occurs equally often with a name in front does so without it
 in_front : (n m : ℕ) (xs ys : List ℕ) → times n (m ∷ xs) ≡ times n (m ∷ ys) → times n xs ≡ times n ys
 in_front n m xs ys h = by_test (n == m) h
   where

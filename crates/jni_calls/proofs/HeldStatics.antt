@@ -30,7 +30,7 @@ module _ {P : Type 0} (x y : Identifier) (o : Option ℕ) (i : ℕ) where
       by_place None k go = absurd (cc)
       by_place (Some j) k go = go j refl (let same : suc j ≡ i = cc in sym same)
 
--- a name with a place stands among the statics
+-- a name with a place is among the statics
 pub place_below : (x : Identifier) (statics : Statics) (i : ℕ) → static_index x statics ≡ Some i → i < length statics
 place_below x [] i h = absurd (cc)
 place_below x ((y, r) ∷ statics) i h =

@@ -176,7 +176,7 @@ abbrev pub Fits : Spelled → Lexed → Type 0
 Fits (Anywhere meaning) l = l.meaning ≡ meaning
 Fits (OnLine line meaning) l = (l.meaning ≡ meaning) × (l.line ≡ line)
 
--- the lexemes begin as is spelled, and the rest stands after
+-- the lexemes begin as is spelled, and the rest comes after
 abbrev pub Begins : List Spelled → List Lexed → List Lexed → Type 0
 Begins [] ls rest = ls ≡ rest
 Begins (e ∷ es) [] rest = ⊥
@@ -192,7 +192,7 @@ begins_split [] b ls rest h = (ls, refl, h)
 begins_split (e ∷ a) b [] rest h = absurd h
 begins_split (e ∷ a) b (l ∷ ls) rest h = let w = begins_split a b ls rest h.1 in (w.0, (h.0, w.1), w.2)
 
--- a first lexeme that may stand on any line
+-- a first lexeme that may be on any line
 pub first_takes : (m : Meaning) (es : List Spelled) (ls rest : List Lexed) → Begins (Anywhere m ∷ []) ls (rest_of ls) → Begins es (rest_of ls) rest → Begins (Anywhere m ∷ es) ls rest
 first_takes m es [] rest h k = h
 first_takes m es (l ∷ ls) rest h k = (h.0, k)
@@ -223,7 +223,7 @@ unfolding expect
 expect_again f es [] rest h = absurd h
 expect_again f es (l ∷ ls) rest h = (ls, rw (h.0, same_itself f) refl, h.1)
 
--- a fixed lexeme, and what stands after it
+-- a fixed lexeme, and what comes after it
 pub then_takes : (f : Fixed) (es : List Spelled) (ls mid rest : List Lexed) → expect f ls ≡ Ok mid → Begins es mid rest → Begins (Anywhere (Fixed' f) ∷ es) ls rest
 then_takes f es ls mid rest e h = begins_append (Anywhere (Fixed' f) ∷ []) es ls mid rest (expect_takes f ls mid e) h
 

@@ -189,7 +189,7 @@ pub result_type_again : (t : ResultType) (es : List Spelled) (ls rest : List Lex
 result_type_again t es [] rest h = absurd h
 result_type_again t es (l ∷ ls) rest h = rw h.0 (result_again t)
 
--- ---- the type that stands first in a line
+-- ---- the type that comes first in a line
 
 pub element_type_takes : (t : ElementType) (es : List Spelled) (ls rest : List Lexed) → element_type_at ls ≡ Some t → Begins es (rest_of ls) rest → Begins (OnLine (line_at ls) (Fixed' (fixed.Word (element_word t))) ∷ es) ls rest
 element_type_takes t es ls rest e h =

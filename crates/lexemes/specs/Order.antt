@@ -1,4 +1,4 @@
--- Tokens that stand in a text.
+-- Tokens that are in a text.
 use Rattle.std.specs.Prelude.{ℕ, ◌≤◌, List, [], ◌∷◌, length}
 use Rattle.std.specs.Coded.{×_prop, Unit-prop, le_prop}
 use Rattle.scan.specs.declared.token.Token.{Token}

@@ -34,7 +34,7 @@ pub enum Shape {
     Nothing,
 }
 
-/// What stands between the quotes of a string.
+/// What is between the quotes of a string.
 fn between_quotes(bytes: &[u8]) -> &[u8]
     ensures { result.now ≡ between_quotes bytes.now }
 {
@@ -109,7 +109,7 @@ fn next(tokens: &[Token], at: usize) -> usize
     at
 }
 
-/// What stands after the first lexeme.
+/// What comes after the first lexeme.
 #[inline(always)]
 pub fn rest_of(rest: Cursor<'_>) -> Cursor<'_>
     ensures { views result ≡ rest_of (views rest.entry) }
@@ -145,7 +145,7 @@ fn line_of_end(tokens: &[Token], at: usize) -> usize
     token_in(tokens, tokens.len() - 1).line as usize
 }
 
-/// The fault at the first of these lexemes, which can't stand there.
+/// The fault at the first of these lexemes, which can't come there.
 pub fn unexpected(rest: Cursor<'_>) -> ParseFault
     ensures { result ≡ fault_at NoForm (views rest.entry) }
 {
@@ -162,7 +162,7 @@ pub fn fault_at(fault: Fault, rest: Cursor<'_>) -> ParseFault
     }
 }
 
-/// What stands after this lexeme, which has to come next.
+/// What comes after this lexeme, which has to come next.
 #[inline(always)]
 #[tactic(auto, unfolding(crate::specs::Lexemes::expect))]
 pub fn expect(fixed: Fixed, rest: Cursor<'_>) -> Result<Cursor<'_>, ParseFault>
@@ -278,7 +278,7 @@ pub fn text_at(rest: Cursor<'_>) -> Option<&[u8]>
     }
 }
 
-/// A number without `u`, from the least to the most, and what stands after it.
+/// A number without `u`, from the least to the most, and what comes after it.
 #[tactic(auto, unfolding(crate::specs::Reading::number_at))]
 pub fn number_at(least: u32, most: u32, rest: Cursor<'_>) -> Result<(u32, Cursor<'_>), ParseFault>
     ensures { Gives (λ x. (x.0, views x.1)) result (number_at least most (views rest.entry)) }
@@ -294,7 +294,7 @@ pub fn number_at(least: u32, most: u32, rest: Cursor<'_>) -> Result<(u32, Cursor
     }
 }
 
-/// A name's bytes, and what stands after it.
+/// A name's bytes, and what comes after it.
 #[tactic(auto, unfolding(crate::specs::Lexemes::name_at))]
 pub fn name_at(rest: Cursor<'_>) -> Result<(&[u8], Cursor<'_>), ParseFault>
     ensures { Gives (λ x. (x.0.now, views x.1)) result (name_at (views rest.entry)) }

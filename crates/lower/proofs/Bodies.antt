@@ -1,4 +1,4 @@
--- The code of a block stands for its statements, wherever it stands.
+-- The code of a block stands for its statements, wherever it is.
 use Rattle.code.specs.declared.instr.Instr.{Instr}
 use Rattle.code.specs.Call as calls
 use Rattle.lower.proofs.CallSteps.{untouched_are_begun, untouched_are_held}
@@ -305,7 +305,7 @@ module _ (code : Listing) (known : Known) (line place : ℕ) (tail : List Task) 
 self_among : (x : Identifier) (s : Slot) (known : Known) → AreAmong ((x, s) ∷ known) ((x, s) ∷ known)
 self_among x s known = all_among ((x, s) ∷ known)
 
--- what a statement's code stands for, where the rest of the tasks stands after it
+-- what a statement's code stands for, where the rest of the tasks comes after it
 abbrev pub StmtBegins : Listing → Stmt → Type 0
 StmtBegins code s =
     (l : Layout) (place : ℕ) (tail : List Task) → HasAt code.instrs place (stmt_code l s) → StmtFits l s → IsLaidOut l.known l.slots → HasRoomFor code.slots (layout_after l s).slots
@@ -493,7 +493,7 @@ stmt_begins code (tree.ReturnValue line e) l place tail at fits laid room furthe
 
 -- ---- blocks
 
--- Code that stands at a place stands for its statements and what is to do after them, where all names are known that were
+-- Code at a place stands for its statements and what is to do after them, where all names are known that were
 -- known in front of the block.
 pub begins : (code : Listing) (b : Block) (l : Layout) (place : ℕ) (tail : List Task) → BlockStands code l place b
     → ((names : Known) → AreAmong l.known names → TasksStand code names (place + length (block_code l b)) [] tail) → TasksStand code l.known place [] (tasks_of b ++ tail)

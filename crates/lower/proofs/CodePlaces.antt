@@ -1,4 +1,4 @@
--- What stands at a place of the code.
+-- What is at a place of the code.
 use Rattle.std.proofs.Common.{◌≡◌, ℕ, ◌+◌, List, [], ◌∷◌, ◌++◌, length, Some, refl, subst, arith, append_assoc, length-append}
 use Rattle.std.specs.Prelude.{slice_get}
 use Rattle.code.specs.declared.instr.Instr.{Instr}

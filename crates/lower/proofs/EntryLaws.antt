@@ -68,21 +68,21 @@ ReferenceFound slots s v = (q : Reference) × (i : ℕ) × (s ≡ record { sort 
 abbrev Found : Slots → Slot → Option Variable → Type 0
 Found slots s v = NumberFound slots s v ⊎ ReferenceFound slots s v
 
--- a number for a parameter, and what stands after it
+-- a number for a parameter, and what comes after it
 number_argument : (slots : Slots) (n r : ℕ) (z : ℤ) (words : List ℕ) (references : List Reference) (type : ParameterType) → ArgumentFits type (Number z) → HasFrom slots n r (cast_unsigned w32 z ∷ words) references
     → Found slots (parameter_slot type n r) (Some (Scalar (Int z))) × HasFrom slots (numbers_after type n) (references_after type r) words references
 number_argument slots n r z words references IntParameter fits h =
     (inl (z, n, refl, refl, fits, rw (h.numbers, ← h.numbers_count) (get-append_seam h.numbers_front (words ++ h.numbers_back) (cast_unsigned w32 z))), after_number slots n r (cast_unsigned w32 z) words references h)
 number_argument slots n r z words references (ReferenceParameter t) fits h = absurd fits
 
--- a reference for a parameter, and what stands after it
+-- a reference for a parameter, and what comes after it
 reference_argument : (slots : Slots) (n r : ℕ) (q : Reference) (words : List ℕ) (references : List Reference) (type : ParameterType) → ArgumentFits type (Refers q) → HasFrom slots n r words (q ∷ references)
     → Found slots (parameter_slot type n r) (Some (LocalRef 1 q)) × HasFrom slots (numbers_after type n) (references_after type r) words references
 reference_argument slots n r q words references IntParameter fits h = absurd fits
 reference_argument slots n r q words references (ReferenceParameter t) fits h =
     (inr (q, r, refl, refl, rw (h.held, ← h.references_count) (get-append_seam h.references_front (references ++ h.references_back) q)), after_reference slots n r q words references h)
 
--- the name that is looked for is the first, or it stands after
+-- the name that is looked for is the first, or it comes later
 at_name : (slots : Slots) (b : Bool) (slot s : Slot) (v : Variable) (slot_after : Option Slot) (variable_after : Option Variable) → Found slots slot (Some v) → (slot_after ≡ Some s → Found slots s variable_after)
     → (if b then Some slot else slot_after) ≡ Some s → Found slots s (if b then Some v else variable_after)
 at_name slots true slot s v slot_after variable_after here further h = let same : slot ≡ s = cc in subst (λ (t : Slot). Found slots t (Some v)) same here

@@ -267,7 +267,7 @@ low (Paren a) = let h = low a in omega (arith, h)
 
 -- ---- expressions
 
--- its elements are those of arrays, its numbers are in range, and not too much stands inside one another
+-- its elements are those of arrays, its numbers are in range, and it isn't nested too deep
 pub record IsFine (known : Known) (e : Expr) : Type 0 where
   pub elements : ElementsFit known e
   pub range : numbers_in_range e ≡ true

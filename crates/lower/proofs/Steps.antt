@@ -49,9 +49,9 @@ at_way P place (plain.Trap t line) skipped h k = absurd h
 module _ (code : Listing) (known : Known) (place : ℕ) (stack : List ℕ) (slots : Slots) (visible : Visible) (shows : Shows code known visible slots) where
   -- ---- a step inside an expression
 
-  -- The expression is on the stack in front of `base`, and its instructions stand in front of `after`.
+  -- The expression is on the stack in front of `base`, and its instructions come before `after`.
   module _ (line : ℕ) (t : Term) (s : Sort) (base : List ℕ) (rest_of : List Instr) (task : Term → Task) (rest : List Task) where
-    -- what stands at the place that a step leads to
+    -- what is at the place that a step leads to
     abbrev Further : Type 0
     Further =
         (p : ℕ) (u : Term) → TermHasSort known u s → IsBegun u → HasAt code.instrs p (term_code known line u ++ rest_of) → p + length (term_code known line u) ≡ place + length (term_code known line t)

@@ -156,7 +156,7 @@ positive (suc n) h = omega arith
 
 -- A term in a statement on this line, where these names are known and the slots show what can be seen.
 module _ (known : Known) (line : ℕ) (slots : Slots) (visible : Visible) where
-  -- the instruction does what the term's step does; `more` stands after it
+  -- the instruction does what the term's step does; `more` comes after it
   pub record TermGoes (t : Term) (s : Sort) (here : Instr) (more : List Instr) : Type 0 where
     pub next : Term
     pub is : reduce visible.sight t ≡ Gives next

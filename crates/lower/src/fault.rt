@@ -9,8 +9,8 @@ use thiserror::Error;
 /// Why `lower` gave no program.
 #[derive(Clone, Copy, Debug, Error)]
 pub enum LowerFault {
-    /// Fault 51: a function has more than 65,535 instructions for steps of its source.
-    #[error("a function has more than 65535 instructions")]
+    /// Fault 51: a function has more than 65,535 steps, counted on its tree.
+    #[error("a function has more than 65535 steps")]
     TooLong,
     /// Fault 9: host memory was refused.
     #[error("out of memory")]

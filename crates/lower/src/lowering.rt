@@ -26,7 +26,7 @@ pub(crate) const MOST_STEPS: usize = 65_535;
 /// The program's code, of which each instruction is one step of the source.
 ///
 /// `TooLong` exactly where a function has more than 65,535 steps, counted on its tree. Instructions count with 32 bits, so
-/// `Memory` is also answered where a statement stands past line 4,294,967,295, where a function takes more slots, as none of an
+/// `Memory` is also answered where a statement is past line 4,294,967,295, where a function takes more slots, as none of an
 /// accepted program does, and where a jump leads over more instructions, as it can in a function alone that is too long.
 pub fn lower<'a>(alloc: Global, checked: &'a Checked) -> Result<Program<'a>, LowerFault>
     ensures ok { IfOk result (λ p. p.unit ≡ checked.now) }

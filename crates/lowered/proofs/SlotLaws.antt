@@ -44,7 +44,7 @@ get-set_other (x ∷ xs) (suc i) (suc j) w other = get-set_other xs i j w (λ e.
 
 -- ---- names
 
--- the name that is looked for is the first, or it stands after
+-- the name that is looked for is the first, or it comes later
 pub first_or_after : (x y : Identifier) (s t : Slot) (known : Known) → (P : Type 0) → (y ≡ x → s ≡ t → P) → (y ≢ x → lookup y known ≡ Some t → P) → lookup y ((x, s) ∷ known) ≡ Some t → P
 first_or_after x y s t known P here further at =
     elim (bytes_eq y x) as (λ b. bytes_eq y x ≡ b → (if b then Some s else lookup y known) ≡ Some t → P) [

@@ -186,7 +186,7 @@ mode_code CopyBackAndFree = mode.CopyBackAndFree
 mode_code CopyBack = mode.CopyBack
 mode_code FreeUncopied = mode.FreeUncopied
 
--- where an argument is found: a number is on the stack, a text is the call's own, a mode stands in the operand, and all else
+-- where an argument is found: a number is on the stack, a text is the call's own, a mode is in the operand, and all else
 -- is a variable or NULL
 abbrev pub operand_code : Known → ParameterKind × Argument → Operand
 operand_code known (IntNumber, tree.Value e) = operand.Number

@@ -228,7 +228,7 @@ abbrev pub static_index : Identifier → Statics → Option ℕ
 static_index x [] = None
 static_index x ((y, h) ∷ rest) = let further = static_index x rest in if bytes_eq x y then Some 0 else option_map suc further
 
--- a static stands at this place among them
+-- a static is at this place among them
 pub record IsStaticAt (statics : Statics) (x : Identifier) (i : ℕ) : Type 0 where
   pub place : static_index x statics ≡ Some i
   pub held : StaticReference
@@ -310,8 +310,8 @@ argument_reference (Refers r) = Some r
 abbrev pub AreOfLowest : (Identifier → Option ℕ) → Type 0
 AreOfLowest own = (x : Identifier) (level : ℕ) → own x ≡ Some level → level ≡ 1
 
--- The slots at the entry: the words of the numbers, and the class and then the references, each kind in order. After them
--- stands anything. Each is the variable's own then, in the one frame that there is.
+-- The slots at the entry: the words of the numbers, and the class and then the references, each kind in order. What comes
+-- after them is arbitrary. Each is the variable's own then, in the one frame that there is.
 pub record EntrySlots (code : Listing) (class : ℕ) (arguments : List ObjectValue) (slots : Slots) : Type 0 where
   pub numbers : length slots.numbers ≡ code.slots.numbers
   pub more_numbers : List ℕ
@@ -327,6 +327,6 @@ pub record HasRoom (code : Listing) (arguments : List ObjectValue) : Type 0 wher
   pub numbers : length (filter_map argument_word arguments) ≤ code.slots.numbers
   pub references : length (filter_map argument_reference arguments) < code.slots.references
 
--- each of these statics stands among those shared, at the place that is its slot's
+-- each of these statics is among those shared, at the place that is its slot's
 abbrev pub AreShared : (statics : Known) → Shared → Type 0
 AreShared statics shared = (x : Identifier) (s : Slot) → lookup x statics ≡ Some s → IsStaticAt shared.statics x s.index

@@ -64,7 +64,7 @@ pub record IsUnderWay (known : Known) (s : Sort) (t : Term) (stack : List ℕ) :
 
 -- ---- places
 
--- these instructions stand at this place
+-- these instructions are at this place
 abbrev pub HasAt : List Instr → (place : ℕ) → List Instr → Type 0
 HasAt instrs place [] = Unit {0}
 HasAt instrs place (i ∷ rest) = (slice_get instrs place ≡ Some i) × HasAt instrs (place + 1) rest
@@ -86,7 +86,7 @@ pub record IsSlotOf (code : Listing) (known : Known) (x : Identifier) (s : Slot)
   pub within : IndexWithin code.slots s.sort s.index
   pub own : IsOwn known x s
 
--- an expression and the instructions after it stand at the place
+-- an expression and the instructions after it are at the place
 abbrev pub NumberStands : Listing → Known → (place : ℕ) → (stack : List ℕ) → (line : ℕ) → Sort → Term → (after : List Instr) → Type 0
 NumberStands code known place stack line s t after = IsUnderWay known s t stack × HasAt code.instrs place (term_code known line t ++ after)
 
@@ -159,7 +159,7 @@ pub record MakeArrayStands (code : Listing) (known : Known) (place : ℕ) (stack
 
 -- ---- blocks
 
--- the code of a block may stand here, with these slots
+-- the code of a block may be here, with these slots
 pub record BlockStands (code : Listing) (l : Layout) (place : ℕ) (b : Block) : Type 0 where
   pub at : HasAt code.instrs place (block_code l b)
   pub fits : BlockFits l b
@@ -313,7 +313,7 @@ pub record StaticStands (known : Known) (after : After) (place : ℕ) (i : ℕ) 
   pub there : lookup name known ≡ Some (record { sort = Global; index = i })
   pub further : ComesAfter after place known
 
--- it is the test of an `if`, which stands there with either truth on the stack
+-- it is the test of an `if`, which is there with either truth on the stack
 pub record TestStands (code : Listing) (known : Known) (after : After) (place : ℕ) (line : ℕ) (target : Target) : Type 0 where
   pub then' : Block
   pub else' : Block
@@ -412,7 +412,7 @@ TaskStands code known place stack after Return = (stack ≡ []) × (slice_get co
 TaskStands code known place stack after (ReturnValue line t) = ReturnStands code known place stack line t
 TaskStands code known place stack after Impossible = ⊥
 
--- so it does for tasks one after another; what stands after a return is never done
+-- so it does for tasks one after another; what comes after a return is never done
 abbrev pub TasksStand : Listing → Known → (place : ℕ) → (stack : List ℕ) → List Task → Type 0
 TasksStand code known place stack [] = Unit {0}
 TasksStand code known place stack (task ∷ rest) = TaskStands code known place stack (λ p names. TasksStand code names p [] rest) task

@@ -57,7 +57,7 @@ use Rattle.jni_calls.proofs.GlobalLaws.{among_both}
 use Rattle.tables.specs.References.{references_in}
 use Rattle.machine.proofs.RootNames.{CallFrames, HasRootsOf, names_are, names_there, threads_same, threads_there, times_both}
 
--- ---- how threads stand
+-- ---- the statuses of threads
 
 free_at : (p : Lowered) (classes : Classes) (space : Space) (made : ℕ) (owners : AllOwners) (j k : ℕ) (shared : Shared) (ts : List Thread) (ss : List source.Thread) (i : ℕ) → IsLowered p → ThreadsAgree p classes space made owners j shared ts ss → is_waiting classes k shared (slice_get ss i) ≡ false
 free_at p classes space made owners j k shared [] [] i l h = refl

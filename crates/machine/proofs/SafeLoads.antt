@@ -4,10 +4,9 @@ use Rattle.std.specs.List.{list_all}
 use Rattle.syntax.specs.Tree.{SourceUnit}
 use Rattle.classes.specs.Class.{Classes}
 use Rattle.safety.specs.StepSafe.{has_calls}
-use Rattle.source.specs.Load.{call_loads}
+use Rattle.source.specs.Load.{call_loads, refused_calls}
 use Rattle.source.specs.World.{Invocation}
 use Rattle.world.specs.SoundWorlds.{has_call}
-use Rattle.execution.specs.Loading.{refused_calls}
 
 -- where none is refused, each loads
 calls_load : (unit : SourceUnit) (classes : Classes) (calls : List Invocation) → refused_calls unit classes calls ≡ [] → list_all (call_loads unit classes) calls ≡ true

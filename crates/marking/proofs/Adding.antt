@@ -90,7 +90,7 @@ Adds-weaker P Q ms xs ns ys w f =
           (f.ours x h);
     }
 
--- what was added so far, while a loop goes over what P holds of, of which V says what stands at each place
+-- what was added so far, while a loop goes over what P holds of, of which V says what is at each place
 pub record Seen (P : ℕ → Type 0) (V : ℕ → ℕ → Type 0) (ms : List Bool) (xs : List ℕ) (ns : List Bool) (ys : List ℕ) (place : ℕ) : Type 0 where
   pub adds : Adds P ms xs ns ys
   pub seen : (k x : ℕ) → k < place → V k x → is_marked ns x ≡ true

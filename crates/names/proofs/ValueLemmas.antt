@@ -1,4 +1,4 @@
--- Values that stand at the numbers of names.
+-- Values at the numbers of names.
 use Rattle.std.proofs.Common.{◌≡◌, ℕ, zero, suc, ◌<◌, Bool, true, false, if◌then◌else◌, List, [], ◌∷◌, ◌++◌, length, position, Option, Some, None, is_some, refl, sym, ap, ◌∙◌, arith, bytes_eq}
 use Rattle.std.specs.List.{slice_get, zip}
 use Rattle.std.specs.Option.{option_and_then, option_map}
@@ -21,7 +21,7 @@ module _ {V : Type 0} where
       by false None r e = e
       by false (Some n) r e = e
 
-  -- what is found of a name is what stands at its number
+  -- what is found of a name is what is at its number
   pub found : (x : Identifier) (names : List Identifier) (vs : List V) → length vs ≡ length names → lookup x (zip names vs) ≡ option_and_then (slice_get vs) (position (bytes_eq x) names)
   found x names vs h = found_there x names vs h ∙ ap (option_and_then (slice_get vs)) (sym (place_is x names))
 

@@ -119,7 +119,7 @@ no_brace = record { declared = refl; paren = refl; put = refl; test = refl; loop
 no_else : IsNoStart (fixed.Word words.Else)
 no_else = record { declared = refl; paren = refl; put = refl; test = refl; loop = refl; last = refl }
 
--- nor does what stands in a block begin with `else`
+-- nor does the inside of a block begin with `else`
 inside_no_else : (b : Block) (ls rest : List Lexed) → Begins (inside b) ls rest → starts_with (fixed.Word words.Else) ls ≡ false
 inside_no_else (End line) ls rest h = on_is line (Fixed' (fixed.Mark marks.CloseBrace)) [] ls rest (fixed.Word words.Else) h
 inside_no_else (Next s b) ls rest h =
@@ -147,7 +147,7 @@ plain_simple room free s ls rest h first none is plain =
 
 -- ---- blocks
 
--- a test in its parentheses, and what stands after them
+-- a test in its parentheses, and what comes after them
 record Tested (test more : List Spelled) (ls rest : List Lexed) : Type 0 where
   inner_ls : List Lexed
   closing : List Lexed
@@ -219,7 +219,7 @@ module _ (deep : BlockReader) (room : ℕ) (all : AllBlocksAgain deep room) wher
   declared_statement free s ls rest h first one is declared few =
       simple_again free s ls rest h (declares_no (first_meaning s) (fixed.Word words.If) first refl) (declares_no (first_meaning s) (fixed.Word words.While) first refl) (declared_simple room free s ls rest h first one is declared few)
 
-  -- a statement, after which no `else` stands
+  -- a statement, after which no `else` comes
   statement_again : (free : ℕ) (s : Stmt) (ls rest : List Lexed) → Begins (statement s) ls rest → IsForm room s → names_of s ≤ free → starts_with (fixed.Word words.Else) rest ≡ false → statement_by deep room free ls ≡ Ok (s, free - names_of s, rest)
   unfolding statement_by first_meaning
   statement_again free (Declare line t x r) ls rest h is few other = declared_statement free (Declare line t x r) ls rest h (variable_declares t) refl is tt few

@@ -25,7 +25,7 @@ use Rattle.parse.proofs.Trees.{is_tree, tree_items}
 use Rattle.parse.proofs.Programs.{items_take}
 use Rattle.parse.proofs.Again.{items_again}
 
--- ---- the tokens stand in the text
+-- ---- the tokens are in the text
 
 reaches : (text : List ℕ) {at : ℕ} {tokens : List Token} → SpellsFrom text at tokens → at ≤ length text
 reaches text (ends h) = omega arith
@@ -48,7 +48,7 @@ lexemes_is text line (t ∷ tokens) =
     let w = lexemes_is text t.line tokens in
     (w.0, ap (λ (ls : List Lexed). record { meaning = token_meaning text t; line = t.line } ∷ ls) w.1)
 
--- ---- the End stands after all tokens and nowhere else
+-- ---- the End comes after all tokens and nowhere else
 
 not_end : (kind : Kind) (bytes : List ℕ) → is_fixed_meaning (meaning_of kind bytes) fixed.End ≡ false
 not_end kinds.Name bytes = refl
@@ -68,7 +68,7 @@ strip [] text (t ∷ tokens) l rest h e = let f : starts_with fixed.End rest ≡
 strip (x ∷ es) text [] l rest h e = absurd (ends_early es rest h.1 e)
 strip (x ∷ es) text (t ∷ tokens) l rest h e = (h.0, strip es text tokens l rest h.1 e)
 
--- ---- tokens that stand as a tree is spelled
+-- ---- tokens that are those by which a tree is spelled
 
 begins_of : (text : List ℕ) (tokens : List Token) (es : List Spelled) → AllZip (Stands text) tokens es → Begins es (lexemes_of text tokens) []
 begins_of text [] [] h = refl

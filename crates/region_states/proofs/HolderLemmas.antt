@@ -53,7 +53,7 @@ module _ (a x : Identifier) (m : ℕ) (old new : ByName ℕ) where
 
 -- ---- numbers in memory
 
--- what is counted of a name stands at its number
+-- what is counted of a name is at its number
 counted_at : (x : Identifier) (names : List Identifier) (counts : List ℕ) (n d : ℕ) → length counts ≡ length names → n < length counts → Some n ≡ position (bytes_eq x) names → count_of (zip names counts) x ≡ get_or counts n d
 counted_at x names counts n d h less e = ap (λ (o : Option ℕ). unwrap_or o 0) (found x names counts h ∙ ap (option_and_then (slice_get counts)) (sym e) ∙ slice_get-get_or counts n d less)
 

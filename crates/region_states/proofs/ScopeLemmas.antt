@@ -67,7 +67,7 @@ module _ {V : Type 0} where
       by true none = ap (λ (o : Option V). option_or o (Some v)) (none refl)
       by false none = none_after (lookup x (zip names vs))
 
-  -- what is known of a name is what stands at its number
+  -- what is known of a name is what is at its number
   pub lookup_is : (x : Identifier) (names : List Identifier) (vs : List V) → IsDistinct bytes_eq names → length vs ≡ length names
       → lookup x (reverse (zip names vs)) ≡ option_and_then (slice_get vs) (position (bytes_eq x) names)
   lookup_is x names vs d h = reversed x names vs d ∙ found x names vs h

@@ -106,7 +106,7 @@ impl<'a> Holders<'a> {
         }
     }
 
-    /// All of these less.
+    /// One less for each of these that is known of a held buffer.
     pub fn forget_all(&mut self, variables: &[VariableState<'a>])
         requires { (x : Identifier) → holders x (map variable_state variables.now) ≤ count_of self.old x }
         ensures { (x : Identifier) → count_of self.old x ≡ holders x (map variable_state variables.now) + count_of self.new x }

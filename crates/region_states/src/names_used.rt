@@ -9,7 +9,7 @@ ghost use Rattle.region_states.specs.Reads.{expr_reads, argument_reads, call_rea
 use crate::states::{Condition, StaticState, is_any, meets};
 use syntax::{Argument, Call, Expr, Form, RightSide, Test};
 
-/// Whether some name of an expression is so.
+/// Whether some name of an expression meets the condition.
 fn expr_uses(state: &StaticState, condition: Condition, e: &Expr) -> bool
     ensures { result ≡ expr_uses (asks condition state.now) (expr_tree e.now) }
 {
@@ -26,7 +26,7 @@ fn expr_uses(state: &StaticState, condition: Condition, e: &Expr) -> bool
     }
 }
 
-/// Whether an argument uses a name that is so.
+/// Whether an argument uses a name that meets the condition.
 fn argument_uses(state: &StaticState, condition: Condition, argument: &Argument) -> bool
     ensures { result ≡ argument_uses (asks condition state.now) (argument_tree argument.now) }
 {
@@ -92,7 +92,7 @@ fn form_uses(state: &StaticState, condition: Condition, form: &Form) -> bool
     }
 }
 
-/// Whether an expression reads an element of a name that is so.
+/// Whether an expression reads an element of a name that meets the condition.
 fn expr_reads(state: &StaticState, condition: Condition, e: &Expr) -> bool
     ensures { result ≡ expr_reads (asks condition state.now) (expr_tree e.now) }
 {
@@ -172,8 +172,8 @@ fn form_reads(state: &StaticState, condition: Condition, form: &Form) -> bool
     }
 }
 
-/// Whether a statement uses a name that is so. A name that it declares or sets is not used.
-/// Where no name is so, the statement isn't looked at.
+/// Whether a statement uses a name that meets the condition. A name that it declares or sets is not used.
+/// Where no name meets it, the statement isn't looked at.
 #[tactic(auto, using(crate::proofs::NoneLemmas::none_uses))]
 pub fn uses(state: &StaticState, condition: Condition, form: &Form) -> bool
     ensures { (line : ℕ) → result ≡ uses (asks condition state.now) (form_tree line form.now) }
@@ -181,8 +181,8 @@ pub fn uses(state: &StaticState, condition: Condition, form: &Form) -> bool
     is_any(state, condition) && form_uses(state, condition, form)
 }
 
-/// Whether a statement reads or writes an element of a name that is so.
-/// Where no name is so, the statement isn't looked at.
+/// Whether a statement reads or writes an element of a name that meets the condition.
+/// Where no name meets it, the statement isn't looked at.
 #[tactic(auto, using(crate::proofs::NoneLemmas::none_reads))]
 pub fn reads(state: &StaticState, condition: Condition, form: &Form) -> bool
     ensures { (line : ℕ) → result ≡ reads (asks condition state.now) (form_tree line form.now) }

@@ -28,7 +28,7 @@ abbrev pub way_if : Bool → Way → Fault → Result Way Fault
 way_if true w fault = Ok w
 way_if false w fault = Err fault
 
--- after a return stands nothing
+-- nothing comes after a return
 abbrev pub returned_before : Block → Result Way Fault
 returned_before (End line) = Ok Returned
 returned_before (Next s rest) = Err (line_of s, NoReturn)

@@ -132,7 +132,7 @@ pub(crate) fn take_then<'a>(
     Ok(known)
 }
 
-/// The end of that branch, which went so, and the beginning of the other, where before the test this was known.
+/// The end of that branch, with this answer, and the beginning of the other, where before the test this was known.
 pub(crate) fn take_else<'a>(
     state: &mut StaticState<'a>,
     test: &'a Test,

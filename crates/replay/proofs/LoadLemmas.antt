@@ -6,10 +6,10 @@ use Rattle.std.specs.Global.{Vec}
 use Rattle.syntax.specs.Tree.{SourceUnit}
 use Rattle.classes.specs.Class.{Classes}
 use Rattle.source.specs.World.{Invocation}
-use Rattle.source.specs.Load.{call_loads}
+use Rattle.source.specs.Load.{call_loads, refused_calls}
 use Rattle.source.specs.Start.{waiting_thread}
 use Rattle.threads.specs.declared.thread.Thread.{Thread as ThreadInMemory}
-use Rattle.replay.specs.Loading.{refused_calls, first_line, IsWaiting, AddsWaiting, AreWaiting}
+use Rattle.replay.specs.Loading.{first_line, IsWaiting, AddsWaiting, AreWaiting}
 use Rattle.threads.specs.States.{AreInRange, ThreadsStand}
 use Rattle.threads.specs.Threads.{ThreadStands, WorkInRange, WorkStands, tasks_in, ending_view}
 use Rattle.steps.specs.declared.activation.Activation.{Activation}

@@ -4,11 +4,11 @@ ghost use Rattle.std.specs.Prelude.{◌≡◌, IfOk, IfErr, map, [], None};
 ghost use Rattle.syntax.specs.Views.{unit_tree, function_tree, parameter_tree};
 ghost use Rattle.sorts.specs.SortRules.{IsSorted};
 ghost use Rattle.world.specs.Views.{object_value_view};
-ghost use Rattle.source.specs.Load.{call_loads, fits_parameter, fit_parameters, is_callable, first_load_fault};
+ghost use Rattle.source.specs.Load.{call_loads, fits_parameter, fit_parameters, is_callable, first_load_fault, refused_calls};
 ghost use Rattle.source.specs.Start.{start};
 ghost use Rattle.replay_calls.specs.Shares.{shared_view};
 ghost use Rattle.threads.specs.States.{AreInRange, Stands};
-ghost use Rattle.replay.specs.Loading.{refused_calls, first_line, AddsWaiting, AreWaiting, IsWaiting};
+ghost use Rattle.replay.specs.Loading.{first_line, AddsWaiting, AreWaiting, IsWaiting};
 ghost use Rattle.replay.specs.Replays.{IsLoadFault};
 
 use crate::fault::ReplayFault;

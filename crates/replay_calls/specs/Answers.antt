@@ -18,7 +18,7 @@ use Rattle.terms.specs.Views.{given_view}
 use Rattle.world.specs.Views.{object_value_view}
 
 -- What a call does: nothing changes and this is given, a value of an object is written, an object of a class is made and given,
--- an exception of a class is made, the current frame gets room for so many more and 0 is given, a frame of this capacity is made
+-- an exception of a class is made, the current frame gets room for this many more and 0 is given, a frame of this capacity is made
 -- and 0 is given, the OutOfMemoryError object is pending and -4 is given, the current frame is dropped and this is given, a local
 -- reference in the frame of a level is deleted, a global reference is made and given, or the one of a static is deleted.
 pub data Answer : Type 0 where

@@ -40,7 +40,7 @@ pub enum Actual<'a> {
     Field(Option<FieldId<'a>>),
     Number(i32),
     Text(&'a [u8]),
-    /// A variable that is meant itself.
+    /// The variable itself, not its value.
     Variable(Option<&'a Name>),
     Mode(ReleaseMode),
     Nothing,
@@ -268,7 +268,7 @@ fn bytes_of<'a>(name: Option<&'a Name>) -> &'a [u8]
     }
 }
 
-/// The name of the variable or static that stands at a place, which is empty where there is none.
+/// The name of the variable or static at a place, which is empty where there is none.
 pub fn variable_given<'a>(actuals: &[Actual<'a>], place: usize) -> &'a [u8]
     ensures { result.now ≡ variable_given (map actual_view actuals.now) place }
 {

@@ -1,4 +1,4 @@
-//! Fields by field IDs, which may be NULL, and where they stand.
+//! Fields by field IDs, which may be NULL, and where they are.
 
 ghost use Rattle.std.specs.Prelude.{◌≡◌, IfSome};
 ghost use Rattle.class_table.specs.FieldViews.{field_id_view};

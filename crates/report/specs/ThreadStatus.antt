@@ -1,11 +1,11 @@
--- How threads stand, as they are held in memory.
+-- The statuses of threads, as they are held in memory.
 use Rattle.std.specs.Prelude.{List, [], map}
 use Rattle.source.specs.declared.printed.Printed.{Printed}
 use Rattle.report.specs.declared.thread_status.ThreadStatus.{ThreadStatus}
 use Rattle.report.specs.declared.thread_status.ThreadStatus.TheVariants.{Trapped, Ended, Uncaught, Blocked, Running}
 use Rattle.source.specs.Report.{ThreadStanding, HasTrapped, HasEnded, IsUncaught, IsBlocked, IsRunning, Report}
 
--- what a standing in memory says
+-- what a status in memory says
 abbrev pub standing_view : ThreadStatus → ThreadStanding
 standing_view (Trapped number line) = HasTrapped number line
 standing_view Ended = HasEnded

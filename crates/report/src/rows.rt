@@ -45,7 +45,7 @@ pub enum Shown<'a> {
     Object(usize),
 }
 
-/// Puts what stands before the values of a row: the object's number and its class.
+/// Puts what comes before the values of a row: the object's number and its class.
 pub fn put_row_head<S: Sink>(sink: &mut S, number: usize, class: &[u8]) -> Result<(), SinkFailed>
     requires { CanFail (S.written sink.old) }
     ensures { Writes (S.written sink.old) (S.written sink.new) result (row_head number class.now) }

@@ -1,4 +1,4 @@
-//! What a run printed, and how its threads stand.
+//! What a run printed, and the status of each thread.
 
 ghost use Rattle.std.specs.Prelude.{◌++◌, codes, decimal, map};
 ghost use Rattle.std.specs.List.{flat_map, enumerate_from};
@@ -11,7 +11,7 @@ use crate::text::Text;
 use itoa::Buffer;
 use source::Printed;
 
-/// How a thread stands when the run is over.
+/// The status of a thread when the run is over.
 #[derive(Clone, Copy)]
 pub enum ThreadStatus<'a> {
     /// Its step was a trap, of this number, in a statement of this line.

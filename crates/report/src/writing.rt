@@ -64,7 +64,7 @@ fn put_entries<S: Sink>(sink: &mut S, entries: &[Entry]) -> Result<(), SinkFaile
     put_all(sink, text.as_slice())
 }
 
-/// Writes what was printed, how the threads stand, and the rows.
+/// Writes what was printed, the status of each thread, and the rows.
 pub fn write_report<S: Sink, R: Rows>(
     sink: &mut S,
     printed: &[Printed],

@@ -128,7 +128,7 @@ stmt_runs (IfElse line (TestCall c) a b) k p r = pushed line c (function_named c
 stmt_runs (While line e body) k p r = (r.0, (r.0, r.1), r.2)
 stmt_runs s k p r = plain_runs (task_of s) k p r
 
--- a block goes on with what stands after it
+-- a block goes on with what comes after it
 pub block_goes : (b : Block) (k : Point → Type 0) (rest : List Task) → k ⇒ GoesOn rest → RunsBlock b k ⇒ GoesOn (tasks_of b ++ rest)
 block_goes (End line) k rest h p r = h p r
 block_goes (Next s more) k rest h p r = stmt_runs s (GoesOn (tasks_of more ++ rest)) p (stmt_more s (RunsBlock more k) (GoesOn (tasks_of more ++ rest)) (block_goes more k rest h) p r)

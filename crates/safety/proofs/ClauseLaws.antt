@@ -1,4 +1,4 @@
--- What is asked of a thread's next step holds where the thread stands at a point from which its tasks go on.
+-- What is asked of a thread's next step holds where the thread is at a point from which its tasks go on.
 use Rattle.std.proofs.Common.{◌≡◌, ◌≢◌, ℕ, ◌<◌, arith, Bool, true, false, ◌&&◌, ◌||◌, ◌⊎◌, inl, inr, List, [], ◌∷◌, ◌++◌, filter, flat_map, length, Option, Some, None, refl, sym, ap, ◌∙◌, subst, if◌then◌else◌}
 use Rattle.std.specs.Prelude.{ℤ, IsTrue, ◌==◌}
 use Rattle.std.specs.List.{list_any, AllByRecursion}

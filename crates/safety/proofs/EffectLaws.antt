@@ -262,7 +262,7 @@ module _ (heap : Heap) (ss : Statics) (vs : Variables) (frames : List Frame) (p 
 
   -- ---- all tasks
 
-  -- the effect of a task that runs at a point where the thread stands
+  -- the effect of a task that runs at a point where the thread is
   pub effect_follows : (t : Task) → Runs t (GoesOn rest) p → Goes (effect_of sight t)
   effect_follows (SetScalar line x t) (s, n, f, g) = valued line (Sets x) (SetScalar line x) s t f (λ v e h. sets x s v h n g) (λ u e h. (p, stands, (s, n, h, g)))
   effect_follows (SetElement line x i t) (fit, (r, n, f), g, k) =

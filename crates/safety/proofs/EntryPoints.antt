@@ -1,4 +1,4 @@
--- How a thread stands at the first statement of a function.
+-- A thread is at the point before the first statement of a function.
 use Rattle.std.proofs.Common.{◌≡◌, ◌≢◌, ℕ, ◌≤◌, arith, Bool, true, false, ◌&&◌, ◌||◌, List, [], ◌∷◌, ◌++◌, map, filter, length, Option, Some, None, refl, sym, ap, ◌∙◌, subst, if◌then◌else◌}
 use Rattle.std.specs.Prelude.{filter_map, zip, ◌==◌}
 use Rattle.std.specs.List.{cons_option}
@@ -40,7 +40,7 @@ entry_point f statics = record { names = entry_scope f statics; regions = state_
 abbrev pub SeesStatics : Scope → Statics → Type 0
 SeesStatics scope ss = (x : Identifier) (s : Sort) → sort_in scope x ≡ Some s → (s ≡ Global) × ((r : StaticReference) × (lookup x ss ≡ Some r))
 
--- no name stands twice
+-- no name occurs twice
 abbrev pub HasNamesOnce : Function → Scope → Type 0
 HasNamesOnce f scope = has_repeated (parameter_names f ++ map (λ s. s.0) scope) ≡ false
 
@@ -326,7 +326,7 @@ module _ (ss : Statics) (scope : Scope) (f : Function) (class : ℕ) (arguments 
     owned = λ x level l n e h. ap level_held h;
   }
 
-  -- the thread stands at the first statement with what is known there
+  -- the thread is at the first statement with what is known there
   pub stands_at_entry : Stands (holders ((f.class_name, LocalRef 1 (Some class)) ∷ parameter_variables (zip f.parameters arguments))) ss ((f.class_name, LocalRef 1 (Some class)) ∷ parameter_variables (zip f.parameters arguments)) entry_frames (entry_point f scope)
   stands_at_entry =
       subst (λ (vs : Variables). Stands (holders ((f.class_name, LocalRef 1 (Some class)) ∷ vs)) ss ((f.class_name, LocalRef 1 (Some class)) ∷ vs) entry_frames (entry_point f scope)) (sym (listed_is f.parameters arguments))

@@ -1,4 +1,4 @@
--- A thread stands at the point after a NULL that is set.
+-- A thread is at the point after a NULL that is set.
 use Rattle.std.proofs.Common.{◌≡◌, ◌≢◌, ℕ, ◌≤◌, arith, Bool, true, false, ◌&&◌, inl, inr, List, [], ◌∷◌, map, Option, Some, None, refl, sym, ap, ◌∙◌, subst, if◌then◌else◌}
 use Rattle.std.specs.Prelude.{length, filter}
 use Rattle.std.specs.Option.{option_map}

@@ -1,4 +1,4 @@
--- A thread that stands at a point stands at what a null test makes of it, and after a block.
+-- A thread that is at a point is at the one that a null test makes of it, and at the one that the end of a block leads to.
 use Rattle.std.proofs.Common.{◌≡◌, ◌≢◌, ℕ, arith, Bool, true, false, inl, inr, List, [], ◌∷◌, map, filter, length, Option, Some, None, refl, sym, ap, ◌∙◌, subst, if◌then◌else◌}
 use Rattle.std.specs.Option.{option_map}
 use Rattle.std.specs.Str.{bytes_eq}

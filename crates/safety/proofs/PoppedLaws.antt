@@ -1,4 +1,4 @@
--- A thread stands where its current frame is over, and where it has one more.
+-- A thread is at the point after its current frame is popped, and at the one after a frame is pushed.
 use Rattle.std.proofs.Common.{◌≡◌, ℕ, ◌+◌, ◌-◌, ◌≤◌, arith, Bool, true, false, ◌&&◌, inl, inr, List, [], ◌∷◌, map, filter, length, Option, Some, None, refl, sym, ap, ◌∙◌, subst, if◌then◌else◌}
 use Rattle.std.specs.Prelude.{◌==◌, nat_lt, drop}
 use Rattle.std.specs.Option.{option_map}

@@ -1,4 +1,4 @@
--- A thread stands at the point after a new local reference, which is in its current frame and goes to a target.
+-- A thread is at the point after a new local reference, which is in its current frame and goes to a target.
 use Rattle.std.proofs.Common.{◌≡◌, ◌≢◌, ℕ, suc, ◌+◌, ◌≤◌, arith, Bool, true, false, ◌&&◌, List, [], ◌∷◌, map, filter, length, Option, Some, None, refl, sym, ap, ◌∙◌, subst, if◌then◌else◌}
 use Rattle.std.specs.Prelude.{◌==◌}
 use Rattle.std.specs.Option.{option_map}

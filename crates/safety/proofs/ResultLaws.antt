@@ -1,4 +1,4 @@
--- A thread stands at the point after a call's result that is no buffer and no new local reference.
+-- A thread is at the point after a call's result that is no buffer and no new local reference.
 use Rattle.std.proofs.Common.{◌≡◌, ℕ, Bool, List, Option, Some, None, refl, sym, ◌∙◌, subst}
 use Rattle.std.specs.Prelude.{ℤ}
 use Rattle.base.specs.Bytes.{Identifier, lookup}

@@ -1,4 +1,4 @@
--- A thread stands where it stood once a variable is set of which nothing is known, and where it is known newly.
+-- A thread stays at its point where a variable is set of which nothing is known, and is at the point with its name where it is new.
 use Rattle.std.proofs.Common.{◌≡◌, ◌≢◌, ℕ, ◌≤◌, arith, Bool, true, false, ◌&&◌, ◌⊎◌, inl, inr, List, [], ◌∷◌, map, filter, length, Option, Some, None, refl, sym, ap, ◌∙◌, subst, if◌then◌else◌}
 use Rattle.std.specs.Str.{bytes_eq}
 use Rattle.std.proofs.lemmas.Slice.Eq.{bytes_eq-Decides}

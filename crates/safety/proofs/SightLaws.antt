@@ -1,4 +1,4 @@
--- What a thread sees at a point where it stands.
+-- What a thread sees at the point where it is.
 use Rattle.std.proofs.Common.{◌≡◌, ℕ, Bool, true, false, List, Option, Some, None, refl, sym, subst}
 use Rattle.std.specs.Prelude.{ℤ, slice_get}
 use Rattle.base.specs.Bytes.{Identifier, lookup}

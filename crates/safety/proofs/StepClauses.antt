@@ -1,4 +1,4 @@
--- What is asked of each step holds of a thread that goes on from a point where it stands.
+-- What is asked of each step holds of a thread that goes on from the point where it is.
 use Rattle.std.proofs.Common.{◌≡◌, ◌≢◌, ℕ, List, [], ◌∷◌, length, Option, Some, None, sym, subst}
 use Rattle.std.specs.List.{AllByRecursion}
 use Rattle.base.specs.Bytes.{Identifier, lookup}

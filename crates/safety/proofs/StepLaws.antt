@@ -1,4 +1,4 @@
--- A thread that stands at a point stands at one after each effect that follows, and the step is possible.
+-- A thread that is at a point is at one after each effect that follows, and the step is possible.
 use Rattle.std.proofs.Common.{◌≡◌, ◌≢◌, ℕ, arith, Bool, true, false, inl, inr, List, [], ◌∷◌, replicate, Option, Some, None, refl, sym, ap, ◌∙◌, subst, if◌then◌else◌}
 use Rattle.std.specs.Prelude.{ℤ, pos, slice_set}
 use Rattle.base.specs.Bytes.{Identifier, lookup}

@@ -12,7 +12,7 @@ use Rattle.safety.specs.Points.{Point, value_sort, IsNumberSort, ElementsFit}
 use Rattle.safety.specs.Wanted.{IsNew, named, SetsNumber, SetsNullThere, HasNoView, MayReturnFrom, GoesOn, Runs}
 use Rattle.safety.specs.Stands.{Stands}
 
--- an effect at a point where the thread stands, with these tasks left after it
+-- an effect at a point where the thread is, with these tasks left after it
 abbrev pub Follows : Owners → Sight → Statics → Variables → List Frame → Point → List Task → Effect → Type 0
 Follows own sight ss vs frames p rest (Becomes tasks) = (q : Point) × Stands own ss vs frames q × GoesOn (tasks ++ rest) q
 Follows own sight ss vs frames p rest (Sets x v) = SetsNumber x (value_sort v) (GoesOn rest) p × IsNumberSort (value_sort v)

@@ -22,7 +22,7 @@ pub record Point : Type 0 where
 
 -- ---- names
 
--- no name stands twice
+-- no name occurs twice
 abbrev pub AreOnce : {A : Type 0} → ByName A → Type 0
 AreOnce [] = Unit {0}
 AreOnce ((x, v) ∷ rest) = (lookup x rest ≡ None) × AreOnce rest

@@ -1,4 +1,4 @@
--- How a thread stands at a point: its variables are of their sorts, and hold what is known of them.
+-- What it is for a thread to be at a point: its variables are of their sorts, and hold what is known of them.
 use Rattle.std.specs.Prelude.{◌≡◌, ℕ, ◌+◌, ◌≤◌, ◌==◌, Bool, true, false, ◌⊎◌, ℤ, List, [], ◌∷◌, length, Option, Some, None, IsTrue, filter}
 use Rattle.std.specs.List.{list_all}
 use Rattle.base.specs.Bytes.{Identifier, lookup}
@@ -83,7 +83,7 @@ pub record Stands (own : Owners) (statics : Statics) (vs : Variables) (frames : 
   -- and is its variable's own
   pub owned : IsOwned own vs p
 
--- how the thread goes on: from its entry, or from a point that it stands at
+-- how the thread goes on: from its entry, or from a point that it is at
 abbrev pub Goes : Owners → Statics → Thread → Option (List Task) → Type 0
 Goes own statics t None = (t.variables ≡ []) × (is_unfinished t.ending ≡ true → IsTrue (has_calls t.calls))
 Goes own statics t (Some tasks) = (p : Point) × Stands own statics t.variables t.frames p × GoesOn tasks p

@@ -95,7 +95,7 @@ places unit = item_places [] [] unit.items
 abbrev pub has_name : List Identifier → Identifier → Bool
 has_name names x = list_any (bytes_eq x) names
 
--- a call's result where a variable of a sort is set, or stands for itself
+-- a call's result as the value of a variable of a sort, where one is known
 abbrev pub result_fits : Option Sort → ResultKind → Bool
 result_fits s GivesNothing = false
 result_fits s GivesInt = is_jint s
@@ -106,7 +106,7 @@ result_fits s NewGlobal = false
 result_fits s GivesField = is_field s
 result_fits s (GivesBuffer a) = is_buffer_for a s
 
--- PushLocalFrame stands only in a test
+-- PushLocalFrame occurs only in a test
 abbrev pub is_push : JniFunction → Bool
 is_push PushLocalFrame = true
 is_push f = false
@@ -211,7 +211,7 @@ sort_rule_number ReferenceCopied = 26
 sort_rule_number BadMode = 27
 sort_rule_number ReadOnlyWrite = 28
 
--- some name stands in the list twice
+-- some name is in the list twice
 abbrev pub has_repeated : List Identifier → Bool
 has_repeated [] = false
 has_repeated (x ∷ names) = has_name names x || has_repeated names

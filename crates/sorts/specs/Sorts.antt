@@ -195,13 +195,13 @@ value_fits scope (ArrayVariable t) e = is_array_of t (name_sort scope e)
 value_fits scope (BufferVariable a) e = is_buffer_for a (name_sort scope e)
 value_fits scope reference e = is_null e || is_reference (name_sort scope e)
 
--- where a string may stand
+-- a parameter that may be given a string
 abbrev pub text_fits : ParameterKind → Bool
 text_fits TextBytes = true
 text_fits Mode = true
 text_fits parameter = false
 
--- where the address of a variable may stand
+-- a parameter that may be given the address of this variable
 abbrev pub address_fits : Scope → ParameterKind → Identifier → Bool
 address_fits scope IsCopy x = is_flag (sort_in scope x)
 address_fits scope Mode x = true

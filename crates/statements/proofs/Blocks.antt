@@ -20,7 +20,7 @@ unfolding inner
 inner_is zero free ls lt = absurd (omega arith)
 inner_is (suc room) free ls lt = let e : suc room - 1 ≡ room = omega arith in rw e refl
 
--- statements that stand before a block
+-- statements that come before a block
 abbrev pub before : List StmtInMemory → Block → Block
 before [] b = b
 before (s ∷ ss) b = Next (stmt_tree s) (before ss b)

@@ -16,7 +16,7 @@ pub record IsSize (size : ℕ) : Type 0 where
   pub some : 1 ≤ size
   pub bound : size ≤ 1024
 
--- what may stand after a return, and after another statement
+-- what may come after a return, and after another statement
 abbrev pub MayFollow : Bool → Block → Type 0
 MayFollow false b = Unit {0}
 MayFollow true (End line) = Unit {0}

@@ -74,7 +74,7 @@ pub record TakesBlock (room free : ℕ) (returned : Bool) (ls : List Lexed) (x :
 abbrev AllTakeBlocks : BlockReader → ℕ → Type 0
 AllTakeBlocks deep room = (free : ℕ) (ls : List Lexed) (x : ReadBlock) → deep free ls ≡ Ok x → TakesBlock (room - 1) free false ls x
 
--- what stands after the test's opening parenthesis, before the block's brace
+-- what comes after the test's opening parenthesis, before the block's brace
 abbrev pub tested_tail : List Spelled → List Spelled
 tested_tail test = mark marks.OpenParen ∷ (test ++ mark marks.CloseParen ∷ [])
 

@@ -112,7 +112,7 @@ return_stmt : (room line : ℕ) (o : Option Expr) (ls rest : List Lexed) → IsO
 return_stmt room line None ls rest is h = record { parts = h; formed = tt; none = refl; shorter = shortens (OnLine line (Fixed' (fixed.Word words.Return))) (mark marks.Semicolon ∷ []) ls rest h }
 return_stmt room line (Some e) ls rest is h = record { parts = h; formed = is; none = refl; shorter = shortens (OnLine line (Fixed' (fixed.Word words.Return))) (expression e ++ mark marks.Semicolon ∷ []) ls rest h }
 
--- what stands after the first token of a call
+-- what comes after the first token of a call
 abbrev pub call_tail : Call → List Spelled
 call_tail c = mark marks.Star ∷ word words.Env ∷ mark marks.CloseParen ∷ mark marks.Arrow ∷ Anywhere (Name' c.function) ∷ mark marks.OpenParen ∷ word words.Env ∷ (argument_tokens c.arguments ++ mark marks.CloseParen ∷ [])
 
@@ -133,7 +133,7 @@ perform_takes room ls x e =
       shorter = shortens (OnLine (line_at ls) (Fixed' (fixed.Mark marks.OpenParen))) es ls b.0 parts;
     })
 
--- what stands after the name of an element that is set
+-- what comes after the name of an element that is set
 abbrev pub element_tail : Expr → Expr → List Spelled
 element_tail i e = mark marks.OpenBracket ∷ (expression i ++ mark marks.CloseBracket ∷ mark marks.Assign ∷ (expression e ++ mark marks.Semicolon ∷ []))
 
@@ -174,7 +174,7 @@ set_element_takes room ls x h =
       shorter = shortens (OnLine line (Name' a.0.0)) (element_tail b.0.0 d.0.0) ls e.0 parts;
     })
 
--- what stands after a name that is set
+-- what comes after a name that is set
 abbrev pub setting_tail : RightSide → List Spelled
 setting_tail r = mark marks.Assign ∷ (right r ++ mark marks.Semicolon ∷ [])
 

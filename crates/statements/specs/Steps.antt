@@ -62,7 +62,7 @@ array_head_at ls = do
   b ← expect (fixed.Mark marks.CloseBracket) size.1
   Ok (name.0, size.0, b)
 
--- what stands in a statement before its first block
+-- what comes in a statement before its first block
 pub data Head : Type 0 where
   IfHead : Test → Head
   WhileHead : Expr → Head

@@ -32,7 +32,7 @@ fn ended(
     }
 }
 
-/// An expression in parentheses, and what comes after this lexeme, which stands after them.
+/// An expression in parentheses, and what comes after this lexeme, which follows them.
 #[tactic(auto, using(crate::proofs::Regrouped::parenthesized_is))]
 pub(crate) fn parenthesized(
     alloc: Global,

@@ -32,7 +32,7 @@ type ReadOther<'t> = (Option<Block>, usize, Cursor<'t>);
 /// Both blocks of an `if`, how many more names may be declared after them, and what comes after them.
 type ReadWays<'t> = (Block, Option<Block>, usize, Cursor<'t>);
 
-/// What stands in a statement before its first block.
+/// What comes in a statement before its first block.
 #[derive(Drop)]
 enum Head {
     If(Test),

@@ -50,7 +50,7 @@ left_by k s t rest took new = variable_step took s (with_tasks t rest)
 abbrev pub in_frames : Thread → List Frame → Reference → Thread
 in_frames t frames pending = record t { frames = frames; pending = pending }
 
--- What a step in memory did is what the task's step does to each thread that it stands in, or what it does with its object
+-- What a step in memory did is what the task's step does to each thread whose first task it is, or what it does with its object
 -- refused.
 abbrev pub Does : (refused : Bool) → Scene → TaskInMemory → Outcome → Scene → TaskInMemory → Type 0
 Does refused before old took after new =

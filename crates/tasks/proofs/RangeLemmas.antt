@@ -44,7 +44,7 @@ found_passes p q (y ∷ ys) x e h =
     let parts = and_parts (q y) (list_all q ys) h in
     chosen q (p y) y x (find p ys) e parts.0 (λ later. found_passes p q ys x later parts.1)
 
--- ---- a statement, what is inside it, and what stands after it
+-- ---- a statement, what is inside it, and what comes after it
 
 module _ (q : tree.Stmt → Bool) where
   both : (xs ys : List tree.Stmt) → list_all q (xs ++ ys) ≡ true → (list_all q xs ≡ true) × (list_all q ys ≡ true)

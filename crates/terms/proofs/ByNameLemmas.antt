@@ -62,7 +62,7 @@ module _ {V : Type 0} where
         first true further = refl
         first false further = further
 
-    -- what stands at the number of a name
+    -- what is at the number of a name
     pub value_there : (x : Identifier) (names : List Identifier) (vs : List V) (n : ℕ) (v : V) → length vs ≡ length names → Some n ≡ position (bytes_eq x) names → v ≡ get_or vs n v → Some (value_of v) ≡ lookup x (values (zip names vs))
     value_there x names vs n v h e is =
         ap (λ (w : V). Some (value_of w)) is

@@ -36,7 +36,7 @@ uncut separator n false text first more h e = rw (differs separator (48 + n) (om
 spelled-cons : (k : ℕ) (refused : Bool) (es : List Entry) → k ≤ 8 → spelled_entries (Step k refused ∷ es) ≡ 32 ∷ (((48 + k) ∷ mark refused) ++ spelled_entries es)
 spelled-cons k refused es h = flat_map-cons (λ x. codes " " ++ entry_text x) (Step k refused) es ∙ ap (λ w. 32 ∷ (w ++ spelled_entries es)) (word_is k refused h)
 
--- the words stand between the spaces
+-- the words are between the spaces
 words_are : (threads : ℕ) (es : List Entry) → AreEntries threads es → parts_of 32 (spelled_entries es) ≡ [] ∷ map entry_text es
 words_are threads [] h = refl
 words_are threads (Step k refused ∷ es) h =
@@ -44,7 +44,7 @@ words_are threads (Step k refused ∷ es) h =
     ∙ ap (λ ps. [] ∷ ps) (uncut 32 k refused (spelled_entries es) [] (map entry_text es) (omega arith) (words_are threads es h.3)
     ∙ ap (λ w. w ∷ map entry_text es) (append-nil ((48 + k) ∷ mark refused) ∙ sym (word_is k refused h.1)))
 
--- all of them stand in one line
+-- all of them are in one line
 one_line : (threads : ℕ) (es : List Entry) → AreEntries threads es → parts_of 10 (spelled_entries es) ≡ spelled_entries es ∷ []
 one_line threads [] h = refl
 one_line threads (Step k refused ∷ es) h =

@@ -26,7 +26,7 @@ abbrev pub is_turn : (threads : ℕ) → ScheduleWord → Bool
 is_turn threads (Turn k) = is_thread threads k
 is_turn threads Collect = true
 
--- a number that may stand after *
+-- a number that may come after *
 abbrev pub is_count : Option ℕ → Bool
 is_count None = true
 is_count (Some n) = nat_le 1 n && nat_le n 1000000

@@ -26,7 +26,7 @@ impl<'a> Split<'a> {
     }
 }
 
-/// Where the byte stands first.
+/// Where the byte first occurs.
 fn place_of(text: &[u8], byte: u8) -> Option<usize>
     ensures { result ≡ position (λ b. b == byte) text.now }
 {

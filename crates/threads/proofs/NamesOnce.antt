@@ -42,7 +42,7 @@ not_among : (xs : List Identifier) (x y : Identifier) (more : List Identifier) �
 not_among [] x y more h = first_false (bytes_eq y x) (has_name more y) h
 not_among (z ∷ xs) x y more h = not_among xs x y more (second_false (bytes_eq y z) (has_name (xs ++ x ∷ more) y) h)
 
--- a name that stands once isn't among those before it
+-- a name that occurs once isn't among those before it
 absent : (before : Variables) (x : Identifier) (more : List Identifier) → has_repeated (names before ++ x ∷ more) ≡ false → lookup x before ≡ None
 absent [] x more h = refl
 absent ((y, w) ∷ before) x more h =
@@ -72,7 +72,7 @@ all_assigned before (p ∷ ps) (Refers r ∷ vs) more h =
 
 -- ---- functions
 
--- the names of its parameters stand once
+-- the names of its parameters occur once each
 abbrev HasNamesOnce : Function → Type 0
 HasNamesOnce f = (more : List Identifier) × (has_repeated (parameter_names f ++ more) ≡ false)
 

@@ -60,7 +60,7 @@ ended_range store t new outcome.Returned took left e known = subst WorkInRange (
 ended_range store t new o took left e known = subst (λ (u : ThreadInMemory). WorkInRange u.activation) (sym e.1) known
 
 module _ (unit : SourceUnit) (classes : Classes) (lent : BuffersInUse) (k : ℕ) where
-  -- a thread after its call that stands so, with these calls to come before
+  -- a thread after its call with this ending, and with these calls to come before
   abbrev thread_after : Ending → List Invocation → Thread
   thread_after e calls = record { calls = calls_after e calls; tasks = None; variables = []; frames = []; pending = None; ending = e }
 

@@ -274,7 +274,7 @@ fn step_of(outcome: Outcome<'_>) -> Step
     }
 }
 
-/// How a thread stands after its call, with this exception pending and these calls to come.
+/// The ending of a thread after its call, with this exception pending and these calls to come.
 fn ending_after(store: &Store, pending: Option<usize>, calls: &[Call]) -> Ending
     ensures { ending_view result ≡ ending_after store.now pending calls.now }
 {

@@ -202,7 +202,7 @@ pub(crate) fn call_fits(sort: Option<Sort>, function: Option<JniFunction>) -> bo
     }
 }
 
-/// Whether a call of a function may stand as a statement, as far as that is known.
+/// Whether a call of a function may be a statement, as far as that is known.
 pub(crate) fn may_be_dropped(function: Option<JniFunction>) -> bool
     ensures { result ≡ may_be_dropped (option_map function_value function) }
 {

@@ -24,7 +24,7 @@ pub enum SortRule {
     ArgumentCount,
     /// A local reference is set to a name.
     ReferenceCopied,
-    /// A release mode is none.
+    /// A release mode is not 0, JNI_COMMIT or JNI_ABORT.
     BadMode,
     /// A buffer that may only be read is written.
     ReadOnlyWrite,

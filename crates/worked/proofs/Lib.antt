@@ -7,6 +7,7 @@ mod Collections
 mod NativeNames
 mod WorldTexts
 mod SchedulesAndJournals
+mod CommandLines
 -- runs by what they leave
 mod Heights
 mod Limits

@@ -9,7 +9,7 @@ use Rattle.execution.specs.declared.thread.PendingCall.{PendingCall}
 use Rattle.execution.proofs.Calls.{is_there}
 use Rattle.execution.proofs.advance.enter.Goals as goal
 
--- what stands in front
+-- what is in front
 in_front : (items : List PendingCall) (o : Option (Bor PendingCall)) (r : Bor PendingCall) → o ≡ Some r → MatchOption o (length items ≤ 0) (λ x. (0 < length items) × HoldsAt (λ y. x.now ≡ y) items 0) → (rest : List PendingCall) × (items ≡ r.now ∷ rest)
 in_front items None r e h = absurd (cc)
 in_front [] (Some x) r e h = absurd (omega (arith, h.0))

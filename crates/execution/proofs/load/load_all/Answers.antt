@@ -10,9 +10,10 @@ use Rattle.world.specs.CallArguments.{are_arguments}
 use Rattle.world.specs.SoundWorlds.{has_call}
 use Rattle.source.specs.World.{Invocation, loaded_objects}
 use Rattle.source.specs.Start.{waiting_thread}
+use Rattle.source.specs.Load.{refused_calls}
 use Rattle.execution.specs.declared.thread.Thread.{Thread}
 use Rattle.execution.specs.ThreadAgrees.{ThreadAgrees, ThreadsAgree}
-use Rattle.execution.specs.Loading.{IsFirstOf, refused_calls}
+use Rattle.execution.specs.Loading.{IsFirstOf}
 use Rattle.execution.proofs.ThreadLoads.{AgreeSoFar, all_agree, loads_at, none_refused, one_more, refused_at}
 use Rattle.execution.proofs.load.load_all.Goals as goal
 

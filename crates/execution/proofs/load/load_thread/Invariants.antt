@@ -1,7 +1,7 @@
 use Rattle.std.proofs.Common.{◌≡◌, drop, length}
 use Rattle.syntax.specs.Views.{unit_tree}
 use Rattle.source.specs.World.{loaded_objects}
-use Rattle.execution.specs.Loading.{refused_calls}
+use Rattle.source.specs.Load.{refused_calls}
 use Rattle.execution.proofs.LoadLemmas.{AgreeSoFar}
 use Rattle.execution.proofs.load.load_thread.Given as goal
 

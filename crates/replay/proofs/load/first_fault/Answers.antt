@@ -2,7 +2,8 @@ use Rattle.std.proofs.Common.{◌≡◌, List, length, refl, sym, ap, ◌∙◌,
 use Rattle.std.proofs.lemmas.Option.{slice_get_read}
 use Rattle.syntax.specs.Views.{unit_tree}
 use Rattle.source.specs.World.{Invocation}
-use Rattle.replay.specs.Loading.{first_line, refused_calls}
+use Rattle.source.specs.Load.{refused_calls}
+use Rattle.replay.specs.Loading.{first_line}
 use Rattle.replay.proofs.LoadLemmas.{refused, line_here, line_later}
 use Rattle.replay.proofs.load.first_fault.Goals as goal
 
