@@ -92,24 +92,24 @@ StaysBut s (Throws c) = Unit {0}
 StaysBut s (Halts trap) = ⊥
 StaysBut s (Leaves made s' t' c) = t' ≡ record s { frames = t'.frames; pending = t'.pending }
 
-module _ (classes : Classes) (lent : BuffersInUse) (k : ℕ) (shared : Shared) (s : source.Thread) (line : ℕ) (target : Target) (f : JniFunction) (args : List Actual) (rest : List Task) where
+module _ (classes : Classes) (in_use : BuffersInUse) (k : ℕ) (shared : Shared) (s : source.Thread) (line : ℕ) (target : Target) (f : JniFunction) (args : List Actual) (rest : List Task) where
   -- what an effect leaves, or the same with its allocation refused
   abbrev pub left_by : (refused : Bool) → CallEffect → source.Advance
   left_by refused effect =
       put target (result_after (prototype f).result refused effect) (shared_after classes refused shared effect)
       (resumption line f args rest s (frames_left refused s effect) (pending_after classes refused shared s effect) (result_after (prototype f).result refused effect) target)
 
-  pub step_leaves : (refused : Bool) (effect : CallEffect) → effect_of_call classes lent k shared s line target f args rest ≡ effect → StaysBut s effect → (refused ≡ true → makes_objects effect ≡ true)
-      → call_step classes lent k shared s line target f args rest refused ≡ left_by refused effect
+  pub step_leaves : (refused : Bool) (effect : CallEffect) → effect_of_call classes in_use k shared s line target f args rest ≡ effect → StaysBut s effect → (refused ≡ true → makes_objects effect ≡ true)
+      → call_step classes in_use k shared s line target f args rest refused ≡ left_by refused effect
   step_leaves true effect is stays could =
-      ap (λ (e : CallEffect). after_refusal classes lent k shared s line target f args rest (makes_objects e)) is
-      ∙ ap (after_refusal classes lent k shared s line target f args rest) (could refl)
+      ap (λ (e : CallEffect). after_refusal classes in_use k shared s line target f args rest (makes_objects e)) is
+      ∙ ap (after_refusal classes in_use k shared s line target f args rest) (could refl)
       ∙ ap (λ (h : Heap). let r : Shared = record shared { heap = h } in put target (result_after (prototype f).result true effect) r (resumption line f args rest s (frames_left true s effect) (pending_after classes true shared s effect) (result_after (prototype f).result true effect) target)) (append-nil shared.heap)
-  step_leaves false (Throws c) is stays could = ap (after_call classes lent k shared s line target f args rest) is
+  step_leaves false (Throws c) is stays could = ap (after_call classes in_use k shared s line target f args rest) is
   step_leaves false (Halts trap) is stays could = absurd stays
   step_leaves false (Leaves made s' t' c) is stays could =
-      ap (after_call classes lent k shared s line target f args rest) is
-      ∙ ap (λ (t : source.Thread). after_call classes lent k shared s line target f args rest (Leaves made s' t c)) stays
+      ap (after_call classes in_use k shared s line target f args rest) is
+      ∙ ap (λ (t : source.Thread). after_call classes in_use k shared s line target f args rest (Leaves made s' t c)) stays
 
 -- the thread that an effect leaves
 same_thread : {made made' : List Object} {s s' : Shared} {t t' : source.Thread} {c c' : CallResult} → Leaves made s t c ≡ Leaves made' s' t' c' → t ≡ t'
@@ -440,25 +440,25 @@ module _ (p : Lowered) (w : World) (store : Store) (pending : Option ℕ) (call 
         by_kind (GivesBuffer a) b local h = absurd (cc)
 
     -- the effect of the source's call
-    pub effect_is : (lent : BuffersInUse) (k : ℕ) → effect_of_call w.classes lent k shared s called.line called.target called.f called.args rest ≡ call_effect w.classes lent k shared s called.args called.f
-    effect_is lent k = ap (λ (o : Option SourceTrap). checked o (call_effect w.classes lent k shared s called.args called.f)) free
+    pub effect_is : (in_use : BuffersInUse) (k : ℕ) → effect_of_call w.classes in_use k shared s called.line called.target called.f called.args rest ≡ call_effect w.classes in_use k shared s called.args called.f
+    effect_is in_use k = ap (λ (o : Option SourceTrap). checked o (call_effect w.classes in_use k shared s called.args called.f)) free
 
-  module _ (lent : BuffersInUse) (k : ℕ) where
+  module _ (in_use : BuffersInUse) (k : ℕ) where
     -- a local reference has room in the frames that the call leaves
     pub room_after : (free : trap_of_call w.classes shared s called.target called.f called.args ≡ None) (refused : Bool) (store' : Store) (pending' : Option ℕ) (locals : LocalTable) (g : Given) (answer : Answer)
-        → CarriesOut p w store.heap call.locals answer (prototype called.f).result shared s (call_effect w.classes lent k shared s called.args called.f) refused store' pending' locals g → HasRoom (prototype called.f).result locals
-    room_after free refused store' pending' locals g answer carried = room_by (prototype called.f).result locals (frames_left refused s (call_effect w.classes lent k shared s called.args called.f)) (source_frames_after called.f s.frames) store'.heap
-        (λ local. left_is w.classes lent k shared s called.args called.f called.asked.answered local refused carried.could_refuse) carried.frames_agree (source_room free)
+        → CarriesOut p w store.heap call.locals answer (prototype called.f).result shared s (call_effect w.classes in_use k shared s called.args called.f) refused store' pending' locals g → HasRoom (prototype called.f).result locals
+    room_after free refused store' pending' locals g answer carried = room_by (prototype called.f).result locals (frames_left refused s (call_effect w.classes in_use k shared s called.args called.f)) (source_frames_after called.f s.frames) store'.heap
+        (λ local. left_is w.classes in_use k shared s called.args called.f called.asked.answered local refused carried.could_refuse) carried.frames_agree (source_room free)
 
     -- a trap stops the thread where it is
     pub traps : (trap : Trap) (line : ℕ) → line ≡ function.line → trap_of_call w.classes shared s called.target called.f called.args ≡ Some (trap_view trap)
-        → Executes p w store.heap store lent k own shared s rest call pending (effect_of (sight_of shared s) task) (Did (event.Trapped trap line))
+        → Executes p w store.heap store in_use k own shared s rest call pending (effect_of (sight_of shared s) task) (Did (event.Trapped trap line))
     traps trap line same found =
-        subst (λ (e : Effect). GoesOn p w store.heap store lent k own shared s rest call pending e false (event.Trapped trap line)) (sym called.is) (record {
+        subst (λ (e : Effect). GoesOn p w store.heap store in_use k own shared s rest call pending e false (event.Trapped trap line)) (sym called.is) (record {
           next_shared = shared;
           next = s;
           steps =
-              ap (after_call w.classes lent k shared s called.line called.target called.f called.args rest) (ap (λ (o : Option SourceTrap). checked o (call_effect w.classes lent k shared s called.args called.f)) found)
+              ap (after_call w.classes in_use k shared s called.line called.target called.f called.args rest) (ap (λ (o : Option SourceTrap). checked o (call_effect w.classes in_use k shared s called.args called.f)) found)
               ∙ ap (λ (n : ℕ). source.Advances shared s (source.Trapped (trap_view trap) n)) (sym (same ∙ called.same_line));
           store_agrees = h.shares;
           keeps = keeps_same store.heap shared;
@@ -470,26 +470,26 @@ module _ (p : Lowered) (w : World) (store : Store) (pending : Option ℕ) (call 
         })
 
     -- a step of the call is one of the first task
-    stepped : (refused : Bool) (t : source.Thread) (next : Shared) → call_step w.classes lent k shared s called.line called.target called.f called.args rest refused ≡ source.Advances next t source.Quiet
-        → after_any w.classes lent k shared s rest refused (Calls called.line called.target called.f called.args) ≡ source.Advances next t source.Quiet
+    stepped : (refused : Bool) (t : source.Thread) (next : Shared) → call_step w.classes in_use k shared s called.line called.target called.f called.args rest refused ≡ source.Advances next t source.Quiet
+        → after_any w.classes in_use k shared s rest refused (Calls called.line called.target called.f called.args) ≡ source.Advances next t source.Quiet
     stepped false t next h = h
     stepped true t next h = h
 
     -- what was carried out and received is what the source's call leaves
     pub goes_on : (refused : Bool) (store' : Store) (pending' : Option ℕ) (locals : LocalTable) (g : Given) (after : Activation) (statics : Vec StaticReference) (answer : Answer) → AreStacked locals → (free : trap_of_call w.classes shared s called.target called.f called.args ≡ None)
         → IsWorkedOut w.classes store.heap store.loaded.items (references_of store call) call.fields.items call.stack function called.f answer
-        → IsAnswer w.classes store.heap call.locals (prototype called.f).result shared s answer (call_effect w.classes lent k shared s called.args called.f)
-        → CarriesOut p w store.heap call.locals answer (prototype called.f).result shared s (call_effect w.classes lent k shared s called.args called.f) refused store' pending' locals g
+        → IsAnswer w.classes store.heap call.locals (prototype called.f).result shared s answer (call_effect w.classes in_use k shared s called.args called.f)
+        → CarriesOut p w store.heap call.locals answer (prototype called.f).result shared s (call_effect w.classes in_use k shared s called.args called.f) refused store' pending' locals g
         → Receives function.target (prototype called.f).result g (record call { locals = locals }) after
         → statics.items ≡ statics_with function.target g store'.statics.items
-        → GoesOn p w store.heap (record store' { statics = statics }) lent k own shared s rest after pending' (effect_of (sight_of shared s) task) refused event.Quiet
+        → GoesOn p w store.heap (record store' { statics = statics }) in_use k own shared s rest after pending' (effect_of (sight_of shared s) task) refused event.Quiet
     goes_on refused store' pending' locals g after statics answer stacked free works does carried received put =
-        let effect = call_effect w.classes lent k shared s called.args called.f in
+        let effect = call_effect w.classes in_use k shared s called.args called.f in
         let next = shared_after w.classes refused shared effect in
         let left = frames_left refused s effect in
         let q = pending_after w.classes refused shared s effect in
         let c = result_after (prototype called.f).result refused effect in
-        let left_frames : (prototype called.f).result ≡ NewLocal → left ≡ source_frames_after called.f s.frames = λ local. left_is w.classes lent k shared s called.args called.f called.asked.answered local refused carried.could_refuse in
+        let left_frames : (prototype called.f).result ≡ NewLocal → left ≡ source_frames_after called.f s.frames = λ local. left_is w.classes in_use k shared s called.args called.f called.asked.answered local refused carried.could_refuse in
         let mid = leaves_owners answer works in
         let ready_left = left_ready answer works in
         let keyed = keys_left store.heap store'.heap call.locals locals call.references.items ready_left.references ready_left.owners ready_left.agree
@@ -498,8 +498,8 @@ module _ (p : Lowered) (w : World) (store : Store) (pending : Option ℕ) (call 
         (λ local x level old is at.
         h.steady.declared called.line x called.f called.args level old (next_is ∙ ap (λ (t : Target). Calls called.line t called.f called.args) is) local at
         ∙ ap (λ (fs : List source.Frame). length fs) (sym (left_frames local))) refl (goes_left answer works) received put in
-        let steps = step_leaves w.classes lent k shared s called.line called.target called.f called.args rest refused effect (effect_is free lent k) (stays_with w.classes store.heap call.locals (prototype called.f).result shared s answer effect does) carried.could_refuse in
-        subst (λ (e : Effect). GoesOn p w store.heap (record store' { statics = statics }) lent k own shared s rest after pending' e refused event.Quiet) (sym called.is) (record {
+        let steps = step_leaves w.classes in_use k shared s called.line called.target called.f called.args rest refused effect (effect_is free in_use k) (stays_with w.classes store.heap call.locals (prototype called.f).result shared s answer effect does) carried.could_refuse in
+        subst (λ (e : Effect). GoesOn p w store.heap (record store' { statics = statics }) in_use k own shared s rest after pending' e refused event.Quiet) (sym called.is) (record {
           next_shared = ends.now;
           next = going called.line called.f called.args ends.tasks s left q c ends.variables;
           steps = stepped refused (going called.line called.f called.args ends.tasks s left q c ends.variables) ends.now (◌∙◌ {c = source.Advances ends.now (going called.line called.f called.args ends.tasks s left q c ends.variables) source.Quiet} steps ends.steps);

@@ -12,10 +12,10 @@ use Rattle.source.specs.Checks.{frames_after}
 use Rattle.source.specs.Thread.{BuffersInUse, Shared, Thread}
 use Rattle.jni_calls.specs.CarriedOut.{frames_left}
 
-module _ (classes : Classes) (lent : BuffersInUse) (k : ℕ) (shared : Shared) (s : Thread) (args : List Actual) where
+module _ (classes : Classes) (in_use : BuffersInUse) (k : ℕ) (shared : Shared) (s : Thread) (args : List Actual) where
   -- it is put into the frames that the call leaves, which are the frames that were checked for room
-  pub left_is : (f : JniFunction) → is_built_function f ≡ true → (prototype f).result ≡ NewLocal → (refused : Bool) → (refused ≡ true → makes_objects (call_effect classes lent k shared s args f) ≡ true)
-      → frames_left refused s (call_effect classes lent k shared s args f) ≡ frames_after f s.frames
+  pub left_is : (f : JniFunction) → is_built_function f ≡ true → (prototype f).result ≡ NewLocal → (refused : Bool) → (refused ≡ true → makes_objects (call_effect classes in_use k shared s args f) ≡ true)
+      → frames_left refused s (call_effect classes in_use k shared s args f) ≡ frames_after f s.frames
   unfolding call_effect
   left_is FindClass a n true could = refl
   left_is FindClass a n false could = by_class (class_named classes (text_given args 0))

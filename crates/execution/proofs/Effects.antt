@@ -213,7 +213,7 @@ module _ (p : Lowered) (classes : Classes) (space : Space) (call : Activation) (
 
 -- ---- what an instruction did
 
-module _ (p : Lowered) (w : World) (store : Store) (lent : BuffersInUse) (k : ℕ) (own : Owners) (shared : Shared) (shares : StoreAgrees p w store shared) (s : source.Thread) (pending : Option ℕ) (pends : ReferenceAgrees store.heap pending s.pending) (none : viewed_by s ≡ []) (call : Activation) (code : Listing) (task : Task) (rest : List Task)
+module _ (p : Lowered) (w : World) (store : Store) (in_use : BuffersInUse) (k : ℕ) (own : Owners) (shared : Shared) (shares : StoreAgrees p w store shared) (s : source.Thread) (pending : Option ℕ) (pends : ReferenceAgrees store.heap pending s.pending) (none : viewed_by s ≡ []) (call : Activation) (code : Listing) (task : Task) (rest : List Task)
     (r : Ready p w.classes store.heap call code (visible_to own shared s) s.frames task rest) (i : Instr) (at : slice_get code.instrs call.place ≡ Some i) where
   abbrev classes : Classes
   classes = w.classes
@@ -230,7 +230,7 @@ module _ (p : Lowered) (w : World) (store : Store) (lent : BuffersInUse) (k : �
   -- an instruction on the stack and the number slots alone
   module _ (tasks_are : s.tasks ≡ Some (task ∷ rest)) (after : Activation) (e : Event) (way : Plain) (stack numbers : List ℕ) (is : plain_of i call.stack call.numbers.items ≡ Some (way, stack, numbers))
       (m : HasMoved call after (end_of_way call.place way) stack numbers call.references.items call.fields.items) (way_seen : WayIsSeen way e) where
-    becomes : IsPlain i → (tasks : List Task) → GoesOn code r.known call.place call.stack held seen (tasks ++ rest) → agrees.GoesOn p w space store lent k own shared s rest after pending (Becomes tasks) false e
+    becomes : IsPlain i → (tasks : List Task) → GoesOn code r.known call.place call.stack held seen (tasks ++ rest) → agrees.GoesOn p w space store in_use k own shared s rest after pending (Becomes tasks) false e
     becomes works tasks h =
         let same : h.here ≡ i = cc (h.at, at) in
         let plain_is : plain_of i call.stack call.numbers.items ≡ Some (h.way, h.after, call.numbers.items) = plain_works seen held i call.stack h.way h.after works (subst (λ (j : Instr). Works seen held j call.stack h.way h.after) same h.works) in
@@ -256,8 +256,8 @@ module _ (p : Lowered) (w : World) (store : Store) (lent : BuffersInUse) (k : �
           viewless = none;
         }
 
-    writes : (did : Effect) (changed : Visible → Type 0) → Writes code r.known call.place call.stack held seen changed rest → (vs : _) → after_effect classes lent k shared s rest did ≡ source.Advances shared (record s { tasks = Some rest; variables = vs }) source.Quiet
-        → changed (visible_to own shared (record s { tasks = Some rest; variables = vs })) → Viewless vs → agrees.owners_left did (event_view e) (length s.frames) own vs ≡ own → agrees.GoesOn p w space store lent k own shared s rest after pending did false e
+    writes : (did : Effect) (changed : Visible → Type 0) → Writes code r.known call.place call.stack held seen changed rest → (vs : _) → after_effect classes in_use k shared s rest did ≡ source.Advances shared (record s { tasks = Some rest; variables = vs }) source.Quiet
+        → changed (visible_to own shared (record s { tasks = Some rest; variables = vs })) → Viewless vs → agrees.owners_left did (event_view e) (length s.frames) own vs ≡ own → agrees.GoesOn p w space store in_use k own shared s rest after pending did false e
     writes did changed h vs steps shown no_view left =
         let same : h.here ≡ i = cc (h.at, at) in
         let plain_is : plain_of i call.stack call.numbers.items ≡ Some (plain.Next, [], h.numbers) = subst (λ (j : Instr). plain_of j call.stack call.numbers.items ≡ Some (plain.Next, [], h.numbers)) same h.plain in
@@ -284,7 +284,7 @@ module _ (p : Lowered) (w : World) (store : Store) (lent : BuffersInUse) (k : �
           viewless = no_view;
         }
 
-    traps : (reason : Trap) (line : ℕ) → Stops code r.known call.place call.stack held seen reason line → agrees.GoesOn p w space store lent k own shared s rest after pending (TrapsAt reason line) false e
+    traps : (reason : Trap) (line : ℕ) → Stops code r.known call.place call.stack held seen reason line → agrees.GoesOn p w space store in_use k own shared s rest after pending (TrapsAt reason line) false e
     traps reason line h =
         let same : h.here ≡ i = cc (h.at, at) in
         let plain_is : plain_of i call.stack call.numbers.items ≡ Some (plain.Trap h.trap line, call.stack, call.numbers.items) =
@@ -313,17 +313,17 @@ module _ (p : Lowered) (w : World) (store : Store) (lent : BuffersInUse) (k : �
         }
 
     sets_element : (x : Identifier) (j : ℕ) (z : ℤ) (t : ElementType) → seen.array_type x ≡ Some t → Writes code r.known call.place call.stack held seen (IsElementSet seen t x j z) rest → SetsWhatIsThere seen.sight (SetsElement x j z)
-        → agrees.GoesOn p w space store lent k own shared s rest after pending (SetsElement x j z) false e
+        → agrees.GoesOn p w space store in_use k own shared s rest after pending (SetsElement x j z) false e
     sets_element x j z t type h there =
         let array = array_of (lookup x s.variables) t type in
         let v : Variable = LocalArray t (slice_set array.0 j (convert t z)) in
         writes (SetsElement x j z) (IsElementSet seen t x j z) h (assign x v s.variables) (ap (set_element shared (with_tasks s rest) x j z) array.1)
         (is_element_set own own shared s (record s { tasks = Some rest; variables = assign x v s.variables }) x (λ y other. refl) t array.0 j z there.0 array.1 there.1 refl) (assigned_viewless x v s.variables refl none) refl
 
-    pub plain_executes : Executes p w space store lent k own shared s rest after pending (effect_of (sight_of shared s) task) (Did e)
+    pub plain_executes : Executes p w space store in_use k own shared s rest after pending (effect_of (sight_of shared s) task) (Did e)
     plain_executes =
         let works : IsPlain i = plain_instr i call.stack call.numbers.items (way, stack, numbers) is in
-        does_cases code r.known call.place call.stack held seen rest (λ effect. SetsWhatIsThere seen.sight effect → Executes p w space store lent k own shared s rest after pending effect (Did e))
+        does_cases code r.known call.place call.stack held seen rest (λ effect. SetsWhatIsThere seen.sight effect → Executes p w space store in_use k own shared s rest after pending effect (Did e))
         (λ tasks h there. becomes works tasks h)
         (λ x v h there. writes (Sets x v) (IsSet seen x v) h (assign x (Scalar v) s.variables) refl (is_set own own shared s (record s { tasks = Some rest; variables = assign x (Scalar v) s.variables }) x (λ y other. refl) v refl) (assigned_viewless x (Scalar v) s.variables refl none) refl)
         (λ target h. absurd (let same : i ≡ instr.StoreNull h.variable = cc (at, h.at) in subst IsPlain same works))
@@ -337,16 +337,16 @@ module _ (p : Lowered) (w : World) (store : Store) (lent : BuffersInUse) (k : �
 
   -- a test of NULL
   pub test_executes : (variable : NullableVariable) (equal : Bool) (after : Activation) → i ≡ instr.TestNull variable equal → HasMoved call after (call.place + 1) (truth_word (beq (is_null (references_of store call) call.fields.items variable) equal) ∷ call.stack) call.numbers.items call.references.items call.fields.items
-      → Executes p w space store lent k own shared s rest after pending (effect_of (sight_of shared s) task) (Did event.Quiet)
+      → Executes p w space store in_use k own shared s rest after pending (effect_of (sight_of shared s) task) (Did event.Quiet)
   test_executes variable equal after is m =
-      other_cases p classes space call code seen s.frames task rest r i at (λ effect. Executes p w space store lent k own shared s rest after pending effect (Did event.Quiet)) (λ plain. subst IsPlain is plain)
+      other_cases p classes space call code seen s.frames task rest r i at (λ effect. Executes p w space store in_use k own shared s rest after pending effect (Did event.Quiet)) (λ plain. subst IsPlain is plain)
       (λ test tasks h. goes tasks h)
       (λ target h same. absurd (let both : instr.StoreNull h.variable ≡ instr.TestNull variable equal = sym same ∙ is in cc))
       (λ z h same. absurd (let both : instr.PutJint ≡ instr.TestNull variable equal = sym same ∙ is in cc))
       (λ line target f args h same. absurd (let both : instr.Call h.call ≡ instr.TestNull variable equal = sym same ∙ is in cc))
       (λ returns. absurd (subst IsReturn is returns))
     where
-      goes : (tasks : List Task) → GoesOn code r.known call.place call.stack held seen (tasks ++ rest) → agrees.GoesOn p w space store lent k own shared s rest after pending (Becomes tasks) false event.Quiet
+      goes : (tasks : List Task) → GoesOn code r.known call.place call.stack held seen (tasks ++ rest) → agrees.GoesOn p w space store in_use k own shared s rest after pending (Becomes tasks) false event.Quiet
       goes tasks h =
           let same : h.here ≡ instr.TestNull variable equal = cc (h.at, at, is) in
           let v = subst (λ (j : Instr). Works seen held j call.stack h.way h.after) same h.works in
@@ -373,16 +373,16 @@ module _ (p : Lowered) (w : World) (store : Store) (lent : BuffersInUse) (k : �
 
   -- NULL is stored
   pub store_executes : (variable : NullableVariable) (after : Activation) (statics : Vec StaticReference) → i ≡ instr.StoreNull variable → statics.items ≡ nulled_statics variable store.statics.items → HasMoved call after (call.place + 1) call.stack call.numbers.items (nulled_references variable call.references.items) (nulled_fields variable call.fields.items)
-      → Executes p w space (record store { statics = statics }) lent k own shared s rest after pending (effect_of (sight_of shared s) task) (Did event.Quiet)
+      → Executes p w space (record store { statics = statics }) in_use k own shared s rest after pending (effect_of (sight_of shared s) task) (Did event.Quiet)
   store_executes variable after statics is nulled_are m =
-      other_cases p classes space call code seen s.frames task rest r i at (λ effect. Executes p w space (record store { statics = statics }) lent k own shared s rest after pending effect (Did event.Quiet)) (λ plain. subst IsPlain is plain)
+      other_cases p classes space call code seen s.frames task rest r i at (λ effect. Executes p w space (record store { statics = statics }) in_use k own shared s rest after pending effect (Did event.Quiet)) (λ plain. subst IsPlain is plain)
       (λ test tasks h. absurd (subst IsNullTest is test))
       (λ target h same. stores target h (let both : instr.StoreNull h.variable ≡ instr.StoreNull variable = sym same ∙ is in cc))
       (λ z h same. absurd (let both : instr.PutJint ≡ instr.StoreNull variable = sym same ∙ is in cc))
       (λ line target f args h same. absurd (let both : instr.Call h.call ≡ instr.StoreNull variable = sym same ∙ is in cc))
       (λ returns. absurd (subst IsReturn is returns))
     where
-      stores : (target : Target) (h : StoresNull code r.known call.place call.stack held seen target rest) → h.variable ≡ variable → agrees.GoesOn p w space (record store { statics = statics }) lent k own shared s rest after pending (SetsNull target) false event.Quiet
+      stores : (target : Target) (h : StoresNull code r.known call.place call.stack held seen target rest) → h.variable ≡ variable → agrees.GoesOn p w space (record store { statics = statics }) in_use k own shared s rest after pending (SetsNull target) false event.Quiet
       stores target h same =
           let kind = kind_of_target code r.known call.place call.stack held seen target in
           let null = puts_null own shared s none rest code r.known call.place call.stack held target h.name h.is h.takes in
@@ -409,16 +409,16 @@ module _ (p : Lowered) (w : World) (store : Store) (lent : BuffersInUse) (k : �
 
   -- a print
   pub put_executes : (word : ℕ) (after : Activation) (stack : List ℕ) → i ≡ instr.PutJint → call.stack ≡ word ∷ stack → HasMoved call after (call.place + 1) stack call.numbers.items call.references.items call.fields.items
-      → Executes p w space store lent k own shared s rest after pending (effect_of (sight_of shared s) task) (Did (event.Printed (cast_signed w32 word)))
+      → Executes p w space store in_use k own shared s rest after pending (effect_of (sight_of shared s) task) (Did (event.Printed (cast_signed w32 word)))
   put_executes word after stack put top m =
-      other_cases p classes space call code seen s.frames task rest r i at (λ effect. Executes p w space store lent k own shared s rest after pending effect (Did (event.Printed (cast_signed w32 word)))) (λ plain. subst IsPlain put plain)
+      other_cases p classes space call code seen s.frames task rest r i at (λ effect. Executes p w space store in_use k own shared s rest after pending effect (Did (event.Printed (cast_signed w32 word)))) (λ plain. subst IsPlain put plain)
       (λ test tasks h. absurd (subst IsNullTest put test))
       (λ target h same. absurd (let both : instr.StoreNull h.variable ≡ instr.PutJint = sym same ∙ put in cc))
       (λ z h same. prints z h)
       (λ line target f args h same. absurd (let both : instr.Call h.call ≡ instr.PutJint = sym same ∙ put in cc))
       (λ returns. absurd (subst IsReturn put returns))
     where
-      prints : (z : ℤ) → PrintsTop code r.known call.place call.stack held seen z rest → agrees.GoesOn p w space store lent k own shared s rest after pending (Prints z) false (event.Printed (cast_signed w32 word))
+      prints : (z : ℤ) → PrintsTop code r.known call.place call.stack held seen z rest → agrees.GoesOn p w space store in_use k own shared s rest after pending (Prints z) false (event.Printed (cast_signed w32 word))
       prints z h =
           let words : word ≡ h.word = cc (top, h.top) in
           let nothing : [] ≡ stack = cc (top, h.top) in
@@ -439,9 +439,9 @@ module _ (p : Lowered) (w : World) (store : Store) (lent : BuffersInUse) (k : �
           }
 
   -- a return
-  pub return_executes : IsReturn i → (after : Activation) → Executes p w space store lent k own shared s rest after pending (effect_of (sight_of shared s) task) Returned
+  pub return_executes : IsReturn i → (after : Activation) → Executes p w space store in_use k own shared s rest after pending (effect_of (sight_of shared s) task) Returned
   return_executes is after =
-      other_cases p classes space call code seen s.frames task rest r i at (λ effect. Executes p w space store lent k own shared s rest after pending effect Returned) (no_return i is)
+      other_cases p classes space call code seen s.frames task rest r i at (λ effect. Executes p w space store in_use k own shared s rest after pending effect Returned) (no_return i is)
       (λ test tasks h. absurd (no_return_test i is test))
       (λ target h same. absurd (subst IsReturn same is))
       (λ z h same. absurd (subst IsReturn same is))

@@ -293,9 +293,9 @@ begun p classes space loaded made shared s rest n c call lowered table statics f
       depth = ap (depth_at b.code.instrs) begins.place ∙ ap (λ (st : List ℕ). Some (length st)) (sym begins.stack);
     }
 
-pub enters : (p : Lowered) (w : World) (store : Store) (lent : BuffersInUse) (k : ℕ) (own : Owners) (shared : Shared) (t after : Thread) (s : source.Thread) (n : PendingCall) (call : Activation) → IsLowered p → StoreAgrees p w store shared → ThreadAgrees p w.classes store.heap (length (loaded_objects w)) own shared t s
-    → t.call ≡ None → t.calls.items ≡ n ∷ after.calls.items → after.call ≡ Some call → Begins p store.loaded.items n call → after.pending ≡ t.pending → after.ending ≡ t.ending → Advances p w store.heap store lent k own shared s after false event.Quiet
-enters p w store lent k own shared t after s n call lowered shares h none calls is begins pending ending =
+pub enters : (p : Lowered) (w : World) (store : Store) (in_use : BuffersInUse) (k : ℕ) (own : Owners) (shared : Shared) (t after : Thread) (s : source.Thread) (n : PendingCall) (call : Activation) → IsLowered p → StoreAgrees p w store shared → ThreadAgrees p w.classes store.heap (length (loaded_objects w)) own shared t s
+    → t.call ≡ None → t.calls.items ≡ n ∷ after.calls.items → after.call ≡ Some call → Begins p store.loaded.items n call → after.pending ≡ t.pending → after.ending ≡ t.ending → Advances p w store.heap store in_use k own shared s after false event.Quiet
+enters p w store in_use k own shared t after s n call lowered shares h none calls is begins pending ending =
     let classes : Classes = w.classes in
     let space : Space = store.heap in
     let made : ℕ = length (loaded_objects w) in
@@ -311,7 +311,7 @@ enters p w store lent k own shared t after s n call lowered shares h none calls 
     record {
       next_shared = shared;
       next = next;
-      steps = ap (step_within (unit_tree p.unit) classes lent k shared s false) rests ∙ ap (entry_advance shared) found;
+      steps = ap (step_within (unit_tree p.unit) classes in_use k shared s false) rests ∙ ap (entry_advance shared) found;
       store_agrees = shares;
       keeps = keeps_same space shared;
       agrees = subst (λ (o : Owners). ThreadAgrees p classes space made o shared after next) (sym (ap (λ (o : Option (List Task)). after_tasks shared s o own source.Quiet next.variables) rests)) (record {

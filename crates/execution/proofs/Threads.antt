@@ -94,15 +94,15 @@ advanced_owners : (shared : Shared) (s : source.Thread) (own : Owners) (task : T
 advanced_owners shared s own task rest is event vs = ap (λ (o : Option (List Task)). after_tasks shared s o own event vs) is ∙ left_owners (effect_of (sight_of shared s) task) event (length s.frames) own vs
 
 -- One step of a thread.
-module _ (p : Lowered) (w : World) (old : Space) (lent : BuffersInUse) (k : ℕ) (own : Owners) (shared : Shared) (t : Thread) (s : source.Thread) (h : ThreadAgrees p w.classes old (length (loaded_objects w)) own shared t s) where
+module _ (p : Lowered) (w : World) (old : Space) (in_use : BuffersInUse) (k : ℕ) (own : Owners) (shared : Shared) (t : Thread) (s : source.Thread) (h : ThreadAgrees p w.classes old (length (loaded_objects w)) own shared t s) where
   -- a step of the source's thread within its call
-  steps_by : (refused : Bool) (task : Task) (rest : List Task) → s.tasks ≡ Some (task ∷ rest) → thread_step (unit_tree p.unit) w.classes lent k shared s refused ≡ after_any w.classes lent k shared s rest refused (effect_of (sight_of shared s) task)
-  steps_by false task rest tasks = ap (step_within (unit_tree p.unit) w.classes lent k shared s false) tasks
-  steps_by true task rest tasks = ap (step_within (unit_tree p.unit) w.classes lent k shared s true) tasks
+  steps_by : (refused : Bool) (task : Task) (rest : List Task) → s.tasks ≡ Some (task ∷ rest) → thread_step (unit_tree p.unit) w.classes in_use k shared s refused ≡ after_any w.classes in_use k shared s rest refused (effect_of (sight_of shared s) task)
+  steps_by false task rest tasks = ap (step_within (unit_tree p.unit) w.classes in_use k shared s false) tasks
+  steps_by true task rest tasks = ap (step_within (unit_tree p.unit) w.classes in_use k shared s true) tasks
 
   -- an instruction but a return
-  pub did : (store : Store) (refused : Bool) (e : Event) (task : Task) (rest : List Task) → s.tasks ≡ Some (task ∷ rest) → (after : Activation) (pending : Option ℕ) → GoesOn p w old store lent k own shared s rest after pending (effect_of (sight_of shared s) task) refused e
-      → Advances p w old store lent k own shared s (record t { call = Some after; pending = pending }) refused e
+  pub did : (store : Store) (refused : Bool) (e : Event) (task : Task) (rest : List Task) → s.tasks ≡ Some (task ∷ rest) → (after : Activation) (pending : Option ℕ) → GoesOn p w old store in_use k own shared s rest after pending (effect_of (sight_of shared s) task) refused e
+      → Advances p w old store in_use k own shared s (record t { call = Some after; pending = pending }) refused e
   did store refused e task rest is after pending g = record {
     next_shared = g.next_shared;
     next = g.next;
@@ -196,11 +196,11 @@ class_pending space heap (Some a) (Some n) b h = found_class space.blocks b h
             ap (λ (c : ℕ). Some c) (ap (class_of heap) (sym named) ∙ of ∙ sym there.class)
         by_test false later e = later e
 
-module _ (p : Lowered) (w : World) (old : Space) (lent : BuffersInUse) (k : ℕ) (own : Owners) (shared : Shared) (t : Thread) (s : source.Thread) (h : ThreadAgrees p w.classes old (length (loaded_objects w)) own shared t s) where
+module _ (p : Lowered) (w : World) (old : Space) (in_use : BuffersInUse) (k : ℕ) (own : Owners) (shared : Shared) (t : Thread) (s : source.Thread) (h : ThreadAgrees p w.classes old (length (loaded_objects w)) own shared t s) where
   pub returned : (store : Store) (pending : Option ℕ) (after : Thread) (task : Task) (rest : List Task) → s.tasks ≡ Some (task ∷ rest) → StoreAgrees p w store shared → store.heap ≡ old → ReferenceAgrees store.heap pending s.pending → t.ending ≡ Unfinished
       → effect_of (sight_of shared s) task ≡ Returns → after.call ≡ None → after.pending ≡ None → after.calls.items ≡ calls_after (option_and_then (class_at store.heap) pending) t.calls.items
       → after.ending ≡ ending_after (option_and_then (class_at store.heap) pending) t.calls.items t.ending
-      → Advances p w old store lent k own shared s after false event.Quiet
+      → Advances p w old store in_use k own shared s after false event.Quiet
   returned store pending after task rest tasks shares same pends o is no_call no_pending calls ending =
       let class : Option ℕ = option_and_then (class_at store.heap) pending in
       let made : ℕ = length (loaded_objects w) in
@@ -208,7 +208,7 @@ module _ (p : Lowered) (w : World) (old : Space) (lent : BuffersInUse) (k : ℕ)
       record {
         next_shared = shared;
         next = idle class s.calls;
-        steps = steps_by p w old lent k own shared t s h false task rest tasks ∙ ap (after_effect w.classes lent k shared s rest) is ∙ returns_by k shared s class shares.monitors of;
+        steps = steps_by p w old in_use k own shared t s h false task rest tasks ∙ ap (after_effect w.classes in_use k shared s rest) is ∙ returns_by k shared s class shares.monitors of;
         store_agrees = shares;
         keeps = subst (λ (x : Space). Keeps x shared store.heap shared) same (keeps_same store.heap shared);
         agrees = record {

@@ -24,18 +24,18 @@ use Rattle.execution.specs.ThreadAgrees.{ThreadAgrees}
 -- ---- steps
 
 -- the thread took the step that the source's thread takes, or the same with its allocation refused
-pub record Advances (p : Lowered) (w : World) (old : Space) (store : Store) (lent : BuffersInUse) (k : ℕ) (own : Owners) (shared : Shared) (s : source.Thread) (t : Thread) (refused : Bool) (event : Event) : Type 0 where
+pub record Advances (p : Lowered) (w : World) (old : Space) (store : Store) (in_use : BuffersInUse) (k : ℕ) (own : Owners) (shared : Shared) (s : source.Thread) (t : Thread) (refused : Bool) (event : Event) : Type 0 where
   pub next_shared : Shared
   pub next : source.Thread
-  pub steps : thread_step (unit_tree p.unit) w.classes lent k shared s refused ≡ source.Advances next_shared next (event_view event)
+  pub steps : thread_step (unit_tree p.unit) w.classes in_use k shared s refused ≡ source.Advances next_shared next (event_view event)
   pub store_agrees : StoreAgrees p w store next_shared
   pub keeps : Keeps old shared store.heap next_shared
   pub agrees : ThreadAgrees p w.classes store.heap (length (loaded_objects w)) (after_advance shared s own (source.Advances next_shared next (event_view event))) next_shared t next
 
 -- the same by what is told of it
 abbrev pub AdvancesBy : Lowered → World → Space → Store → BuffersInUse → ℕ → Owners → Shared → source.Thread → Thread → Advanced → Type 0
-AdvancesBy p w old store lent k own shared s t (advanced.Did event) = Advances p w old store lent k own shared s t false event
-AdvancesBy p w old store lent k own shared s t advanced.Refused = Advances p w old store lent k own shared s t true Quiet
+AdvancesBy p w old store in_use k own shared s t (advanced.Did event) = Advances p w old store in_use k own shared s t false event
+AdvancesBy p w old store in_use k own shared s t advanced.Refused = Advances p w old store in_use k own shared s t true Quiet
 
 -- ---- returns
 

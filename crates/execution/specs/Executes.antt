@@ -86,8 +86,8 @@ pub record IsExecuting (p : Lowered) (w : World) (store : Store) (call : Activat
 
 -- what an effect of the first task leaves, or the same with its allocation refused
 abbrev pub after_any : Classes → BuffersInUse → ℕ → Shared → source.Thread → List Task → (refused : Bool) → Effect → Advance
-after_any classes lent k shared s rest false effect = after_effect classes lent k shared s rest effect
-after_any classes lent k shared s rest true effect = after_refused_effect classes lent k shared s rest effect
+after_any classes in_use k shared s rest false effect = after_effect classes in_use k shared s rest effect
+after_any classes in_use k shared s rest true effect = after_refused_effect classes in_use k shared s rest effect
 
 -- the variables' own references once the first task has had this effect, which leaves these variables; a trap leaves them as they were
 abbrev pub owners_left : Effect → source.Event → (frames : ℕ) → Owners → Variables → Owners
@@ -96,10 +96,10 @@ owners_left (Calls line target f args) event frames own vs = after_call target f
 owners_left other event frames own vs = own
 
 -- The first task had this effect on thread k, with the rest still to do: the thread goes on within its call.
-pub record GoesOn (p : Lowered) (w : World) (old : Space) (store : Store) (lent : BuffersInUse) (k : ℕ) (own : Owners) (shared : Shared) (s : source.Thread) (rest : List Task) (call : Activation) (pending : Option ℕ) (effect : Effect) (refused : Bool) (event : Event) : Type 0 where
+pub record GoesOn (p : Lowered) (w : World) (old : Space) (store : Store) (in_use : BuffersInUse) (k : ℕ) (own : Owners) (shared : Shared) (s : source.Thread) (rest : List Task) (call : Activation) (pending : Option ℕ) (effect : Effect) (refused : Bool) (event : Event) : Type 0 where
   pub next_shared : Shared
   pub next : source.Thread
-  pub steps : after_any w.classes lent k shared s rest refused effect ≡ source.Advances next_shared next (event_view event)
+  pub steps : after_any w.classes in_use k shared s rest refused effect ≡ source.Advances next_shared next (event_view event)
   pub store_agrees : StoreAgrees p w store next_shared
   pub keeps : Keeps old shared store.heap next_shared
   pub work : WorkAgrees p w.classes store.heap (visible_to (owners_left effect (event_view event) (length s.frames) own next.variables) next_shared next) (Some call) next.frames next.tasks
@@ -110,6 +110,6 @@ pub record GoesOn (p : Lowered) (w : World) (old : Space) (store : Store) (lent 
 
 -- what an instruction did is the effect of the first of the tasks; a return leaves the store as it was
 abbrev pub Executes : Lowered → World → Space → Store → BuffersInUse → ℕ → Owners → Shared → source.Thread → (rest : List Task) → Activation → (pending : Option ℕ) → Effect → Executed → Type 0
-Executes p w old store lent k own shared s rest call pending effect (Did event) = GoesOn p w old store lent k own shared s rest call pending effect false event
-Executes p w old store lent k own shared s rest call pending effect Refused = GoesOn p w old store lent k own shared s rest call pending effect true Quiet
-Executes p w old store lent k own shared s rest call pending effect Returned = (effect ≡ Returns) × StoreAgrees p w store shared × (store.heap ≡ old) × ReferenceAgrees store.heap pending s.pending
+Executes p w old store in_use k own shared s rest call pending effect (Did event) = GoesOn p w old store in_use k own shared s rest call pending effect false event
+Executes p w old store in_use k own shared s rest call pending effect Refused = GoesOn p w old store in_use k own shared s rest call pending effect true Quiet
+Executes p w old store in_use k own shared s rest call pending effect Returned = (effect ≡ Returns) × StoreAgrees p w store shared × (store.heap ≡ old) × ReferenceAgrees store.heap pending s.pending

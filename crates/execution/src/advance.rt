@@ -45,10 +45,10 @@ pub fn advance(
     requires lowered { IsLowered program.now }
     requires agrees { (own : Owners) × (shared : Shared) × (s : SourceThread) × StoreAgrees program.now world.now store.old shared
         × ThreadAgrees program.now world.now.classes store.old.heap (length (loaded_objects world.now)) own shared thread.old s × (thread.old.ending ≡ Ending.Unfinished) × IsSteady own shared s }
-    ensures advances { IfOk result (λ advanced. (lent : BuffersInUse) (k : ℕ) (own : Owners) (shared : Shared) (s : SourceThread) → StoreAgrees program.now world.now store.old shared
+    ensures advances { IfOk result (λ advanced. (in_use : BuffersInUse) (k : ℕ) (own : Owners) (shared : Shared) (s : SourceThread) → StoreAgrees program.now world.now store.old shared
         → ThreadAgrees program.now world.now.classes store.old.heap (length (loaded_objects world.now)) own shared thread.old s
         → IsSteady own shared s
-        → AdvancesBy program.now world.now store.old.heap store.new lent k own shared s thread.new advanced) }
+        → AdvancesBy program.now world.now store.old.heap store.new in_use k own shared s thread.new advanced) }
     ensures store { OnErr result (store.new ≡ store.old) }
     ensures thread { OnErr result (thread.new ≡ thread.old) }
 {

@@ -59,8 +59,8 @@ pub fn execute(
 ) -> Result<Executed, AllocError>
     requires lowered { IsLowered program.now }
     requires stands { (own : Owners) × (shared : Shared) × (s : SourceThread) × (task : Task) × (rest : List Task) × IsExecuting program.now world.now store.old call.old pending.old own shared s task rest }
-    ensures done { IfOk result (λ done. (lent : BuffersInUse) (k : ℕ) (own : Owners) (shared : Shared) (s : SourceThread) (task : Task) (rest : List Task) → IsExecuting program.now world.now store.old call.old pending.old own shared s task rest
-        → Executes program.now world.now store.old.heap store.new lent k own shared s rest call.new pending.new (effect_of (sight_of shared s) task) done) }
+    ensures done { IfOk result (λ done. (in_use : BuffersInUse) (k : ℕ) (own : Owners) (shared : Shared) (s : SourceThread) (task : Task) (rest : List Task) → IsExecuting program.now world.now store.old call.old pending.old own shared s task rest
+        → Executes program.now world.now store.old.heap store.new in_use k own shared s rest call.new pending.new (effect_of (sight_of shared s) task) done) }
     ensures store { OnErr result (store.new ≡ store.old) }
     ensures pending { OnErr result (pending.new ≡ pending.old) }
     ensures call { OnErr result (call.new ≡ call.old) }

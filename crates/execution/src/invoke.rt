@@ -45,8 +45,8 @@ pub fn invoke(
     requires at_call { (p : Lowered) × (own : Owners) × (shared : Shared) × (s : SourceThread) × (task : Task) × (rest : List Task) × AtCall p world.now store.old pending.old call.old function.now own shared s task rest }
     requires place { call.old.place + 1 < 2 ^ 64 }
     requires prepared { IsPrepared function.now }
-    ensures done { IfOk result (λ done. (p : Lowered) (lent : BuffersInUse) (k : ℕ) (own : Owners) (shared : Shared) (s : SourceThread) (task : Task) (rest : List Task) → AtCall p world.now store.old pending.old call.old function.now own shared s task rest
-        → Executes p world.now store.old.heap store.new lent k own shared s rest call.new pending.new (effect_of (sight_of shared s) task) (executed_as function.now.line done)) }
+    ensures done { IfOk result (λ done. (p : Lowered) (in_use : BuffersInUse) (k : ℕ) (own : Owners) (shared : Shared) (s : SourceThread) (task : Task) (rest : List Task) → AtCall p world.now store.old pending.old call.old function.now own shared s task rest
+        → Executes p world.now store.old.heap store.new in_use k own shared s rest call.new pending.new (effect_of (sight_of shared s) task) (executed_as function.now.line done)) }
     ensures store { OnErr result (store.new ≡ store.old) }
     ensures pending { OnErr result (pending.new ≡ pending.old) }
     ensures call { OnErr result (call.new ≡ call.old) }
@@ -115,8 +115,8 @@ fn finish(
     requires place { call.old.place + 1 < 2 ^ 64 }
     requires prepared { IsPrepared function.now }
     requires answered { IsAnswered world.now store.old pending.old call.old function.now answer }
-    ensures done { IfOk result (λ done. (p : Lowered) (lent : BuffersInUse) (k : ℕ) (own : Owners) (shared : Shared) (s : SourceThread) (task : Task) (rest : List Task) → AtCall p world.now store.old pending.old call.old function.now own shared s task rest
-        → Executes p world.now store.old.heap store.new lent k own shared s rest call.new pending.new (effect_of (sight_of shared s) task) (executed_as function.now.line done)) }
+    ensures done { IfOk result (λ done. (p : Lowered) (in_use : BuffersInUse) (k : ℕ) (own : Owners) (shared : Shared) (s : SourceThread) (task : Task) (rest : List Task) → AtCall p world.now store.old pending.old call.old function.now own shared s task rest
+        → Executes p world.now store.old.heap store.new in_use k own shared s rest call.new pending.new (effect_of (sight_of shared s) task) (executed_as function.now.line done)) }
     ensures store { OnErr result (store.new ≡ store.old) }
     ensures pending { OnErr result (pending.new ≡ pending.old) }
     ensures call { OnErr result (call.new ≡ call.old) }

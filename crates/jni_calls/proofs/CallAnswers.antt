@@ -63,7 +63,7 @@ use Rattle.jni_calls.proofs.LongTables.{classes_loaded, grown_long}
 use Rattle.jni_calls.proofs.CallOperands.{count_is, few_there, class_object_is, super_known, only_text, two_texts, first_object, first_class, second_field, only_number, third_number, class_of_first, only_static, own_making}
 
 -- a call that is asked and passed its checks
-module _ (p : Lowered) (w : World) (store : Store) (pending : Option ℕ) (call : Activation) (function : Call) (shared : Shared) (s : Thread) (sound : IsSound w) (lent : BuffersInUse) (k : ℕ) (args : List Actual) where
+module _ (p : Lowered) (w : World) (store : Store) (pending : Option ℕ) (call : Activation) (function : Call) (shared : Shared) (s : Thread) (sound : IsSound w) (in_use : BuffersInUse) (k : ℕ) (args : List Actual) where
   abbrev references : References
   references = references_of store call
 
@@ -80,7 +80,7 @@ module _ (p : Lowered) (w : World) (store : Store) (pending : Option ℕ) (call 
 
   -- the answer is what it does
   abbrev Does : JniFunction → Answer → Type 0
-  Does f answer = IsAnswer w.classes store.heap call.locals (prototype f).result shared s answer (call_effect w.classes lent k shared s args f)
+  Does f answer = IsAnswer w.classes store.heap call.locals (prototype f).result shared s answer (call_effect w.classes in_use k shared s args f)
 
   abbrev at : (i : ℕ) → Option ℕ
   at i = operand_at references (operand_of function.operands i)

@@ -13,7 +13,7 @@ use Rattle.source.specs.declared.journal.Entry.TheVariants.{Step}
 use Rattle.source.specs.Journal.{Journal}
 use Rattle.source.specs.Run.{replay, replay_from}
 use Rattle.source.specs.Start.{start}
-use Rattle.source.specs.State.{State, thread_at, lent}
+use Rattle.source.specs.State.{State, thread_at, in_use}
 use Rattle.source.specs.Step.{world_step}
 use Rattle.source.specs.Thread as source
 use Rattle.source.specs.Thread.{Advance, Shared}
@@ -36,7 +36,7 @@ owners_more unit w s owners (x ∷ journal) e s' is = by_step (world_step unit w
     by_step (Some t) is further = further t is
 
 -- a step of thread k that leaves this
-pub owners_stepped : (unit : SourceUnit) (w : World) (journal : Journal) (s : State) (k : ℕ) (refused : Bool) (t : source.Thread) (a : Advance) → replay unit w journal ≡ Some s → thread_at s k ≡ Some t → thread_step unit w.classes (lent s) k s.shared t refused ≡ a
+pub owners_stepped : (unit : SourceUnit) (w : World) (journal : Journal) (s : State) (k : ℕ) (refused : Bool) (t : source.Thread) (a : Advance) → replay unit w journal ≡ Some s → thread_at s k ≡ Some t → thread_step unit w.classes (in_use s) k s.shared t refused ≡ a
     → owners_after unit w (journal ++ Step k refused ∷ []) ≡ with_owners (owners_after unit w journal) k (after_advance s.shared t (owners_after unit w journal k) a)
 owners_stepped unit w journal s k refused t a is there steps =
     owners_more unit w (start unit w) (λ k. no_owner) journal (Step k refused) s is

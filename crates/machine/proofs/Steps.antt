@@ -10,7 +10,7 @@ use Rattle.source.specs.declared.journal.Entry.{Entry}
 use Rattle.source.specs.declared.journal.Entry.TheVariants.{Step}
 use Rattle.source.specs.declared.printed.Printed.{Printed}
 use Rattle.source.specs.World.{World, loaded_objects}
-use Rattle.source.specs.State.{State, thread_at, set_thread, lent, with_event, advanced}
+use Rattle.source.specs.State.{State, thread_at, set_thread, in_use, with_event, advanced}
 use Rattle.source.specs.Step.{can_step, is_unfinished, world_step}
 use Rattle.source.specs.Thread as source
 use Rattle.source.specs.Thread.{BuffersInUse, Shared}
@@ -73,8 +73,8 @@ threads_next s k shared t (event.Trapped trap line) = refl
 -- the thread took the step that the source's thread takes, whatever state it stands for
 abbrev pub AdvancesAlways : Lowered → World → (store store' : Store) → Thread → Thread → (refused : Bool) → Event → Type 0
 AdvancesAlways p w store store' t after refused e =
-    (lent : BuffersInUse) (k : ℕ) (own : Owners) (shared : Shared) (s : source.Thread) → StoreAgrees p w store shared → ThreadAgrees p w.classes store.heap (length (loaded_objects w)) own shared t s → IsSteady own shared s
-    → Advances p w store.heap store' lent k own shared s after refused e
+    (in_use : BuffersInUse) (k : ℕ) (own : Owners) (shared : Shared) (s : source.Thread) → StoreAgrees p w store shared → ThreadAgrees p w.classes store.heap (length (loaded_objects w)) own shared t s → IsSteady own shared s
+    → Advances p w store.heap store' in_use k own shared s after refused e
 
 -- ---- room
 
@@ -154,7 +154,7 @@ module _ (p : Lowered) (world : World) (store : Store) (ts : List Thread) (print
   steps_on store' after refused e goes live advances =
       let f = the_thread in
       let entry : Entry = Step k refused in
-      let a = advances (lent c.state) k (owners k) c.state.shared f.source c.store_agrees f.agrees steady in
+      let a = advances (in_use c.state) k (owners k) c.state.shared f.source c.store_agrees f.agrees steady in
       let next = next_state c.state k a.next_shared a.next e in
       let step : world_step (unit_tree p.unit) classes c.state entry ≡ Some next =
       step-thread (unit_tree p.unit) classes c.state k f.source refused (steps_here goes live) ∙ ap (advanced c.state k) a.steps in
@@ -187,7 +187,7 @@ module _ (p : Lowered) (world : World) (store : Store) (ts : List Thread) (print
 
   -- the same by what is told of the step
   pub steps_by : (store' : Store) (after : Thread) (x : Advanced) → stop ≡ None → t.ending ≡ Unfinished
-      → ((lent : BuffersInUse) (k : ℕ) (own : Owners) (shared : Shared) (s : source.Thread) → StoreAgrees p world store shared → ThreadAgrees p classes store.heap count_made own shared t s → IsSteady own shared s → AdvancesBy p world store.heap store' lent k own shared s after x)
+      → ((in_use : BuffersInUse) (k : ℕ) (own : Owners) (shared : Shared) (s : source.Thread) → StoreAgrees p world store shared → ThreadAgrees p classes store.heap count_made own shared t s → IsSteady own shared s → AdvancesBy p world store.heap store' in_use k own shared s after x)
       → Corresponds p world store' (slice_set ts i after) (printed_after printed k (event_of x)) (stop_after stop k (event_of x)) (journal ++ Step k (is_refused x) ∷ [])
   steps_by store' after (advanced.Did e) goes live advances = steps_on store' after false e goes live advances
   steps_by store' after advanced.Refused goes live advances = steps_on store' after true event.Quiet goes live advances

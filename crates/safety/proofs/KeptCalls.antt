@@ -64,7 +64,7 @@ checked_keeps calls (Some trap) e h = tt
 
 -- ---- what calls do
 
-module _ (classes : Classes) (lent : BuffersInUse) (k : ℕ) (s : Shared) (t : Thread) where
+module _ (classes : Classes) (in_use : BuffersInUse) (k : ℕ) (s : Shared) (t : Thread) where
   field_keeps : (c : ℕ) (o : Option FieldId) → EffectKeeps t.calls (found_field_effect s t c o)
   field_keeps c None = tt
   field_keeps c (Some f) = refl
@@ -125,7 +125,7 @@ module _ (classes : Classes) (lent : BuffersInUse) (k : ℕ) (s : Shared) (t : T
   exit_keeps n None = tt
   exit_keeps n (Some m) = cond_both (m.owner == k) _ _ (EffectKeeps t.calls) (λ e. refl) (λ e. tt)
 
-  effect_keeps : (args : List Actual) (f : JniFunction) → EffectKeeps t.calls (call_effect classes lent k s t args f)
+  effect_keeps : (args : List Actual) (f : JniFunction) → EffectKeeps t.calls (call_effect classes in_use k s t args f)
   unfolding call_effect
   effect_keeps args jni.FindClass = class_keeps _ (class_named classes (text_given args 0))
   effect_keeps args jni.EnsureLocalCapacity = ensure_keeps (number_given args 0)
@@ -155,19 +155,19 @@ module _ (classes : Classes) (lent : BuffersInUse) (k : ℕ) (s : Shared) (t : T
   effect_keeps args f = refl
 
   module _ (line : ℕ) (target : Target) (f : JniFunction) (args : List Actual) (rest : List Task) where
-    completed_keeps : (made : List Object) (s' : Shared) (t' : Thread) (given : CallResult) → t'.calls ≡ t.calls → KeepsCalls t.calls (completed classes lent k s t line target f args rest made s' t' given)
-    completed_keeps made s' t' given e = put_keeps target given (record s' { heap = s'.heap ++ made }) (resumed classes lent k s t line target f args rest t' given) t.calls (received_calls (prototype f).result given t' ∙ e)
+    completed_keeps : (made : List Object) (s' : Shared) (t' : Thread) (given : CallResult) → t'.calls ≡ t.calls → KeepsCalls t.calls (completed classes in_use k s t line target f args rest made s' t' given)
+    completed_keeps made s' t' given e = put_keeps target given (record s' { heap = s'.heap ++ made }) (resumed classes in_use k s t line target f args rest t' given) t.calls (received_calls (prototype f).result given t' ∙ e)
 
-    after_keeps : (e : CallEffect) → EffectKeeps t.calls e → KeepsCalls t.calls (after_call classes lent k s t line target f args rest e)
+    after_keeps : (e : CallEffect) → EffectKeeps t.calls e → KeepsCalls t.calls (after_call classes in_use k s t line target f args rest e)
     after_keeps (Throws c) h = completed_keeps (fresh_object classes c ∷ []) s (record t { pending = Some (next_name s.heap) }) (failure (prototype f).result) refl
     after_keeps (Halts trap) h = inl refl
     after_keeps (Leaves made s' t' given) h = completed_keeps made s' t' given h
 
-    refusal_keeps : (makes : Bool) → KeepsCalls t.calls (after_refusal classes lent k s t line target f args rest makes)
+    refusal_keeps : (makes : Bool) → KeepsCalls t.calls (after_refusal classes in_use k s t line target f args rest makes)
     refusal_keeps true = completed_keeps [] s (record t { pending = Some (out_of_memory classes) }) (failure (prototype f).result) refl
     refusal_keeps false = tt
 
-    call_keeps : (refused : Bool) → KeepsCalls t.calls (call_step classes lent k s t line target f args rest refused)
+    call_keeps : (refused : Bool) → KeepsCalls t.calls (call_step classes in_use k s t line target f args rest refused)
     call_keeps false = after_keeps _ (checked_keeps t.calls (trap_of_call classes s t target f args) _ (effect_keeps args f))
     call_keeps true = refusal_keeps _
 
@@ -188,7 +188,7 @@ module _ (classes : Classes) (lent : BuffersInUse) (k : ℕ) (s : Shared) (t : T
   ending_keeps Ended = inr refl
   ending_keeps (Uncaught c) = inr refl
 
-  effects_keep : (rest : List Task) (e : Effect) → KeepsCalls t.calls (after_effect classes lent k s t rest e)
+  effects_keep : (rest : List Task) (e : Effect) → KeepsCalls t.calls (after_effect classes in_use k s t rest e)
   effects_keep rest (Becomes tasks) = inl refl
   effects_keep rest (Sets x v) = inl refl
   effects_keep rest (SetsNull target) = put_keeps target NullResult s (with_tasks t rest) t.calls refl
@@ -200,11 +200,11 @@ module _ (classes : Classes) (lent : BuffersInUse) (k : ℕ) (s : Shared) (t : T
   effects_keep rest (TrapsAt trap line) = inl refl
   effects_keep rest NoEffect = tt
 
-  refused_keep : (rest : List Task) (e : Effect) → KeepsCalls t.calls (after_refused_effect classes lent k s t rest e)
+  refused_keep : (rest : List Task) (e : Effect) → KeepsCalls t.calls (after_refused_effect classes in_use k s t rest e)
   refused_keep rest (Calls line target f args) = call_keeps line target f args rest true
   refused_keep rest e = tt
 
   -- each step within a call
-  pub calls_kept : (unit : SourceUnit) (refused : Bool) (task : Task) (rest : List Task) → KeepsCalls t.calls (step_within unit classes lent k s t refused (Some (task ∷ rest)))
+  pub calls_kept : (unit : SourceUnit) (refused : Bool) (task : Task) (rest : List Task) → KeepsCalls t.calls (step_within unit classes in_use k s t refused (Some (task ∷ rest)))
   calls_kept unit false task rest = effects_keep rest (effect_of (sight_of s t) task)
   calls_kept unit true task rest = refused_keep rest (effect_of (sight_of s t) task)

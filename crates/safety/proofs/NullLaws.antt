@@ -24,7 +24,7 @@ use Rattle.safety.proofs.NameLaws.{one_or_other, lookup_same, lookup_other, fron
 use Rattle.safety.proofs.SetLaws.{once_changed, stands_new, stands_kept, stands_at, owners_elsewhere, sorts_named, sorts_kept}
 use Rattle.safety.proofs.StepLaws.{Lands, null_declared}
 
-module _ (classes : Classes) (lent : BuffersInUse) (k : ℕ) (s : Shared) (t : Thread) (rest : List Task) (p : Point) {own : Owners} (stands : Stands own s.statics t.variables t.frames p) where
+module _ (classes : Classes) (in_use : BuffersInUse) (k : ℕ) (s : Shared) (t : Thread) (rest : List Task) (p : Point) {own : Owners} (stands : Stands own s.statics t.variables t.frames p) where
   field_no_buffer : (f : _) (u : ElementType) (b : Buffer) → FieldHandle f ≡ Elements u b → ⊥
   field_no_buffer f u b e = cc
 
@@ -57,7 +57,7 @@ module _ (classes : Classes) (lent : BuffersInUse) (k : ℕ) (s : Shared) (t : T
 
   declared_lands : (kind : VariableKind) (x : Identifier) → DeclaresNull p kind x (GoesOn rest) → Lands own s.statics (put (Declared kind x) NullResult s (with_tasks t rest))
   declared_lands ScalarKind x h = absurd h
-  declared_lands ReferenceKind x (new, g) = ((at (named p x sort.Ref) (with_new p.regions x (ReferenceAt p.regions.frames true)), null_declared classes lent k s t rest p stands x new, g), λ y r e. (r, e))
+  declared_lands ReferenceKind x (new, g) = ((at (named p x sort.Ref) (with_new p.regions x (ReferenceAt p.regions.frames true)), null_declared classes in_use k s t rest p stands x new, g), λ y r e. (r, e))
   declared_lands FieldKind x (new, g) =
       ((named p x sort.FieldId, stands_new s.statics t.variables t.frames p stands x (FieldHandle None) sort.FieldId new (None, refl) (λ u b e. absurd (field_no_buffer None u b e)), g), λ y r e. (r, e))
   declared_lands (BufferKind u) x (new, (w, g)) = ((at (named p x (sort.Buffer u w)) (with_new p.regions x (BufferIn Free)), buffer_declared x u w new, g), λ y r e. (r, e))

@@ -31,7 +31,7 @@ IsQuietFunction (jni.GetBuffer access) = ⊥
 IsQuietFunction (jni.ReleaseBuffer access) = ⊥
 IsQuietFunction f = Unit {0}
 
-module _ (classes : Classes) (lent : BuffersInUse) (k : ℕ) (s : Shared) (t : Thread) (args : List Actual) where
+module _ (classes : Classes) (in_use : BuffersInUse) (k : ℕ) (s : Shared) (t : Thread) (args : List Actual) where
   field_quiet : (c : ℕ) (o : Option FieldId) → IsQuiet s t GivesField (found_field_effect s t c o)
   field_quiet c None = NoField
   field_quiet c (Some f) = (refl, refl, refl, Plainly (AField (Some f)))
@@ -80,7 +80,7 @@ module _ (classes : Classes) (lent : BuffersInUse) (k : ℕ) (s : Shared) (t : T
   ensure_quiet (pos n) = cond_both (nat_le (capacities (with_capacity n t.frames)) 1024) _ _ (IsQuiet s t GivesInt) (λ e. (refl, capacity_stays n t.frames, refl, Plainly (AnInt _))) (λ e. (refl, refl, refl, Plainly (AnInt _)))
   ensure_quiet (negsuc n) = (refl, refl, refl, Plainly (AnInt _))
 
-  pub effect_quiet : (f : JniFunction) → IsQuietFunction f → IsQuiet s t (prototype f).result (call_effect classes lent k s t args f)
+  pub effect_quiet : (f : JniFunction) → IsQuietFunction f → IsQuiet s t (prototype f).result (call_effect classes in_use k s t args f)
   unfolding call_effect
   effect_quiet jni.FindClass h = class_quiet _ _
   effect_quiet jni.GetSuperclass h = (refl, refl, refl, reference_given_quiet _)

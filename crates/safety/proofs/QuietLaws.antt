@@ -113,7 +113,7 @@ module _ (t : Thread) (line : ℕ) (rest : List Task) where
       ap (λ (tasks : List Task). record t { frames = with_local n t.frames; tasks = Some tasks; variables = tell_copy x (ReferenceResult (Some n)) t.variables }) (nothing_after target false h)
       ∙ ap (λ (vs : Variables). record t { frames = with_local n t.frames; tasks = Some rest; variables = vs }) (local_told x n t.variables)
 
-module _ (classes : Classes) (lent : BuffersInUse) (k : ℕ) (s : Shared) (t : Thread) (line : ℕ) (target : Target) (f : JniFunction) (args : List Actual) (rest : List Task) (p : Point) (own : Owners) where
+module _ (classes : Classes) (in_use : BuffersInUse) (k : ℕ) (s : Shared) (t : Thread) (line : ℕ) (target : Target) (f : JniFunction) (args : List Actual) (rest : List Task) (p : Point) (own : Owners) where
   -- a local reference goes into a frame that is there
   local_completed : {now : Owners} (shared : Shared) (t' : Thread) (n : ℕ) (get : _) (frames : List Frame) → t'.frames ≡ frames → HasFrame frames → Stands now shared.statics t'.variables t'.frames p → ResultGoes target NewLocal get (GoesOn rest) p
       → Lands (with_target target p.regions.frames now) shared.statics (put target (ReferenceResult (Some n)) shared (record t' { frames = with_local n t'.frames; tasks = Some rest }))
@@ -124,13 +124,13 @@ module _ (classes : Classes) (lent : BuffersInUse) (k : ℕ) (s : Shared) (t : T
 
   -- the same for any result
   pub given_lands : {now : Owners} → ((y : Identifier) → now y ≡ left_by f args (length t.frames) own y) → (kind : ResultKind) (made : List Object) (s' : Shared) (t' : Thread) (given : CallResult) (get : _) → (prototype f).result ≡ kind → IsNoTest target → (kind ≡ NewLocal → HasFrame t'.frames) → Stands now s'.statics t'.variables t'.frames p → Gives kind given
-      → ResultGoes target kind get (GoesOn rest) p → LandsBy (Calls line target f args) (length t.frames) own s'.statics (completed classes lent k s t line target f args rest made s' t' given)
+      → ResultGoes target kind get (GoesOn rest) p → LandsBy (Calls line target f args) (length t.frames) own s'.statics (completed classes in_use k s t line target f args rest made s' t' given)
   given_lands {now} left kind made s' t' given get is away room there (Plainly simple) h =
       let shared : Shared = record s' { heap = s'.heap ++ made } in
       put_by line f args (length t.frames) own now target (λ y other. left y) given s'.statics shared _ (
       subst (λ (result : ResultKind). Lands now s'.statics (put target given shared (record (received result given t') { tasks = Some (tasks_after line target (is_zero given) ++ rest); variables = tell_copy (variable_given args 1) given t'.variables }))) (sym is)
       (subst (λ (r : Thread). Lands now s'.statics (put target given shared r)) (sym (resumed_is t' line rest target (variable_given args 1) kind given away simple))
-      (result_lands classes lent k shared t' rest p there target kind given get simple h)))
+      (result_lands classes in_use k shared t' rest p there target kind given get simple h)))
   given_lands {now} left kind made s' t' given get is away room there (ALocal n) h =
       let shared : Shared = record s' { heap = s'.heap ++ made } in
       put_by line f args (length t.frames) own (with_target target p.regions.frames now) target (λ y other. ap (λ (b : Bool). if b then Some p.regions.frames else now y) other ∙ left y) given s'.statics shared _ (
@@ -138,7 +138,7 @@ module _ (classes : Classes) (lent : BuffersInUse) (k : ℕ) (s : Shared) (t : T
       (subst (λ (r : Thread). Lands (with_target target p.regions.frames now) s'.statics (put target (ReferenceResult (Some n)) shared r)) (sym (resumed_local t' line rest target (variable_given args 1) n away))
       (local_completed shared t' n get t'.frames refl (room refl) there h)))
 
-module _ (classes : Classes) (lent : BuffersInUse) (k : ℕ) (s : Shared) (t : Thread) (line : ℕ) (target : Target) (f : JniFunction) (args : List Actual) (rest : List Task) (p : Point) {own : Owners} (stands : Stands own s.statics t.variables t.frames p) where
+module _ (classes : Classes) (in_use : BuffersInUse) (k : ℕ) (s : Shared) (t : Thread) (line : ℕ) (target : Target) (f : JniFunction) (args : List Actual) (rest : List Task) (p : Point) {own : Owners} (stands : Stands own s.statics t.variables t.frames p) where
   -- the call ends no reference
   abbrev IsKept : Type 0
   IsKept = (y : Identifier) → own y ≡ left_by f args (length t.frames) own y
@@ -158,26 +158,26 @@ module _ (classes : Classes) (lent : BuffersInUse) (k : ℕ) (s : Shared) (t : T
       }))
 
   pub completed_lands : IsKept → (made : List Object) (s' : Shared) (t' : Thread) (given : CallResult) (get : _) → IsNoTest target → t'.variables ≡ t.variables → references_of t'.frames ≡ references_of t.frames → s'.statics ≡ s.statics → Simple (prototype f).result given → ResultGoes target (prototype f).result get (GoesOn rest) p
-      → LandsBy (Calls line target f args) (length t.frames) own s'.statics (completed classes lent k s t line target f args rest made s' t' given)
+      → LandsBy (Calls line target f args) (length t.frames) own s'.statics (completed classes in_use k s t line target f args rest made s' t' given)
   completed_lands left made s' t' given get away vs fs ss simple h =
       let shared : Shared = record s' { heap = s'.heap ++ made } in
       put_by line f args (length t.frames) own own target (λ y other. left y) given s'.statics shared _
       (subst (λ (r : Thread). Lands own s'.statics (put target given shared r)) (sym (resumed_is t' line rest target (variable_given args 1) (prototype f).result given away simple))
-      (result_lands classes lent k shared t' rest p (stands_again s' t' vs fs ss) target (prototype f).result given get simple h))
+      (result_lands classes in_use k shared t' rest p (stands_again s' t' vs fs ss) target (prototype f).result given get simple h))
 
   -- such a call leads to a point again
   pub quiet_lands : IsKept → (get : _) (e : CallEffect) → IsNoTest target → Goes own s.statics t t.tasks → ((prototype f).result ≡ NewLocal → HasFrame t.frames) → IsQuiet s t (prototype f).result e → ResultGoes target (prototype f).result get (GoesOn rest) p
-      → LandsBy (Calls line target f args) (length t.frames) own s.statics (after_call classes lent k s t line target f args rest e)
+      → LandsBy (Calls line target f args) (length t.frames) own s.statics (after_call classes in_use k s t line target f args rest e)
   quiet_lands left get (Throws c) away whole room quiet h = completed_lands left (fresh_object classes c ∷ []) s (record t { pending = Some (next_name s.heap) }) (failure (prototype f).result) get away refl refl refl quiet h
   quiet_lands left get (Halts trap) away whole room quiet h = (whole, λ x r e. (r, e))
   quiet_lands left get (Leaves made s' t' given) away whole room quiet h =
-      subst (λ (ss : Statics). LandsBy (Calls line target f args) (length t.frames) own ss (completed classes lent k s t line target f args rest made s' t' given)) quiet.2
-      (given_lands classes lent k s t line target f args rest p own left (prototype f).result made s' t' given get refl away (λ e. frame_again t'.frames t.frames quiet.1 (room e)) (stands_again s' t' quiet.0 quiet.1 quiet.2) quiet.3 h)
+      subst (λ (ss : Statics). LandsBy (Calls line target f args) (length t.frames) own ss (completed classes in_use k s t line target f args rest made s' t' given)) quiet.2
+      (given_lands classes in_use k s t line target f args rest p own left (prototype f).result made s' t' given get refl away (λ e. frame_again t'.frames t.frames quiet.1 (room e)) (stands_again s' t' quiet.0 quiet.1 quiet.2) quiet.3 h)
 
   -- and so does one whose allocation is refused, if it has one
   pub refused_lands : IsKept → (get : _) (makes : Bool) → IsNoTest target → Simple (prototype f).result (failure (prototype f).result) → ResultGoes target (prototype f).result get (GoesOn rest) p
-      → LandsByIfPossible (Calls line target f args) (length t.frames) own s.statics (after_refusal classes lent k s t line target f args rest makes)
+      → LandsByIfPossible (Calls line target f args) (length t.frames) own s.statics (after_refusal classes in_use k s t line target f args rest makes)
   refused_lands left get true away simple h =
-      by_if_possible (Calls line target f args) (length t.frames) own s.statics (completed classes lent k s t line target f args rest [] s (record t { pending = Some (out_of_memory classes) }) (failure (prototype f).result))
+      by_if_possible (Calls line target f args) (length t.frames) own s.statics (completed classes in_use k s t line target f args rest [] s (record t { pending = Some (out_of_memory classes) }) (failure (prototype f).result))
       (completed_lands left [] s (record t { pending = Some (out_of_memory classes) }) (failure (prototype f).result) get away refl refl refl simple h)
   refused_lands left get false away simple h = tt

@@ -38,7 +38,7 @@ pub data Simple : ResultKind → CallResult → Type 0 where
   NullLocal : Simple NewLocal (ReferenceResult None)
   NoResultThere : Simple GivesNothing NoResult
 
-module _ (classes : Classes) (lent : BuffersInUse) (k : ℕ) (s : Shared) (t : Thread) (rest : List Task) (p : Point) {own : Owners} (stands : Stands own s.statics t.variables t.frames p) where
+module _ (classes : Classes) (in_use : BuffersInUse) (k : ℕ) (s : Shared) (t : Thread) (rest : List Task) (p : Point) {own : Owners} (stands : Stands own s.statics t.variables t.frames p) where
   scalar_no_buffer : (v : Value) (u : ElementType) (b : Buffer) → Scalar v ≡ Elements u b → ⊥
   scalar_no_buffer v u b e = cc
 
@@ -61,9 +61,9 @@ module _ (classes : Classes) (lent : BuffersInUse) (k : ℕ) (s : Shared) (t : T
       ((named p x sort.Flag, stands_new s.statics t.variables t.frames p stands x (Scalar (Flag b)) sort.Flag new (Flag b, refl, refl) (λ u c d. absurd (scalar_no_buffer (Flag b) u c d)), g), stay)
   declared FieldKind x result given get (AField f) (new, g) =
       ((named p x sort.FieldId, stands_new s.statics t.variables t.frames p stands x (FieldHandle f) sort.FieldId new (f, refl) (λ u b c. absurd (field_no_buffer f u b c)), g), stay)
-  declared FieldKind x result given get NoField h = null_lands classes lent k s t rest p stands (Declared FieldKind x) h
-  declared ReferenceKind x result given get NoLocal h = null_lands classes lent k s t rest p stands (Declared ReferenceKind x) h
-  declared ReferenceKind x result given get NullLocal h = null_lands classes lent k s t rest p stands (Declared ReferenceKind x) h
+  declared FieldKind x result given get NoField h = null_lands classes in_use k s t rest p stands (Declared FieldKind x) h
+  declared ReferenceKind x result given get NoLocal h = null_lands classes in_use k s t rest p stands (Declared ReferenceKind x) h
+  declared ReferenceKind x result given get NullLocal h = null_lands classes in_use k s t rest p stands (Declared ReferenceKind x) h
   declared (BufferKind u) x result given get (AnInt z) h = absurd h
   declared (BufferKind u) x result given get (AFlag b) h = absurd h
   declared (BufferKind u) x result given get (AField f) h = absurd h
@@ -88,17 +88,17 @@ module _ (classes : Classes) (lent : BuffersInUse) (k : ℕ) (s : Shared) (t : T
   static_put : (x : Identifier) (given : CallResult) (o : Option Variable) → o ≡ None → GoesOn rest p → Lands own s.statics (put_assigned x given s (with_tasks t rest) o)
   static_put x given o none g =
       subst (λ (w : Option Variable). Lands own s.statics (put_assigned x given s (with_tasks t rest) w)) (sym none)
-      ((p, stands_static classes lent k s t rest p stands x (static_result given), g), statics_stay classes lent k s t rest p stands x (static_result given))
+      ((p, stands_static classes in_use k s t rest p stands x (static_result given), g), statics_stay classes in_use k s t rest p stands x (static_result given))
 
   assigned : (x : Identifier) (o : Option Sort) (result : ResultKind) (given : CallResult) (get : Option (Access × Option Identifier)) → sort_in p.names x ≡ o → Simple result given → AssignsResult p o x result get (GoesOn rest) → Lands own s.statics (put_assigned x given s (with_tasks t rest) (lookup x t.variables))
   assigned x (Some sort.Jint) result given get e (AnInt z) g = let old = stands.sorts x sort.Jint e in number_put x sort.Jint (Int z) (lookup x t.variables) e refl (old.0, old.1) (Int z, refl, refl) g
   assigned x (Some sort.Flag) result given get e (AFlag b) g = let old = stands.sorts x sort.Flag e in number_put x sort.Flag (Flag b) (lookup x t.variables) e refl (old.0, old.1) (Flag b, refl, refl) g
   assigned x (Some sort.FieldId) result given get e (AField f) g = field_put x f (lookup x t.variables) e refl (stands.sorts x sort.FieldId e) g
-  assigned x (Some sort.FieldId) result given get e NoField g = assigned_lands classes lent k s t rest p stands x (Some sort.FieldId) e g
-  assigned x (Some sort.Ref) result given get e NoLocal h = assigned_lands classes lent k s t rest p stands x (Some sort.Ref) e h
+  assigned x (Some sort.FieldId) result given get e NoField g = assigned_lands classes in_use k s t rest p stands x (Some sort.FieldId) e g
+  assigned x (Some sort.Ref) result given get e NoLocal h = assigned_lands classes in_use k s t rest p stands x (Some sort.Ref) e h
   assigned x (Some sort.Ref) result given get e NullLocal (may, g) =
       let shown = stands.shows x _ may.known in
-      subst (λ (v : Option Variable). Lands own s.statics (put_assigned x (ReferenceResult None) s (with_tasks t rest) v)) (sym shown.1) ((at p (with_changed p.regions x revived), nulled classes lent k s t rest p stands x may e, g), stay)
+      subst (λ (v : Option Variable). Lands own s.statics (put_assigned x (ReferenceResult None) s (with_tasks t rest) v)) (sym shown.1) ((at p (with_changed p.regions x revived), nulled classes in_use k s t rest p stands x may e, g), stay)
   assigned x (Some sort.Global) result given get e (AGlobal r) g = static_put x (ReferenceResult r) (lookup x t.variables) ((stands.sorts x sort.Global e).0) g
   assigned x (Some sort.Global) result given get e NoGlobal g = static_put x NullResult (lookup x t.variables) ((stands.sorts x sort.Global e).0) g
   assigned x (Some (sort.Buffer u w)) result given get e (AnInt z) h = absurd h

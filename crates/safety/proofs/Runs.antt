@@ -19,7 +19,7 @@ use Rattle.source.specs.Journal.{Journal}
 use Rattle.source.specs.Load.{fit_parameters, is_callable, call_loads, Loads}
 use Rattle.source.specs.Run.{replay_from}
 use Rattle.source.specs.Start.{waiting_thread, null_statics, start}
-use Rattle.source.specs.State.{State, thread_at, set_thread, lent, with_event, advanced}
+use Rattle.source.specs.State.{State, thread_at, set_thread, in_use, with_event, advanced}
 use Rattle.source.specs.Step.{is_unfinished, is_waiting, is_live, can_step, step_of, world_step}
 use Rattle.source.specs.Task.{Task, tasks_of}
 use Rattle.source.specs.Thread.{Thread, Shared, Frame, BuffersInUse, Event, Quiet, PrintedNumber, Trapped, Advance, Advances, NoAdvance, sight_of}
@@ -230,7 +230,7 @@ module _ (unit : SourceUnit) (classes : Classes) (first : Statics) (enters : All
     thread_running : (o : Option Thread) → thread_at s k ≡ o → is_live o ≡ true → step_of unit classes s k refused o ≡ Some next → AreRunning (after_turn unit classes s owners k refused o) next
     thread_running None there live e = absurd (cc)
     thread_running (Some t) there live e =
-        advance_running owners s k t refused (thread_step unit classes (lent s) k s.shared t refused) next h (thread_steps (lent s) k s.shared t (owners k) h.stay live (thread_sound owners s k t h there) refused) e
+        advance_running owners s k t refused (thread_step unit classes (in_use s) k s.shared t refused) next h (thread_steps (in_use s) k s.shared t (owners k) h.stay live (thread_sound owners s k t h there) refused) e
 
     can_running : (b : Bool) → can_step classes s k ≡ b → (if b then step_of unit classes s k refused (thread_at s k) else None) ≡ Some next → AreRunning (after_turn unit classes s owners k refused (thread_at s k)) next
     can_running true can e = thread_running (thread_at s k) refl (live_thread s k can) e
@@ -249,7 +249,7 @@ module _ (unit : SourceUnit) (classes : Classes) (first : Statics) (enters : All
   step_there : (owners : AllOwners) (s : State) (k : ℕ) (t : Thread) → AreRunning owners s → thread_at s k ≡ Some t → can_step classes s k ≡ true → (next : State) × (world_step unit classes s (Step k false) ≡ Some next)
   step_there owners s k t h there can =
       let live : is_live (Some t) ≡ true = subst (λ (o : Option Thread). is_live o ≡ true) there (live_thread s k can) in
-      let leads = advance_there (after_tasks s.shared t t.tasks (owners k)) s k (thread_step unit classes (lent s) k s.shared t false) (thread_steps (lent s) k s.shared t (owners k) h.stay live (thread_sound owners s k t h there) false) in
+      let leads = advance_there (after_tasks s.shared t t.tasks (owners k)) s k (thread_step unit classes (in_use s) k s.shared t false) (thread_steps (in_use s) k s.shared t (owners k) h.stay live (thread_sound owners s k t h there) false) in
       (leads.0, step-thread unit classes s k t false (record { thread = there; can = can }) ∙ leads.1)
 
 -- ---- runs

@@ -42,7 +42,7 @@ Lands own ss NoAdvance = ⊥
 pub same_statics : (ss : Statics) (x : Identifier) (r : StaticReference) → lookup x ss ≡ Some r → (q : StaticReference) × (lookup x ss ≡ Some q)
 same_statics ss x r e = (r, e)
 
-module _ (classes : Classes) (lent : BuffersInUse) (k : ℕ) (s : Shared) (t : Thread) (rest : List Task) (p : Point) {own : Owners} (stands : Stands own s.statics t.variables t.frames p) where
+module _ (classes : Classes) (in_use : BuffersInUse) (k : ℕ) (s : Shared) (t : Thread) (rest : List Task) (p : Point) {own : Owners} (stands : Stands own s.statics t.variables t.frames p) where
   -- ---- numbers
 
   number_old : (sort : Sort) (o : Option Variable) (g : Option StaticReference) → IsNumberSort sort → VariableFits sort o g → (v : Value) × (o ≡ Some (Scalar v))
@@ -260,7 +260,7 @@ module _ (classes : Classes) (lent : BuffersInUse) (k : ℕ) (s : Shared) (t : T
   IsPlain (SetsNull target) = ⊥
   IsPlain e = Unit {0}
 
-  pub plain_lands : (sight : Sight) (e : Effect) → IsPlain e → Goes own s.statics t t.tasks → Follows own sight s.statics t.variables t.frames p rest e → Lands own s.statics (after_effect classes lent k s t rest e)
+  pub plain_lands : (sight : Sight) (e : Effect) → IsPlain e → Goes own s.statics t t.tasks → Follows own sight s.statics t.variables t.frames p rest e → Lands own s.statics (after_effect classes in_use k s t rest e)
   plain_lands sight (Becomes tasks) plain whole (q, there, g) = ((q, there, g), same_statics s.statics)
   plain_lands sight (Sets x v) plain whole h = (sets_lands x v h.0 h.1, same_statics s.statics)
   plain_lands sight (SetsNull target) plain whole h = absurd plain

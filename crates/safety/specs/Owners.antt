@@ -12,7 +12,7 @@ use Rattle.source.specs.Arguments.{Actual, variable_given}
 use Rattle.source.specs.Effect.{Effect, Calls}
 use Rattle.source.specs.Journal.{Journal}
 use Rattle.source.specs.Start.{start}
-use Rattle.source.specs.State.{State, thread_at, lent}
+use Rattle.source.specs.State.{State, thread_at, in_use}
 use Rattle.source.specs.Step.{world_step}
 use Rattle.source.specs.Task.{Task, Target, Declared, Assigned}
 use Rattle.source.specs.Thread.{Thread, Shared, Event, Trapped, Advance, Advances, NoAdvance}
@@ -95,7 +95,7 @@ with_owners owners k own j = if j == k then own else owners j
 -- after a step of thread k, if it is there
 abbrev pub after_turn : SourceUnit → Classes → State → AllOwners → (k : ℕ) → (refused : Bool) → Option Thread → AllOwners
 after_turn unit classes s owners k refused None = owners
-after_turn unit classes s owners k refused (Some t) = with_owners owners k (after_advance s.shared t (owners k) (thread_step unit classes (lent s) k s.shared t refused))
+after_turn unit classes s owners k refused (Some t) = with_owners owners k (after_advance s.shared t (owners k) (thread_step unit classes (in_use s) k s.shared t refused))
 
 -- after an entry
 abbrev pub after_entry : SourceUnit → Classes → State → AllOwners → Entry → AllOwners

@@ -16,7 +16,7 @@ use Rattle.source.specs.World.{World}
 use Rattle.source.specs.AccountLaws.{OthersStay, StepsMay}
 use Rattle.source.specs.Run.{replay, replay_from, account_at, entries_of, printed_by, ending_of}
 use Rattle.source.specs.Start.{start}
-use Rattle.source.specs.State.{State, Stop, thread_at, set_thread, lent, advanced, with_event}
+use Rattle.source.specs.State.{State, Stop, thread_at, set_thread, in_use, advanced, with_event}
 use Rattle.source.specs.Step.{is_blocked, is_live, can_step, step_of, world_step}
 use Rattle.source.specs.Thread.{Thread, Shared, Unfinished, Event, Quiet, Trapped, PrintedNumber, Advance, Advances, NoAdvance}
 use Rattle.source.specs.ThreadStep.{thread_step}
@@ -63,7 +63,7 @@ moved s next k NoAdvance h = let bad : None ≡ Some next = h in absurd (cc)
 
 stepped : (unit : SourceUnit) (classes : Classes) (s next : State) (k : ℕ) (refused : Bool) (o : Option Thread) → step_of unit classes s k refused o ≡ Some next → Stepped s k next
 stepped unit classes s next k refused None h = let bad : None ≡ Some next = h in absurd (cc)
-stepped unit classes s next k refused (Some t) h = moved s next k (thread_step unit classes (lent s) k s.shared t refused) h
+stepped unit classes s next k refused (Some t) h = moved s next k (thread_step unit classes (in_use s) k s.shared t refused) h
 
 by_step : (unit : SourceUnit) (classes : Classes) (s next : State) (k : ℕ) (refused : Bool) → world_step unit classes s (Step k refused) ≡ Some next → Stepped s k next
 unfolding world_step

@@ -88,8 +88,8 @@ exit_keeps : (k : ℕ) (s : Shared) (t : Thread) (o : ℕ) (m : Option Monitor) 
 exit_keeps k s t o None = tt
 exit_keeps k s t o (Some m) = cond_both (m.owner == k) _ _ (Keeps s) (λ e. refl) (λ e. tt)
 
-module _ (classes : Classes) (lent : BuffersInUse) (k : ℕ) (s : Shared) (t : Thread) (args : List Actual) where
-  pub effect_keeps : (f : JniFunction) → Keeps s (call_effect classes lent k s t args f)
+module _ (classes : Classes) (in_use : BuffersInUse) (k : ℕ) (s : Shared) (t : Thread) (args : List Actual) where
+  pub effect_keeps : (f : JniFunction) → Keeps s (call_effect classes in_use k s t args f)
   unfolding call_effect
   effect_keeps jni.FindClass = found_class_keeps s t _ (class_named classes (text_given args 0))
   effect_keeps jni.DeleteLocalRef = delete_local_keeps s t (lookup (variable_given args 0) t.variables) (reference_given args 0)

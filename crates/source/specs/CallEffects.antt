@@ -176,11 +176,11 @@ store_effect s t fits object r i = if fits then heap_effect s t (with_value_at s
 
 -- a copy of the object's elements, or NULL where all copies together would be too long
 abbrev pub copy_effect : BuffersInUse → Shared → Thread → (object : ℕ) → List ℤ → CallEffect
-copy_effect lent s t object zs = Leaves [] s t (BufferResult (if nat_le (lent.copied + length zs) 65536 then Copy object zs else NoBuffer))
+copy_effect in_use s t object zs = Leaves [] s t (BufferResult (if nat_le (in_use.copied + length zs) 65536 then Copy object zs else NoBuffer))
 
 -- a view of the object, or NULL where 64 are out
 abbrev pub view_effect : BuffersInUse → Shared → Thread → ℕ → CallEffect
-view_effect lent s t object = Leaves [] s t (BufferResult (if nat_lt lent.views 64 then View object else NoBuffer))
+view_effect in_use s t object = Leaves [] s t (BufferResult (if nat_lt in_use.views 64 then View object else NoBuffer))
 
 -- the elements of a copy
 abbrev pub copied_elements : Option Variable → List ℤ

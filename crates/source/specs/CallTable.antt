@@ -48,7 +48,7 @@ module _ (classes : Classes) (heap : Heap) (buffer : ElementType) (args : List A
   go_together f = true
 
 -- Thread k calls a function. `object i`, `number i` and so on are its arguments after `env`, from 0.
-module _ (classes : Classes) (lent : BuffersInUse) (k : ℕ) (s : Shared) (t : Thread) (args : List Actual) where
+module _ (classes : Classes) (in_use : BuffersInUse) (k : ℕ) (s : Shared) (t : Thread) (args : List Actual) where
   -- nothing changes, and this is given
   abbrev pub gives : CallResult → CallEffect
   gives result = Leaves [] s t result
@@ -130,16 +130,16 @@ module _ (classes : Classes) (lent : BuffersInUse) (k : ℕ) (s : Shared) (t : T
   call_effect SetObjectArrayElement = at_index array_index_out_of_bounds (count (object 0)) (number 1) (store_effect s t (fits_class classes s.heap (reference 2) (element_class (class_kind classes (class_of s.heap (object 0))))) (object 0) (reference 2))
   call_effect (GetArrayRegion T) = at_region array_index_out_of_bounds (count (object 0)) (number 1) (number 2) (get_region_effect s t (object 0) (variable_given args 3))
   call_effect (SetArrayRegion T) = at_region array_index_out_of_bounds (count (object 0)) (number 1) (number 2) (set_region_effect s t (object 0) (variable_given args 3))
-  call_effect (GetBuffer (ElementsCopy T)) = copy_effect lent s t (object 0) (numbers_of s.heap (object 0))
+  call_effect (GetBuffer (ElementsCopy T)) = copy_effect in_use s t (object 0) (numbers_of s.heap (object 0))
   call_effect (ReleaseBuffer (ElementsCopy T)) = release_effect s t (object 0) (variable_given args 1) (mode_given args 2)
-  call_effect (GetBuffer ArrayView) = view_effect lent s t (object 0)
+  call_effect (GetBuffer ArrayView) = view_effect in_use s t (object 0)
   call_effect (ReleaseBuffer ArrayView) = Leaves [] s (with_freed t (variable_given args 1)) NoResult
   call_effect NewStringUTF = new_effect s t (string_object (text 0))
   call_effect GetStringLength = gives_int (pos (count (object 0)))
   call_effect GetStringRegion = at_region string_index_out_of_bounds (count (object 0)) (number 1) (number 2) (get_region_effect s t (object 0) (variable_given args 3))
-  call_effect (GetBuffer CharsCopy) = copy_effect lent s t (object 0) (numbers_of s.heap (object 0))
+  call_effect (GetBuffer CharsCopy) = copy_effect in_use s t (object 0) (numbers_of s.heap (object 0))
   call_effect (ReleaseBuffer CharsCopy) = release_effect s t (object 0) (variable_given args 1) FreeUncopied
-  call_effect (GetBuffer CharsView) = view_effect lent s t (object 0)
+  call_effect (GetBuffer CharsView) = view_effect in_use s t (object 0)
   call_effect (ReleaseBuffer CharsView) = Leaves [] s (with_freed t (variable_given args 1)) NoResult
   call_effect Throw = Leaves [] s (record t { pending = reference 0 }) (ScalarResult (Int (pos 0)))
   call_effect ThrowNew = throw_new_effect classes s t (object 0) (text 1)

@@ -37,8 +37,8 @@ abbrev pub views : State → List ℕ
 views s = flat_map viewed_by s.threads
 
 -- what all buffers together take
-abbrev pub lent : State → BuffersInUse
-lent s = record { copied = copied s; views = length (views s) }
+abbrev pub in_use : State → BuffersInUse
+in_use s = record { copied = copied s; views = length (views s) }
 
 -- what thread k prints, and the trap that it stops the machine with
 abbrev pub with_event : State → ℕ → Event → State

@@ -4,7 +4,7 @@ use Rattle.syntax.specs.Tree.{SourceUnit}
 use Rattle.classes.specs.Class.{Classes}
 use Rattle.source.specs.declared.journal.Entry.{Entry}
 use Rattle.source.specs.declared.journal.Entry.TheVariants.{Step}
-use Rattle.source.specs.State.{State, thread_at, lent, advanced}
+use Rattle.source.specs.State.{State, thread_at, in_use, advanced}
 use Rattle.source.specs.Thread.{Ending, Unfinished, Thread, Shared}
 use Rattle.source.specs.ThreadStep.{waits, thread_step}
 
@@ -34,7 +34,7 @@ can_step classes s k = is_none s.stop && is_live (thread_at s k) && not (is_bloc
 -- a step of a thread that is there
 abbrev pub step_of : SourceUnit → Classes → State → (k : ℕ) → (refused : Bool) → Option Thread → Option State
 step_of unit classes s k refused None = None
-step_of unit classes s k refused (Some t) = advanced s k (thread_step unit classes (lent s) k s.shared t refused)
+step_of unit classes s k refused (Some t) = advanced s k (thread_step unit classes (in_use s) k s.shared t refused)
 
 -- the state after an entry, where it is possible
 unfoldable pub world_step : SourceUnit → Classes → State → Entry → Option State

@@ -100,9 +100,9 @@ begun_range old new first after rest known begun left outer =
 -- it takes the same step then
 pub begun_before : (classes : Classes) (refused : Bool) (s : Shared) (old begun : Activation) (took : Outcome) (after : Shared) (new : Activation) → tasks_left begun ≡ tasks_left old → KeepsScene old begun
     → Advances classes refused s begun took after new → Advances classes refused s old took after new
-begun_before classes refused s old begun took after new tasks kept does = λ unit lent k t sees has.
-    ap (λ (ts : List Task). step_within unit classes lent k s t refused (Some ts)) (sym tasks)
-    ∙ does unit lent k t
+begun_before classes refused s old begun took after new tasks kept does = λ unit in_use k t sees has.
+    ap (λ (ts : List Task). step_within unit classes in_use k s t refused (Some ts)) (sym tasks)
+    ∙ does unit in_use k t
     (seen_begun classes s old begun kept t sees)
     (has ∙ ap (λ (ts : List Task). let o : Option (List Task) = Some ts in o) (sym tasks))
 
@@ -149,9 +149,9 @@ module _ (classes : Classes) (refused : Bool) (shared stepped' : Shared) (static
 
   stepped : (took : Outcome) → Does refused scene begun_task took scene' after
       → ((k : ℕ) (t : Thread) → Sees scene t → left_by k stepped' (within t) rest took after ≡ NoAdvance) → Advances classes refused shared old outcome.Impossible shared' new
-  stepped took does left = λ unit lent k t sees has.
-      ap (λ (ts : List Task). step_within unit classes lent k shared t refused (Some ts)) first
-      ∙ does unit lent k t rest (seen t sees) (has ∙ ap (λ (ts : List Task). let o : Option (List Task) = Some ts in o) first)
+  stepped took does left = λ unit in_use k t sees has.
+      ap (λ (ts : List Task). step_within unit classes in_use k shared t refused (Some ts)) first
+      ∙ does unit in_use k t rest (seen t sees) (has ∙ ap (λ (ts : List Task). let o : Option (List Task) = Some ts in o) first)
       ∙ left k t (seen t sees)
 
   -- a step that isn't possible
@@ -225,9 +225,9 @@ module _ (classes : Classes) (refused : Bool) (shared stepped' : Shared) (static
   -- what the task's step does is done to the call
   pub advances : (took : Outcome) → Does refused scene begun_task took scene' after
       → OnVariables took → AreSet stood took new → Advances classes refused shared old took shared' new
-  advances took does leaves applied = λ unit lent k t sees has.
-      ap (λ (ts : List Task). step_within unit classes lent k shared t refused (Some ts)) first
-      ∙ does unit lent k t rest (seen t sees) (has ∙ ap (λ (ts : List Task). let o : Option (List Task) = Some ts in o) first)
+  advances took does leaves applied = λ unit in_use k t sees has.
+      ap (λ (ts : List Task). step_within unit classes in_use k shared t refused (Some ts)) first
+      ∙ does unit in_use k t rest (seen t sees) (has ∙ ap (λ (ts : List Task). let o : Option (List Task) = Some ts in o) first)
       ∙ left_in k t (seen t sees) took leaves applied
 
 -- ---- what is known of accepted programs
@@ -260,25 +260,25 @@ module _ (begun new : Activation) (after : TaskInMemory) (variables : Contents) 
 
 -- ---- the end of a block
 
-module _ (unit : SourceUnit) (classes : Classes) (lent : BuffersInUse) (k : ℕ) (s : Shared) (t : Thread) where
-  end_refused : (e : End) (after : List Task) → step_within unit classes lent k s t true (Some (end_view e ∷ after)) ≡ NoAdvance
+module _ (unit : SourceUnit) (classes : Classes) (in_use : BuffersInUse) (k : ℕ) (s : Shared) (t : Thread) where
+  end_refused : (e : End) (after : List Task) → step_within unit classes in_use k s t true (Some (end_view e ∷ after)) ≡ NoAdvance
   end_refused end.If after = refl
   end_refused (end.Turn line test body) after = refl
 
-  around_refused : (after : List Task) (os : List Outer) → step_within unit classes lent k s t true (Some after) ≡ NoAdvance → step_within unit classes lent k s t true (Some (tasks_around after os)) ≡ NoAdvance
+  around_refused : (after : List Task) (os : List Outer) → step_within unit classes in_use k s t true (Some after) ≡ NoAdvance → step_within unit classes in_use k s t true (Some (tasks_around after os)) ≡ NoAdvance
   around_refused after [] h = h
   around_refused after (o ∷ os) h = around_refused (end_view o.end ∷ tasks_of_statements o.rest ++ after) os (end_refused o.end (tasks_of_statements o.rest ++ after))
 
 module _ (classes : Classes) (shared_then : Shared) (old new : Activation) (idle : old.task ≡ None) (done : old.rest ≡ []) where
   -- no task is left
   pub nothing_to_do : old.outer.items ≡ [] → Advances classes false shared_then old outcome.Impossible shared_then new
-  nothing_to_do none = λ unit lent k t sees has. ap (λ (tasks : List Task). step_within unit classes lent k shared_then t false (Some tasks)) (left_is old None [] [] idle done none)
+  nothing_to_do none = λ unit in_use k t sees has. ap (λ (tasks : List Task). step_within unit classes in_use k shared_then t false (Some tasks)) (left_is old None [] [] idle done none)
 
   -- what has no object can't have it refused
   pub nothing_to_refuse : Advances classes true shared_then old outcome.Impossible shared_then new
-  nothing_to_refuse = λ unit lent k t sees has.
-      ap (λ (tasks : List Task). step_within unit classes lent k shared_then t true (Some tasks)) (left_is old None [] old.outer.items idle done refl)
-      ∙ around_refused unit classes lent k shared_then t [] old.outer.items refl
+  nothing_to_refuse = λ unit in_use k t sees has.
+      ap (λ (tasks : List Task). step_within unit classes in_use k shared_then t true (Some tasks)) (left_is old None [] old.outer.items idle done refl)
+      ∙ around_refused unit classes in_use k shared_then t [] old.outer.items refl
 
   module _ (os : List Outer) (o : Outer) (outer : old.outer.items ≡ os ++ o ∷ []) (rest : new.rest ≡ o.rest) (rest_of : new.outer.items ≡ os) (kept : KeepsScene old new) where
     abbrev after : List Task
@@ -298,14 +298,14 @@ module _ (classes : Classes) (shared_then : Shared) (old new : Activation) (idle
 
     -- after an `if`
     pub if_over : o.end ≡ end.If → new.task ≡ None → Advances classes false shared_then old outcome.Ends shared_then new
-    if_over is none = λ unit lent k t sees has.
-        ap (λ (ts : List Task). step_within unit classes lent k shared_then t false (Some ts)) (at_end ∙ ap (λ (e : End). end_view e ∷ after) is)
+    if_over is none = λ unit in_use k t sees has.
+        ap (λ (ts : List Task). step_within unit classes in_use k shared_then t false (Some ts)) (at_end ∙ ap (λ (e : End). end_view e ∷ after) is)
         ∙ goes after t sees (left None none)
 
     -- at a loop's test
     pub turn_over : (line : ℕ) (test : Bor Expr) (body : Bor Block) (u : TaskInMemory) → o.end ≡ end.Turn line test body → new.task ≡ Some u → task_view u ≡ Loop line (expr_tree test.now) (term_of (expr_tree test.now)) (block_tree body.now)
         → Advances classes false shared_then old outcome.Stays shared_then new
-    turn_over line test body u is begun begins = λ unit lent k t sees has.
-        ap (λ (ts : List Task). step_within unit classes lent k shared_then t false (Some ts)) (at_end ∙ ap (λ (e : End). end_view e ∷ after) is)
+    turn_over line test body u is begun begins = λ unit in_use k t sees has.
+        ap (λ (ts : List Task). step_within unit classes in_use k shared_then t false (Some ts)) (at_end ∙ ap (λ (e : End). end_view e ∷ after) is)
         ∙ ap (λ (v : Task). let ts : List Task = v ∷ after in thread.Advances shared_then (with_tasks t ts) Quiet) (sym begins)
         ∙ goes (task_view u ∷ after) t sees (left (Some u) begun)

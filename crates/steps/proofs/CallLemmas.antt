@@ -64,7 +64,7 @@ trap_is classes heap buffer args f t built = rw (together classes heap buffer ar
 
 -- ---- effects
 
-module _ (classes : Classes) (lent : BuffersInUse) (k : ℕ) (s : Shared) (t : Thread) (args : List Actual) where
+module _ (classes : Classes) (in_use : BuffersInUse) (k : ℕ) (s : Shared) (t : Thread) (args : List Actual) where
   class_found : (o : Option ℕ) → found_class_effect s t no_class_def_found_error o ≡ effect_as classes s t (found_class o)
   class_found None = refl
   class_found (Some c) = refl
@@ -98,7 +98,7 @@ module _ (classes : Classes) (lent : BuffersInUse) (k : ℕ) (s : Shared) (t : T
   deletes_global x (Some n) = refl
 
   -- what is worked out is the effect
-  effects : (f : JniFunction) → is_built_function f ≡ true → call_effect classes lent k s t args f ≡ effect_as classes s t (worked_out classes s.heap t.variables t.frames args f)
+  effects : (f : JniFunction) → is_built_function f ≡ true → call_effect classes in_use k s t args f ≡ effect_as classes s t (worked_out classes s.heap t.variables t.frames args f)
   unfolding call_effect
   effects FindClass built = class_found _
   effects NewGlobalRef built = makes_global _
@@ -152,7 +152,7 @@ makes_alike classes s t (DeletesLocal l n) = refl
 makes_alike classes s t (MakesGlobal n) = refl
 makes_alike classes s t (DeletesGlobal x n) = refl
 
-module _ (classes : Classes) (lent : BuffersInUse) (k : ℕ) (s : Shared) (t : Thread) (line : ℕ) (purpose : PurposeInMemory) (f : JniFunction) (args : List Actual) (rest : List Task) (frames : List Frame) (pending : Reference) where
+module _ (classes : Classes) (in_use : BuffersInUse) (k : ℕ) (s : Shared) (t : Thread) (line : ℕ) (purpose : PurposeInMemory) (f : JniFunction) (args : List Actual) (rest : List Task) (frames : List Frame) (pending : Reference) where
   abbrev kind : ResultKind
   kind = (prototype f).result
 
@@ -162,7 +162,7 @@ module _ (classes : Classes) (lent : BuffersInUse) (k : ℕ) (s : Shared) (t : T
 
   -- what goes where it belongs
   abbrev completes : List Object → Shared → Thread → CallResult → Advance
-  completes made s' u c = completed classes lent k s caller line (purpose_view line purpose) f args rest made s' u c
+  completes made s' u c = completed classes in_use k s caller line (purpose_view line purpose) f args rest made s' u c
 
   by_purpose : (p : PurposeInMemory) (s' : Shared) (fs : List Frame) (r : Reference) (g : Given) (new : TaskInMemory)
       → put (purpose_view line p) (given_view g) s' (with_tasks (in_frames t fs r) (tasks_after line (purpose_view line p) (is_zero (given_view g)) ++ rest)) ≡ left_by k s' (in_frames t fs r) rest (outcome_for line p g) new
@@ -190,7 +190,7 @@ module _ (classes : Classes) (lent : BuffersInUse) (k : ℕ) (s : Shared) (t : T
 
   -- so it is after each answer
   answered : (a : Answer) (g : Given) (new : TaskInMemory) → given_view g ≡ given_after s.heap kind a
-      → after_call classes lent k s caller line (purpose_view line purpose) f args rest (effect_as classes s caller a)
+      → after_call classes in_use k s caller line (purpose_view line purpose) f args rest (effect_as classes s caller a)
       ≡ left_by k (shared_after classes s a) (in_frames t (frames_with kind (given_view g) (frames_after frames a)) (pending_after classes s.heap pending a)) rest (outcome_for line purpose g) new
   answered (Gives c) g new same = plain s frames pending c g new same
   answered (Writes n i v) g new same = plain (shared_after classes s (Writes n i v)) frames pending NoResult g new same
@@ -206,7 +206,7 @@ module _ (classes : Classes) (lent : BuffersInUse) (k : ℕ) (s : Shared) (t : T
 
   -- and where its object is refused
   refused_is : (g : Given) (new : TaskInMemory) → given_view g ≡ failure kind
-      → after_refusal classes lent k s caller line (purpose_view line purpose) f args rest true ≡ left_by k s (in_frames t frames (Some (out_of_memory classes))) rest (outcome_for line purpose g) new
+      → after_refusal classes in_use k s caller line (purpose_view line purpose) f args rest true ≡ left_by k s (in_frames t frames (Some (out_of_memory classes))) rest (outcome_for line purpose g) new
   refused_is g new same =
       plain s frames (Some (out_of_memory classes)) (failure kind) g new same
       ∙ ap (λ (fs : List Frame). left_by k s (in_frames t fs (Some (out_of_memory classes))) rest (outcome_for line purpose g) new) (ap (λ (c : CallResult). frames_with kind c frames) same ∙ failed_frames kind frames)
@@ -223,45 +223,45 @@ module _ (classes : Classes) (s : Shared) (vs : Contents) (frames : List Frame) 
   abbrev told : Answer
   told = worked_out classes s.heap (variables_view vs) frames args f
 
-  module _ (lent : BuffersInUse) (k : ℕ) (t : Thread) (rest : List Task) (sees : Sees scene t) where
+  module _ (in_use : BuffersInUse) (k : ℕ) (t : Thread) (rest : List Task) (sees : Sees scene t) where
     abbrev calls : Thread
     calls = in_frames t frames pending
 
     abbrev by_effect : Bool → CallEffect → Advance
-    by_effect false effect = after_call classes lent k s calls line (purpose_view line purpose) f args rest effect
-    by_effect true effect = after_refusal classes lent k s calls line (purpose_view line purpose) f args rest (makes_objects effect)
+    by_effect false effect = after_call classes in_use k s calls line (purpose_view line purpose) f args rest effect
+    by_effect true effect = after_refusal classes in_use k s calls line (purpose_view line purpose) f args rest (makes_objects effect)
 
     abbrev checks : Option Trap → CallEffect
-    checks o = checked o (call_effect classes lent k s calls args f)
+    checks o = checked o (call_effect classes in_use k s calls args f)
 
-    steps : (refused : Bool) → call_step classes lent k s calls line (purpose_view line purpose) f args rest refused ≡ by_effect refused (checks (call_trap classes s.heap calls (target_element t.variables (purpose_view line purpose)) f args))
+    steps : (refused : Bool) → call_step classes in_use k s calls line (purpose_view line purpose) f args rest refused ≡ by_effect refused (checks (call_trap classes s.heap calls (target_element t.variables (purpose_view line purpose)) f args))
     steps false = refl
     steps true = refl
 
-    by_trap : (refused : Bool) → call_step classes lent k s t line (purpose_view line purpose) f args rest refused ≡ by_effect refused (checks trap)
+    by_trap : (refused : Bool) → call_step classes in_use k s t line (purpose_view line purpose) f args rest refused ≡ by_effect refused (checks trap)
     by_trap refused =
-        ap (λ (u : Thread). call_step classes lent k s u line (purpose_view line purpose) f args rest refused) (same_frames t frames pending sees.frames sees.pending)
+        ap (λ (u : Thread). call_step classes in_use k s u line (purpose_view line purpose) f args rest refused) (same_frames t frames pending sees.frames sees.pending)
         ∙ steps refused
         ∙ ap (λ (o : Option Trap). by_effect refused (checks o)) (trap_is classes s.heap (target_element t.variables (purpose_view line purpose)) args f calls built)
 
-    passed : (refused : Bool) → trap ≡ None → call_step classes lent k s t line (purpose_view line purpose) f args rest refused ≡ by_effect refused (effect_as classes s calls told)
+    passed : (refused : Bool) → trap ≡ None → call_step classes in_use k s t line (purpose_view line purpose) f args rest refused ≡ by_effect refused (effect_as classes s calls told)
     passed refused none =
         by_trap refused
         ∙ ap (λ (o : Option Trap). by_effect refused (checks o)) none
-        ∙ ap (by_effect refused) (effects classes lent k s calls args f built ∙ ap (λ (us : Variables). effect_as classes s calls (worked_out classes s.heap us frames args f)) sees.variables)
+        ∙ ap (by_effect refused) (effects classes in_use k s calls args f built ∙ ap (λ (us : Variables). effect_as classes s calls (worked_out classes s.heap us frames args f)) sees.variables)
 
   -- a trap
   call_traps : (found : TrapInMemory) → trap ≡ Some (trap_view found) → MakesCall false scene line purpose f args (outcome.Trapped found line) scene
-  call_traps found some = λ lent k t rest new sees has.
-      by_trap lent k t rest sees false
-      ∙ ap (λ (o : Option Trap). by_effect lent k t rest sees false (checks lent k t rest sees o)) some
+  call_traps found some = λ in_use k t rest new sees has.
+      by_trap in_use k t rest sees false
+      ∙ ap (λ (o : Option Trap). by_effect in_use k t rest sees false (checks in_use k t rest sees o)) some
       ∙ ap (λ (u : Thread). Advances s u (Trapped (trap_view found) line)) (same_thread (in_frames t frames pending) (task_view new ∷ rest) has)
 
   -- a call that traps has no object that can be refused
   trap_refuses : (found : Trap) → trap ≡ Some found → MakesCall true scene line purpose f args outcome.Impossible scene
-  trap_refuses found some = λ lent k t rest new sees has.
-      by_trap lent k t rest sees true
-      ∙ ap (λ (o : Option Trap). by_effect lent k t rest sees true (checks lent k t rest sees o)) some
+  trap_refuses found some = λ in_use k t rest new sees has.
+      by_trap in_use k t rest sees true
+      ∙ ap (λ (o : Option Trap). by_effect in_use k t rest sees true (checks in_use k t rest sees o)) some
 
   -- so it is, refused or not
   pub call_stopped : (refused : Bool) (found : TrapInMemory) → trap ≡ Some (trap_view found)
@@ -274,28 +274,28 @@ module _ (classes : Classes) (s : Shared) (vs : Contents) (frames : List Frame) 
     pub call_made : (a : Answer) (g : Given) → a ≡ told → given_view g ≡ given_after s.heap (prototype f).result a
         → MakesCall false scene line purpose f args (outcome_for line purpose g)
         (scene_with classes (shared_after classes s a) vs (frames_with (prototype f).result (given_view g) (frames_after frames a)) (pending_after classes s.heap pending a))
-    call_made a g same given = λ lent k t rest new sees has.
-        passed lent k t rest sees false none
-        ∙ ap (λ (b : Answer). by_effect lent k t rest sees false (effect_as classes s (in_frames t frames pending) b)) (sym same)
-        ∙ answered classes lent k s t line purpose f args rest frames pending a g new given
+    call_made a g same given = λ in_use k t rest new sees has.
+        passed in_use k t rest sees false none
+        ∙ ap (λ (b : Answer). by_effect in_use k t rest sees false (effect_as classes s (in_frames t frames pending) b)) (sym same)
+        ∙ answered classes in_use k s t line purpose f args rest frames pending a g new given
 
-    by_makes : (a : Answer) (b : Bool) → makes_object a ≡ b → a ≡ told → (lent : BuffersInUse) (k : ℕ) (t : Thread) (rest : List Task) → Sees scene t
-        → call_step classes lent k s t line (purpose_view line purpose) f args rest true ≡ after_refusal classes lent k s (in_frames t frames pending) line (purpose_view line purpose) f args rest b
-    by_makes a b makes same = λ lent k t rest sees.
-        passed lent k t rest sees true none
-        ∙ ap (λ (c : Answer). by_effect lent k t rest sees true (effect_as classes s (in_frames t frames pending) c)) (sym same)
-        ∙ ap (after_refusal classes lent k s (in_frames t frames pending) line (purpose_view line purpose) f args rest) (makes_alike classes s (in_frames t frames pending) a ∙ makes)
+    by_makes : (a : Answer) (b : Bool) → makes_object a ≡ b → a ≡ told → (in_use : BuffersInUse) (k : ℕ) (t : Thread) (rest : List Task) → Sees scene t
+        → call_step classes in_use k s t line (purpose_view line purpose) f args rest true ≡ after_refusal classes in_use k s (in_frames t frames pending) line (purpose_view line purpose) f args rest b
+    by_makes a b makes same = λ in_use k t rest sees.
+        passed in_use k t rest sees true none
+        ∙ ap (λ (c : Answer). by_effect in_use k t rest sees true (effect_as classes s (in_frames t frames pending) c)) (sym same)
+        ∙ ap (after_refusal classes in_use k s (in_frames t frames pending) line (purpose_view line purpose) f args rest) (makes_alike classes s (in_frames t frames pending) a ∙ makes)
 
     -- it makes no object that can be refused
     pub none_refused : (a : Answer) → a ≡ told → makes_object a ≡ false → MakesCall true scene line purpose f args outcome.Impossible scene
-    none_refused a same makes = λ lent k t rest new sees has. by_makes a false makes same lent k t rest sees
+    none_refused a same makes = λ in_use k t rest new sees has. by_makes a false makes same in_use k t rest sees
 
     -- its object is refused
     pub object_refused : (a : Answer) (g : Given) → a ≡ told → makes_object a ≡ true → given_view g ≡ failure (prototype f).result
         → MakesCall true scene line purpose f args (outcome_for line purpose g) (scene_with classes s vs frames (Some (out_of_memory classes)))
-    object_refused a g same makes failed = λ lent k t rest new sees has.
-        by_makes a true makes same lent k t rest sees
-        ∙ refused_is classes lent k s t line purpose f args rest frames pending g new failed
+    object_refused a g same makes failed = λ in_use k t rest new sees has.
+        by_makes a true makes same in_use k t rest sees
+        ∙ refused_is classes in_use k s t line purpose f args rest frames pending g new failed
 
     -- the same, by what it leaves
     pub call_made_so : (refused : Bool) (a : Answer) (g : Given) (kind : ResultKind) (s' : Shared) (between frames' : List Frame) (pending' : Reference) (took : Outcome) → refused ≡ false → a ≡ told → kind ≡ (prototype f).result

@@ -170,12 +170,12 @@ module _ (classes : Classes) (s : Shared) (variables : Contents) (frames : List 
 
     -- the call's own step is the step of the task
     pub call_does : (refused : Bool) (took : Outcome) → MakesCall refused scene i.line i.purpose (function_value i.function) args took scene' → Does refused scene (task.Invoke i) took scene' (task.Invoke i')
-    call_does false took makes = λ other lent k t rest sees has.
-        ap (after_effect classes lent k s t rest) (calls t sees)
-        ∙ makes lent k t rest (task.Invoke i') sees (has ∙ ap (λ (u : source.Task). let o : Option (List source.Task) = Some (u ∷ rest) in o) (sym same))
-    call_does true took makes = λ other lent k t rest sees has.
-        ap (after_refused_effect classes lent k s t rest) (calls t sees)
-        ∙ makes lent k t rest (task.Invoke i') sees (has ∙ ap (λ (u : source.Task). let o : Option (List source.Task) = Some (u ∷ rest) in o) (sym same))
+    call_does false took makes = λ other in_use k t rest sees has.
+        ap (after_effect classes in_use k s t rest) (calls t sees)
+        ∙ makes in_use k t rest (task.Invoke i') sees (has ∙ ap (λ (u : source.Task). let o : Option (List source.Task) = Some (u ∷ rest) in o) (sym same))
+    call_does true took makes = λ other in_use k t rest sees has.
+        ap (after_refused_effect classes in_use k s t rest) (calls t sees)
+        ∙ makes in_use k t rest (task.Invoke i') sees (has ∙ ap (λ (u : source.Task). let o : Option (List source.Task) = Some (u ∷ rest) in o) (sym same))
 
   -- an invocation that is made is the step of the task that its numbers were worked out of
   pub invocation_does : (i i' : Invocation) (scene' : Scene) → i'.line ≡ i.line → i'.purpose ≡ i.purpose → i'.function ≡ i.function → i'.operands.items ≡ i.operands.items → is_ready (map operand_view i.operands.items) ≡ true

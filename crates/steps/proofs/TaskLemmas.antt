@@ -44,53 +44,53 @@ module _ (scene : Scene) (old new : TaskInMemory) where
   unframed k t rest took sees = ap (λ (u : Thread). left_by k shared u rest took new) (same_frames t scene.frames scene.pending sees.frames sees.pending)
 
   by_effect : (took : Outcome) → ((heap : Heap) → effect_of (seen variables shared.statics heap) (task_view old) ≡ effect_by took new)
-      → ((lent : BuffersInUse) (k : ℕ) (t : Thread) (rest : List Task) → t.tasks ≡ Some (task_view old ∷ rest) → after_effect scene.classes lent k shared t rest (effect_by took new) ≡ left_by k shared t rest took new) → Does false scene old took scene new
-  by_effect took h left = λ unit lent k t rest sees has.
-      ap (λ (sight : Sight). after_effect scene.classes lent k shared t rest (effect_of sight (task_view old))) (sees_so scene t sees)
-      ∙ ap (after_effect scene.classes lent k shared t rest) (h shared.heap)
-      ∙ left lent k t rest has
+      → ((in_use : BuffersInUse) (k : ℕ) (t : Thread) (rest : List Task) → t.tasks ≡ Some (task_view old ∷ rest) → after_effect scene.classes in_use k shared t rest (effect_by took new) ≡ left_by k shared t rest took new) → Does false scene old took scene new
+  by_effect took h left = λ unit in_use k t rest sees has.
+      ap (λ (sight : Sight). after_effect scene.classes in_use k shared t rest (effect_of sight (task_view old))) (sees_so scene t sees)
+      ∙ ap (after_effect scene.classes in_use k shared t rest) (h shared.heap)
+      ∙ left in_use k t rest has
       ∙ unframed k t rest took sees
 
   -- a task does what its effect does
   pub does : (took : Outcome) → HasEffect variables shared.statics old took new → Does false scene old took scene new
-  does outcome.Stays h = by_effect outcome.Stays h (λ lent k t rest has. refl)
-  does (outcome.Printed z) h = by_effect (outcome.Printed z) h (λ lent k t rest has. refl)
-  does (outcome.Sets x v) h = by_effect (outcome.Sets x v) h (λ lent k t rest has. refl)
-  does (outcome.SetsNull to) h = by_effect (outcome.SetsNull to) h (λ lent k t rest has. refl)
+  does outcome.Stays h = by_effect outcome.Stays h (λ in_use k t rest has. refl)
+  does (outcome.Printed z) h = by_effect (outcome.Printed z) h (λ in_use k t rest has. refl)
+  does (outcome.Sets x v) h = by_effect (outcome.Sets x v) h (λ in_use k t rest has. refl)
+  does (outcome.SetsNull to) h = by_effect (outcome.SetsNull to) h (λ in_use k t rest has. refl)
   does (outcome.Gives to g) h = absurd h
   does (outcome.Tests line zero b other) h = absurd h
-  does (outcome.SetsElement x i z) h = by_effect (outcome.SetsElement x i z) h (λ lent k t rest has. refl)
-  does (outcome.Makes T x n) h = by_effect (outcome.Makes T x n) h (λ lent k t rest has. refl)
-  does (outcome.Enters block e) h = by_effect (outcome.Enters block e) h (λ lent k t rest has. refl)
-  does outcome.Ends h = by_effect outcome.Ends h (λ lent k t rest has. refl)
-  does outcome.Returned h = by_effect outcome.Returned h (λ lent k t rest has. refl)
-  does (outcome.Trapped trap line) h = by_effect (outcome.Trapped trap line) h.0 (λ lent k t rest has.
+  does (outcome.SetsElement x i z) h = by_effect (outcome.SetsElement x i z) h (λ in_use k t rest has. refl)
+  does (outcome.Makes T x n) h = by_effect (outcome.Makes T x n) h (λ in_use k t rest has. refl)
+  does (outcome.Enters block e) h = by_effect (outcome.Enters block e) h (λ in_use k t rest has. refl)
+  does outcome.Ends h = by_effect outcome.Ends h (λ in_use k t rest has. refl)
+  does outcome.Returned h = by_effect outcome.Returned h (λ in_use k t rest has. refl)
+  does (outcome.Trapped trap line) h = by_effect (outcome.Trapped trap line) h.0 (λ in_use k t rest has.
       ap (λ (u : Thread). Advances shared u (Trapped (trap_view trap) line)) (same_thread t (task_view old ∷ rest) has)
       ∙ ap (λ (u : Task). Advances shared (with_tasks t (u ∷ rest)) (Trapped (trap_view trap) line)) (sym h.1))
-  does outcome.Impossible h = by_effect outcome.Impossible h (λ lent k t rest has. refl)
+  does outcome.Impossible h = by_effect outcome.Impossible h (λ in_use k t rest has. refl)
 
   by_refusal : (took : Outcome) → ((heap : Heap) → effect_of (seen variables shared.statics heap) (task_view old) ≡ effect_by took new)
-      → ((lent : BuffersInUse) (k : ℕ) (t : Thread) (rest : List Task) → after_refused_effect scene.classes lent k shared t rest (effect_by took new) ≡ NoAdvance) → Does true scene old outcome.Impossible scene new
-  by_refusal took h none = λ unit lent k t rest sees has.
-      ap (λ (sight : Sight). after_refused_effect scene.classes lent k shared t rest (effect_of sight (task_view old))) (sees_so scene t sees)
-      ∙ ap (after_refused_effect scene.classes lent k shared t rest) (h shared.heap)
-      ∙ none lent k t rest
+      → ((in_use : BuffersInUse) (k : ℕ) (t : Thread) (rest : List Task) → after_refused_effect scene.classes in_use k shared t rest (effect_by took new) ≡ NoAdvance) → Does true scene old outcome.Impossible scene new
+  by_refusal took h none = λ unit in_use k t rest sees has.
+      ap (λ (sight : Sight). after_refused_effect scene.classes in_use k shared t rest (effect_of sight (task_view old))) (sees_so scene t sees)
+      ∙ ap (after_refused_effect scene.classes in_use k shared t rest) (h shared.heap)
+      ∙ none in_use k t rest
 
   -- a task that is no call has no object that can be refused
   pub does_without : (took : Outcome) → HasEffect variables shared.statics old took new → Does true scene old outcome.Impossible scene new
-  does_without outcome.Stays h = by_refusal outcome.Stays h (λ lent k t rest. refl)
-  does_without (outcome.Printed z) h = by_refusal (outcome.Printed z) h (λ lent k t rest. refl)
-  does_without (outcome.Sets x v) h = by_refusal (outcome.Sets x v) h (λ lent k t rest. refl)
-  does_without (outcome.SetsNull to) h = by_refusal (outcome.SetsNull to) h (λ lent k t rest. refl)
+  does_without outcome.Stays h = by_refusal outcome.Stays h (λ in_use k t rest. refl)
+  does_without (outcome.Printed z) h = by_refusal (outcome.Printed z) h (λ in_use k t rest. refl)
+  does_without (outcome.Sets x v) h = by_refusal (outcome.Sets x v) h (λ in_use k t rest. refl)
+  does_without (outcome.SetsNull to) h = by_refusal (outcome.SetsNull to) h (λ in_use k t rest. refl)
   does_without (outcome.Gives to g) h = absurd h
   does_without (outcome.Tests line zero b other) h = absurd h
-  does_without (outcome.SetsElement x i z) h = by_refusal (outcome.SetsElement x i z) h (λ lent k t rest. refl)
-  does_without (outcome.Makes T x n) h = by_refusal (outcome.Makes T x n) h (λ lent k t rest. refl)
-  does_without (outcome.Enters block e) h = by_refusal (outcome.Enters block e) h (λ lent k t rest. refl)
-  does_without outcome.Ends h = by_refusal outcome.Ends h (λ lent k t rest. refl)
-  does_without outcome.Returned h = by_refusal outcome.Returned h (λ lent k t rest. refl)
-  does_without (outcome.Trapped trap line) h = by_refusal (outcome.Trapped trap line) h.0 (λ lent k t rest. refl)
-  does_without outcome.Impossible h = by_refusal outcome.Impossible h (λ lent k t rest. refl)
+  does_without (outcome.SetsElement x i z) h = by_refusal (outcome.SetsElement x i z) h (λ in_use k t rest. refl)
+  does_without (outcome.Makes T x n) h = by_refusal (outcome.Makes T x n) h (λ in_use k t rest. refl)
+  does_without (outcome.Enters block e) h = by_refusal (outcome.Enters block e) h (λ in_use k t rest. refl)
+  does_without outcome.Ends h = by_refusal outcome.Ends h (λ in_use k t rest. refl)
+  does_without outcome.Returned h = by_refusal outcome.Returned h (λ in_use k t rest. refl)
+  does_without (outcome.Trapped trap line) h = by_refusal (outcome.Trapped trap line) h.0 (λ in_use k t rest. refl)
+  does_without outcome.Impossible h = by_refusal outcome.Impossible h (λ in_use k t rest. refl)
 
   -- so it is, refused or not
   pub does_unless : (refused : Bool) (took : Outcome) → HasEffect variables shared.statics old took new → Does refused scene old (if refused then outcome.Impossible else took) scene new

@@ -79,8 +79,8 @@ advance_by k s t a took = thread.Advances s (thread_in t a) Quiet
 -- leaves this to share.
 abbrev pub Advances : Classes → (refused : Bool) → Shared → Activation → Outcome → Shared → Activation → Type 0
 Advances classes refused s old took s' new =
-    (unit : SourceUnit) (lent : BuffersInUse) (k : ℕ) (t : Thread) → Sees (scene_of classes s old) t → t.tasks ≡ Some (tasks_left old)
-    → step_within unit classes lent k s t refused (Some (tasks_left old)) ≡ advance_by k s' t new took
+    (unit : SourceUnit) (in_use : BuffersInUse) (k : ℕ) (t : Thread) → Sees (scene_of classes s old) t → t.tasks ≡ Some (tasks_left old)
+    → step_within unit classes in_use k s t refused (Some (tasks_left old)) ≡ advance_by k s' t new took
 
 -- all but the tasks is as it was
 pub record KeepsScene (old new : Activation) : Type 0 where

@@ -46,8 +46,8 @@ ReducesOne vs ss old (Some took) new = (rest : List Operand) → ReducesFirst vs
 -- the scene after it.
 abbrev pub MakesCall : (refused : Bool) → Scene → (line : ℕ) → PurposeInMemory → JniFunction → List Actual → Outcome → Scene → Type 0
 MakesCall refused before line purpose f args took after =
-    (lent : BuffersInUse) (k : ℕ) (t : Thread) (rest : List Task) (new : TaskInMemory) → Sees before t → t.tasks ≡ Some (task_view new ∷ rest)
-    → call_step before.classes lent k before.shared t line (purpose_view line purpose) f args rest refused ≡ left_by k after.shared (in_frames t after.frames after.pending) rest took new
+    (in_use : BuffersInUse) (k : ℕ) (t : Thread) (rest : List Task) (new : TaskInMemory) → Sees before t → t.tasks ≡ Some (task_view new ∷ rest)
+    → call_step before.classes in_use k before.shared t line (purpose_view line purpose) f args rest refused ≡ left_by k after.shared (in_frames t after.frames after.pending) rest took new
 
 -- the same for an invocation, whose arguments are looked up before it
 abbrev pub MakesInvocation : (refused : Bool) → Scene → Invocation → Outcome → Scene → Type 0

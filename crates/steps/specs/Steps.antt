@@ -54,5 +54,5 @@ in_frames t frames pending = record t { frames = frames; pending = pending }
 -- refused.
 abbrev pub Does : (refused : Bool) → Scene → TaskInMemory → Outcome → Scene → TaskInMemory → Type 0
 Does refused before old took after new =
-    (unit : SourceUnit) (lent : BuffersInUse) (k : ℕ) (t : Thread) (rest : List Task) → Sees before t → t.tasks ≡ Some (task_view old ∷ rest)
-    → step_within unit before.classes lent k before.shared t refused (Some (task_view old ∷ rest)) ≡ left_by k after.shared (in_frames t after.frames after.pending) rest took new
+    (unit : SourceUnit) (in_use : BuffersInUse) (k : ℕ) (t : Thread) (rest : List Task) → Sees before t → t.tasks ≡ Some (task_view old ∷ rest)
+    → step_within unit before.classes in_use k before.shared t refused (Some (task_view old ∷ rest)) ≡ left_by k after.shared (in_frames t after.frames after.pending) rest took new

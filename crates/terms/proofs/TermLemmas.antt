@@ -93,13 +93,13 @@ module _ (vs : Variables) (ss : Statics) where
   replaced old new evaluated.Stuck took is value = rw is.0 value
 
   -- what a step makes of a part, it makes of the whole
-  pub inside : (part lent changed old : Term) (took : ReductionInMemory) (remade : Term → Term) (whole : tree.Term → tree.Term)
+  pub inside : (part in_use changed old : Term) (took : ReductionInMemory) (remade : Term → Term) (whole : tree.Term → tree.Term)
       → ((heap : Heap) → reduce (seen vs ss heap) (term_view (remade part)) ≡ outcome_map whole (reduce (seen vs ss heap) (term_view part)))
-      → ((t : Term) → term_view (remade t) ≡ whole (term_view t)) → old ≡ remade part → lent ≡ part
-      → Reduces vs ss lent took changed → Reduces vs ss old took (remade changed)
-  inside part lent changed old reduction.Reduced remade whole step view is same took =
+      → ((t : Term) → term_view (remade t) ≡ whole (term_view t)) → old ≡ remade part → in_use ≡ part
+      → Reduces vs ss in_use took changed → Reduces vs ss old took (remade changed)
+  inside part in_use changed old reduction.Reduced remade whole step view is same took =
       λ heap. ap (λ t. reduce (seen vs ss heap) (term_view t)) is ∙ step heap ∙ ap (outcome_map whole) (ap (λ t. reduce (seen vs ss heap) (term_view t)) (sym same) ∙ took heap) ∙ ap Gives (sym (view changed))
-  inside part lent changed old (reduction.Trapped trap) remade whole step view is same took =
+  inside part in_use changed old (reduction.Trapped trap) remade whole step view is same took =
       (λ heap. ap (λ t. reduce (seen vs ss heap) (term_view t)) is ∙ step heap ∙ ap (outcome_map whole) (ap (λ t. reduce (seen vs ss heap) (term_view t)) (sym same) ∙ took.0 heap), ap remade (took.1 ∙ same) ∙ sym is)
-  inside part lent changed old reduction.Stuck remade whole step view is same took =
+  inside part in_use changed old reduction.Stuck remade whole step view is same took =
       λ heap. ap (λ t. reduce (seen vs ss heap) (term_view t)) is ∙ step heap ∙ ap (outcome_map whole) (ap (λ t. reduce (seen vs ss heap) (term_view t)) (sym same) ∙ took heap)

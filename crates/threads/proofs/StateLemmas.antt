@@ -16,7 +16,7 @@ use Rattle.source.specs.Value.{trap_number}
 use Rattle.report.specs.declared.thread_status.ThreadStatus.{ThreadStatus}
 use Rattle.source.specs.ReportOf.{report, standing_by_ending, standing_of}
 use Rattle.replay_calls.specs.Shares.{shared_view}
-use Rattle.source.specs.State.{State, thread_at, set_thread, lent, with_event, advanced}
+use Rattle.source.specs.State.{State, thread_at, set_thread, in_use, with_event, advanced}
 use Rattle.source.specs.Step.{world_step, can_step, step_of, is_blocked, is_live, is_unfinished, is_waiting}
 use Rattle.source.specs.Thread.{Ending, Thread, Shared, Unfinished, Ended, Uncaught, Quiet, PrintedNumber, Trapped, Advance}
 use Rattle.source.specs.ThreadStep.{thread_step}
@@ -164,12 +164,12 @@ module _ (unit : SourceUnit) (w : World) (m : StateInMemory) (s : State) (h : St
     after_it = shared_view new.shared
 
     the_step : Advance
-    the_step = thread_step unit w.classes (lent s) (suc i) (shared_view m.shared) the_thread.source refused
+    the_step = thread_step unit w.classes (in_use s) (suc i) (shared_view m.shared) the_thread.source refused
 
-    step_is : world_step unit w.classes s (entry.Step (suc i) refused) ≡ advanced s (suc i) (thread_step unit w.classes (lent s) (suc i) (shared_view m.shared) the_thread.source refused)
+    step_is : world_step unit w.classes s (entry.Step (suc i) refused) ≡ advanced s (suc i) (thread_step unit w.classes (in_use s) (suc i) (shared_view m.shared) the_thread.source refused)
     step_is =
         step-thread unit w.classes s (suc i) the_thread.source refused steps_here
-        ∙ ap (λ (x : Shared). advanced s (suc i) (thread_step unit w.classes (lent s) (suc i) x the_thread.source refused)) h.shared
+        ∙ ap (λ (x : Shared). advanced s (suc i) (thread_step unit w.classes (in_use s) (suc i) x the_thread.source refused)) h.shared
 
     all_stand : (next : Thread) → ThreadStands unit w.classes after next → ThreadsStand unit w.classes new.threads.items (slice_set s.threads i next)
     all_stand next stands = rw threads (changed unit w.classes m.threads.items s.threads i after next h.threads stands)
@@ -180,7 +180,7 @@ module _ (unit : SourceUnit) (w : World) (m : StateInMemory) (s : State) (h : St
     same_stop : (o : Option StopInMemory) → new.stop ≡ o → o ≡ m.stop → s.stop ≡ option_map stop_view new.stop
     same_stop o is same = h.stop ∙ ap (option_map stop_view) (sym (is ∙ same))
 
-    by_step : (took : Step) → StepIs unit w.classes after_it after took (thread_step unit w.classes (lent s) (suc i) (shared_view m.shared) the_thread.source refused) → new.printed.items ≡ printed_after m.printed.items (suc i) took
+    by_step : (took : Step) → StepIs unit w.classes after_it after took (thread_step unit w.classes (in_use s) (suc i) (shared_view m.shared) the_thread.source refused) → new.printed.items ≡ printed_after m.printed.items (suc i) took
         → new.stop ≡ stop_after m.stop (suc i) took → Leads unit w s (entry.Step (suc i) refused) new (is_possible took)
     by_step step.Quiet l printed stop = (
       with_event (record s { shared = after_it; threads = set_thread s.threads (suc i) l.next }) (suc i) Quiet,
@@ -207,7 +207,7 @@ module _ (unit : SourceUnit) (w : World) (m : StateInMemory) (s : State) (h : St
 
     takes_at : (took : Step) → TakesStep unit w.classes refused (shared_view m.shared) t took (shared_view new.shared) after → new.printed.items ≡ printed_after m.printed.items (suc i) took → new.stop ≡ stop_after m.stop (suc i) took
         → Leads unit w s (entry.Step (suc i) refused) new (is_possible took)
-    takes_at took step printed stop = by_step took (step the_thread.source (lent s) (suc i) the_thread.stands unended) printed stop
+    takes_at took step printed stop = by_step took (step the_thread.source (in_use s) (suc i) the_thread.stands unended) printed stop
 
   -- an entry is possible as far as its thread's step is
   pub takes : (k : ℕ) (refused : Bool) (i : ℕ) (t after : ThreadInMemory) (took : Step) (new : StateInMemory) → k ≡ suc i → slice_get m.threads.items i ≡ Some t → is_unfinished (ending_view t.ending) ≡ true

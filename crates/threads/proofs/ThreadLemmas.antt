@@ -59,7 +59,7 @@ pub ended_range : (store : Heap) (t : ThreadInMemory) (new : Activation) (o : Ou
 ended_range store t new outcome.Returned took left e known = subst WorkInRange (sym e.1.activation) tt
 ended_range store t new o took left e known = subst (λ (u : ThreadInMemory). WorkInRange u.activation) (sym e.1) known
 
-module _ (unit : SourceUnit) (classes : Classes) (lent : BuffersInUse) (k : ℕ) where
+module _ (unit : SourceUnit) (classes : Classes) (in_use : BuffersInUse) (k : ℕ) where
   -- a thread after its call with this ending, and with these calls to come before
   abbrev thread_after : Ending → List Invocation → Thread
   thread_after e calls = record { calls = calls_after e calls; tasks = None; variables = []; frames = []; pending = None; ending = e }
@@ -87,12 +87,12 @@ module _ (unit : SourceUnit) (classes : Classes) (lent : BuffersInUse) (k : ℕ)
     sees : Sees (scene_of classes shared a) s
     sees = record { variables = work.0; frames = work.1; pending = work.2 }
 
-    advances_so : (o : Outcome) → Advances classes refused shared a o (shared_view after) new → thread_step unit classes lent k shared s refused ≡ advance_by k (shared_view after) s new o
-    advances_so o does = ap (step_within unit classes lent k shared s refused) has_tasks ∙ does unit lent k s sees has_tasks
+    advances_so : (o : Outcome) → Advances classes refused shared a o (shared_view after) new → thread_step unit classes in_use k shared s refused ≡ advance_by k (shared_view after) s new o
+    advances_so o does = ap (step_within unit classes in_use k shared s refused) has_tasks ∙ does unit in_use k s sees has_tasks
 
     -- the call goes on
-    on : (event : Event) → thread_step unit classes lent k shared s refused ≡ AdvancesTo (shared_view after) (thread_in s new) event
-        → Leaves unit classes (shared_view after) (record t { activation = Some new }) event (thread_step unit classes lent k shared s refused)
+    on : (event : Event) → thread_step unit classes in_use k shared s refused ≡ AdvancesTo (shared_view after) (thread_in s new) event
+        → Leaves unit classes (shared_view after) (record t { activation = Some new }) event (thread_step unit classes in_use k shared s refused)
     on event does = record {
       next = thread_in s new;
       advances = does;
@@ -100,7 +100,7 @@ module _ (unit : SourceUnit) (classes : Classes) (lent : BuffersInUse) (k : ℕ)
     }
 
     pub goes : (o : Outcome) → (o ≡ outcome.Returned → ⊥) → Advances classes refused shared a o (shared_view after) new
-        → StepIs unit classes (shared_view after) (record t { activation = Some new }) (step_of o) (thread_step unit classes lent k shared s refused)
+        → StepIs unit classes (shared_view after) (record t { activation = Some new }) (step_of o) (thread_step unit classes in_use k shared s refused)
     goes outcome.Stays other does = on Quiet (advances_so outcome.Stays does)
     goes (outcome.Printed z) other does = on (PrintedNumber z) (advances_so (outcome.Printed z) does)
     goes (outcome.Sets x v) other does = on Quiet (advances_so (outcome.Sets x v) does)
@@ -117,7 +117,7 @@ module _ (unit : SourceUnit) (classes : Classes) (lent : BuffersInUse) (k : ℕ)
 
     -- the call is over
     pub returns : (left : ThreadInMemory) → Advances classes refused shared a outcome.Returned (shared_view after) new → left.activation ≡ None → ending_view left.ending ≡ ending_after after.store new.pending t.calls.now
-        → left.calls.now ≡ calls_after (ending_view left.ending) t.calls.now → Leaves unit classes (shared_view after) left Quiet (thread_step unit classes lent k shared s refused)
+        → left.calls.now ≡ calls_after (ending_view left.ending) t.calls.now → Leaves unit classes (shared_view after) left Quiet (thread_step unit classes in_use k shared s refused)
     returns left does idle ended calls =
         let e : Ending = ending_view left.ending in
         record {
@@ -134,19 +134,19 @@ module _ (unit : SourceUnit) (classes : Classes) (lent : BuffersInUse) (k : ℕ)
 
     -- what a step of the call did is the thread's step
     pub ended_step : (o : Outcome) (took : Step) (left : ThreadInMemory) → EndsStep after.store new.pending (record t { activation = Some new }) o took left → Advances classes refused shared a o (shared_view after) new
-        → StepIs unit classes (shared_view after) left took (thread_step unit classes lent k shared s refused)
+        → StepIs unit classes (shared_view after) left took (thread_step unit classes in_use k shared s refused)
     ended_step outcome.Returned took left e does = rw e.0 (returns left does e.1.activation e.1.ending e.1.calls)
     ended_step o took left e does =
-        let taken = thread_step unit classes lent k shared s refused in
+        let taken = thread_step unit classes in_use k shared s refused in
         subst (λ (w : Step). StepIs unit classes (shared_view after) left w taken) (sym e.0) (subst (λ (u : ThreadInMemory). StepIs unit classes (shared_view after) u (step_of o) taken) (sym e.1) (goes o (λ r. absurd (cc)) does))
 
   -- the entry into the next call
   pub enters : (shared : Shared) (t : ThreadInMemory) (call : Invocation) (rest : List Invocation) (o : Option Activation) (s : Thread) → IsEntered unit classes call o → t.activation ≡ None → t.calls.now ≡ call ∷ rest → ThreadStands unit classes t s
-      → (after : Bor (List Invocation)) → after.now ≡ rest → Leaves unit classes shared (record t { calls = after; activation = o }) Quiet (thread_step unit classes lent k shared s false)
+      → (after : Bor (List Invocation)) → after.now ≡ rest → Leaves unit classes shared (record t { calls = after; activation = o }) Quiet (thread_step unit classes in_use k shared s false)
   enters shared t call rest o s e idle calls h after is = record {
     next = entered s rest e.function e.class call.arguments;
     advances =
-        ap (step_within unit classes lent k shared s false) (h.tasks ∙ ap tasks_in idle)
+        ap (step_within unit classes in_use k shared s false) (h.tasks ∙ ap tasks_in idle)
         ∙ ap (λ (cs : List Invocation). entry_advance shared (enter unit classes s cs)) (h.calls ∙ calls)
         ∙ ap (λ (p : Option Function). entry_advance shared (entered_function classes s call rest p)) e.found
         ∙ ap (λ (p : Option ℕ). entry_advance shared (option_map (λ d. entered s rest e.function d call.arguments) p)) e.its_class;
@@ -166,19 +166,19 @@ module _ (unit : SourceUnit) (classes : Classes) (lent : BuffersInUse) (k : ℕ)
       parts = and_parts (call_loads unit classes call) (list_all (call_loads unit classes) rest) loads
 
   -- an entry makes no object that could be refused
-  pub none_refused : (shared : Shared) (t : ThreadInMemory) (s : Thread) → t.activation ≡ None → ThreadStands unit classes t s → thread_step unit classes lent k shared s true ≡ NoAdvance
-  none_refused shared t s idle h = ap (step_within unit classes lent k shared s true) (h.tasks ∙ ap tasks_in idle)
+  pub none_refused : (shared : Shared) (t : ThreadInMemory) (s : Thread) → t.activation ≡ None → ThreadStands unit classes t s → thread_step unit classes in_use k shared s true ≡ NoAdvance
+  none_refused shared t s idle h = ap (step_within unit classes in_use k shared s true) (h.tasks ∙ ap tasks_in idle)
 
   -- no call is to come
-  pub no_entry : (shared : Shared) (t : ThreadInMemory) (s : Thread) → t.activation ≡ None → t.calls.now ≡ [] → ThreadStands unit classes t s → thread_step unit classes lent k shared s false ≡ NoAdvance
+  pub no_entry : (shared : Shared) (t : ThreadInMemory) (s : Thread) → t.activation ≡ None → t.calls.now ≡ [] → ThreadStands unit classes t s → thread_step unit classes in_use k shared s false ≡ NoAdvance
   no_entry shared t s idle none h =
-      ap (step_within unit classes lent k shared s false) (h.tasks ∙ ap tasks_in idle)
+      ap (step_within unit classes in_use k shared s false) (h.tasks ∙ ap tasks_in idle)
       ∙ ap (λ (cs : List Invocation). entry_advance shared (enter unit classes s cs)) (h.calls ∙ none)
 
   -- the next call cannot begin
   pub no_next : (shared : Shared) (t : ThreadInMemory) (call : Invocation) (rest : List Invocation) (s : Thread) → HasNoEntry unit classes call → t.activation ≡ None → t.calls.now ≡ call ∷ rest → ThreadStands unit classes t s
-      → thread_step unit classes lent k shared s false ≡ NoAdvance
+      → thread_step unit classes in_use k shared s false ≡ NoAdvance
   no_next shared t call rest s never idle calls h =
-      ap (step_within unit classes lent k shared s false) (h.tasks ∙ ap tasks_in idle)
+      ap (step_within unit classes in_use k shared s false) (h.tasks ∙ ap tasks_in idle)
       ∙ ap (λ (cs : List Invocation). entry_advance shared (enter unit classes s cs)) (h.calls ∙ calls)
       ∙ ap (entry_advance shared) (never s rest)

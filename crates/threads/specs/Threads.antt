@@ -129,5 +129,5 @@ StepIs unit classes shared t step.Impossible advance = advance ≡ NoAdvance
 -- the same for each thread that it stands for, with this to share before and after it, or what the step does with its object refused
 abbrev pub TakesStep : SourceUnit → Classes → (refused : Bool) → Shared → ThreadInMemory → Step → Shared → ThreadInMemory → Type 0
 TakesStep unit classes refused shared old took after new =
-    (s : Thread) (lent : BuffersInUse) (k : ℕ) → ThreadStands unit classes old s → s.ending ≡ Unfinished
-    → StepIs unit classes after new took (thread_step unit classes lent k shared s refused)
+    (s : Thread) (in_use : BuffersInUse) (k : ℕ) → ThreadStands unit classes old s → s.ending ≡ Unfinished
+    → StepIs unit classes after new took (thread_step unit classes in_use k shared s refused)

@@ -50,30 +50,30 @@ enter-requires-clause-ready c next rest is =
     subst (λ (m : ℕ). IsReady p m next) (sym (ap length c.deref.ensures.value ∙ a.3.table.counted)) (ready_to_begin p classes made next n.call c.requires.lowered n.function)
 
 pub returns-in-Ok-clause-advances : goal.returns-in-Ok-clause-advances
-returns-in-Ok-clause-advances c lent k own shared s shares h steady =
+returns-in-Ok-clause-advances c in_use k own shared s shares h steady =
     let e = c.in-Ok.ensures.calls in
     let begins = subst (λ (l : List ℕ). Begins c.args.program.now l e.0 e.1) c.deref.ensures.value e.4 in
-    enters c.args.program.now c.args.world.now c.args.store.now lent k own shared c.args.thread.now c.enter.new.thread s e.0 e.1 c.requires.lowered shares h c.in-None.is e.2 e.3 begins c.in-Ok.ensures.pending c.in-Ok.ensures.ending
+    enters c.args.program.now c.args.world.now c.args.store.now in_use k own shared c.args.thread.now c.enter.new.thread s e.0 e.1 c.requires.lowered shares h c.in-None.is e.2 e.3 begins c.in-Ok.ensures.pending c.in-Ok.ensures.ending
 
 pub returns-in-Ok-Did-clause-advances : goal.returns-in-Ok-Did-clause-advances
-returns-in-Ok-Did-clause-advances c lent k own shared s shares h steady =
+returns-in-Ok-Did-clause-advances c in_use k own shared s shares h steady =
     let p = c.args.program.now in
     let w = c.args.world.now in
     let old = c.args.store.now in
     let b = works p w old own shared c.args.thread.now s c.in-Some.call h c.in-Some.is in
-    let executed = c.in-Ok-Did.ensures.done lent k own shared s b.task b.rest (executing p w old own shared c.args.thread.now s c.in-Some.call shares h c.in-Some.is steady) in
-    let goes = subst (λ (x : Executed). Executes p w old.heap c.execute.new.store lent k own shared s b.rest c.execute.new.call c.execute.new.pending (effect_of (sight_of shared s) b.task) x) c.in-Ok-Did.field-0-is executed in
-    did p w old.heap lent k own shared c.args.thread.now s h c.execute.new.store false c.in-Ok-Did.event b.task b.rest b.is c.execute.new.call c.execute.new.pending goes
+    let executed = c.in-Ok-Did.ensures.done in_use k own shared s b.task b.rest (executing p w old own shared c.args.thread.now s c.in-Some.call shares h c.in-Some.is steady) in
+    let goes = subst (λ (x : Executed). Executes p w old.heap c.execute.new.store in_use k own shared s b.rest c.execute.new.call c.execute.new.pending (effect_of (sight_of shared s) b.task) x) c.in-Ok-Did.field-0-is executed in
+    did p w old.heap in_use k own shared c.args.thread.now s h c.execute.new.store false c.in-Ok-Did.event b.task b.rest b.is c.execute.new.call c.execute.new.pending goes
 
 pub returns-in-Ok-Refused-clause-advances : goal.returns-in-Ok-Refused-clause-advances
-returns-in-Ok-Refused-clause-advances c lent k own shared s shares h steady =
+returns-in-Ok-Refused-clause-advances c in_use k own shared s shares h steady =
     let p = c.args.program.now in
     let w = c.args.world.now in
     let old = c.args.store.now in
     let b = works p w old own shared c.args.thread.now s c.in-Some.call h c.in-Some.is in
-    let executed = c.in-Ok-Refused.ensures.done lent k own shared s b.task b.rest (executing p w old own shared c.args.thread.now s c.in-Some.call shares h c.in-Some.is steady) in
-    let goes = subst (λ (x : Executed). Executes p w old.heap c.execute.new.store lent k own shared s b.rest c.execute.new.call c.execute.new.pending (effect_of (sight_of shared s) b.task) x) c.in-Ok-Refused.field-0-is executed in
-    did p w old.heap lent k own shared c.args.thread.now s h c.execute.new.store true Quiet b.task b.rest b.is c.execute.new.call c.execute.new.pending goes
+    let executed = c.in-Ok-Refused.ensures.done in_use k own shared s b.task b.rest (executing p w old own shared c.args.thread.now s c.in-Some.call shares h c.in-Some.is steady) in
+    let goes = subst (λ (x : Executed). Executes p w old.heap c.execute.new.store in_use k own shared s b.rest c.execute.new.call c.execute.new.pending (effect_of (sight_of shared s) b.task) x) c.in-Ok-Refused.field-0-is executed in
+    did p w old.heap in_use k own shared c.args.thread.now s h c.execute.new.store true Quiet b.task b.rest b.is c.execute.new.call c.execute.new.pending goes
 
 -- an address with a name is that of a block
 there_is : (o : Option Block) (n : ℕ) → option_map (λ (b : Block). b.birth) o ≡ Some n → IsSome o
@@ -91,18 +91,18 @@ leave-requires c a is =
     let w = c.args.world.now in
     let old = c.args.store.now in
     let r = c.requires.agrees in
-    let lent : source.BuffersInUse = record { copied = 0; views = 0 } in
+    let in_use : source.BuffersInUse = record { copied = 0; views = 0 } in
     let b = works p w old r.0 r.1 c.args.thread.now r.2 c.in-Some.call r.4 c.in-Some.is in
-    let executed = c.in-Ok-Returned.ensures.done lent 0 r.0 r.1 r.2 b.task b.rest (executing p w old r.0 r.1 c.args.thread.now r.2 c.in-Some.call r.3 r.4 c.in-Some.is r.6) in
-    let left = subst (λ (x : Executed). Executes p w old.heap c.execute.new.store lent 0 r.0 r.1 r.2 b.rest c.execute.new.call c.execute.new.pending (effect_of (sight_of r.1 r.2) b.task) x) c.in-Ok-Returned.field-0-is executed in
+    let executed = c.in-Ok-Returned.ensures.done in_use 0 r.0 r.1 r.2 b.task b.rest (executing p w old r.0 r.1 c.args.thread.now r.2 c.in-Some.call r.3 r.4 c.in-Some.is r.6) in
+    let left = subst (λ (x : Executed). Executes p w old.heap c.execute.new.store in_use 0 r.0 r.1 r.2 b.rest c.execute.new.call c.execute.new.pending (effect_of (sight_of r.1 r.2) b.task) x) c.in-Ok-Returned.field-0-is executed in
     named c.execute.new.store.heap c.execute.new.pending r.2.pending a left.3 is
 
 pub returns-in-Ok-Returned-clause-advances : goal.returns-in-Ok-Returned-clause-advances
-returns-in-Ok-Returned-clause-advances c lent k own shared s shares h steady =
+returns-in-Ok-Returned-clause-advances c in_use k own shared s shares h steady =
     let p = c.args.program.now in
     let w = c.args.world.now in
     let old = c.args.store.now in
     let b = works p w old own shared c.args.thread.now s c.in-Some.call h c.in-Some.is in
-    let executed = c.in-Ok-Returned.ensures.done lent k own shared s b.task b.rest (executing p w old own shared c.args.thread.now s c.in-Some.call shares h c.in-Some.is steady) in
-    let left = subst (λ (x : Executed). Executes p w old.heap c.execute.new.store lent k own shared s b.rest c.execute.new.call c.execute.new.pending (effect_of (sight_of shared s) b.task) x) c.in-Ok-Returned.field-0-is executed in
-    returned p w old.heap lent k own shared c.args.thread.now s h c.execute.new.store c.execute.new.pending c.leave.new.thread b.task b.rest b.is left.1 left.2 left.3 c.requires.agrees.5 left.0 c.leave.ensures.call c.leave.ensures.pending c.leave.ensures.calls c.leave.ensures.ending
+    let executed = c.in-Ok-Returned.ensures.done in_use k own shared s b.task b.rest (executing p w old own shared c.args.thread.now s c.in-Some.call shares h c.in-Some.is steady) in
+    let left = subst (λ (x : Executed). Executes p w old.heap c.execute.new.store in_use k own shared s b.rest c.execute.new.call c.execute.new.pending (effect_of (sight_of shared s) b.task) x) c.in-Ok-Returned.field-0-is executed in
+    returned p w old.heap in_use k own shared c.args.thread.now s h c.execute.new.store c.execute.new.pending c.leave.new.thread b.task b.rest b.is left.1 left.2 left.3 c.requires.agrees.5 left.0 c.leave.ensures.call c.leave.ensures.pending c.leave.ensures.calls c.leave.ensures.ending

@@ -135,54 +135,54 @@ invoke-requires c =
     record { at_call = (c.args.program.now, s.0, s.1, s.2, s.3, s.4, at_call c.args.program.now c.args.world.now c.args.store.now c.args.pending.now c.args.call.now c.instr_at-instr.result.now f c.call-function.result.now (c.in-Call.is ∙ ap (λ (x : Call). instr.Call x) (sym c.call-function.ensures.view)) s.0 s.1 s.2 s.3 s.4 s.5); place = c.instr_at-instr.ensures.limit; prepared = c.call-function.ensures.prepared }
 
 pub returns-in-TestNull-clause-done : goal.returns-in-TestNull-clause-done
-returns-in-TestNull-clause-done c lent k own shared s task rest e =
+returns-in-TestNull-clause-done c in_use k own shared s task rest e =
     let f = fetched (goal.at.returns-in-TestNull-clause-done c).After-instr_at-instr in
-    test_executes c.args.program.now c.args.world.now c.args.store.now lent k own shared e.store_agrees s c.args.pending.now e.pending_agrees e.viewless c.args.call.now f.code task rest (ready_for _ c.args.world.now.classes c.args.store.now.heap _ _ f (visible_to own shared s) s.frames task rest e.stands) c.instr_at-instr.result.now f.at
+    test_executes c.args.program.now c.args.world.now c.args.store.now in_use k own shared e.store_agrees s c.args.pending.now e.pending_agrees e.viewless c.args.call.now f.code task rest (ready_for _ c.args.world.now.classes c.args.store.now.heap _ _ f (visible_to own shared s) s.frames task rest e.stands) c.instr_at-instr.result.now f.at
     c.in-TestNull.variable c.in-TestNull.equal c.test_null.new.call c.in-TestNull.is c.test_null.ensures
 
 pub returns-in-StoreNull-clause-done : goal.returns-in-StoreNull-clause-done
-returns-in-StoreNull-clause-done c lent k own shared s task rest e =
+returns-in-StoreNull-clause-done c in_use k own shared s task rest e =
     let f = fetched (goal.at.returns-in-StoreNull-clause-done c).After-instr_at-instr in
-    store_executes c.args.program.now c.args.world.now c.args.store.now lent k own shared e.store_agrees s c.args.pending.now e.pending_agrees e.viewless c.args.call.now f.code task rest (ready_for _ c.args.world.now.classes c.args.store.now.heap _ _ f (visible_to own shared s) s.frames task rest e.stands) c.instr_at-instr.result.now f.at
+    store_executes c.args.program.now c.args.world.now c.args.store.now in_use k own shared e.store_agrees s c.args.pending.now e.pending_agrees e.viewless c.args.call.now f.code task rest (ready_for _ c.args.world.now.classes c.args.store.now.heap _ _ f (visible_to own shared s) s.frames task rest e.stands) c.instr_at-instr.result.now f.at
     c.in-StoreNull.variable c.store_null.new.call (with_items c.args.store.now.statics c.store_null.new.statics) c.in-StoreNull.is
     (with_items_is c.args.store.now.statics c.store_null.new.statics (search (rules, places)) ∙ c.store_null.ensures.statics ∙ ap (λ (l : List StaticReference). nulled_statics c.in-StoreNull.variable l) c.deref_mut.ensures.value)
     c.store_null.ensures.call
 
 pub returns-in_default-clause-done : goal.returns-in_default-clause-done
-returns-in_default-clause-done c lent k own shared s task rest e =
+returns-in_default-clause-done c in_use k own shared s task rest e =
     let f = fetched (goal.at.returns-in_default-clause-done c).After-instr_at-instr in
     let m = c.run_plain.ensures in
-    plain_executes c.args.program.now c.args.world.now c.args.store.now lent k own shared e.store_agrees s c.args.pending.now e.pending_agrees e.viewless c.args.call.now f.code task rest (ready_for _ c.args.world.now.classes c.args.store.now.heap _ _ f (visible_to own shared s) s.frames task rest e.stands) c.instr_at-instr.result.now f.at e.tasks
+    plain_executes c.args.program.now c.args.world.now c.args.store.now in_use k own shared e.store_agrees s c.args.pending.now e.pending_agrees e.viewless c.args.call.now f.code task rest (ready_for _ c.args.world.now.classes c.args.store.now.heap _ _ f (visible_to own shared s) s.frames task rest e.stands) c.instr_at-instr.result.now f.at e.tasks
     c.run_plain.new.call c.run_plain.result m.way m.stack m.numbers m.is m.moved m.way_seen
 
 pub returns-in_ok-invoked-in-Call-clause-done : goal.returns-in_ok-invoked-in-Call-clause-done
-returns-in_ok-invoked-in-Call-clause-done c lent k own shared s task rest e =
+returns-in_ok-invoked-in-Call-clause-done c in_use k own shared s task rest e =
     let f = fetched (goal.at.returns-in_ok-invoked-in-Call-clause-done c).After-instr_at-instr in
-    subst (λ (done : Executed). Executes c.args.program.now c.args.world.now c.args.store.now.heap c.invoke.new.store lent k own shared s rest c.invoke.new.call c.invoke.new.pending (effect_of (sight_of shared s) task) done) (sym c.outcome_of.ensures)
-    (c.in_ok-invoked-in-Call.ensures.done c.args.program.now lent k own shared s task rest
+    subst (λ (done : Executed). Executes c.args.program.now c.args.world.now c.args.store.now.heap c.invoke.new.store in_use k own shared s rest c.invoke.new.call c.invoke.new.pending (effect_of (sight_of shared s) task) done) (sym c.outcome_of.ensures)
+    (c.in_ok-invoked-in-Call.ensures.done c.args.program.now in_use k own shared s task rest
     (at_call c.args.program.now c.args.world.now c.args.store.now c.args.pending.now c.args.call.now c.instr_at-instr.result.now f c.call-function.result.now (c.in-Call.is ∙ ap (λ (x : Call). instr.Call x) (sym c.call-function.ensures.view)) own shared s task rest e))
 
 pub returns-in-PutJint-clause-done : goal.returns-in-PutJint-clause-done
-returns-in-PutJint-clause-done c lent k own shared s task rest e =
+returns-in-PutJint-clause-done c in_use k own shared s task rest e =
     let f = fetched (goal.at.returns-in-PutJint-clause-done c).After-instr_at-instr in
     let number : cast_signed w32 (cast_unsigned w32 c.cast_signed.result) ≡ cast_signed w32 c.pop-word.result = to_z-of_z {w = w32} (record { sfits = c.cast_signed.type_inv }) ∙ c.cast_signed.ensures in
     let after : Activation = record c.args.call.now { place = c.args.call.now.place + 1; stack = c.pop-word.new.self } in
-    subst (λ (z : ℤ). Executes c.args.program.now c.args.world.now c.args.store.now.heap c.args.store.now lent k own shared s rest after c.args.pending.now (effect_of (sight_of shared s) task) (Did (Printed z))) (sym number)
-    (put_executes c.args.program.now c.args.world.now c.args.store.now lent k own shared e.store_agrees s c.args.pending.now e.pending_agrees e.viewless c.args.call.now f.code task rest (ready_for _ c.args.world.now.classes c.args.store.now.heap _ _ f (visible_to own shared s) s.frames task rest e.stands) c.instr_at-instr.result.now f.at
+    subst (λ (z : ℤ). Executes c.args.program.now c.args.world.now c.args.store.now.heap c.args.store.now in_use k own shared s rest after c.args.pending.now (effect_of (sight_of shared s) task) (Did (Printed z))) (sym number)
+    (put_executes c.args.program.now c.args.world.now c.args.store.now in_use k own shared e.store_agrees s c.args.pending.now e.pending_agrees e.viewless c.args.call.now f.code task rest (ready_for _ c.args.world.now.classes c.args.store.now.heap _ _ f (visible_to own shared s) s.frames task rest e.stands) c.instr_at-instr.result.now f.at
     c.pop-word.result after c.pop-word.new.self c.in-PutJint.is c.pop-word.ensures.words
     (record { function = refl; place = refl; stack = refl; numbers = refl; references = refl; fields = refl; locals = refl }))
 
 pub returns-in-Return-clause-done : goal.returns-in-Return-clause-done
-returns-in-Return-clause-done c lent k own shared s task rest e =
+returns-in-Return-clause-done c in_use k own shared s task rest e =
     let f = fetched (goal.at.returns-in-Return-clause-done c).After-instr_at-instr in
-    return_executes _ c.args.world.now c.args.store.now lent k own shared e.store_agrees s c.args.pending.now e.pending_agrees e.viewless _ f.code task rest (ready_for _ c.args.world.now.classes c.args.store.now.heap _ _ f (visible_to own shared s) s.frames task rest e.stands) c.instr_at-instr.result.now f.at (returns_is _ c.in-Return.is) c.args.call.now
+    return_executes _ c.args.world.now c.args.store.now in_use k own shared e.store_agrees s c.args.pending.now e.pending_agrees e.viewless _ f.code task rest (ready_for _ c.args.world.now.classes c.args.store.now.heap _ _ f (visible_to own shared s) s.frames task rest e.stands) c.instr_at-instr.result.now f.at (returns_is _ c.in-Return.is) c.args.call.now
 
 pub returns-in-Return-2-clause-done : goal.returns-in-Return-2-clause-done
-returns-in-Return-2-clause-done c lent k own shared s task rest e =
+returns-in-Return-2-clause-done c in_use k own shared s task rest e =
     let f = fetched (goal.at.returns-in-Return-2-clause-done c).After-instr_at-instr in
-    return_executes _ c.args.world.now c.args.store.now lent k own shared e.store_agrees s c.args.pending.now e.pending_agrees e.viewless _ f.code task rest (ready_for _ c.args.world.now.classes c.args.store.now.heap _ _ f (visible_to own shared s) s.frames task rest e.stands) c.instr_at-instr.result.now f.at (returns_is _ c.in-Return.is) c.args.call.now
+    return_executes _ c.args.world.now c.args.store.now in_use k own shared e.store_agrees s c.args.pending.now e.pending_agrees e.viewless _ f.code task rest (ready_for _ c.args.world.now.classes c.args.store.now.heap _ _ f (visible_to own shared s) s.frames task rest e.stands) c.instr_at-instr.result.now f.at (returns_is _ c.in-Return.is) c.args.call.now
 
 pub returns-in-Return-3-clause-done : goal.returns-in-Return-3-clause-done
-returns-in-Return-3-clause-done c lent k own shared s task rest e =
+returns-in-Return-3-clause-done c in_use k own shared s task rest e =
     let f = fetched (goal.at.returns-in-Return-3-clause-done c).After-instr_at-instr in
-    return_executes _ c.args.world.now c.args.store.now lent k own shared e.store_agrees s c.args.pending.now e.pending_agrees e.viewless _ f.code task rest (ready_for _ c.args.world.now.classes c.args.store.now.heap _ _ f (visible_to own shared s) s.frames task rest e.stands) c.instr_at-instr.result.now f.at (returns_is _ c.in-Return.is) c.args.call.now
+    return_executes _ c.args.world.now c.args.store.now in_use k own shared e.store_agrees s c.args.pending.now e.pending_agrees e.viewless _ f.code task rest (ready_for _ c.args.world.now.classes c.args.store.now.heap _ _ f (visible_to own shared s) s.frames task rest e.stands) c.instr_at-instr.result.now f.at (returns_is _ c.in-Return.is) c.args.call.now

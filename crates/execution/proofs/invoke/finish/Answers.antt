@@ -37,10 +37,10 @@ use Rattle.execution.proofs.CallInstructions.{CalledAs, called, r, goes_on, held
 use Rattle.execution.proofs.invoke.finish.Goals as goal
 
 -- what a call came to, by whether its allocation was refused
-executes : (p : Lowered) (w : World) (old : Space) (store : Store) (lent : BuffersInUse) (k : ℕ) (own : Owners) (shared : Shared) (s : Thread) (rest : List Task) (call : Activation) (pending : Option ℕ) (e : Effect) (line : ℕ) (refused : Bool)
-    → GoesOn p w old store lent k own shared s rest call pending e refused Quiet → Executes p w old store lent k own shared s rest call pending e (executed_as line (done_or_refused refused))
-executes p w old store lent k own shared s rest call pending e line true h = h
-executes p w old store lent k own shared s rest call pending e line false h = h
+executes : (p : Lowered) (w : World) (old : Space) (store : Store) (in_use : BuffersInUse) (k : ℕ) (own : Owners) (shared : Shared) (s : Thread) (rest : List Task) (call : Activation) (pending : Option ℕ) (e : Effect) (line : ℕ) (refused : Bool)
+    → GoesOn p w old store in_use k own shared s rest call pending e refused Quiet → Executes p w old store in_use k own shared s rest call pending e (executed_as line (done_or_refused refused))
+executes p w old store in_use k own shared s rest call pending e line true h = h
+executes p w old store in_use k own shared s rest call pending e line false h = h
 
 -- the machine is at a call that no check stops
 module _ (p : Lowered) (w : World) (store : Store) (pending : Option ℕ) (call : Activation) (function : Call) (own : Owners) (shared : Shared) (s : Thread) (task : Task) (rest : List Task) (h : AtCall p w store pending call function own shared s task rest) (answer : Answer) (given : IsAnswered w store pending call function answer) where
@@ -56,35 +56,35 @@ module _ (p : Lowered) (w : World) (store : Store) (pending : Option ℕ) (call 
 
   -- the effect of the source's call
   abbrev does : BuffersInUse → ℕ → CallEffect
-  does lent k = call_effect w.classes lent k shared s it.args it.f
+  does in_use k = call_effect w.classes in_use k shared s it.args it.f
 
   -- the kind of its result
   module _ (kind : ResultKind) (same : kind ≡ (prototype (function_value function.function)).result) where
     kind_is : kind ≡ (prototype it.f).result
     kind_is = same ∙ ap (λ (f : JniFunction). (prototype f).result) it.asked.same_function
 
-    answered : (lent : BuffersInUse) (k : ℕ) → IsAnswer w.classes store.heap call.locals kind shared s answer (does lent k)
-    answered lent k =
-        subst (λ (x : ResultKind). IsAnswer w.classes store.heap call.locals x shared s answer (does lent k)) (sym kind_is)
-        (answers p w store pending call (call_view function) shared s given.sound lent k it.args it.f it.asked it.target free answer worked
+    answered : (in_use : BuffersInUse) (k : ℕ) → IsAnswer w.classes store.heap call.locals kind shared s answer (does in_use k)
+    answered in_use k =
+        subst (λ (x : ResultKind). IsAnswer w.classes store.heap call.locals x shared s answer (does in_use k)) (sym kind_is)
+        (answers p w store pending call (call_view function) shared s given.sound in_use k it.args it.f it.asked it.target free answer worked
         (owned_key p w store pending call function own shared s task rest h) (held p w store pending call function own shared s task rest h))
 
     can_carry : IsPossible p w store pending call.locals kind shared s
     can_carry = subst (λ (x : ResultKind). IsPossible p w store pending call.locals x shared s) (sym kind_is) (possible p w store pending call function own shared s task rest h)
 
     -- what was carried out
-    module _ (lent : BuffersInUse) (k : ℕ) (refused : Bool) (after : Store) (exception : Option ℕ) (locals : LocalTable) (g : Given) (carried : CarriesOut p w store.heap call.locals answer kind shared s (does lent k) refused after exception locals g) where
+    module _ (in_use : BuffersInUse) (k : ℕ) (refused : Bool) (after : Store) (exception : Option ℕ) (locals : LocalTable) (g : Given) (carried : CarriesOut p w store.heap call.locals answer kind shared s (does in_use k) refused after exception locals g) where
       static_there : (statics : List StaticReference) → statics ≡ after.statics.items → HasStatic function.target (length statics)
       static_there statics same_statics =
           subst (λ (l : List StaticReference). HasStatic function.target (length l)) (sym same_statics)
           (has_static p w store pending call function own shared s task rest h (length after.statics.items)
-          (shared_long p w store shared h.shares ∙ sym (statics_long p w after (shared_after w.classes refused shared (does lent k)) carried.store_agrees)))
+          (shared_long p w store shared h.shares ∙ sym (statics_long p w after (shared_after w.classes refused shared (does in_use k)) carried.store_agrees)))
 
-      carried_as : CarriesOut p w store.heap call.locals answer (prototype it.f).result shared s (does lent k) refused after exception locals g
-      carried_as = subst (λ (x : ResultKind). CarriesOut p w store.heap call.locals answer x shared s (does lent k) refused after exception locals g) kind_is carried
+      carried_as : CarriesOut p w store.heap call.locals answer (prototype it.f).result shared s (does in_use k) refused after exception locals g
+      carried_as = subst (λ (x : ResultKind). CarriesOut p w store.heap call.locals answer x shared s (does in_use k) refused after exception locals g) kind_is carried
 
       room_there : HasRoom kind locals
-      room_there = subst (λ (x : ResultKind). HasRoom x locals) (sym kind_is) (room_after p w store pending call function own shared s task rest h lent k free refused after exception locals g answer carried_as)
+      room_there = subst (λ (x : ResultKind). HasRoom x locals) (sym kind_is) (room_after p w store pending call function own shared s task rest h in_use k free refused after exception locals g answer carried_as)
 
 no_buffers : BuffersInUse
 no_buffers = record { copied = 0; views = 0 }
@@ -133,7 +133,7 @@ receive-requires-clause-room c =
     (answered a.0 w c.args.store.now c.args.pending.now c.args.call.now c.args.function.now a.1 a.2 a.3 a.4 a.5 a.6 c.args.answer c.requires.answered kind same no_buffers 0))
 
 pub returns-clause-done : goal.returns-clause-done
-returns-clause-done c p lent k own shared s task rest h =
+returns-clause-done c p in_use k own shared s task rest h =
     let w = c.args.world.now in
     let store = c.args.store.now in
     let pending = c.args.pending.now in
@@ -144,17 +144,17 @@ returns-clause-done c p lent k own shared s task rest h =
     let refused = c.in_ok-carried.carried.refused in
     let g = c.in_ok-carried.carried.given in
     let is = kind_is p w store pending call function own shared s task rest h c.args.answer c.requires.answered kind same in
-    let answer = answered p w store pending call function own shared s task rest h c.args.answer c.requires.answered kind same lent k in
+    let answer = answered p w store pending call function own shared s task rest h c.args.answer c.requires.answered kind same in_use k in
     let carried = c.in_ok-carried.ensures.carried p shared s _ (can_carry p w store pending call function own shared s task rest h c.args.answer c.requires.answered kind same) answer in
     let it = called p w store pending call function own shared s task rest h in
     let after = with_items c.carry_out.new.store.statics c.receive.new.statics in
     let final : Store = record c.carry_out.new.store { statics = after } in
-    subst (λ (done : Executed). Executes p w store.heap final lent k own shared s rest c.receive.new.call c.carry_out.new.pending (effect_of (sight_of shared s) task) done) (ap (executed_as function.line) (sym c.done_or_refused.ensures))
-    (executes p w store.heap final lent k own shared s rest c.receive.new.call c.carry_out.new.pending (effect_of (sight_of shared s) task) function.line refused
-    (goes_on p w store pending call function own shared s task rest h lent k refused c.carry_out.new.store c.carry_out.new.pending c.carry_out.new.locals g c.receive.new.call after c.args.answer c.frames.ensures.stacked
+    subst (λ (done : Executed). Executes p w store.heap final in_use k own shared s rest c.receive.new.call c.carry_out.new.pending (effect_of (sight_of shared s) task) done) (ap (executed_as function.line) (sym c.done_or_refused.ensures))
+    (executes p w store.heap final in_use k own shared s rest c.receive.new.call c.carry_out.new.pending (effect_of (sight_of shared s) task) function.line refused
+    (goes_on p w store pending call function own shared s task rest h in_use k refused c.carry_out.new.store c.carry_out.new.pending c.carry_out.new.locals g c.receive.new.call after c.args.answer c.frames.ensures.stacked
     (free p w store pending call function own shared s task rest h c.args.answer c.requires.answered)
     (worked p w store pending call function own shared s task rest h c.args.answer c.requires.answered)
-    (subst (λ (x : ResultKind). IsAnswer w.classes store.heap call.locals x shared s c.args.answer (call_effect w.classes lent k shared s it.args it.f)) is answer)
-    (carried_as p w store pending call function own shared s task rest h c.args.answer c.requires.answered kind same lent k refused c.carry_out.new.store c.carry_out.new.pending c.carry_out.new.locals g carried)
+    (subst (λ (x : ResultKind). IsAnswer w.classes store.heap call.locals x shared s c.args.answer (call_effect w.classes in_use k shared s it.args it.f)) is answer)
+    (carried_as p w store pending call function own shared s task rest h c.args.answer c.requires.answered kind same in_use k refused c.carry_out.new.store c.carry_out.new.pending c.carry_out.new.locals g carried)
     (subst (λ (x : ResultKind). Receives function.target x g (record call { locals = c.carry_out.new.locals }) c.receive.new.call) is c.receive.ensures.call)
     (with_items_is c.carry_out.new.store.statics c.receive.new.statics (search (rules, places)) ∙ c.receive.ensures.statics ∙ ap (λ (l : List StaticReference). statics_with function.target g l) c.deref_mut.ensures.value)))
