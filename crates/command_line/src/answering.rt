@@ -64,8 +64,8 @@ fn explain<O: Sink, E: Sink>(explanation: Option<Explanation>, out: &mut O, err:
     }
 }
 
-/// Does what was asked for, and answers the program's status: 0 done, 1 a text is refused, 2 the words ask for nothing that
-/// there is, 3 memory, a file or a writer failed.
+/// Does what was asked for, and answers the program's status: 0 done, 1 a text is refused, 2 the words are no command
+/// line, 3 memory, a file or a writer failed.
 pub fn answer<F: Files, O: Sink, E: Sink>(
     alloc: Global,
     request: &Request<'_>,

@@ -4,7 +4,7 @@
 pub const DONE: u8 = 0;
 /// A text is refused.
 pub const REFUSED: u8 = 1;
-/// The words ask for nothing that there is.
+/// The words are no command line.
 pub const COMMAND_LINE: u8 = 2;
 /// Memory, a file or a writer failed.
 pub const FAILED: u8 = 3;

@@ -7,7 +7,7 @@ static FAULTS_0: [Explanation; 4] = [
     Explanation {
         number: 1,
         title: b"a byte begins no token",
-        text: b"fault 1: a byte begins no token\n\nOutside of comments and strings a text has the bytes of the language's tokens and blanks (C99 6.4): no @, #, $, ', ., ?, :, \\, and nothing beyond ASCII. Take it out.\n\n    JNIEXPORT void JNICALL Java_A_f(JNIEnv *env, jclass cls)\n    {\n        put_jint(1 ? 2 : 3);\n        return;\n    }\n\nfault 1 line 3\n",
+        text: b"fault 1: a byte begins no token\n\nOutside of comments and strings a text has the bytes of the language's tokens and blanks (C99 6.4): no @, #, $, ', ., ?, :, \\, no backtick, no control byte, and nothing beyond ASCII. Take it out.\n\n    JNIEXPORT void JNICALL Java_A_f(JNIEnv *env, jclass cls)\n    {\n        put_jint(1 ? 2 : 3);\n        return;\n    }\n\nfault 1 line 3\n",
     },
     Explanation {
         number: 2,
@@ -238,7 +238,7 @@ static FAULTS_80: [Explanation; 4] = [
     Explanation {
         number: 83,
         title: b"a number is out of its limit",
-        text: b"fault 83: a number is out of its limit\n\nA heap has 512 to 1,048,576 cells, a jint, an element or a field the range of its type, a world at most 65,536 objects and one thread, which makes at most 256 calls, a text of words at most 1,000,000 of them.\nTake a smaller or a larger number, or fewer of them.\n\n    JNIEXPORT jint JNICALL Java_A_f(JNIEnv *env, jclass cls)\n    {\n        return 0;\n    }\n\n    heap 511\n    class A\n    thread Java_A_f\n\nfault 83 line 1\n",
+        text: b"fault 83: a number is out of its limit\n\nA heap has 512 to 1,048,576 cells, a jint, an element or a field the range of its type, a world at most 65,536 objects and one thread, which makes at most 256 calls, a schedule or a journal at most 1,000,000 turns or entries in all (one *N of more is 81).\nTake a smaller or a larger number, or fewer of them.\n\n    JNIEXPORT jint JNICALL Java_A_f(JNIEnv *env, jclass cls)\n    {\n        return 0;\n    }\n\n    heap 511\n    class A\n    thread Java_A_f\n\nfault 83 line 1\n",
     },
     Explanation {
         number: 84,
@@ -256,7 +256,7 @@ fn faults_80() -> &'static [Explanation] {
 static FAULTS_90: [Explanation; 1] = [Explanation {
     number: 91,
     title: b"an entry of a journal isn't possible",
-    text: b"fault 91: an entry of a journal isn't possible\n\nThe entry, counted from 1, is the first that no step goes with: the thread has ended, or allocates nothing that could be refused. Replay a journal with the program and the world that it\ncame from. Here the thread ends with its third step.\n\n    JNIEXPORT jint JNICALL Java_A_f(JNIEnv *env, jclass cls)\n    {\n        return 0;\n    }\n\n    heap 512\n    class A\n    thread Java_A_f\n\n    1 1 1 1\n\nfault 91 entry 4\n",
+    text: b"fault 91: an entry of a journal isn't possible\n\nThe entry, counted from 1, is the first that no step goes with: the thread has ended, a trap has stopped the machine, or the step allocates nothing that could be refused. Replay a journal with the program and the world that it\ncame from. Here the thread ends with its third step.\n\n    JNIEXPORT jint JNICALL Java_A_f(JNIEnv *env, jclass cls)\n    {\n        return 0;\n    }\n\n    heap 512\n    class A\n    thread Java_A_f\n\n    1 1 1 1\n\nfault 91 entry 4\n",
 }];
 
 /// These, as a slice.
@@ -305,7 +305,7 @@ static TRAPS_0: [Explanation; 9] = [
     Explanation {
         number: 5,
         title: b"a call while an exception is pending",
-        text: b"trap 5: a call while an exception is pending\n\nOnly the functions that ask for an exception, clear it or release what is held may be called then (JNI Specification, chapter 2, \"Exceptions\"). Test for the exception after the call that may throw\nit, and return or clear it.\n\n    JNIEXPORT void JNICALL Java_A_f(JNIEnv *env, jclass cls)\n    {\n        jclass missing = (*env)->FindClass(env, \"B\");\n        jclass above = (*env)->GetSuperclass(env, cls);\n        return;\n    }\n\n    heap 512\n    class A\n    thread Java_A_f\n\nT1 trap 5 line 4\n",
+        text: b"trap 5: a call while an exception is pending\n\nOnly the functions that ask for an exception, clear it or release what is held, and PushLocalFrame, may be called then (JNI Specification, chapter 2, \"Exceptions\"). Test for the exception after the call that may throw\nit, and return or clear it.\n\n    JNIEXPORT void JNICALL Java_A_f(JNIEnv *env, jclass cls)\n    {\n        jclass missing = (*env)->FindClass(env, \"B\");\n        jclass above = (*env)->GetSuperclass(env, cls);\n        return;\n    }\n\n    heap 512\n    class A\n    thread Java_A_f\n\nT1 trap 5 line 4\n",
     },
     Explanation {
         number: 6,
@@ -320,7 +320,7 @@ static TRAPS_0: [Explanation; 9] = [
     Explanation {
         number: 8,
         title: b"no room for a local reference",
-        text: b"trap 8: no room for a local reference\n\nA frame holds 16 local references or as many as it was made or grown for (JNI Specification, chapter 4, \"EnsureLocalCapacity\" and \"PushLocalFrame\"). Delete references that aren't used any more, or ask for\nthe room first.\n\n    JNIEXPORT void JNICALL Java_A_f(JNIEnv *env, jclass cls, jobject object)\n    {\n        uint32_t i = 0u;\n        while (i < 20u) {\n            jclass class = (*env)->GetObjectClass(env, object);\n            i = i + 1u;\n        }\n        return;\n    }\n\n    heap 512\n    class A\n    object @x A\n    thread Java_A_f @x\n\nT1 trap 8 line 5\n",
+        text: b"trap 8: no room for a local reference\n\nThe first frame of a call has room for 16 local references besides the class and the arguments, another for as many as it was made for, and each for those that it was grown by (JNI Specification, chapter 4, \"EnsureLocalCapacity\" and \"PushLocalFrame\"). Delete references that aren't used any more, or ask for\nthe room first.\n\n    JNIEXPORT void JNICALL Java_A_f(JNIEnv *env, jclass cls, jobject object)\n    {\n        uint32_t i = 0u;\n        while (i < 20u) {\n            jclass class = (*env)->GetObjectClass(env, object);\n            i = i + 1u;\n        }\n        return;\n    }\n\n    heap 512\n    class A\n    object @x A\n    thread Java_A_f @x\n\nT1 trap 8 line 5\n",
     },
     Explanation {
         number: 9,

@@ -1,6 +1,6 @@
 -- What words ask for, by the rules of `clap`.
 use Rattle.std.specs.Prelude.{◌≡◌, ◌≢◌, ◌⊎◌, ℕ, List, [], Option, Some, None, Result, Ok, Err, IfSome, codes}
-use Rattle.std.specs.Str.Parse.{digits_value, without_leading_plus}
+use Rattle.std.specs.Str.Parse.{IsNumeral, digits_value, without_leading_plus}
 use Rattle.clap.specs.Faults.{fault_of}
 use Rattle.clap.specs.Kinds.{Kinds, IsAmong, HasKind}
 use Rattle.clap.specs.Simple.{subcommand_of}
@@ -40,7 +40,7 @@ AreNamed name rows None = (command : Command) → Names name rows command → �
 
 -- the number that a text spells in decimal digits, before which a plus may be
 abbrev pub Spells : (text : List ℕ) → (number : ℕ) → Type 0
-Spells text number = number ≡ digits_value 10 (without_leading_plus text)
+Spells text number = IsNumeral 10 (without_leading_plus text) × (number ≡ digits_value 10 (without_leading_plus text))
 
 -- the number of a fault is in the word `N`, and that of a trap in the word after `trap`
 abbrev pub HasNumber : List Row → (number : ℕ) → Type 0

@@ -113,7 +113,7 @@ fn parse<'a, S: AsStr>(alloc: Global, words: &'a [S]) -> Result<Request<'a>, Err
     }
 }
 
-/// What words ask for that `clap` doesn't take: its help or its version, or nothing that there is.
+/// What words ask for that `clap` doesn't take: its help or its version, or why they are no command line.
 fn told<'a>(alloc: Global, error: &Error) -> Request<'a>
     ensures { IsTold error.now result }
 {

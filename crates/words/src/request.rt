@@ -12,7 +12,7 @@ pub enum Request<'a> {
     Explain(Option<Explanation>),
     /// This text is shown: the help or the version, for which a word asks.
     Show(String),
-    /// They ask for nothing that there is: why, and what there is.
+    /// They are no command line: why, and what there is.
     Misuse(String),
     /// A run, but they don't say how to schedule.
     LacksSchedule,
