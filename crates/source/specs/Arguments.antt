@@ -73,6 +73,8 @@ actuals sight f operands = map (look_up sight) (zip (prototype f).parameters ope
 
 -- ---- an argument by its place after `env`, from 0
 
+-- In a checked unit each of these is asked of an argument of its kind alone, or of NULL where it says so: what it answers of another never occurs.
+
 -- the reference of an argument
 abbrev pub reference_in_actual : Option Actual → Reference
 reference_in_actual (Some (ReferenceActual x (Live n))) = Some n
