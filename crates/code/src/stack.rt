@@ -2,27 +2,30 @@
 
 ghost use Rattle.std.specs.Prelude.{◌≡◌, ◌==◌, ◌≤◌, ◌<◌, ℕ, List, [], ◌∷◌, length};
 
+use arrayvec::ArrayVec;
 use std::marker::Model;
 
-/// How many words there may be.
-const MOST_WORDS: usize = 64;
-
 /// At most 64 words, seen as the list of them with the topmost first. It never allocates.
-#[derive(Drop)]
 pub struct Stack {
-    words: [u32; MOST_WORDS],
-    /// How many of them are on the stack, the topmost last.
-    len: usize,
+    words: ArrayVec<u32, 64>,
+}
+
+// Written out, and not derived, so that crates above needn't prove it again.
+impl Drop for Stack {
+    fn drop(self) {
+        let Stack { words } = self;
+        drop(words);
+    }
 }
 
 impl Model for Stack {
-    ghost use Rattle.std.specs.Prelude.{List, ℕ, reverse, take, ◌≤◌};
+    ghost use Rattle.std.specs.Prelude.{List, ℕ, reverse, length, ◌≤◌};
 
     ghost Value = { List ℕ };
 
-    ghost view = { λ s. reverse (take s.len s.words) };
+    ghost view = { λ s. reverse s.words.items };
 
-    ghost invariant = { λ s. s.len ≤ 64 };
+    ghost invariant = { λ s. length s.words.items ≤ 64 };
 }
 
 impl Stack {
@@ -31,8 +34,7 @@ impl Stack {
         ensures { result ≡ [] }
     {
         Stack {
-            words: [0; MOST_WORDS],
-            len: 0,
+            words: ArrayVec::new(),
         }
     }
 
@@ -41,15 +43,14 @@ impl Stack {
         requires { length self.old < 64 }
         ensures { self.new ≡ word ∷ self.old }
     {
-        self.words[self.len] = word;
-        self.len += 1;
+        self.words.push(word);
     }
 
     /// Whether there is no word.
     pub fn is_empty(&self) -> bool
         ensures { result ≡ (length self.now == 0) }
     {
-        self.len == 0
+        self.words.is_empty()
     }
 
     /// The topmost word.
@@ -57,7 +58,7 @@ impl Stack {
         requires { 0 < length self.now }
         ensures { (top : ℕ) (rest : List ℕ) → self.now ≡ top ∷ rest → result ≡ top }
     {
-        self.words[self.len - 1]
+        self.words[self.words.len() - 1]
     }
 
     /// Another word in place of the topmost.
@@ -65,14 +66,15 @@ impl Stack {
         requires { 0 < length self.old }
         ensures { (top : ℕ) (rest : List ℕ) → self.old ≡ top ∷ rest → self.new ≡ word ∷ rest }
     {
-        self.words[self.len - 1] = word;
+        let last = self.words.len() - 1;
+        self.words[last] = word;
     }
 
     /// Takes all words.
     pub fn clear(&mut self)
         ensures { self.new ≡ [] }
     {
-        self.len = 0;
+        self.words.clear();
     }
 
     /// Takes the topmost word.
@@ -81,7 +83,6 @@ impl Stack {
         ensures words { self.old ≡ result ∷ self.new }
         ensures room { length self.new < 64 }
     {
-        self.len -= 1;
-        self.words[self.len]
+        self.words.pop().unwrap()
     }
 }
