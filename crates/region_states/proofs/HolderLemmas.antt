@@ -1,16 +1,17 @@
 -- How many held buffers of an array variable there are.
-use Rattle.std.proofs.Common.{◌≡◌, ℕ, zero, suc, ◌+◌, ◌-◌, ◌<◌, ◌≤◌, Bool, true, false, ◌||◌, if◌then◌else◌, List, [], ◌∷◌, ◌++◌, length, map, get_or, drop, take, position, Option, Some, None, refl, sym, ap, ap₂, ◌∙◌, arith, nat_lt, bytes_eq, add-one, drop-cons}
-use Rattle.std.specs.List.{list_any, slice_get, zip}
-use Rattle.std.specs.Option.{option_and_then, unwrap_or}
+use Rattle.std.proofs.Common.{◌≡◌, ℕ, zero, suc, ◌+◌, ◌-◌, ◌<◌, ◌≤◌, Bool, true, false, ◌||◌, if◌then◌else◌, cond, List, [], ◌∷◌, ◌++◌, length, map, get_or, drop, take, Option, Some, None, refl, sym, ap, ap₂, ◌∙◌, subst, arith, nat_lt, bytes_eq, Bor, true≢false, add-one, drop-cons}
+use Rattle.std.specs.List.{list_any}
+use Rattle.std.specs.Map as maps
+use Rattle.std.specs.Option.{unwrap_or}
 use Rattle.std.proofs.Math.ListN.{set}
 use Rattle.std.proofs.lemmas.List.{length-map}
 use Rattle.std.proofs.lemmas.Bool.{lt-ltb}
-use Rattle.std.proofs.lemmas.Option.{slice_get-get_or}
 use lib.Pointwise.{bytes_decides}
 use Rattle.base.specs.Bytes.{Identifier, ByName, lookup}
 use Rattle.base.specs.Options.{some_passes}
 use Rattle.jni.specs.Access.{Access}
-use Rattle.names.proofs.ValueLemmas.{found, found_set, found_added, within}
+use Rattle.source.specs.Variable.{assign}
+use Rattle.indexmap.specs.IndexMap.{insert_entry}
 use Rattle.region_states.specs.declared.states.VariableState.{VariableState as VariableStateInMemory}
 use Rattle.region_states.specs.declared.variables.Change.{Change}
 use Rattle.region_states.specs.declared.variables.Change.TheVariants as change
@@ -24,57 +25,78 @@ use Rattle.region_states.specs.StatesInMemory.{variable_state, held_in, is_holde
 spelled_alike : (x : Identifier) → bytes_eq x x ≡ true
 spelled_alike x = (bytes_decides x x).1 refl
 
+flipped : (a y : Identifier) → bytes_eq a y ≡ false → bytes_eq y a ≡ false
+flipped a y e = by (bytes_eq y a) refl
+  where
+    by : (b : Bool) → bytes_eq y a ≡ b → b ≡ false
+    by true h = absurd (true≢false (sym ((bytes_decides a y).1 (sym ((bytes_decides y a).0 h))) ∙ e))
+    by false h = refl
+
+module _ (a : Identifier) (n : ℕ) where
+  own_number : (counts : ByName ℕ) → count_of (assign a n counts) a ≡ n
+  own_number [] = ap (λ b. unwrap_or (if b then Some n else None) 0) (spelled_alike a)
+  own_number ((y, m) ∷ counts) = by (bytes_eq a y) refl (own_number counts)
+    where
+      by : (b : Bool) → bytes_eq a y ≡ b → count_of (assign a n counts) a ≡ n → count_of (if b then (a, n) ∷ counts else (y, m) ∷ assign a n counts) a ≡ n
+      by true e more = ap (λ b. unwrap_or (if b then Some n else lookup a counts) 0) (spelled_alike a)
+      by false e more = ap (λ b. unwrap_or (if b then Some m else lookup a (assign a n counts)) 0) e ∙ more
+
+  other_number : (x : Identifier) → bytes_eq x a ≡ false → (counts : ByName ℕ) → lookup x (assign a n counts) ≡ lookup x counts
+  other_number x other [] = ap (λ b. if b then Some n else None) other
+  other_number x other ((y, m) ∷ counts) = by (bytes_eq a y) refl (other_number x other counts)
+    where
+      by : (b : Bool) → bytes_eq a y ≡ b → lookup x (assign a n counts) ≡ lookup x counts → lookup x (if b then (a, n) ∷ counts else (y, m) ∷ assign a n counts) ≡ (if bytes_eq x y then Some m else lookup x counts)
+      by true e more =
+          ap (λ b. if b then Some n else lookup x counts) other
+          ∙ sym (ap (λ b. if b then Some m else lookup x counts) (ap (bytes_eq x) (sym ((bytes_decides a y).0 e)) ∙ other))
+      by false e more = ap (λ (o : Option ℕ). if bytes_eq x y then Some m else o) more
+
 -- a name that is given a number has it, and each other name what it had
-abbrev IsGiven : (a x : Identifier) (m : ℕ) (old new : ByName ℕ) → Type 0
-IsGiven a x m old new = lookup x new ≡ (if bytes_eq a x then Some m else lookup x old)
+pub number_given : (a x : Identifier) (n : ℕ) (counts : ByName ℕ) → count_of (assign a n counts) x ≡ (if bytes_eq a x then n else count_of counts x)
+number_given a x n counts = by (bytes_eq a x) refl
+  where
+    by : (b : Bool) → bytes_eq a x ≡ b → count_of (assign a n counts) x ≡ (if b then n else count_of counts x)
+    by true e = subst (λ (y : Identifier). count_of (assign a n counts) y ≡ n) ((bytes_decides a x).0 e) (own_number a n counts)
+    by false e = ap (λ (o : Option ℕ). unwrap_or o 0) (other_number a n x (flipped a x e) counts)
 
-module _ (a x : Identifier) (m : ℕ) (old new : ByName ℕ) where
-  number_given : IsGiven a x m old new → count_of new x ≡ (if bytes_eq a x then m else count_of old x)
-  number_given given = ap (λ (o : Option ℕ). unwrap_or o 0) given ∙ by (bytes_eq a x)
-    where
-      by : (b : Bool) → unwrap_or (if b then Some m else lookup x old) 0 ≡ (if b then m else count_of old x)
-      by true = refl
-      by false = refl
+-- a number more, and a number less, of a name
+pub one_more : (a x : Identifier) (counts : ByName ℕ) → count_of (assign a (count_of counts a + 1) counts) x ≡ (if bytes_eq a x then 1 else 0) + count_of counts x
+one_more a x counts = number_given a x (count_of counts a + 1) counts ∙ by (bytes_eq a x) refl
+  where
+    by : (b : Bool) → bytes_eq a x ≡ b → (if b then count_of counts a + 1 else count_of counts x) ≡ (if b then 1 else 0) + count_of counts x
+    by true e = let same : count_of counts a ≡ count_of counts x = ap (count_of counts) ((bytes_decides a x).0 e) in omega (arith, same)
+    by false e = omega arith
 
-  -- a number more, and a number less, of a name
-  pub one_more : IsGiven a x m old new → m ≡ 1 + count_of old a → count_of new x ≡ (if bytes_eq a x then 1 else 0) + count_of old x
-  one_more given h = number_given given ∙ by (bytes_eq a x) refl
-    where
-      by : (b : Bool) → bytes_eq a x ≡ b → (if b then m else count_of old x) ≡ (if b then 1 else 0) + count_of old x
-      by true e = let same : count_of old a ≡ count_of old x = ap (count_of old) ((bytes_decides a x).0 e) in omega (arith, same, h)
-      by false e = omega arith
-
-  pub one_less : IsGiven a x m old new → count_of old a ≡ 1 + m → count_of old x ≡ (if bytes_eq a x then 1 else 0) + count_of new x
-  one_less given h = by (bytes_eq a x) refl ∙ ap (λ n. (if bytes_eq a x then 1 else 0) + n) (sym (number_given given))
-    where
-      by : (b : Bool) → bytes_eq a x ≡ b → count_of old x ≡ (if b then 1 else 0) + (if b then m else count_of old x)
-      by true e = sym (ap (count_of old) ((bytes_decides a x).0 e)) ∙ h
-      by false e = omega arith
+pub one_less : (a x : Identifier) (m : ℕ) (counts : ByName ℕ) → count_of counts a ≡ 1 + m → count_of counts x ≡ (if bytes_eq a x then 1 else 0) + count_of (assign a m counts) x
+one_less a x m counts h = by (bytes_eq a x) refl ∙ ap (λ n. (if bytes_eq a x then 1 else 0) + n) (sym (number_given a x m counts))
+  where
+    by : (b : Bool) → bytes_eq a x ≡ b → count_of counts x ≡ (if b then 1 else 0) + (if b then m else count_of counts x)
+    by true e = sym (ap (count_of counts) ((bytes_decides a x).0 e)) ∙ h
+    by false e = omega arith
 
 -- ---- numbers in memory
 
--- what is counted of a name is at its number
-counted_at : (x : Identifier) (names : List Identifier) (counts : List ℕ) (n d : ℕ) → length counts ≡ length names → n < length counts → Some n ≡ position (bytes_eq x) names → count_of (zip names counts) x ≡ get_or counts n d
-counted_at x names counts n d h less e = ap (λ (o : Option ℕ). unwrap_or o 0) (found x names counts h ∙ ap (option_and_then (slice_get counts)) (sym e) ∙ slice_get-get_or counts n d less)
+abbrev pub Entries : Type 0
+Entries = List (Bor Identifier × ℕ)
 
-pub not_counted : (x : Identifier) (names : List Identifier) (counts : List ℕ) → length counts ≡ length names → None ≡ position (bytes_eq x) names → count_of (zip names counts) x ≡ 0
-not_counted x names counts h e = ap (λ (o : Option ℕ). unwrap_or o 0) (found x names counts h ∙ ap (option_and_then (slice_get counts)) (sym e))
+abbrev pub by_name : Entries → ByName ℕ
+by_name es = map (λ (e : Bor Identifier × ℕ). (e.0.now, e.1)) es
 
-module _ (a : Identifier) (names : List Identifier) (counts : List ℕ) (h : length counts ≡ length names) where
-  module _ (n d : ℕ) (e : Some n ≡ position (bytes_eq a) names) (is : d ≡ get_or counts n d) where
-    pub count_is : count_of (zip names counts) a ≡ d
-    count_is = counted_at a names counts n d h (within a names counts n h e) e ∙ sym is
+abbrev pub same_key : Bor Identifier → Bor Identifier → Bool
+same_key k l = bytes_eq k.now l.now
 
-    pub one_more_at : (x : Identifier) → count_of (zip names (set counts n (d + 1))) x ≡ (if bytes_eq a x then 1 else 0) + count_of (zip names counts) x
-    one_more_at x = one_more a x (d + 1) (zip names counts) (zip names (set counts n (d + 1))) (found_set a x (d + 1) names counts n h (within a names counts n h e) e) (omega (arith, count_is))
+pub looked_up : (x : Identifier) (es : Entries) → maps.lookup (λ (k : Bor Identifier). bytes_eq x k.now) es ≡ lookup x (by_name es)
+looked_up x [] = refl
+looked_up x (e ∷ es) = ap (λ (o : Option ℕ). if bytes_eq x e.0.now then Some e.1 else o) (looked_up x es)
 
-    pub one_less_at : (x : Identifier) → 0 < d → count_of (zip names counts) x ≡ (if bytes_eq a x then 1 else 0) + count_of (zip names (set counts n (d - 1))) x
-    one_less_at x some = one_less a x (d - 1) (zip names counts) (zip names (set counts n (d - 1))) (found_set a x (d - 1) names counts n h (within a names counts n h e) e) (omega (arith, count_is, some))
-
-  pub first_one : (x : Identifier) → None ≡ position (bytes_eq a) names → count_of (zip (names ++ a ∷ []) (counts ++ 1 ∷ [])) x ≡ (if bytes_eq a x then 1 else 0) + count_of (zip names counts) x
-  first_one x e =
-      let none = not_counted a names counts h e in
-      one_more a x 1 (zip names counts) (zip (names ++ a ∷ []) (counts ++ 1 ∷ [])) (found_added a x 1 names counts h e) (omega (arith, none))
+pub inserted : (k : Bor Identifier) (n : ℕ) (es : Entries) → by_name (insert_entry same_key es k n) ≡ assign k.now n (by_name es)
+inserted k n [] = refl
+inserted k n (e ∷ es) = by (same_key k e.0) refl (inserted k n es)
+  where
+    by : (b : Bool) → same_key k e.0 ≡ b → by_name (insert_entry same_key es k n) ≡ assign k.now n (by_name es)
+        → by_name (cond b ((e.0, n) ∷ es) (e ∷ insert_entry same_key es k n)) ≡ cond b ((k.now, n) ∷ by_name es) ((e.0.now, e.1) ∷ assign k.now n (by_name es))
+    by true same more = ap (λ (x : Identifier). (x, n) ∷ by_name es) (sym ((bytes_decides k.now e.0.now).0 same))
+    by false same more = ap (λ (l : ByName ℕ). (e.0.now, e.1) ∷ l) more
 
 -- ---- held buffers among variables
 
@@ -182,6 +204,10 @@ last_are items n = sym (all_taken (drop n items) (length items - n) (left_long i
 -- the array variable of a held buffer has one
 pub own_held : (v : VariableState) (held : Access × Identifier) → Some held ≡ held_in v → one_of held.1 v ≡ 1
 own_held v held e = one_held held.1 v held e ∙ ap (λ b. if b then 1 else 0) (spelled_alike held.1)
+
+-- a name that has a number is a key
+pub is_key : (x : Identifier) (es : Entries) → 0 < count_of (by_name es) x → maps.lookup (λ (k : Bor Identifier). bytes_eq x k.now) es ≡ None → ⊥
+is_key x es h e = let none : count_of (by_name es) x ≡ 0 = ap (λ (o : Option ℕ). unwrap_or o 0) (sym (looked_up x es) ∙ e) in absurd (omega (arith, none, h))
 
 -- ---- no more than there are variables
 

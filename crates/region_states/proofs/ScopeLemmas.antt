@@ -1,18 +1,17 @@
 -- Names with what is known of each: what is found of a name, and what a change leaves.
-use Rattle.std.proofs.Common.{◌≡◌, ℕ, zero, suc, ◌<◌, Bool, true, false, ◌||◌, if◌then◌else◌, List, [], ◌∷◌, ◌++◌, length, map, get_or, position, Option, Some, None, refl, sym, ap, ap₂, ◌∙◌, subst, arith, bytes_eq}
+use Rattle.std.proofs.Common.{◌≡◌, ℕ, zero, suc, ◌+◌, ◌<◌, Bool, true, false, not, ◌||◌, if◌then◌else◌, cond, List, [], ◌∷◌, ◌++◌, length, map, get_or, position, Option, Some, None, refl, sym, ap, ap₂, ◌∙◌, subst, arith, nat_lt, bytes_eq}
 use Rattle.std.specs.Prelude.{reverse}
-use Rattle.std.specs.List.{AllByRecursion, IsDistinct, list_any, slice_get, zip}
+use Rattle.std.specs.List.{AllByRecursion, IsDistinct, list_any, prefix_len, slice_get, zip}
 use Rattle.std.specs.Option.{option_and_then, option_map, option_or}
 use Rattle.std.proofs.Math.ListN.{set}
 use Rattle.std.proofs.Math.Nat.{suc_inj}
+use Rattle.std.proofs.lemmas.Bool.{lt-ltb, le-ltb, ltb-true, ltb-false}
 use Rattle.std.proofs.lemmas.List.{map-append, reverse-append, reverse-reverse}
 use Rattle.std.proofs.lemmas.List.Sorted.{IsPermutation-reverse, list_any-IsPermutation}
 use Rattle.std.proofs.lemmas.Map.Keys.{IsDistinct-head, IsDistinct-tail}
 use Rattle.std.proofs.lemmas.Slice.Zip.{firsts-zip}
 use lib.Pointwise.{bytes_decides}
 use Rattle.base.specs.Bytes.{Identifier, lookup}
-use Rattle.names.proofs.PlaceLemmas.{place, place_is}
-use Rattle.names.proofs.ValueLemmas.{found, zip_push}
 
 -- ---- lists
 
@@ -27,6 +26,35 @@ any_reverse p xs = sym (list_any-IsPermutation p xs (reverse xs) (IsPermutation-
 pub any_map : {A B : Type 0} (p : B → Bool) (f : A → B) (xs : List A) → list_any p (map f xs) ≡ list_any (λ x. p (f x)) xs
 any_map p f [] = refl
 any_map p f (x ∷ xs) = ap (λ b. p (f x) || b) (any_map p f xs)
+
+-- ---- the number of a name
+
+abbrev place : Identifier → List Identifier → Option ℕ
+place x [] = None
+place x (y ∷ names) = if bytes_eq x y then Some 0 else option_map suc (place x names)
+
+later : (b : Bool) (k : ℕ) → cond b (Some (suc k)) None ≡ option_map suc (cond b (Some k) None)
+later true k = refl
+later false k = refl
+
+both_more : (k n : ℕ) → nat_lt (suc k) (suc n) ≡ nat_lt k n
+both_more k n = by (nat_lt k n) refl
+  where
+    by : (b : Bool) → nat_lt k n ≡ b → nat_lt (suc k) (suc n) ≡ nat_lt k n
+    by true e = lt-ltb (suc k) (suc n) (omega (arith, ltb-true k n e)) ∙ sym e
+    by false e = le-ltb (suc k) (suc n) (omega (arith, ltb-false k n e)) ∙ sym e
+
+next : (b : Bool) (k n : ℕ) → cond (nat_lt (cond (not b) (1 + k) 0) (suc n)) (Some (cond (not b) (1 + k) 0)) None ≡ (if b then Some 0 else option_map suc (cond (nat_lt k n) (Some k) None))
+next true k n = ap (λ c. cond c (Some 0) None) (lt-ltb 0 (suc n) (omega arith))
+next false k n = by_sum (1 + k) (omega arith)
+  where
+    by_sum : (m : ℕ) → suc k ≡ m → cond (nat_lt m (suc n)) (Some m) None ≡ option_map suc (cond (nat_lt k n) (Some k) None)
+    by_sum m e = subst (λ m. cond (nat_lt m (suc n)) (Some m) None ≡ option_map suc (cond (nat_lt k n) (Some k) None)) e (ap (λ c. cond c (Some (suc k)) None) (both_more k n) ∙ later (nat_lt k n) k)
+
+place_is : (x : Identifier) (names : List Identifier) → position (bytes_eq x) names ≡ place x names
+place_is x [] = refl
+place_is x (y ∷ names) =
+    next (bytes_eq x y) (prefix_len (λ z. not (bytes_eq x z)) names) (length names) ∙ ap (λ (o : Option ℕ). if bytes_eq x y then Some 0 else option_map suc o) (place_is x names)
 
 -- ---- names that differ
 
@@ -67,10 +95,20 @@ module _ {V : Type 0} where
       by true none = ap (λ (o : Option V). option_or o (Some v)) (none refl)
       by false none = none_after (lookup x (zip names vs))
 
-  -- what is known of a name is what is at its number
+  found : (x : Identifier) (names : List Identifier) (vs : List V) → length vs ≡ length names → lookup x (zip names vs) ≡ option_and_then (slice_get vs) (place x names)
+  found x [] vs h = refl
+  found x (y ∷ names) [] h = absurd (omega (arith, h))
+  found x (y ∷ names) (v ∷ vs) h = by (bytes_eq x y) (place x names) (lookup x (zip names vs)) (found x names vs (suc_inj h))
+    where
+      by : (b : Bool) (o : Option ℕ) (r : Option V) → r ≡ option_and_then (slice_get vs) o → (if b then Some v else r) ≡ option_and_then (slice_get (v ∷ vs)) (if b then Some 0 else option_map suc o)
+      by true o r e = refl
+      by false None r e = e
+      by false (Some n) r e = e
+
+  -- what is known of a name is what stands at its number
   pub lookup_is : (x : Identifier) (names : List Identifier) (vs : List V) → IsDistinct bytes_eq names → length vs ≡ length names
       → lookup x (reverse (zip names vs)) ≡ option_and_then (slice_get vs) (position (bytes_eq x) names)
-  lookup_is x names vs d h = reversed x names vs d ∙ found x names vs h
+  lookup_is x names vs d h = reversed x names vs d ∙ found x names vs h ∙ ap (option_and_then (slice_get vs)) (sym (place_is x names))
 
   -- ---- what a change leaves
 
@@ -131,6 +169,12 @@ module _ {V : Type 0} where
   changed_each f names vs = map_reverse (λ (v : Identifier × V). (v.0, f v.1)) (zip names vs) ∙ ap reverse (each f names vs)
 
   -- ---- one more, and all of their names
+
+  zip_push : (names : List Identifier) (vs : List V) (x : Identifier) (v : V) → length vs ≡ length names → zip (names ++ x ∷ []) (vs ++ v ∷ []) ≡ zip names vs ++ (x, v) ∷ []
+  zip_push [] [] x v h = refl
+  zip_push [] (w ∷ vs) x v h = absurd (omega (arith, h))
+  zip_push (y ∷ names) [] x v h = absurd (omega (arith, h))
+  zip_push (y ∷ names) (w ∷ vs) x v h = ap (λ (ps : List (Identifier × V)). (y, w) ∷ ps) (zip_push names vs x v (suc_inj h))
 
   pub pushed : (names : List Identifier) (vs : List V) (x : Identifier) (v : V) → length vs ≡ length names → reverse (zip (names ++ x ∷ []) (vs ++ v ∷ [])) ≡ (x, v) ∷ reverse (zip names vs)
   pushed names vs x v h = ap reverse (zip_push names vs x v h) ∙ reverse-append (zip names vs) ((x, v) ∷ [])

@@ -1,19 +1,21 @@
 -- States: what is asked of all held buffers, and what is left of the variables.
-use Rattle.std.proofs.Common.{◌≡◌, ℕ, ◌+◌, ◌<◌, ◌++◌, arith, get_or, position, bytes_eq, Bool, true, false, not, ◌&&◌, ◌||◌, List, [], ◌∷◌, Option, Some, None, length, map, refl, sym, ap, ◌∙◌, filter, if◌then◌else◌, take, drop}
+use Rattle.std.proofs.Common.{◌≡◌, ℕ, ◌+◌, ◌<◌, ◌++◌, arith, get_or, nat_lt, cond, position, bytes_eq, Bor, ap₂, Bool, true, false, not, ◌&&◌, ◌||◌, List, [], ◌∷◌, Option, Some, None, length, map, refl, sym, ap, ◌∙◌, filter, if◌then◌else◌, take, drop}
 use Rattle.std.specs.Prelude.{filter_map}
 use Rattle.std.specs.Prelude.{reverse}
 use Rattle.std.proofs.Math.ListN.{set}
 use Rattle.std.proofs.lemmas.List.{length-map, map-set, map-append, get_or-map}
 use Rattle.std.proofs.lemmas.List.Edits.{map_over_more}
+use Rattle.std.proofs.lemmas.List.Quantifiers.{position-Some}
 use Rattle.std.proofs.lemmas.Option.{slice_get-get_or}
+use Rattle.indexmap.specs.IndexSet.{insert_key}
 use Rattle.region_states.specs.declared.states.Facts.{Facts}
 use Rattle.region_states.specs.declared.states.VariableState.{VariableState as VariableStateInMemory}
-use Rattle.region_states.proofs.ScopeLemmas.{names_are, changed_at, pushed}
-use Rattle.std.specs.List.{IsDistinct, list_any, cons_option, slice_get, zip}
+use Rattle.region_states.proofs.ScopeLemmas.{any_map, names_are, changed_at, pushed}
+use Rattle.std.specs.List.{AllByRecursion, IsDistinct, prefix_len, list_any, cons_option, slice_get, zip}
+use Rattle.std.proofs.lemmas.Map.Keys.{IsDistinct-cons, IsDistinct-head, IsDistinct-tail}
 use Rattle.std.specs.Option.{option_and_then}
 use Rattle.base.specs.Bytes.{Identifier}
 use Rattle.base.specs.Options.{some_passes}
-use Rattle.names.proofs.ValueLemmas.{within}
 use Rattle.jni.specs.Access.{Access}
 use Rattle.region_rules.specs.RegionStates.{VariableState, RegionState, buffer_of, held_by, held_buffers}
 use Rattle.region_rules.specs.RegionRules.{is_held}
@@ -65,6 +67,10 @@ known_at items n v h e =
     slice_get-get_or (map variable_state items) n (variable_state v) (omega (arith, h, length-map items variable_state))
     ∙ ap Some (get_or-map variable_state items n v (variable_state v) h ∙ ap variable_state (sym e))
 
+-- the number of a name is that of a variable
+pub within : (x : Identifier) (names : List Identifier) (items : List VariableStateInMemory) (n : ℕ) → length items ≡ length names → Some n ≡ position (bytes_eq x) names → n < length items
+within x names items n h e = omega (arith, h, (position-Some (bytes_eq x) names n [] (sym e)).0)
+
 pub changed_known : (names : List Identifier) (items : List VariableStateInMemory) (x : Identifier) (f : VariableState → VariableState) (n : ℕ) (old new : VariableStateInMemory) → IsDistinct bytes_eq names → length items ≡ length names
     → Some n ≡ position (bytes_eq x) names → old ≡ get_or items n old → variable_state new ≡ f (variable_state old)
     → variables_value names (set items n new) ≡ map (λ v. (v.0, if bytes_eq x v.0 then f v.1 else v.1)) (variables_value names items)
@@ -92,8 +98,30 @@ change_more f xs ys i d new lt long done is =
     ∙ map_over_more f (map variable_state xs) (map variable_state ys) i (variable_state (get_or ys i d)) (omega (arith, lt, long, length-map xs variable_state)) done
     (sym (get_or-map variable_state ys i d (variable_state (get_or ys i d)) lt))
 
--- ---- names
+-- ---- names in memory
 
 pub none_alike : IsDistinct bytes_eq []
 unfolding IsDistinct
 none_alike = tt
+
+pub distinct_names : (keys : List (Bor (List ℕ))) → IsDistinct (λ x y. bytes_eq x.now y.now) keys → IsDistinct bytes_eq (map (λ x. x.now) keys)
+distinct_names [] d = none_alike
+distinct_names (k ∷ keys) d =
+    IsDistinct-cons bytes_eq k.now (map (λ x. x.now) keys) (along keys (IsDistinct-head (λ x y. bytes_eq x.now y.now) k keys d)) (distinct_names keys (IsDistinct-tail (λ x y. bytes_eq x.now y.now) k keys d))
+  where
+    along : (ks : List (Bor (List ℕ))) → AllByRecursion (λ (y : Bor (List ℕ)). bytes_eq k.now y.now ≡ false) ks → AllByRecursion (λ y. bytes_eq k.now y ≡ false) (map (λ (x : Bor (List ℕ)). x.now) ks)
+    along [] h = tt
+    along (y ∷ ks) h = (h.0, along ks h.1)
+
+same_prefix : (p : Identifier → Bool) (keys : List (Bor (List ℕ))) → prefix_len (λ (k : Bor (List ℕ)). not (p k.now)) keys ≡ prefix_len (λ x. not (p x)) (map (λ x. x.now) keys)
+same_prefix p [] = refl
+same_prefix p (k ∷ keys) = ap (λ n. cond (not (p k.now)) (1 + n) 0) (same_prefix p keys)
+
+pub number_is : (p : Identifier → Bool) (keys : List (Bor (List ℕ))) → position (λ (k : Bor (List ℕ)). p k.now) keys ≡ position p (map (λ x. x.now) keys)
+number_is p keys = ap₂ (λ n m. cond (nat_lt n m) (Some n) None) (same_prefix p keys) (sym (length-map keys (λ (x : Bor (List ℕ)). x.now)))
+
+pub inserted : (keys : List (Bor (List ℕ))) (k : Bor (List ℕ)) → list_any (bytes_eq k.now) (map (λ x. x.now) keys) ≡ false
+    → map (λ x. x.now) (insert_key (λ x y. bytes_eq x.now y.now) keys k) ≡ map (λ x. x.now) keys ++ k.now ∷ []
+inserted keys k h =
+    ap (λ b. map (λ (x : Bor (List ℕ)). x.now) (if b then keys else keys ++ k ∷ [])) (sym (any_map (bytes_eq k.now) (λ (x : Bor (List ℕ)). x.now) keys) ∙ h)
+    ∙ map-append (λ (x : Bor (List ℕ)). x.now) keys (k ∷ [])

@@ -1,30 +1,34 @@
 //! How many held buffers each array or string has.
 
-ghost use Rattle.std.specs.Prelude.{◌≡◌, ◌+◌, ◌<◌, ◌≤◌, ◌^◌, [], map, length, None, OnOk, OnErr, IfOk};
+ghost use Rattle.std.specs.Prelude.{◌≡◌, ◌+◌, ◌<◌, ◌≤◌, ◌^◌, [], map, length, OnOk, OnErr, IfOk};
 ghost use Rattle.base.specs.Bytes.{Identifier};
 ghost use Rattle.region_states.specs.StatesInMemory.{variable_state, one_of, holders, count_of, HasOneMore, CountsMore, IsCounted};
 
 use crate::states::{VariableState, held_of};
-use names::Names;
+use indexmap::IndexMap;
 use std::alloc::{AllocError, Global};
 use std::marker::Model;
 
 /// How many held buffers each array or string variable has, by its name. The number of a name is found, and changed, in constant time.
-#[derive(Drop)]
 pub struct Holders<'a> {
-    names: Names<'a>,
-    counts: Vec<usize>,
+    counts: IndexMap<&'a [u8], usize>,
+}
+
+// Written out, and not derived, so that crates above needn't prove it again.
+impl Drop for Holders<'_> {
+    fn drop(self) {
+        let Holders { counts } = self;
+        drop(counts);
+    }
 }
 
 impl<'a> Model for Holders<'a> {
-    ghost use Rattle.std.specs.Prelude.{◌≡◌, ℕ, length, zip};
+    ghost use Rattle.std.specs.Prelude.{ℕ, map};
     ghost use Rattle.base.specs.Bytes.{ByName};
 
     ghost Value = { ByName ℕ };
 
-    ghost view = { λ h. zip h.names h.counts.items };
-
-    ghost invariant = { λ h. length h.counts.items ≡ length h.names };
+    ghost view = { λ h. map (λ e. (e.0.now, e.1)) h.counts.entries };
 }
 
 impl<'a> Holders<'a> {
@@ -32,8 +36,7 @@ impl<'a> Holders<'a> {
         ensures { result ≡ [] }
     {
         Holders {
-            names: Names::new(alloc),
-            counts: Vec::new(alloc),
+            counts: IndexMap::new(alloc),
         }
     }
 
@@ -41,7 +44,6 @@ impl<'a> Holders<'a> {
     pub fn clear(&mut self)
         ensures { self.new ≡ [] }
     {
-        self.names.clear();
         self.counts.clear();
     }
 
@@ -49,8 +51,8 @@ impl<'a> Holders<'a> {
     pub fn count(&self, name: &[u8]) -> usize
         ensures { result ≡ count_of self.now name.now }
     {
-        match self.names.number_of(name) {
-            Some(number) => self.counts[number],
+        match self.counts.get(name) {
+            Some(count) => *count,
             None => 0,
         }
     }
@@ -61,25 +63,21 @@ impl<'a> Holders<'a> {
         ensures ok { OnOk result (HasOneMore name.now self.old self.new) }
         ensures err { OnErr result (self.new ≡ self.old) }
     {
-        match self.names.number_of(name) {
-            Some(number) => {
-                self.counts[number] += 1;
-                Ok(())
-            }
-            None => {
-                self.names.add_with(name, &mut self.counts, 1)?;
-                Ok(())
-            }
-        }
+        let count = self.count(name);
+        self.counts.insert(name, count + 1)?;
+        Ok(())
     }
 
     /// One less.
-    fn remove(&mut self, name: &[u8])
+    fn remove(&mut self, name: &'a [u8])
         requires { 0 < count_of self.old name.now }
         ensures { HasOneMore name.now self.new self.old }
     {
-        if let Some(number) = self.names.number_of(name) {
-            self.counts[number] -= 1;
+        let count = self.count(name);
+        match self.counts.insert(name, count - 1) {
+            Ok(_) => {}
+            // The name has a count.
+            Err(_) => unreachable!(),
         }
     }
 

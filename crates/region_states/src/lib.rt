@@ -6,5 +6,6 @@ pub mod calls;
 pub mod changes;
 pub mod holders;
 pub mod names_used;
+pub mod scope;
 pub mod states;
 pub mod variables;

@@ -14,8 +14,8 @@ ghost use Rattle.region_states.specs.SameStates.{same_variable, same_state};
 ghost use Rattle.region_states.specs.StatesInMemory.{any_asked, holds_other, variable_state, names_of, Grows, IsSaved, HasCounts, condition_holds, asks, held_in, is_holder, holds_critical, holds_of, has_young_array};
 
 use crate::holders::{Holders, counted};
+use crate::scope::Names;
 use jni::Access;
-use names::Names;
 use std::alloc::{AllocError, Global};
 use std::marker::Model;
 use std::mem::swap;
@@ -112,7 +112,7 @@ pub fn nothing<'a>(alloc: Global) -> StaticState<'a>
 pub fn clear(state: &mut StaticState)
     ensures { state.new ≡ record { variables = []; frames = 1 } }
 {
-    state.names.clear();
+    state.names.truncate(0);
     state.facts.variables.truncate(0);
     state.facts.holders.clear();
     state.facts.frames = 1;

@@ -1,6 +1,7 @@
 -- Values, terms and variables that lie in memory, as those of the language.
 use Rattle.std.specs.Prelude.{◌≡◌, ◌<◌, ℕ, ℤ, Bool, true, false, not, List, [], ◌∷◌, map, slice_get, slice_set, Option, Some, None}
 use Rattle.std.specs.Option.{option_map}
+use Rattle.std.specs.Borrow.{Bor}
 use Rattle.base.specs.Bytes.{Identifier, ByName, lookup}
 use Rattle.base.specs.Element.{ElementType}
 use Rattle.syntax.specs.Tree.{BinaryOp}
@@ -70,6 +71,10 @@ content_view (content.Reference level r) = LocalRef level r
 content_view (content.Field f) = FieldHandle (option_map field_id_view f)
 content_view (content.Buffer T) = Elements (element_tree T) NoBuffer
 content_view (content.Array T numbers) = LocalArray (element_tree T) numbers.items
+
+-- the entries of a hash map, by name
+abbrev pub by_name : {A : Type 0} → List (Bor Identifier × A) → ByName A
+by_name entries = map (λ e. (e.0.now, e.1)) entries
 
 -- what variables hold in memory
 abbrev pub Contents : Type 0

@@ -1,6 +1,6 @@
 //! The statics of a unit: references that outlive calls.
 
-ghost use Rattle.std.specs.Prelude.{◌≡◌, [], IfOk, OnOk, Some, None};
+ghost use Rattle.std.specs.Prelude.{◌≡◌, [], IfOk, OnOk, Some};
 ghost use Rattle.std.specs.Option.{option_map};
 ghost use Rattle.base.specs.Bytes.{lookup};
 ghost use Rattle.syntax.specs.Views.{unit_tree};
@@ -10,7 +10,7 @@ ghost use Rattle.source.specs.Value.{Gives};
 ghost use Rattle.source.specs.Variable.{assign};
 ghost use Rattle.terms.specs.Views.{assign_all, held_view};
 
-use names::Names;
+use indexmap::IndexMap;
 use std::alloc::{AllocError, Global};
 use std::marker::Model;
 use syntax::{Item, Name};
@@ -27,22 +27,25 @@ pub enum StaticReference {
 }
 
 /// The statics of a unit, in its order, seen as those of the definitions. A name is found in constant time.
-#[derive(Drop)]
 pub struct Statics<'a> {
-    names: Names<'a>,
-    held: Vec<StaticReference>,
+    held: IndexMap<&'a [u8], StaticReference>,
+}
+
+// Written out, and not derived, so that a crate above drops them by a call and doesn't prove it anew.
+impl Drop for Statics<'_> {
+    fn drop(self) {
+        let Statics { held } = self;
+        drop(held);
+    }
 }
 
 impl<'a> Model for Statics<'a> {
-    ghost use Rattle.std.specs.Prelude.{◌≡◌, length, zip};
     ghost use Rattle.source.specs.Variable.{Statics};
-    ghost use Rattle.terms.specs.Views.{statics_view};
+    ghost use Rattle.terms.specs.Views.{by_name, statics_view};
 
     ghost Value = { Statics };
 
-    ghost view = { λ s. statics_view (zip s.names s.held.items) };
-
-    ghost invariant = { λ s. length s.held.items ≡ length s.names };
+    ghost view = { λ s. statics_view (by_name s.held.entries) };
 }
 
 /// Whether it is NULL.
@@ -57,26 +60,17 @@ impl<'a> Statics<'a> {
     pub fn held(&self, name: &Name) -> Option<StaticReference>
         ensures { option_map held_view result ≡ lookup name.now self.now }
     {
-        match self.names.number_of(name.as_bytes()) {
-            Some(number) => Some(self.held[number]),
-            None => None,
-        }
+        self.held.get(name.as_bytes()).copied()
     }
 
     /// Lets the static of this name hold another reference. It is new where there is none, as in no accepted program.
     pub fn set(&mut self, name: &'a [u8], held: StaticReference) -> Result<(), AllocError>
         ensures { IfOk result (λ _. self.new ≡ assign name.now (held_view held) self.old) }
     {
-        match self.names.number_of(name) {
-            Some(number) => {
-                self.held[number] = held;
-                Ok(())
-            }
-            None => {
-                self.names.add_with(name, &mut self.held, held)?;
-                Ok(())
-            }
+        if self.held.insert(name, held).is_err() {
+            return Err(AllocError);
         }
+        Ok(())
     }
 }
 
@@ -98,8 +92,7 @@ pub fn null_statics<'a>(alloc: Global, items: &'a [Item]) -> Result<Statics<'a>,
     ensures { IfOk result (λ statics. statics ≡ assign_all (null_statics (unit_tree items.entry.now)) []) }
 {
     let mut statics = Statics {
-        names: Names::new(alloc),
-        held: Vec::new(alloc),
+        held: IndexMap::new(alloc),
     };
     add_nulls(&mut statics, items)?;
     Ok(statics)

@@ -10,7 +10,7 @@ ghost use Rattle.terms.specs.Views.{content_view, variables_view, written, Write
 
 use crate::value::{Value, convert};
 use class_table::fields::FieldId;
-use names::Names;
+use indexmap::IndexMap;
 use std::alloc::{AllocError, Global};
 use std::marker::Model;
 use syntax::{ElementType, Name};
@@ -32,28 +32,23 @@ pub enum Content<'a> {
 /// The variables of a call in progress, in the order in which they came to be, seen as a list of what each holds by its name. A
 /// name is found in constant time.
 pub struct Variables<'a> {
-    names: Names<'a>,
-    contents: Vec<Content<'a>>,
+    contents: IndexMap<&'a [u8], Content<'a>>,
 }
 
 // Written out, and not derived, so that a crate above drops them by a call and doesn't prove it anew.
 impl Drop for Variables<'_> {
     fn drop(self) {
-        let Variables { names, contents } = self;
-        drop(names);
+        let Variables { contents } = self;
         drop(contents);
     }
 }
 
 impl<'a> Model for Variables<'a> {
-    ghost use Rattle.std.specs.Prelude.{◌≡◌, length, zip};
-    ghost use Rattle.terms.specs.Views.{Contents};
+    ghost use Rattle.terms.specs.Views.{Contents, by_name};
 
     ghost Value = { Contents };
 
-    ghost view = { λ v. zip v.names v.contents.items };
-
-    ghost invariant = { λ v. length v.contents.items ≡ length v.names };
+    ghost view = { λ v. by_name v.contents.entries };
 }
 
 impl<'a> Variables<'a> {
@@ -62,8 +57,7 @@ impl<'a> Variables<'a> {
         ensures { result ≡ [] }
     {
         Variables {
-            names: Names::new(alloc),
-            contents: Vec::new(alloc),
+            contents: IndexMap::new(alloc),
         }
     }
 
@@ -78,34 +72,24 @@ impl<'a> Variables<'a> {
     pub fn content_named(&self, name: &[u8]) -> Option<&Content<'a>>
         ensures { option_map (λ c. content_view c.now) result ≡ lookup name.now (variables_view self.now) }
     {
-        match self.names.number_of(name) {
-            Some(number) => Some(&self.contents[number]),
-            None => None,
-        }
+        self.contents.get(name)
     }
 
     /// Sets the variable of this name. Where there is none, it is new and comes last.
     pub fn set(&mut self, name: &'a Name, content: Content<'a>) -> Result<(), AllocError>
         ensures { IfOk result (λ _. variables_view self.new ≡ assign name.now (content_view content.entry) (variables_view self.old)) }
     {
-        let name = name.as_bytes();
-        match self.names.number_of(name) {
-            Some(number) => {
-                self.contents[number] = content;
-                Ok(())
-            }
-            None => {
-                self.names.add_with(name, &mut self.contents, content)?;
-                Ok(())
-            }
+        if self.contents.insert(name.as_bytes(), content).is_err() {
+            return Err(AllocError);
         }
+        Ok(())
     }
 
     /// Writes an element of the array of this name, if it is one.
     pub fn write(&mut self, name: &Name, index: usize, number: i32) -> bool
         ensures { WritesElement (variables_view self.old) name.now index number result (variables_view self.new) }
     {
-        match self.names.number_of(name.as_bytes()) {
+        match self.contents.get_index_of(name.as_bytes()) {
             Some(place) => write_content(&mut self.contents[place], index, number),
             None => false,
         }

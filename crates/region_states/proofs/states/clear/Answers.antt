@@ -6,4 +6,4 @@ use Rattle.region_states.proofs.states.clear.Goals as goal
 
 pub returns : goal.returns
 returns c =
-    ap (λ (vs : List NamedState). let s : RegionState = record { variables = vs; frames = 1 } in s) (ap₂ variables_value c.clear.ensures.empty c.truncate.ensures.items)
+    ap (λ (vs : List NamedState). let s : RegionState = record { variables = vs; frames = 1 } in s) (ap₂ variables_value c.truncate.ensures.first c.truncate-2.ensures.items)

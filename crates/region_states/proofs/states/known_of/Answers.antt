@@ -1,11 +1,10 @@
 use Rattle.std.proofs.Common.{map, sym, ap, ◌∙◌}
 use Rattle.std.specs.Option.{option_and_then}
 use Rattle.std.specs.List.{slice_get}
-use Rattle.names.proofs.ValueLemmas.{within}
 use Rattle.region_rules.specs.RegionStates.{RegionState, state_of}
 use Rattle.region_states.specs.StatesInMemory.{variable_state}
 use Rattle.region_states.proofs.ScopeLemmas.{lookup_is}
-use Rattle.region_states.proofs.StateLemmas.{all_known, known_at}
+use Rattle.region_states.proofs.StateLemmas.{all_known, known_at, within}
 use Rattle.region_states.proofs.states.known_of.Goals as goal
 
 pub returns-in-Some : goal.returns-in-Some

@@ -1,13 +1,12 @@
 use Rattle.std.proofs.Common.{List, map, sym, ap, ◌∙◌, arith}
 use Rattle.std.proofs.Math.ListN.{length-set}
-use Rattle.names.proofs.ValueLemmas.{within}
 use Rattle.region_states.specs.VariableChanges.{change_value}
 use Rattle.region_rules.specs.RegionStates.{RegionState, VariableState, with_changed}
 use Rattle.region_states.specs.SameStates.{NamedState}
 use Rattle.region_states.specs.StatesInMemory.{variable_state, one_of}
 use Rattle.region_states.proofs.ScopeLemmas.{changed_none}
 use Rattle.region_states.proofs.HolderLemmas.{holders_set, changed_held}
-use Rattle.region_states.proofs.StateLemmas.{changed_known}
+use Rattle.region_states.proofs.StateLemmas.{changed_known, within}
 use Rattle.region_states.proofs.variables.change_one.Goals as goal
 
 pub returns-in-Some : goal.returns-in-Some

@@ -1,12 +1,11 @@
 use Rattle.std.proofs.Common.{List, map, sym, ap, ◌∙◌, arith}
 use Rattle.std.proofs.Math.ListN.{length-set}
-use Rattle.names.proofs.ValueLemmas.{within}
 use Rattle.region_rules.specs.RegionStates.{RegionState, VariableState, with_changed, made_free}
 use Rattle.region_states.specs.SameStates.{NamedState}
 use Rattle.region_states.specs.StatesInMemory.{variable_state, one_of}
 use Rattle.region_states.proofs.ScopeLemmas.{changed_none}
 use Rattle.region_states.proofs.HolderLemmas.{holders_set, one_at, none_freed}
-use Rattle.region_states.proofs.StateLemmas.{changed_known}
+use Rattle.region_states.proofs.StateLemmas.{changed_known, within}
 use Rattle.region_states.proofs.variables.free_one.Goals as goal
 
 pub returns-in-Some : goal.returns-in-Some

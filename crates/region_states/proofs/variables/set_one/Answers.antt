@@ -1,14 +1,13 @@
 use Rattle.std.proofs.Common.{List, map, sym, ap, ◌∙◌, arith}
 use Rattle.std.proofs.Math.ListN.{length-set}
 use Rattle.std.specs.Option.{option_map}
-use Rattle.names.proofs.ValueLemmas.{within}
 use Rattle.region_states.specs.VariableChanges.{get_value, set_from}
 use Rattle.region_rules.specs.RegionStates.{RegionState, VariableState, with_changed}
 use Rattle.region_states.specs.SameStates.{NamedState}
 use Rattle.region_states.specs.StatesInMemory.{variable_state}
 use Rattle.region_states.proofs.HolderLemmas.{holders_set, one_at, few_held}
 use Rattle.region_states.proofs.ScopeLemmas.{changed_none}
-use Rattle.region_states.proofs.StateLemmas.{changed_known}
+use Rattle.region_states.proofs.StateLemmas.{changed_known, within}
 use Rattle.region_states.proofs.variables.set_one.Goals as goal
 
 pub forget-requires : goal.forget-requires

@@ -1,16 +1,11 @@
-use Rattle.std.proofs.Common.{zip, ap, ap₂, ◌∙◌}
+use Rattle.std.proofs.Common.{ap, sym, ◌∙◌}
 use Rattle.source.specs.Variable.{Statics, assign}
-use Rattle.terms.specs.Views.{held_view, statics_view}
-use Rattle.terms.proofs.ByNameLemmas.{seen_there, seen_added}
+use Rattle.terms.specs.Views.{held_view}
+use Rattle.terms.proofs.ByNameLemmas.{inserted, on_ok, values}
 use Rattle.terms.proofs.statics.Statics.set.Goals as goal
 
-pub returns-in-Some : goal.returns-in-Some
-returns-in-Some c =
-    seen_there held_view c.args.name.now c.self.inside.names c.self.inside.held.items c.in-Some.number c.args.held c.self.invariant c.in-Some.ensures
-    ∙ ap (λ (ss : Statics). assign c.args.name.now (held_view c.args.held) ss) c.self.view_is
-
-pub returns-in_ok-add_with-in-None : goal.returns-in_ok-add_with-in-None
-returns-in_ok-add_with-in-None c =
-    ap statics_view (ap₂ zip c.in_ok-add_with-in-None.ensures.name c.in_ok-add_with-in-None.ensures.value)
-    ∙ seen_added held_view c.args.name.now c.self.inside.names c.self.inside.held.items c.args.held c.self.invariant c.in-None.ensures
+pub returns : goal.returns
+returns c =
+    ap (values held_view) (on_ok c.insert.result _ c.insert.ensures.entries (sym c.is_err.ensures.value ∙ c.if-is_err.false))
+    ∙ inserted held_view c.args.name c.args.held c.self.inside.held.entries
     ∙ ap (λ (ss : Statics). assign c.args.name.now (held_view c.args.held) ss) c.self.view_is
