@@ -1,14 +1,14 @@
 //! The table of a unit's functions.
 
-ghost use Rattle.std.specs.Prelude.{◌≡◌, ◌+◌, ◌<◌, ◌^◌, IfSome, IfOk, OnOk, Some, length, slice_get};
+ghost use Rattle.std.specs.Prelude.{◌≡◌, ◌++◌, ◌∷◌, [], IfSome, IfOk, OnOk, Some, length, slice_get};
 ghost use Rattle.std.specs.Option.{option_map};
 ghost use Rattle.syntax.specs.Parts.{functions_of};
 ghost use Rattle.syntax.specs.Views.{function_tree, unit_tree};
 ghost use Rattle.source.specs.Activation.{function_at};
 ghost use Rattle.functions.specs.Numbers.{FindsAll, FindsNone};
 
+use indexmap::IndexMap;
 use std::alloc::{AllocError, Global};
-use std::collections::HashMap;
 use std::marker::Model;
 use syntax::{Function, Item};
 
@@ -19,11 +19,18 @@ pub struct NumberedFunction<'a> {
     pub function: &'a Function,
 }
 
-/// The functions of a unit, each found by its name in constant time. Contracts see the unit's items.
-#[derive(Drop)]
+/// The functions of a unit, in the order of the text, each found by its name in constant time. Contracts see the unit's items.
 pub struct Functions<'a> {
     items: &'a [Item],
-    by_name: HashMap<&'a [u8], NumberedFunction<'a>>,
+    by_name: IndexMap<&'a [u8], NumberedFunction<'a>>,
+}
+
+// Written out, and not derived, so that crates above needn't prove it again.
+impl Drop for Functions<'_> {
+    fn drop(self) {
+        let Functions { items: _, by_name } = self;
+        drop(by_name);
+    }
 }
 
 impl<'a> Model for Functions<'a> {
@@ -49,8 +56,8 @@ impl<'a> Functions<'a> {
     pub fn of(alloc: Global, items: &'a [Item]) -> Result<Functions<'a>, AllocError>
         ensures { IfOk result (λ functions. functions ≡ items.now) }
     {
-        let mut by_name = HashMap::new(alloc);
-        add(&mut by_name, items, 0)?;
+        let mut by_name = IndexMap::new(alloc);
+        add_all(&mut by_name, items)?;
         Ok(Functions { items, by_name })
     }
 
@@ -71,32 +78,41 @@ impl<'a> Functions<'a> {
     }
 }
 
-/// Puts the functions among these items into the table, of which this number are before them. It calls itself once for each
-/// item, so that the first of a name is put last.
+/// Puts a function after the others, of which this number are before it. Where one of its name is there, that one stays.
 fn add<'a>(
-    by_name: &mut HashMap<&'a [u8], NumberedFunction<'a>>,
-    items: &'a [Item],
-    before: usize,
+    by_name: &mut IndexMap<&'a [u8], NumberedFunction<'a>>,
+    function: &'a Function,
+    number: usize,
 ) -> Result<(), AllocError>
-    requires none { FindsNone by_name.old }
-    requires few { before + length items.now < 2 ^ 64 }
-    ensures { OnOk result (FindsAll before (functions_of (unit_tree items.now)) by_name.new) }
+    ensures { (before : _) → number ≡ length before → FindsAll 0 before by_name.old → OnOk result (FindsAll 0 (before ++ function_tree function.now ∷ []) by_name.new) }
 {
-    let Some((item, later)) = items.split_first() else {
+    let name = function.name.as_bytes();
+    if by_name.contains_key(name) {
         return Ok(());
-    };
-    match item {
-        Item::Static(_) => add(by_name, later, before),
-        Item::Function(function) => {
-            add(by_name, later, before + 1)?;
-            let numbered = NumberedFunction {
-                number: before,
-                function,
-            };
-            match by_name.insert(function.name.as_bytes(), numbered) {
-                Ok(_) => Ok(()),
-                Err(_) => Err(AllocError),
+    }
+    match by_name.insert(name, NumberedFunction { number, function }) {
+        Ok(_) => Ok(()),
+        Err(_) => Err(AllocError),
+    }
+}
+
+/// Puts the functions among these items into the table, in their order.
+fn add_all<'a>(
+    by_name: &mut IndexMap<&'a [u8], NumberedFunction<'a>>,
+    items: &'a [Item],
+) -> Result<(), AllocError>
+    requires { FindsNone by_name.old }
+    ensures { OnOk result (FindsAll 0 (functions_of (unit_tree items.now)) by_name.new) }
+{
+    let mut number = 0;
+    for item in items {
+        match item {
+            Item::Static(_) => {}
+            Item::Function(function) => {
+                add(by_name, function, number)?;
+                number += 1;
             }
         }
     }
+    Ok(())
 }
