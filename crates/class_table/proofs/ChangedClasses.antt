@@ -1,19 +1,20 @@
 -- A table with the class of one place changed.
-use Rattle.std.proofs.Common.{◌≡◌, ℕ, zero, suc, ◌+◌, ◌<◌, Bool, true, false, cond, List, [], ◌∷◌, ◌++◌, map, Option, Some, slice_get, set, refl, sym, ap, ◌∙◌, arith}
+use Rattle.std.proofs.Common.{◌≡◌, ℕ, zero, suc, ◌+◌, ◌<◌, Bool, true, false, cond, List, [], ◌∷◌, ◌++◌, map, Option, Some, slice_get, refl, sym, ap, ◌∙◌, arith}
 use Rattle.std.specs.Prelude.{◌==◌, ◌||◌, unwrap_or, if◌then◌else◌}
+use Rattle.std.specs.List.{enumerate_from}
+use Rattle.std.specs.Map.{values_of}
 use Rattle.std.specs.Global.{Vec}
 use Rattle.std.proofs.lemmas.Bool.{eq-eqb, ne_eqb}
+use Rattle.indexmap.specs.IndexMap.{set_value_at}
 use Rattle.class_table.specs.declared.class.Entry.{Entry}
 use Rattle.class_table.specs.declared.class.Field.{Field as FieldInMemory}
-use Rattle.std.specs.List.{enumerate_from, position_from}
-use Rattle.classes.specs.Class.{Field, Class, Classes, array_name, class_named}
+use Rattle.classes.specs.Class.{Field, Class, Classes, array_name}
 use Rattle.classes.specs.Additions.{with_changed_class}
 use Rattle.std.specs.Str.{bytes_eq}
 use Rattle.base.specs.Bytes.{Identifier}
 use Rattle.class_table.specs.FieldViews.{with_declared}
 use Rattle.class_table.specs.Tables.{ArraysHaveElements}
 use Rattle.class_table.proofs.DistinctNames.{has_name}
-use Rattle.class_table.proofs.Places.{named-same}
 use Rattle.class_table.specs.Views.{class_view, classes_view, field_view}
 
 module _ (change : Class → Class) where
@@ -26,13 +27,13 @@ module _ (change : Class → Class) where
       let no : (n == c) ≡ false = ne_eqb n c (λ (e : n ≡ c). omega (arith, h, e)) in
       (λ i. cond (no i) (change d) d ∷ past c (n + 1) T (omega (arith, h)) i)
 
-  at : (n i : ℕ) (es : List Entry) (e new : Entry) → slice_get es i ≡ Some e → class_view new ≡ change (class_view e)
-      → classes_view (set es i new) ≡ from (n + i) n (classes_view es)
+  at : (n i : ℕ) (es : List (Vec ℕ × Entry)) (e new : Entry) → slice_get (values_of es) i ≡ Some e → ((name : Vec ℕ) → class_view (name, new) ≡ change (class_view (name, e)))
+      → classes_view (set_value_at es i new) ≡ from (n + i) n (classes_view es)
   at n i [] e new h is = absurd (cc)
   at n zero (x ∷ es) e new h is =
-      let own : x ≡ e = cc in
+      let own : x.1 ≡ e = cc in
       let yes : (n == n + 0) ≡ true = eq-eqb n (n + 0) (omega arith) in
-      ap (λ d. d ∷ classes_view es) (is ∙ ap (λ v. change (class_view v)) (sym own))
+      ap (λ d. d ∷ classes_view es) (is x.0 ∙ ap (λ v. change (class_view (x.0, v))) (sym own))
       ∙ (λ k. cond (sym yes k) (change (class_view x)) (class_view x) ∷ sym (past (n + 0) (n + 1) (classes_view es) (omega arith)) k)
   at n (suc i) (x ∷ es) e new h is =
       let no : (n == n + suc i) ≡ false = ne_eqb n (n + suc i) (λ (e : n ≡ n + suc i). omega (arith, e)) in
@@ -41,30 +42,30 @@ module _ (change : Class → Class) where
       ∙ (λ k. cond (sym no k) (change (class_view x)) (class_view x) ∷ from (n + suc i) (n + 1) (classes_view es))
 
   -- a class whose entry is changed is changed alike
-  pub changed : (es : List Entry) (i : ℕ) (e new : Entry) → slice_get es i ≡ Some e → class_view new ≡ change (class_view e)
-      → classes_view (set es i new) ≡ with_changed_class (classes_view es) (i + 1) change
+  pub changed : (es : List (Vec ℕ × Entry)) (i : ℕ) (e new : Entry) → slice_get (values_of es) i ≡ Some e → ((name : Vec ℕ) → class_view (name, new) ≡ change (class_view (name, e)))
+      → classes_view (set_value_at es i new) ≡ with_changed_class (classes_view es) (i + 1) change
   changed es i e new h is = let c : 1 + i ≡ i + 1 = omega arith in at 1 i es e new h is ∙ ap (λ c. from c 1 (classes_view es)) c
 
 -- an entry that is written as it was
-pub unchanged : (es : List Entry) (i : ℕ) (e new : Entry) → slice_get es i ≡ Some e → class_view new ≡ class_view e → classes_view (set es i new) ≡ classes_view es
+pub unchanged : (es : List (Vec ℕ × Entry)) (i : ℕ) (e new : Entry) → slice_get (values_of es) i ≡ Some e → ((name : Vec ℕ) → class_view (name, new) ≡ class_view (name, e)) → classes_view (set_value_at es i new) ≡ classes_view es
 unchanged [] i e new h is = refl
 unchanged (x ∷ es) zero e new h is =
-    let own : x ≡ e = cc in
-    ap (λ d. d ∷ classes_view es) (is ∙ ap class_view (sym own))
+    let own : x.1 ≡ e = cc in
+    ap (λ d. d ∷ classes_view es) (is x.0 ∙ ap (λ v. class_view (x.0, v)) (sym own))
 unchanged (x ∷ es) (suc i) e new h is = ap (λ T. class_view x ∷ T) (unchanged es i e new h is)
 
-module _ (es : List Entry) (i : ℕ) (e : Entry) (more : Vec FieldInMemory) (field : Field) where
+module _ (es : List (Vec ℕ × Entry)) (i : ℕ) (e : Entry) (more : Vec FieldInMemory) (field : Field) where
   -- a class gets a static more, unless memory ran out
-  pub static_put : (b : Bool) → slice_get es i ≡ Some e → map field_view more.items ≡ (if b then map field_view e.statics.items ++ field ∷ [] else map field_view e.statics.items)
-      → classes_view (set es i (record e { statics = more })) ≡ (if b then with_declared (classes_view es) (Some (i + 1)) field true else classes_view es)
-  static_put true h is = changed (λ d. record d { statics = d.statics ++ field ∷ [] }) es i e (record e { statics = more }) h (ap (λ xs. record (class_view e) { statics = xs }) is)
-  static_put false h is = unchanged es i e (record e { statics = more }) h (ap (λ xs. record (class_view e) { statics = xs }) is)
+  pub static_put : (b : Bool) → slice_get (values_of es) i ≡ Some e → map field_view more.items ≡ (if b then map field_view e.statics.items ++ field ∷ [] else map field_view e.statics.items)
+      → classes_view (set_value_at es i (record e { statics = more })) ≡ (if b then with_declared (classes_view es) (Some (i + 1)) field true else classes_view es)
+  static_put true h is = changed (λ d. record d { statics = d.statics ++ field ∷ [] }) es i e (record e { statics = more }) h (λ name. ap (λ xs. record (class_view (name, e)) { statics = xs }) is)
+  static_put false h is = unchanged es i e (record e { statics = more }) h (λ name. ap (λ xs. record (class_view (name, e)) { statics = xs }) is)
 
   -- a class gets a field more, unless memory ran out
-  pub field_put : (b : Bool) → slice_get es i ≡ Some e → map field_view more.items ≡ (if b then map field_view e.fields.items ++ field ∷ [] else map field_view e.fields.items)
-      → classes_view (set es i (record e { fields = more })) ≡ (if b then with_declared (classes_view es) (Some (i + 1)) field false else classes_view es)
-  field_put true h is = changed (λ d. record d { fields = d.fields ++ field ∷ [] }) es i e (record e { fields = more }) h (ap (λ xs. record (class_view e) { fields = xs }) is)
-  field_put false h is = unchanged es i e (record e { fields = more }) h (ap (λ xs. record (class_view e) { fields = xs }) is)
+  pub field_put : (b : Bool) → slice_get (values_of es) i ≡ Some e → map field_view more.items ≡ (if b then map field_view e.fields.items ++ field ∷ [] else map field_view e.fields.items)
+      → classes_view (set_value_at es i (record e { fields = more })) ≡ (if b then with_declared (classes_view es) (Some (i + 1)) field false else classes_view es)
+  field_put true h is = changed (λ d. record d { fields = d.fields ++ field ∷ [] }) es i e (record e { fields = more }) h (λ name. ap (λ xs. record (class_view (name, e)) { fields = xs }) is)
+  field_put false h is = unchanged es i e (record e { fields = more }) h (λ name. ap (λ xs. record (class_view (name, e)) { fields = xs }) is)
 
 -- what holds of the tables after success and after a refusal
 pub after_either : (P : Classes → Type 0) (b : Bool) (more kept : Classes) → P more → P kept → P (if b then more else kept)
@@ -88,25 +89,3 @@ declared-elements T c field true elements name h =
 declared-elements T c field false elements name h =
     let change : Class → Class = λ d. record d { fields = d.fields ++ field ∷ [] } in
     names-kept change (λ d. refl) (unwrap_or c 0) 1 T name ∙ elements name (sym (names-kept change (λ d. refl) (unwrap_or c 0) 1 T (array_name name)) ∙ h)
-
--- and so are the numbers under which they are found
-numbers-kept : (change : Class → Class) → ((d : Class) → (change d).name ≡ d.name) → (c n m : ℕ) (T : Classes) (name : Identifier) → position_from (λ d. bytes_eq d.name name) m (from change c n T) ≡ position_from (λ d. bytes_eq d.name name) m T
-numbers-kept change same c n m [] name = refl
-numbers-kept change same c n m (d ∷ T) name = step (n == c) (numbers-kept change same c (n + 1) (m + 1) T name)
-  where
-    is_named : Class → Bool
-    is_named d = bytes_eq d.name name
-
-    step : (b : Bool) → position_from is_named (m + 1) (from change c (n + 1) T) ≡ position_from is_named (m + 1) T
-        → position_from is_named m (cond b (change d) d ∷ from change c (n + 1) T) ≡ position_from is_named m (d ∷ T)
-    step true e = λ i. cond (bytes_eq (same d i) name) (Some m) (e i)
-    step false e = λ i. cond (bytes_eq d.name name) (Some m) (e i)
-
-pub named-declared : (T : Classes) (c : Option ℕ) (field : Field) (is_static : Bool) (name : Identifier) → class_named (with_declared T c field is_static) name ≡ class_named T name
-named-declared T c field true name = named-same name T (with_declared T c field true) (λ m. numbers-kept (λ d. record d { statics = d.statics ++ field ∷ [] }) (λ d. refl) (unwrap_or c 0) 1 m T name)
-named-declared T c field false name = named-same name T (with_declared T c field false) (λ m. numbers-kept (λ d. record d { fields = d.fields ++ field ∷ [] }) (λ d. refl) (unwrap_or c 0) 1 m T name)
-
--- the same after success and after a refusal
-pub named-either : (b : Bool) (T : Classes) (c : Option ℕ) (field : Field) (is_static : Bool) (name : Identifier) → class_named (if b then with_declared T c field is_static else T) name ≡ class_named T name
-named-either true T c field is_static name = named-declared T c field is_static name
-named-either false T c field is_static name = refl

@@ -1,5 +1,4 @@
 pub mod Places
-pub mod NameIndexes
 pub mod Ancestry
 pub mod DistinctNames
 pub mod ArrayNames

@@ -1,12 +1,20 @@
 -- Classes by number and by name.
-use Rattle.std.proofs.Common.{◌++◌, true, false, ◌≡◌, ℕ, zero, suc, ◌+◌, ◌-◌, ◌<◌, Bool, cond, List, [], ◌∷◌, length, Option, Some, None, slice_get, refl, sym, ap, ◌∙◌, arith}
+use Rattle.std.proofs.Common.{◌++◌, false, ◌≡◌, ℕ, zero, suc, ◌+◌, ◌-◌, ◌<◌, Bool, cond, List, [], ◌∷◌, length, position, Option, Some, None, is_some, nat_lt, slice_get, refl, sym, ap, ◌∙◌, arith, Bor}
+use Rattle.std.specs.Prelude.{not}
 use Rattle.std.specs.Option.{option_map}
-use Rattle.std.specs.List.{position_from}
+use Rattle.std.specs.List.{position_from, prefix_len}
+use Rattle.std.specs.Map.{keys_of, lookup}
+use Rattle.std.specs.Map.Iter.{deref_pair}
+use Rattle.std.specs.Global.{Vec}
 use Rattle.std.specs.Str.{bytes_eq}
+use Rattle.std.proofs.lemmas.List.{map-append}
 use Rattle.std.proofs.lemmas.Cmp.{nat_list_eq_equiv}
 use Rattle.std.proofs.lemmas.Iterator.Adapters.{position_from-zero}
+use Rattle.indexmap.proofs.MapLemmas.{some_index}
 use Rattle.base.specs.Bytes.{Identifier}
+use Rattle.class_table.specs.declared.class.Entry.{Entry}
 use Rattle.classes.specs.Class.{Class, Classes, class_at, class_named}
+use Rattle.class_table.specs.Views.{class_view, classes_view}
 
 -- a class by its number
 pub class_at-place : (T : Classes) (n : ℕ) → 0 < n → class_at T n ≡ slice_get T (n - 1)
@@ -17,47 +25,57 @@ class_at-place T (suc n) h = let e : suc n - 1 ≡ n = omega arith in sym (ap (s
 pub same_bytes : (a b : List ℕ) → bytes_eq a b ≡ bytes_eq b a
 same_bytes a b = nat_list_eq_equiv.symm a b
 
--- ---- the first place at which a test passes
-
-module _ {X : Type 0} (p : X → Bool) where
-  -- an element more, where it is the first
-  pub last_place : (n : ℕ) (xs : List X) (x : X) → p x ≡ true → position_from p n xs ≡ None → position_from p n (xs ++ x ∷ []) ≡ Some (n + length xs)
-  last_place n [] x is none = let e : n ≡ n + 0 = omega arith in ap (λ b. cond b (Some n) None) is ∙ ap (λ i. Some i) e
-  last_place n (y ∷ xs) x is none = step (p y) none (last_place (n + 1) xs x is)
-    where
-      step : (b : Bool) → cond b (Some n) (position_from p (n + 1) xs) ≡ None → (position_from p (n + 1) xs ≡ None → position_from p (n + 1) (xs ++ x ∷ []) ≡ Some ((n + 1) + length xs))
-          → cond b (Some n) (position_from p (n + 1) (xs ++ x ∷ [])) ≡ Some (n + suc (length xs))
-      step true h later = absurd (cc)
-      step false h later = let e : (n + 1) + length xs ≡ n + suc (length xs) = omega arith in later h ∙ ap (λ i. Some i) e
-
-  -- and where it doesn't pass
-  pub other_place : (n : ℕ) (xs : List X) (x : X) → p x ≡ false → position_from p n (xs ++ x ∷ []) ≡ position_from p n xs
-  other_place n [] x other = ap (λ b. cond b (Some n) None) other
-  other_place n (y ∷ xs) x other = ap (λ (o : Option ℕ). cond (p y) (Some n) o) (other_place (n + 1) xs x other)
+-- a class that was looked up
+pub class_view-looked_up : (r : Option (Bor (Vec ℕ) × Bor Entry)) → option_map (λ p. class_view (p.0.now, p.1.now)) r ≡ option_map class_view (option_map deref_pair r)
+class_view-looked_up None = refl
+class_view-looked_up (Some p) = refl
 
 -- ---- classes by name
 
+-- an element more, at which the test doesn't pass
+other_place : {X : Type 0} (p : X → Bool) (n : ℕ) (xs : List X) (x : X) → p x ≡ false → position_from p n (xs ++ x ∷ []) ≡ position_from p n xs
+other_place p n [] x other = ap (λ b. cond b (Some n) None) other
+other_place p n (y ∷ xs) x other = ap (λ (o : Option ℕ). cond (p y) (Some n) o) (other_place p (n + 1) xs x other)
+
 module _ (name : Identifier) where
+  abbrev has_key : Vec ℕ → Bool
+  has_key k = bytes_eq name k.items
+
   abbrev has_name : Class → Bool
   has_name c = bytes_eq c.name name
 
-  named-from : (T : Classes) → class_named T name ≡ option_map (λ i. i + 1) (position_from has_name 0 T)
-  named-from T = ap (option_map (λ i. i + 1)) (position_from-zero has_name T)
+  same_prefix : (es : List (Vec ℕ × Entry)) → prefix_len (λ k. not (has_key k)) (keys_of es) ≡ prefix_len (λ c. not (has_name c)) (classes_view es)
+  same_prefix [] = refl
+  same_prefix (e ∷ es) = λ i. cond (not (same_bytes name e.0.items i)) (1 + same_prefix es i) 0
 
-  no_place : (o : Option ℕ) → option_map (λ i. i + 1) o ≡ None → o ≡ None
-  no_place None h = refl
-  no_place (Some i) h = absurd (cc)
+  same_length : (es : List (Vec ℕ × Entry)) → length (keys_of es) ≡ length (classes_view es)
+  same_length [] = refl
+  same_length (e ∷ es) = ap suc (same_length es)
 
-  -- the last class has the number of all, where no other has its name
-  pub named-last : (T : Classes) (c : Class) → bytes_eq c.name name ≡ true → class_named T name ≡ None → class_named (T ++ c ∷ []) name ≡ Some (length T + 1)
-  named-last T c is none =
-      let e : (0 + length T) + 1 ≡ length T + 1 = omega arith in
-      named-from (T ++ c ∷ []) ∙ ap (option_map (λ i. i + 1)) (last_place has_name 0 T c is (no_place (position_from has_name 0 T) (sym (named-from T) ∙ none))) ∙ ap (λ i. Some i) e
+  same_place : (es : List (Vec ℕ × Entry)) → position has_key (keys_of es) ≡ position has_name (classes_view es)
+  same_place es = λ i. cond (nat_lt (same_prefix es i) (same_length es i)) (Some (same_prefix es i)) None
 
-  -- and others have the numbers that they had
+  -- with a class of another name more, a class has the number that it had
   pub named-other : (T : Classes) (c : Class) → bytes_eq c.name name ≡ false → class_named (T ++ c ∷ []) name ≡ class_named T name
-  named-other T c other = named-from (T ++ c ∷ []) ∙ ap (option_map (λ i. i + 1)) (other_place has_name 0 T c other) ∙ sym (named-from T)
+  named-other T c other =
+      ap (option_map (λ i. i + 1)) (position_from-zero has_name (T ++ c ∷ []) ∙ other_place has_name 0 T c other ∙ sym (position_from-zero has_name T))
 
-  -- tables whose classes have the same names, one by one
-  pub named-same : (T U : Classes) → ((n : ℕ) → position_from has_name n U ≡ position_from has_name n T) → class_named U name ≡ class_named T name
-  named-same T U h = named-from U ∙ ap (option_map (λ i. i + 1)) (h 0) ∙ sym (named-from T)
+  -- a class by its name
+  pub class_named-view : (es : List (Vec ℕ × Entry)) → class_named (classes_view es) name ≡ option_map (λ i. i + 1) (position has_key (keys_of es))
+  class_named-view es = sym (ap (option_map (λ i. i + 1)) (same_place es))
+
+-- a name that no class has is no key
+pub lookup-new : (name : Identifier) (es : List (Vec ℕ × Entry)) → class_named (classes_view es) name ≡ None → lookup (λ k. bytes_eq name k.items) es ≡ None
+lookup-new name es h = none_of (lookup (has_key name) es) (sym (some_index (has_key name) es) ∙ sym (still (position (has_key name) (keys_of es))) ∙ ap is_some (sym (class_named-view name es) ∙ h))
+  where
+    still : (o : Option ℕ) → is_some (option_map (λ i. i + 1) o) ≡ is_some o
+    still None = refl
+    still (Some i) = refl
+
+    none_of : (o : Option Entry) → is_some o ≡ false → o ≡ None
+    none_of None e = refl
+    none_of (Some x) e = absurd (cc)
+
+-- an entry more is a class more
+pub classes_view-more : (es : List (Vec ℕ × Entry)) (e : Vec ℕ × Entry) → classes_view (es ++ e ∷ []) ≡ classes_view es ++ class_view e ∷ []
+classes_view-more es e = map-append class_view es (e ∷ [])

@@ -1,11 +1,9 @@
 -- What holds of each table of classes in memory.
-use Rattle.std.specs.Prelude.{◌≡◌, ◌≤◌, ℕ, Bool, true, not, ◌&&◌, ◌||◌, ◌==◌, List, [], ◌∷◌, length, nat_lt}
-use Rattle.std.specs.Global.{Vec}
-use Rattle.std.specs.HashMap.{HashMap, get_by}
+use Rattle.std.specs.Prelude.{◌≡◌, ◌≤◌, Bool, true, not, ◌&&◌, ◌||◌, ◌==◌, List, [], ◌∷◌, length, nat_lt}
 use Rattle.std.specs.List.{list_any, list_all}
 use Rattle.std.specs.Str.{bytes_eq}
 use Rattle.base.specs.Bytes.{Identifier, first_passes}
-use Rattle.classes.specs.Class.{Field, Class, Classes, class_named, is_plain, array_name}
+use Rattle.classes.specs.Class.{Field, Class, Classes, is_plain, array_name}
 
 -- a class has the name
 abbrev pub HasName : Classes → Identifier → Type 0
@@ -44,7 +42,3 @@ pub record IsTable (classes : Classes) : Type 0 where
   pub few : length classes ≤ 256
   pub few_fields : list_all has_few_fields classes ≡ true
   pub declared_once : list_all declares_once classes ≡ true
-
--- the table by name has the number of each class, and nothing else
-pub record IsIndexed {S : Type 0} (classes : Classes) (numbers : HashMap (Vec ℕ) ℕ S) : Type 0 where
-  pub finds : (name : Identifier) → get_by (λ key. bytes_eq name key.items) numbers ≡ class_named classes name

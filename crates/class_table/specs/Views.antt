@@ -1,5 +1,6 @@
 -- The classes that lie in memory, as classes of the definitions.
-use Rattle.std.specs.Prelude.{List, map}
+use Rattle.std.specs.Prelude.{ℕ, List, map}
+use Rattle.std.specs.Global.{Vec}
 use Rattle.base.specs.Element.{ElementType, JInt, JShort, JByte, JChar}
 use Rattle.class_table.specs.declared.class.ElementType.{ElementType as ElementInMemory}
 use Rattle.class_table.specs.declared.class.ElementType.TheVariants as element
@@ -29,8 +30,9 @@ field_type_view (type.Reference c) = ReferenceField c
 abbrev pub field_view : FieldInMemory → Field
 field_view f = record { name = f.name.items; type = field_type_view f.field_type }
 
-abbrev pub class_view : Entry → Class
-class_view e = record { name = e.name.items; superclass = e.superclass; kind = kind_view e.kind; fields = map field_view e.fields.items; statics = map field_view e.statics.items }
+-- a class, by its name and what is kept of it
+abbrev pub class_view : Vec ℕ × Entry → Class
+class_view (name, e) = record { name = name.items; superclass = e.superclass; kind = kind_view e.kind; fields = map field_view e.fields.items; statics = map field_view e.statics.items }
 
-abbrev pub classes_view : List Entry → Classes
+abbrev pub classes_view : List (Vec ℕ × Entry) → Classes
 classes_view entries = map class_view entries

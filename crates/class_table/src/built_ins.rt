@@ -215,13 +215,15 @@ fn put_built_in(alloc: Global, classes: &mut Entries, built_in: &BuiltIn) -> Res
 {
     let name = Vec::from_slice(alloc, built_in.name)?;
     let fields = copied_fields(alloc, built_in.fields)?;
-    classes.put(Entry {
+    classes.put(
         name,
-        superclass: built_in.superclass,
-        kind: ClassKind::Plain,
-        fields,
-        statics: Vec::new(alloc),
-    })
+        Entry {
+            superclass: built_in.superclass,
+            kind: ClassKind::Plain,
+            fields,
+            statics: Vec::new(alloc),
+        },
+    )
 }
 
 /// Puts a class of arrays after the others.
@@ -234,7 +236,7 @@ fn put_array(
     requires { class_named classes.old name.items ≡ None }
     ensures { OnOk result (classes.new ≡ classes.old ++ array_class name.items (kind_view kind) ∷ []) }
 {
-    classes.put(Entry::of_arrays(alloc, name, kind))
+    classes.put(name, Entry::of_arrays(alloc, kind))
 }
 
 /// Puts these built-in classes after the others.

@@ -47,10 +47,9 @@ pub struct FieldHandle {
     pub is_static: bool,
 }
 
-/// A class as a table holds it.
+/// A class as a table holds it, by its name.
 #[derive(Drop)]
 pub(crate) struct Entry {
-    pub(crate) name: Vec<u8>,
     pub(crate) superclass: Option<usize>,
     pub(crate) kind: ClassKind,
     pub(crate) fields: Vec<Field>,

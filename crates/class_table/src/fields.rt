@@ -108,8 +108,8 @@ impl ClassTable {
         ensures { map field_view result.now ≡ declared_as self.now class is_static }
     {
         match self.entry(class) {
-            Some(entry) if is_static => &entry.statics,
-            Some(entry) => &entry.fields,
+            Some((_, entry)) if is_static => &entry.statics,
+            Some((_, entry)) => &entry.fields,
             None => &[],
         }
     }

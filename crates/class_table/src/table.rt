@@ -80,9 +80,9 @@ impl ClassTable {
         Ok(self.find(&name))
     }
 
-    /// The class of a number.
-    pub(crate) fn entry(&self, class: usize) -> Option<&Entry>
-        ensures { option_map (λ e. class_view e.now) result ≡ class_at self.now class }
+    /// The class of a number: its name, and what else is kept of it.
+    pub(crate) fn entry(&self, class: usize) -> Option<(&Vec<u8>, &Entry)>
+        ensures { option_map (λ p. class_view (p.0.now, p.1.now)) result ≡ class_at self.now class }
     {
         if class == 0 {
             return None;
@@ -95,7 +95,7 @@ impl ClassTable {
         ensures { result.now ≡ class_name self.now class }
     {
         match self.entry(class) {
-            Some(entry) => &entry.name,
+            Some((name, _)) => name,
             None => &[],
         }
     }
@@ -104,7 +104,7 @@ impl ClassTable {
     pub fn superclass(&self, class: usize) -> Option<usize>
         ensures { result ≡ superclass self.now class }
     {
-        let entry = self.entry(class)?;
+        let (_, entry) = self.entry(class)?;
         entry.superclass
     }
 
@@ -113,7 +113,7 @@ impl ClassTable {
         ensures { kind_view result ≡ class_kind self.now class }
     {
         match self.entry(class) {
-            Some(entry) => entry.kind,
+            Some((_, entry)) => entry.kind,
             None => ClassKind::Plain,
         }
     }
