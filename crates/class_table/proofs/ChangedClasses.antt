@@ -2,20 +2,20 @@
 use Rattle.std.proofs.Common.{◌≡◌, ℕ, zero, suc, ◌+◌, ◌<◌, Bool, true, false, cond, List, [], ◌∷◌, ◌++◌, map, Option, Some, slice_get, refl, sym, ap, ◌∙◌, arith}
 use Rattle.std.specs.Prelude.{◌==◌, ◌||◌, unwrap_or, if◌then◌else◌}
 use Rattle.std.specs.List.{enumerate_from}
+use Rattle.std.specs.Option.{option_map_or}
 use Rattle.std.specs.Map.{values_of}
 use Rattle.std.specs.Global.{Vec}
 use Rattle.std.proofs.lemmas.Bool.{eq-eqb, ne_eqb}
 use Rattle.indexmap.specs.IndexMap.{set_value_at}
 use Rattle.class_table.specs.declared.class.Entry.{Entry}
-use Rattle.class_table.specs.declared.class.Field.{Field as FieldInMemory}
 use Rattle.classes.specs.Class.{Field, Class, Classes, array_name}
 use Rattle.classes.specs.Additions.{with_changed_class}
 use Rattle.std.specs.Str.{bytes_eq}
 use Rattle.base.specs.Bytes.{Identifier}
-use Rattle.class_table.specs.FieldViews.{with_declared}
+use Rattle.class_table.specs.FieldViews.{declared_as, with_declared}
 use Rattle.class_table.specs.Tables.{ArraysHaveElements}
 use Rattle.class_table.proofs.DistinctNames.{has_name}
-use Rattle.class_table.specs.Views.{class_view, classes_view, field_view}
+use Rattle.class_table.specs.Views.{class_view, classes_view}
 
 module _ (change : Class → Class) where
   abbrev pub from : ℕ → ℕ → Classes → Classes
@@ -54,18 +54,27 @@ unchanged (x ∷ es) zero e new h is =
     ap (λ d. d ∷ classes_view es) (is x.0 ∙ ap (λ v. class_view (x.0, v)) (sym own))
 unchanged (x ∷ es) (suc i) e new h is = ap (λ T. class_view x ∷ T) (unchanged es i e new h is)
 
-module _ (es : List (Vec ℕ × Entry)) (i : ℕ) (e : Entry) (more : Vec FieldInMemory) (field : Field) where
+module _ (es : List (Vec ℕ × Entry)) (i : ℕ) (e : Entry) (more : List Field) (field : Field) where
   -- a class gets a static more, unless memory ran out
-  pub static_put : (b : Bool) → slice_get (values_of es) i ≡ Some e → map field_view more.items ≡ (if b then map field_view e.statics.items ++ field ∷ [] else map field_view e.statics.items)
+  pub static_put : (b : Bool) → slice_get (values_of es) i ≡ Some e → more ≡ (if b then e.statics ++ field ∷ [] else e.statics)
       → classes_view (set_value_at es i (record e { statics = more })) ≡ (if b then with_declared (classes_view es) (Some (i + 1)) field true else classes_view es)
   static_put true h is = changed (λ d. record d { statics = d.statics ++ field ∷ [] }) es i e (record e { statics = more }) h (λ name. ap (λ xs. record (class_view (name, e)) { statics = xs }) is)
   static_put false h is = unchanged es i e (record e { statics = more }) h (λ name. ap (λ xs. record (class_view (name, e)) { statics = xs }) is)
 
   -- a class gets a field more, unless memory ran out
-  pub field_put : (b : Bool) → slice_get (values_of es) i ≡ Some e → map field_view more.items ≡ (if b then map field_view e.fields.items ++ field ∷ [] else map field_view e.fields.items)
+  pub field_put : (b : Bool) → slice_get (values_of es) i ≡ Some e → more ≡ (if b then e.fields ++ field ∷ [] else e.fields)
       → classes_view (set_value_at es i (record e { fields = more })) ≡ (if b then with_declared (classes_view es) (Some (i + 1)) field false else classes_view es)
   field_put true h is = changed (λ d. record d { fields = d.fields ++ field ∷ [] }) es i e (record e { fields = more }) h (λ name. ap (λ xs. record (class_view (name, e)) { fields = xs }) is)
   field_put false h is = unchanged es i e (record e { fields = more }) h (λ name. ap (λ xs. record (class_view (name, e)) { fields = xs }) is)
+
+-- what a class declares, by its entry
+pub own_of : (es : List (Vec ℕ × Entry)) (i : ℕ) (e : Entry) (s : Bool) → slice_get (values_of es) i ≡ Some e → declared_as (classes_view es) (i + 1) s ≡ cond s e.statics e.fields
+own_of es i e s at = let next : i + 1 ≡ suc i = omega arith in ap (λ n. declared_as (classes_view es) n s) next ∙ entry_at es i at
+  where
+    entry_at : (fs : List (Vec ℕ × Entry)) (j : ℕ) → slice_get (values_of fs) j ≡ Some e → option_map_or (λ (d : Class). cond s d.statics d.fields) (slice_get (classes_view fs) j) [] ≡ cond s e.statics e.fields
+    entry_at [] j h = absurd (cc)
+    entry_at (x ∷ fs) zero h = let is : x.1 ≡ e = cc in ap (λ (y : Entry). cond s y.statics y.fields) is
+    entry_at (x ∷ fs) (suc j) h = entry_at fs j h
 
 -- what holds of the tables after success and after a refusal
 pub after_either : (P : Classes → Type 0) (b : Bool) (more kept : Classes) → P more → P kept → P (if b then more else kept)

@@ -20,7 +20,7 @@ use Rattle.class_table.proofs.Ancestry.{is_among}
 use Rattle.class_table.proofs.DistinctNames.{both, neither, was_false}
 use Rattle.class_table.proofs.FoundFields.{identified}
 use Rattle.class_table.proofs.HandledFields.{of_declared}
-use Rattle.class_table.proofs.KeptTables.{has_field}
+use Rattle.class_table.proofs.NamedFields.{has_field}
 use Rattle.class_table.proofs.Layouts.{layout_within, layout-above, layout-top, own-few}
 
 -- how many of these come before the field

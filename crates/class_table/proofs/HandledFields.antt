@@ -1,17 +1,14 @@
 -- Fields by handles.
-use Rattle.std.proofs.Common.{subst, ◌≡◌, ℕ, zero, suc, ◌<◌, ◌≤◌, arith, Bool, true, false, cond, List, [], ◌∷◌, length, map, drop, find, get_or, position, Option, Some, None, slice_get, refl, sym, ap, ◌∙◌}
+use Rattle.std.proofs.Common.{subst, ◌≡◌, ℕ, ◌<◌, Bool, true, false, List, find, position, Option, Some, None, slice_get, refl, sym, ap, ◌∙◌}
 use Rattle.std.specs.Option.{option_map, option_map_or}
 use Rattle.std.specs.Prelude.{◌==◌, ◌&&◌}
 use Rattle.std.specs.Str.{bytes_eq}
-use Rattle.std.proofs.lemmas.Option.{slice_get-map, slice_get-get_or, slice_get_past}
-use Rattle.std.proofs.lemmas.List.{length-map}
+use Rattle.std.proofs.lemmas.Option.{slice_get-map}
 use Rattle.base.specs.Bytes.{Identifier}
 use Rattle.classes.specs.Class.{Field, Classes}
 use Rattle.classes.specs.Fields.{FieldId, own_statics}
 use Rattle.class_table.specs.declared.class.FieldHandle.{FieldHandle}
-use Rattle.class_table.specs.declared.class.Field.{Field as FieldInMemory}
 use Rattle.class_table.specs.FieldViews.{declared_as, field_of, place_among}
-use Rattle.class_table.specs.Views.{field_view}
 use Rattle.class_table.proofs.FoundFields.{fits, identified, found_within, found-here}
 
 -- the field of a handle is one of those that its class declares
@@ -21,25 +18,6 @@ of_declared T h = by_kind h.is_static
     by_kind : (s : Bool) → field_of T (record h { is_static = s }) ≡ option_map (identified s h.class) (slice_get (declared_as T h.class s) h.place)
     by_kind true = slice_get-map (identified true h.class) (declared_as T h.class true) h.place
     by_kind false = slice_get-map (identified false h.class) (declared_as T h.class false) h.place
-
--- where a search has come to the first that passes
-pub first_passes_at : {A : Type 0} (p : A → Bool) (xs : List A) (i : ℕ) (x : A) → slice_get xs i ≡ Some x → p x ≡ true → find p (drop i xs) ≡ find p xs → Some (slice_get xs i) ≡ option_map (λ y. Some y) (find p xs)
-first_passes_at {A} p xs i x at passes same = ap (λ o. Some o) at ∙ ap (option_map (λ y. Some y)) (sym (here xs i at) ∙ same)
-  where
-    here : (ys : List A) (j : ℕ) → slice_get ys j ≡ Some x → find p (drop j ys) ≡ Some x
-    here [] j e = absurd (cc)
-    here (y ∷ ys) zero e = let is : y ≡ x = cc in ap (λ z. cond (p z) (Some z) (find p ys)) is ∙ ap (λ b. cond b (Some x) (find p ys)) passes
-    here (y ∷ ys) (suc j) e = here ys j e
-
--- a search goes past what doesn't pass
-pub passed_over : {A : Type 0} (p : A → Bool) (xs : List A) (i : ℕ) (x : A) → slice_get xs i ≡ Some x → p x ≡ false → find p (drop (suc i) xs) ≡ find p (drop i xs)
-passed_over p [] i x at fails = absurd (cc)
-passed_over p (y ∷ ys) zero x at fails = let is : x ≡ y = cc in sym (ap (λ b. cond b (Some y) (find p ys)) (ap p (sym is) ∙ fails))
-passed_over p (y ∷ ys) (suc i) x at fails = passed_over p ys i x at fails
-
--- a field in memory at a place of several
-pub viewed_at : (fields : List FieldInMemory) (i : ℕ) (d : FieldInMemory) → i < length fields → slice_get (map field_view fields) i ≡ Some (field_view (get_or fields i d))
-viewed_at fields i d h = slice_get-map field_view fields i ∙ ap (option_map field_view) (slice_get-get_or fields i d h)
 
 module _ (T : Classes) (c : ℕ) (name : Identifier) (text : List ℕ) (s : Bool) where
   -- the handle of what a class declares itself
@@ -59,17 +37,6 @@ module _ (T : Classes) (c : ℕ) (name : Identifier) (text : List ℕ) (s : Bool
 pub none_found : {A : Type 0} (o : Option A) → None ≡ option_map {T = A} {U = Option A} (λ f. Some f) o → o ≡ None
 none_found None h = refl
 none_found (Some x) h = absurd (cc)
-
--- a field that is there, and one that isn't
-pub field_there : (T : Classes) (h : FieldHandle) (fields : List FieldInMemory) (f : FieldInMemory) → map field_view fields ≡ declared_as T h.class h.is_static → h.place < length fields → f ≡ get_or fields h.place f → Some (identified h.is_static h.class (field_view f)) ≡ field_of T h
-field_there T h fields f is within there =
-    ap (λ g. Some (identified h.is_static h.class (field_view g))) there
-    ∙ sym (of_declared T h ∙ ap (option_map (identified h.is_static h.class)) (ap (λ fs. slice_get fs h.place) (sym is) ∙ viewed_at fields h.place f within))
-
-pub no_field_there : (T : Classes) (h : FieldHandle) (fields : List FieldInMemory) → map field_view fields ≡ declared_as T h.class h.is_static → length fields ≤ h.place → None ≡ field_of T h
-no_field_there T h fields is past =
-    let counted = length-map fields field_view in
-    sym (of_declared T h ∙ ap (option_map (identified h.is_static h.class)) (ap (λ fs. slice_get fs h.place) (sym is) ∙ slice_get_past (map field_view fields) h.place (omega (arith, past, counted))))
 
 -- fields of one class and one name have one place
 pub same_place : (f g : FieldId) (fields : List FieldId) → g.class ≡ f.class → g.field.name ≡ f.field.name → place_among g fields ≡ place_among f fields

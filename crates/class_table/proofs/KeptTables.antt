@@ -2,7 +2,7 @@
 use Rattle.std.proofs.Common.{not, map, append_assoc, unwrap_or, ◌≡◌, ℕ, zero, suc, ◌+◌, ◌<◌, ◌≤◌, Bool, true, false, cond, List, [], ◌∷◌, ◌++◌, length, Option, Some, None, slice_get, nat_lt, refl, sym, ap, ◌∙◌, arith, length-append}
 use Rattle.std.specs.Prelude.{◌==◌, ◌&&◌, ◌||◌}
 use Rattle.std.specs.Option.{option_map, option_map_or}
-use Rattle.std.specs.List.{list_all, list_any, enumerate_from, prefix_len}
+use Rattle.std.specs.List.{list_all, enumerate_from, prefix_len}
 use Rattle.std.proofs.lemmas.Bool.{ltb-true, ltb-false, lt-ltb, eqb-true}
 use Rattle.std.proofs.lemmas.List.Folds.{list_all-append}
 use Rattle.base.specs.Bytes.{Identifier, first_passes}
@@ -11,7 +11,7 @@ use Rattle.classes.specs.Class.{Field, Class, Classes, class_at, class_named, is
 use Rattle.classes.specs.BuiltIns.{number_array_classes, object_array_class, has_own_making}
 use Rattle.class_table.specs.BuiltInList.{listed_class, array_classes, listed_classes, is_class_list}
 use Rattle.classes.specs.Additions.{NameTaken, BadSuperclass, BadSignature, TooMany, class_breaks, field_breaks, declared_fields, new_class, with_class}
-use Rattle.class_table.specs.FieldViews.{with_declared}
+use Rattle.class_table.specs.FieldViews.{declared_as, with_declared}
 use Rattle.classes.specs.Grown.{IsGrown, WithClass, WithField, WithStatic}
 use Rattle.base.specs.Options.{some_passes}
 use Rattle.std.specs.Str.{bytes_eq}
@@ -22,6 +22,7 @@ use Rattle.class_table.proofs.AddedClasses.{named, no-array, added-elements}
 use Rattle.class_table.proofs.ArrayNames.{no_array, either-append, listed-elements}
 use Rattle.class_table.proofs.ChangedClasses.{from, names-kept, declared-elements}
 use Rattle.class_table.proofs.DistinctNames.{has_name, both, neither, was_false, unnamed, differ-more}
+use Rattle.class_table.proofs.NamedFields.{has_field}
 use Rattle.class_table.proofs.Places.{same_bytes}
 
 -- ---- no rule is broken
@@ -55,6 +56,13 @@ all-differ list h =
     let p = both _ (list_all has_few_fields (listed_classes list)) o.0 in
     let q = both _ (nat_lt (length (listed_classes list)) 257) p.0 in
     (both (list_all (λ b. is_class_name b.name.now) list) (names_differ (listed_classes list)) q.0).1
+
+pub all-once : (list : List BuiltIn) → is_class_list list ≡ true → list_all declares_once (map listed_class list) ≡ true
+all-once list h =
+    let P = map listed_class list in
+    let once = (both _ (list_all declares_once (listed_classes list)) h).1 in
+    let front = both (list_all declares_once (P ++ number_array_classes)) (list_all declares_once (array_classes P)) (sym (list_all-append declares_once (P ++ number_array_classes) (array_classes P)) ∙ once) in
+    (both (list_all declares_once P) (list_all declares_once number_array_classes) (sym (list_all-append declares_once P number_array_classes) ∙ front.0)).0
 
 plain-named : (list : List BuiltIn) → list_all is_named_by_kind (map listed_class list) ≡ true
 plain-named [] = refl
@@ -139,11 +147,7 @@ module _ (change : Class → Class) where
       step true e here rest mine = let is : n + 0 ≡ c = omega (arith, eqb-true n c e) in ap (λ b. b && list_all holds (from change c (n + 1) T)) (mine is here) ∙ rest
       step false e here rest mine = ap (λ b. b && list_all holds (from change c (n + 1) T)) here ∙ rest
 
--- a name that the class doesn't declare
-
-abbrev pub has_field : List Field → Identifier → Bool
-has_field fields name = list_any (λ (f : Field). bytes_eq f.name name) fields
-
+-- with a field of another name more
 fields_differ_more : (fields : List Field) (f : Field) → field_names_differ fields ≡ true → has_field fields f.name ≡ false → field_names_differ (fields ++ f ∷ []) ≡ true
 fields_differ_more [] f h new = refl
 fields_differ_more (g ∷ fields) f h new =
@@ -171,6 +175,15 @@ is_new : (T : Classes) (c : ℕ) (name : Identifier) (text : List ℕ) → first
 is_new T c name text h i d at place =
     let q = (chain (field_breaks NameTaken T (Some c) name text) false (field_breaks BadSignature T (Some c) name text) (field_breaks TooMany T (Some c) name text) h).first in
     in_neither d.fields d.statics name (sym (ap (λ (o : Option Class). has_field (option_map_or (λ (x : Class). x.fields ++ x.statics) o []) name) (class_here T c i d at place)) ∙ q)
+
+-- and so among what it declares of either kind
+pub is_absent : (T : Classes) (c : ℕ) (name : Identifier) (text : List ℕ) (s : Bool) → first_broken (λ rule. field_breaks rule T (Some c) name text) ≡ None → has_field (declared_as T c s) name ≡ false
+is_absent T c name text s h = by_class (class_at T c) s (chain (field_breaks NameTaken T (Some c) name text) false (field_breaks BadSignature T (Some c) name text) (field_breaks TooMany T (Some c) name text) h).first
+  where
+    by_class : (o : Option Class) (k : Bool) → has_field (option_map_or (λ (x : Class). x.fields ++ x.statics) o []) name ≡ false → has_field (option_map_or (λ (d : Class). cond k d.statics d.fields) o []) name ≡ false
+    by_class None k q = refl
+    by_class (Some d) true q = (in_neither d.fields d.statics name q).1
+    by_class (Some d) false q = (in_neither d.fields d.statics name q).0
 
 pub declared-table : (T : Classes) (c : ℕ) (field : Field) (name : Identifier) (text : List ℕ) (is_static : Bool) → 0 < c → field.name ≡ name → first_broken (λ rule. field_breaks rule T (Some c) name text) ≡ None → IsTable T → IsTable (with_declared T (Some c) field is_static)
 declared-table T c field name text true low named h t =

@@ -1,14 +1,12 @@
 -- The layout of a class: what its superclass has, and then its own fields.
-use Rattle.std.proofs.Common.{◌≡◌, ℕ, zero, suc, ◌+◌, ◌-◌, ◌*◌, ◌<◌, ◌≤◌, true, false, List, [], ◌∷◌, ◌++◌, length, map, flat_map, reverse, Option, Some, None, slice_get, get_or, refl, sym, ap, ◌∙◌, arith, length-append}
+use Rattle.std.proofs.Common.{◌≡◌, ℕ, zero, suc, ◌+◌, ◌-◌, ◌*◌, ◌<◌, ◌≤◌, true, false, List, [], ◌∷◌, ◌++◌, length, map, flat_map, reverse, Option, Some, None, slice_get, refl, sym, ap, ◌∙◌, arith, length-append}
 use Rattle.std.specs.Option.{option_map, option_map_or}
 use Rattle.std.specs.List.{list_all}
 use Rattle.std.proofs.lemmas.Bool.Decides.{nat_tests}
-use Rattle.std.proofs.lemmas.Option.{slice_get-map, slice_get-get_or}
+use Rattle.std.proofs.lemmas.Option.{slice_get-map}
 use Rattle.std.proofs.lemmas.Grind.{flat_map-append}
 use Rattle.std.proofs.lemmas.List.{append-nil, reverse-append, length-map}
-use Rattle.classes.specs.Class.{Class, Classes, class_at, superclass, above, ancestry_within}
-use Rattle.class_table.specs.declared.class.Field.{Field as FieldInMemory}
-use Rattle.class_table.specs.Views.{field_view}
+use Rattle.classes.specs.Class.{Field, Class, Classes, class_at, superclass, above, ancestry_within}
 use Rattle.classes.specs.Fields.{FieldId, own_fields, layout}
 use Rattle.class_table.specs.FieldViews.{declared_as}
 use Rattle.class_table.specs.Tables.{has_few_fields, IsTable}
@@ -84,40 +82,36 @@ own-within T n m c e = by_super (superclass T c) refl
     by_super (Some s) h = omega (arith, ap length (layout-above T c n m s e h), length-append (layout_within m T s) (own_fields T c))
 
 -- the fields of a class in memory
-pub own-length : (T : Classes) (c : ℕ) (fields : List FieldInMemory) → map field_view fields ≡ declared_as T c false → length fields ≡ length (own_fields T c)
+pub own-length : (T : Classes) (c : ℕ) (fields : List Field) → fields ≡ declared_as T c false → length fields ≡ length (own_fields T c)
 own-length T c fields e =
-    sym (length-map fields field_view)
-    ∙ ap length e
+    ap length e
     ∙ sym (length-map (declared_as T c false) (identified false c))
 
 -- the field at a place among a class's own
-own-at : (T : Classes) (c : ℕ) (fields : List FieldInMemory) (i : ℕ) (d : FieldInMemory) → map field_view fields ≡ declared_as T c false → i < length fields
-    → slice_get (own_fields T c) i ≡ Some (record { class = c; is_static = false; field = field_view (get_or fields i d) })
-own-at T c fields i d e h =
+own-at : (T : Classes) (c : ℕ) (fields : List Field) (i : ℕ) → fields ≡ declared_as T c false → slice_get (own_fields T c) i ≡ option_map (identified false c) (slice_get fields i)
+own-at T c fields i e =
     ap (λ fs. slice_get (map (identified false c) fs) i) (sym e)
-    ∙ slice_get-map (identified false c) (map field_view fields) i
-    ∙ ap (option_map (identified false c)) (slice_get-map field_view fields i ∙ ap (option_map field_view) (slice_get-get_or fields i d h))
+    ∙ slice_get-map (identified false c) fields i
 
 -- the place lies among a class's own fields
-pub at-own : (T : Classes) (n m c place count : ℕ) (fields : List FieldInMemory) (d : FieldInMemory) → n ≡ m + 1 → map field_view fields ≡ declared_as T c false → count ≡ length (layout_within n T c) → place < count → count - length fields ≤ place
-    → slice_get (layout_within n T c) place ≡ Some (record { class = c; is_static = false; field = field_view (get_or fields (place - (count - length fields)) d) })
-at-own T n m c place count fields d e is counted within after = by_super (superclass T c) refl
+pub at-own : (T : Classes) (n m c place count : ℕ) (fields : List Field) → n ≡ m + 1 → fields ≡ declared_as T c false → count ≡ length (layout_within n T c) → place < count → count - length fields ≤ place
+    → slice_get (layout_within n T c) place ≡ option_map (identified false c) (slice_get fields (place - (count - length fields)))
+at-own T n m c place count fields e is counted within after = by_super (superclass T c) refl
   where
     own : length fields ≡ length (own_fields T c)
     own = own-length T c fields is
 
-    in_whole : (front : List FieldId) → layout_within n T c ≡ front ++ own_fields T c → slice_get (layout_within n T c) place ≡ Some (record { class = c; is_static = false; field = field_view (get_or fields (place - (count - length fields)) d) })
+    in_whole : (front : List FieldId) → layout_within n T c ≡ front ++ own_fields T c → slice_get (layout_within n T c) place ≡ option_map (identified false c) (slice_get fields (place - (count - length fields)))
     in_whole front whole =
         let parts = ap length whole in
         let sum = length-append front (own_fields T c) in
         let low : length front ≤ place = omega (arith, own, counted, parts, sum, after, within) in
         let same : place - length front ≡ place - (count - length fields) = omega (arith, own, counted, parts, sum, after, within) in
-        let high : place - (count - length fields) < length fields = omega (arith, own, counted, parts, sum, after, within) in
         ap (λ w. slice_get w place) whole
         ∙ get-back front (own_fields T c) place low
         ∙ ap (slice_get (own_fields T c)) same
-        ∙ own-at T c fields (place - (count - length fields)) d is high
+        ∙ own-at T c fields (place - (count - length fields)) is
 
-    by_super : (o : Option ℕ) → superclass T c ≡ o → slice_get (layout_within n T c) place ≡ Some (record { class = c; is_static = false; field = field_view (get_or fields (place - (count - length fields)) d) })
+    by_super : (o : Option ℕ) → superclass T c ≡ o → slice_get (layout_within n T c) place ≡ option_map (identified false c) (slice_get fields (place - (count - length fields)))
     by_super None h = in_whole [] (layout-top T c n m e h)
     by_super (Some s) h = in_whole (layout_within m T s) (layout-above T c n m s e h)

@@ -5,6 +5,7 @@ pub mod ArrayNames
 pub mod AddedClasses
 pub mod Signatures
 pub mod FoundFields
+mod NamedFields
 pub mod ChangedClasses
 pub mod FieldTypes
 pub mod KeptTables

@@ -14,7 +14,7 @@ use Rattle.class_table.specs.Refusals.{rule_view}
 use Rattle.class_table.specs.Views.{field_view}
 
 abbrev pub field_id_view : IdInMemory → FieldId
-field_id_view f = record { class = f.class; is_static = f.is_static; field = field_view f.field.now }
+field_id_view f = record { class = f.class; is_static = f.is_static; field = field_view f.field }
 
 -- the fields, or the statics, that a class declares itself
 abbrev pub declared_as : Classes → ℕ → Bool → List Field

@@ -1,3 +1,4 @@
+pub mod HeldFields
 pub mod Views
 pub mod Tables
 pub mod BuiltInList

@@ -1,6 +1,6 @@
 //! Classes and fields that are added to a table.
 
-ghost use Rattle.std.specs.Prelude.{◌≡◌, ◌+◌, Some, None, length, nat_lt, map, is_ok, if◌then◌else◌, IsTrue, MatchResult};
+ghost use Rattle.std.specs.Prelude.{◌≡◌, ◌+◌, Some, None, length, nat_lt, is_ok, if◌then◌else◌, IsTrue, MatchResult};
 ghost use Rattle.std.specs.List.{list_any};
 ghost use Rattle.std.specs.Option.{option_map};
 ghost use Rattle.std.specs.Str.{bytes_eq};
@@ -9,13 +9,13 @@ ghost use Rattle.classes.specs.BuiltIns.{has_own_making};
 ghost use Rattle.classes.specs.Class.{class_named};
 ghost use Rattle.class_table.specs.FieldViews.{with_declared, declared_field, AnswersField};
 ghost use Rattle.classes.specs.Fields.{type_of_signature};
-ghost use Rattle.class_table.specs.Views.{field_view, field_type_view};
+ghost use Rattle.class_table.specs.Views.{field_type_view};
 ghost use Rattle.classes.specs.Grown.{IsGrown};
 ghost use Rattle.classes.specs.Mangling.{is_class_name};
 ghost use Rattle.class_table.specs.Refusals.{rule_view, first_broken, Answers};
 
 use crate::built_ins::{CLASS, STRING};
-use crate::class::{Field, FieldType};
+use crate::class::FieldType;
 use crate::fault::{ClassError, ClassRule, FieldError};
 use crate::table::ClassTable;
 use std::alloc::AllocError;
@@ -86,8 +86,7 @@ impl ClassTable {
         ensures { result ≡ list_any (λ f. bytes_eq f.name name.now) (declared_fields self.now class) }
     {
         let class = class.unwrap_or(0);
-        is_declared(self.declared(class, false), name)
-            || is_declared(self.declared(class, true), name)
+        self.declared(class, false).has(name) || self.declared(class, true).has(name)
     }
 
     /// Whether the class declares as many fields and statics as it may.
@@ -156,16 +155,4 @@ impl ClassTable {
             Err(AllocError) => Err(FieldError::Memory),
         }
     }
-}
-
-/// Whether one of the fields has this name.
-fn is_declared(fields: &[Field], name: &[u8]) -> bool
-    ensures { result ≡ list_any (λ f. bytes_eq f.name name.now) (map field_view fields.now) }
-{
-    for field in fields {
-        if field.name.as_slice() == name {
-            return true;
-        }
-    }
-    false
 }

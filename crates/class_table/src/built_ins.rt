@@ -1,14 +1,16 @@
 //! The built-in classes.
 
 ghost use Rattle.std.specs.Prelude.{◌≡◌, ◌++◌, ◌∷◌, [], length, map, nat_lt, None, true, IfOk, OnOk, IsTrue};
+ghost use Rattle.std.specs.List.{list_all};
 ghost use Rattle.classes.specs.BuiltIns.{array_class, built_ins, number_array};
 ghost use Rattle.class_table.specs.BuiltInList.{listed_field, listed_class, listed_number_array, array_classes, listed_classes, is_class_list};
-ghost use Rattle.class_table.specs.Tables.{names_differ};
+ghost use Rattle.class_table.specs.Tables.{names_differ, field_names_differ, declares_once};
 ghost use Rattle.classes.specs.Class.{class_named};
-ghost use Rattle.class_table.specs.Views.{element_view, field_view, kind_view};
+ghost use Rattle.class_table.specs.Views.{element_view, kind_view};
 
-use crate::class::{ClassKind, ElementType, Entry, Field, FieldType};
-use crate::entries::{Entries, array_name, push_field};
+use crate::class::{ClassKind, ElementType, Entry, FieldType};
+use crate::entries::{Entries, array_name};
+use crate::own_fields::OwnFields;
 use std::alloc::{AllocError, Global};
 
 /// A built-in class, with the number of its superclass and without statics.
@@ -198,19 +200,21 @@ pub fn number_array(element: ElementType) -> usize
     }
 }
 
-fn copied_fields(alloc: Global, fields: &[BuiltInField]) -> Result<Vec<Field>, AllocError>
-    ensures { IfOk result (λ copies. map field_view copies.items ≡ map listed_field fields.now) }
+fn copied_fields(alloc: Global, fields: &[BuiltInField]) -> Result<OwnFields, AllocError>
+    requires { field_names_differ (map listed_field fields.now) ≡ true }
+    ensures { IfOk result (λ copies. copies ≡ map listed_field fields.now) }
 {
-    let mut copies = Vec::new(alloc);
+    let mut copies = OwnFields::new(alloc);
     for field in fields {
-        push_field(&mut copies, field.name, field.field_type)?;
+        copies.push(field.name, field.field_type)?;
     }
     Ok(copies)
 }
 
 /// Puts a built-in class after the others.
 fn put_built_in(alloc: Global, classes: &mut Entries, built_in: &BuiltIn) -> Result<(), AllocError>
-    requires { class_named classes.old built_in.now.name.now ≡ None }
+    requires new { class_named classes.old built_in.now.name.now ≡ None }
+    requires differ { field_names_differ (map listed_field built_in.now.fields.now) ≡ true }
     ensures { OnOk result (classes.new ≡ classes.old ++ listed_class built_in.now ∷ []) }
 {
     let name = Vec::from_slice(alloc, built_in.name)?;
@@ -221,7 +225,7 @@ fn put_built_in(alloc: Global, classes: &mut Entries, built_in: &BuiltIn) -> Res
             superclass: built_in.superclass,
             kind: ClassKind::Plain,
             fields,
-            statics: Vec::new(alloc),
+            statics: OwnFields::new(alloc),
         },
     )
 }
@@ -245,7 +249,8 @@ fn put_built_ins(
     classes: &mut Entries,
     built_ins: &[BuiltIn],
 ) -> Result<(), AllocError>
-    requires { names_differ (classes.old ++ map listed_class built_ins.now) ≡ true }
+    requires differ { names_differ (classes.old ++ map listed_class built_ins.now) ≡ true }
+    requires once { list_all declares_once (map listed_class built_ins.now) ≡ true }
     ensures { OnOk result (classes.new ≡ classes.old ++ map listed_class built_ins.now) }
 {
     for built_in in built_ins {

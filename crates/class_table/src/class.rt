@@ -1,5 +1,7 @@
 //! What a class is made of.
 
+use crate::own_fields::OwnFields;
+
 /// The type of the numbers of an array or a field (JNI Specification, chapter 3, "Primitive Types").
 #[derive(Clone, Copy, PartialEq, Eq)]
 pub enum ElementType {
@@ -32,9 +34,9 @@ pub enum FieldType {
 }
 
 /// A field or static of a class.
-#[derive(Drop)]
-pub struct Field {
-    pub name: Vec<u8>,
+#[derive(Clone, Copy)]
+pub struct Field<'t> {
+    pub name: &'t [u8],
     pub field_type: FieldType,
 }
 
@@ -52,6 +54,6 @@ pub struct FieldHandle {
 pub(crate) struct Entry {
     pub(crate) superclass: Option<usize>,
     pub(crate) kind: ClassKind,
-    pub(crate) fields: Vec<Field>,
-    pub(crate) statics: Vec<Field>,
+    pub(crate) fields: OwnFields,
+    pub(crate) statics: OwnFields,
 }

@@ -1,16 +1,19 @@
 //! The classes of a table, as it holds them.
 
-ghost use Rattle.std.specs.Prelude.{◌≡◌, ◌+◌, ◌<◌, ◌≤◌, ◌++◌, ◌∷◌, [], length, map, slice_get, Some, None, IfOk, OnOk, OnErr, is_ok, if◌then◌else◌};
+ghost use Rattle.std.specs.Prelude.{◌≡◌, ◌+◌, ◌<◌, ◌≤◌, ◌++◌, ◌∷◌, [], false, length, slice_get, Some, None, IfOk, OnOk, OnErr, is_ok, if◌then◌else◌};
+ghost use Rattle.std.specs.List.{list_any};
 ghost use Rattle.std.specs.Option.{option_map};
+ghost use Rattle.std.specs.Str.{bytes_eq};
 ghost use Rattle.indexmap.specs.IndexMap.{spare};
 ghost use Rattle.classes.specs.Additions.{new_class, with_class};
 ghost use Rattle.classes.specs.BuiltIns.{array_class};
 ghost use Rattle.classes.specs.Class.{class_named, array_name};
-ghost use Rattle.class_table.specs.FieldViews.{with_declared};
-ghost use Rattle.class_table.specs.Views.{class_view, classes_view, field_view, field_type_view, kind_view};
+ghost use Rattle.class_table.specs.FieldViews.{declared_as, with_declared};
+ghost use Rattle.class_table.specs.Views.{class_view, classes_view, field_type_view, kind_view};
 
 use crate::built_ins::OBJECT;
-use crate::class::{ClassKind, Entry, Field, FieldType};
+use crate::class::{ClassKind, Entry, FieldType};
+use crate::own_fields::OwnFields;
 use indexmap::IndexMap;
 use std::alloc::{AllocError, Global};
 use std::marker::Model;
@@ -18,13 +21,16 @@ use std::marker::Model;
 /// Classes by name, in the order of their declarations. A class is found by its name or its place in constant time.
 pub(crate) struct Entries {
     classes: IndexMap<Vec<u8>, Entry>,
+    /// What a number without a class declares: nothing.
+    nothing: OwnFields,
 }
 
 // Written out, and not derived, so that crates above needn't prove it again.
 impl Drop for Entries {
     fn drop(self) {
-        let Entries { classes } = self;
+        let Entries { classes, nothing } = self;
         drop(classes);
+        drop(nothing);
     }
 }
 
@@ -36,6 +42,10 @@ impl Model for Entries {
     ghost use Rattle.class_table.specs.Views.{classes_view};
 
     ghost view = { λ e. classes_view e.classes.entries };
+
+    ghost use Rattle.std.specs.Prelude.{◌≡◌, []};
+
+    ghost invariant = { λ e. e.nothing ≡ [] };
 }
 
 impl Entry {
@@ -46,8 +56,8 @@ impl Entry {
         Entry {
             superclass: Some(superclass),
             kind: ClassKind::Plain,
-            fields: Vec::new(alloc),
-            statics: Vec::new(alloc),
+            fields: OwnFields::new(alloc),
+            statics: OwnFields::new(alloc),
         }
     }
 
@@ -58,8 +68,8 @@ impl Entry {
         Entry {
             superclass: Some(OBJECT),
             kind,
-            fields: Vec::new(alloc),
-            statics: Vec::new(alloc),
+            fields: OwnFields::new(alloc),
+            statics: OwnFields::new(alloc),
         }
     }
 }
@@ -87,7 +97,15 @@ impl Entries {
     {
         Entries {
             classes: IndexMap::new(alloc),
+            nothing: OwnFields::new(alloc),
         }
+    }
+
+    /// What a number without a class declares.
+    pub(crate) fn nothing(&self) -> &OwnFields
+        ensures { result.now ≡ [] }
+    {
+        &self.nothing
     }
 
     pub(crate) fn allocator(&self) -> Global {
@@ -150,7 +168,8 @@ impl Entries {
         Ok(())
     }
 
-    /// Puts a field, or a static, after the others of the class at this place. After a refusal the classes are what they were.
+    /// Puts a field, or a static, after the others of the class at this place, of which none has its name. After a refusal the
+    /// classes are what they were.
     pub(crate) fn put_field(
         &mut self,
         place: usize,
@@ -158,26 +177,14 @@ impl Entries {
         field_type: FieldType,
         is_static: bool,
     ) -> Result<(), AllocError>
-        requires { place < length self.old }
+        requires there { place < length self.old }
+        requires new { list_any (λ f. bytes_eq f.name name.now) (declared_as self.old (place + 1) is_static) ≡ false }
         ensures { self.new ≡ (if is_ok result then with_declared self.old (Some (place + 1)) (record { name = name.now; type = field_type_view field_type }) is_static else self.old) }
     {
         let entry = &mut self.classes[place];
         if is_static {
-            return push_field(&mut entry.statics, name, field_type);
+            return entry.statics.push(name, field_type);
         }
-        push_field(&mut entry.fields, name, field_type)
+        entry.fields.push(name, field_type)
     }
-}
-
-/// Puts a field after the others. After a refusal the fields are what they were.
-pub(crate) fn push_field(
-    fields: &mut Vec<Field>,
-    name: &[u8],
-    field_type: FieldType,
-) -> Result<(), AllocError>
-    ensures { map field_view fields.new.items ≡ (if is_ok result then map field_view fields.old.items ++ record { name = name.now; type = field_type_view field_type } ∷ [] else map field_view fields.old.items) }
-{
-    let name = Vec::from_slice(*fields.allocator(), name)?;
-    fields.push(Field { name, field_type })?;
-    Ok(())
 }

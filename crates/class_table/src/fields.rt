@@ -8,9 +8,10 @@ ghost use Rattle.base.specs.Options.{option_filter};
 ghost use Rattle.classes.specs.Class.{NumberField, ReferenceField, class_named, class_kind, is_plain};
 ghost use Rattle.class_table.specs.FieldViews.{field_id_view, declared_as, find_as};
 ghost use Rattle.classes.specs.Fields.{signature, type_of_signature, own_statics};
-ghost use Rattle.class_table.specs.Views.{element_view, field_view, field_type_view};
+ghost use Rattle.class_table.specs.Views.{element_view, field_type_view};
 
 use crate::class::{ElementType, Field, FieldType};
+use crate::own_fields::OwnFields;
 use crate::table::ClassTable;
 
 /// A field or static, with the number of the class that declares it, and its place, counted from 0, among the fields, or the
@@ -20,7 +21,7 @@ pub struct FieldId<'t> {
     pub class: usize,
     pub place: usize,
     pub is_static: bool,
-    pub field: &'t Field,
+    pub field: Field<'t>,
 }
 
 /// Whether the bytes are the name and a semicolon.
@@ -104,25 +105,25 @@ impl ClassTable {
     }
 
     /// The fields, or the statics, that a class declares itself.
-    pub(crate) fn declared(&self, class: usize, is_static: bool) -> &[Field]
-        ensures { map field_view result.now ≡ declared_as self.now class is_static }
+    pub(crate) fn declared(&self, class: usize, is_static: bool) -> &OwnFields
+        ensures { result.now ≡ declared_as self.now class is_static }
     {
         match self.entry(class) {
             Some((_, entry)) if is_static => &entry.statics,
             Some((_, entry)) => &entry.fields,
-            None => &[],
+            None => self.classes.nothing(),
         }
     }
 
     /// The statics that a class declares itself.
-    pub fn own_statics(&self, class: usize) -> &[Field]
-        ensures { map (λ f. record { class = class; is_static = true; field = field_view f }) result.now ≡ own_statics self.now class }
+    pub fn own_statics(&self, class: usize) -> &OwnFields
+        ensures { map (λ f. record { class = class; is_static = true; field = f }) result.now ≡ own_statics self.now class }
     {
         self.declared(class, true)
     }
 
     /// The field, or the static, of this name and signature: of the class itself, or else of the nearest superclass that has one.
-    /// The cost goes by the depth of the class and the fields on the way.
+    /// The cost goes by the depth of the class.
     pub fn field(
         &self,
         class: usize,

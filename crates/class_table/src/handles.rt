@@ -1,40 +1,57 @@
 //! Fields and statics by handles: what is found once, and then taken without its name.
 
-ghost use Rattle.std.specs.Prelude.{◌≡◌, ◌&&◌, Some, false, true, map, find, slice_get, IfSome, IsSome, IsTrue};
+ghost use Rattle.std.specs.Prelude.{◌≡◌, ◌&&◌, Some, false, true, find, slice_get, IfSome, IsSome, IsTrue};
 ghost use Rattle.std.specs.Option.{option_map};
 ghost use Rattle.std.specs.Str.{bytes_eq};
-ghost use Rattle.class_table.specs.FieldViews.{field_id_view, find_as, field_of, place_among};
-ghost use Rattle.class_table.specs.Views.{field_view, field_type_view};
+ghost use Rattle.class_table.specs.FieldViews.{declared_as, field_id_view, find_as, field_of, place_among};
+ghost use Rattle.class_table.specs.Views.{field_type_view};
 ghost use Rattle.classes.specs.Fields.{FieldId, signature, layout, own_statics};
 ghost use Rattle.classes.specs.Grown.{IsGrown};
 
-use crate::class::{Field, FieldHandle, FieldType};
+use crate::class::{FieldHandle, FieldType};
 use crate::fields::FieldId as Found;
+use crate::own_fields::OwnFields;
 use crate::table::ClassTable;
 
 impl ClassTable {
-    /// Whether a field has this name and signature.
-    fn has_name_and_signature(&self, field: &Field, name: &[u8], text: &[u8]) -> bool
-        ensures { result ≡ (bytes_eq (field_view field.now).name name.now && bytes_eq (signature self.now (field_view field.now).type) text.now) }
+    /// Whether the field at this place has this signature.
+    fn has_signature_at(&self, fields: &OwnFields, place: usize, text: &[u8]) -> bool
+        ensures { (f : _) → slice_get fields.now place ≡ Some f → result ≡ bytes_eq (signature self.now f.type) text.now }
     {
-        field.name.as_slice() == name && self.has_signature(field.field_type, text)
+        match fields.get(place) {
+            Some(field) => self.has_signature(field.field_type, text),
+            None => false,
+        }
     }
 
-    /// The place of the first of these fields that has this name and signature.
-    fn place_fitting(&self, fields: &[Field], name: &[u8], text: &[u8]) -> Option<usize>
-        ensures { option_map (λ place. slice_get (map field_view fields.now) place) result
-            ≡ option_map (λ f. Some f) (find (λ f. bytes_eq f.name name.now && bytes_eq (signature self.now f.type) text.now) (map field_view fields.now)) }
+    /// The place of the field, or the static, that has this name and signature, among those that the class declares itself.
+    fn place_fitting(
+        &self,
+        class: usize,
+        name: &[u8],
+        text: &[u8],
+        is_static: bool,
+    ) -> Option<usize>
+        ensures { option_map (λ place. slice_get (declared_as self.now class is_static) place) result
+            ≡ option_map (λ f. Some f) (find (λ f. bytes_eq f.name name.now && bytes_eq (signature self.now f.type) text.now) (declared_as self.now class is_static)) }
     {
-        for (place, field) in fields.iter().enumerate() {
-            if self.has_name_and_signature(field, name, text) {
-                return Some(place);
+        // That no two of a class have one name is told here.
+        let _ = &self.classes;
+        let own = self.declared(class, is_static);
+        match own.place_of(name) {
+            Some(place) => {
+                if self.has_signature_at(own, place, text) {
+                    Some(place)
+                } else {
+                    None
+                }
             }
+            None => None,
         }
-        None
     }
 
     /// The handle of the field, or the static, of this name and signature: of the class itself, or else of the nearest superclass
-    /// that has one. The cost goes by the depth of the class and the fields on the way.
+    /// that has one. The cost goes by the depth of the class.
     pub fn find_handle(
         &self,
         class: usize,
@@ -46,8 +63,7 @@ impl ClassTable {
     {
         let mut declarer = class;
         for _ in 0..self.len() {
-            let own = self.declared(declarer, is_static);
-            if let Some(place) = self.place_fitting(own, name, text) {
+            if let Some(place) = self.place_fitting(declarer, name, text, is_static) {
                 return Some(FieldHandle {
                     class: declarer,
                     place,
@@ -68,15 +84,14 @@ impl ClassTable {
         ensures class { IfSome result (λ f. f.class ≡ handle.class) }
     {
         let own = self.declared(handle.class, handle.is_static);
-        if handle.place < own.len() {
-            Some(Found {
+        match own.get(handle.place) {
+            Some(field) => Some(Found {
                 class: handle.class,
                 place: handle.place,
                 is_static: handle.is_static,
-                field: &own[handle.place],
-            })
-        } else {
-            None
+                field,
+            }),
+            None => None,
         }
     }
 
@@ -121,7 +136,7 @@ impl ClassTable {
         ensures { IsTrue result → (g : FieldId) × (field_of self.now handle ≡ Some g) × (g.class ≡ handle.class) × (g.field.name ≡ (field_id_view field.entry).field.name) }
     {
         match self.field_at(handle) {
-            Some(there) => there.field.name.as_slice() == field.field.name.as_slice(),
+            Some(there) => there.field.name == field.field.name,
             None => false,
         }
     }

@@ -40,12 +40,15 @@ impl ClassTable {
             let own = self.declared(declarer, false);
             let start = count - own.len();
             if place >= start {
-                return Some(FieldId {
-                    class: declarer,
-                    place: place - start,
-                    is_static: false,
-                    field: &own[place - start],
-                });
+                return match own.get(place - start) {
+                    Some(field) => Some(FieldId {
+                        class: declarer,
+                        place: place - start,
+                        is_static: false,
+                        field,
+                    }),
+                    None => None,
+                };
             }
             count = start;
             match self.superclass(declarer) {

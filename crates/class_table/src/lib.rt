@@ -9,4 +9,5 @@ pub mod fault;
 pub mod fields;
 mod handles;
 mod layout;
+pub mod own_fields;
 pub mod table;

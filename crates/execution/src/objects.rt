@@ -2,7 +2,7 @@
 
 ghost use Rattle.std.specs.Prelude.{◌≡◌, ◌+◌, ◌^◌, ◌<◌, ◌≤◌, [], ◌∷◌, ◌++◌, length, map, replicate, take, IfOk, OnOk, IsTrue};
 ghost use Rattle.std.specs.List.{list_all};
-ghost use Rattle.class_table.specs.Views.{field_type_view, field_view};
+ghost use Rattle.class_table.specs.Views.{field_type_view};
 ghost use Rattle.classes.specs.Fields.{layout};
 ghost use Rattle.heap.specs.Heap.{IsLaidOut, left_of};
 ghost use Rattle.jni_calls.specs.HeapAgrees.{AreMade};
@@ -16,7 +16,8 @@ ghost use Rattle.world.specs.CallArguments.{is_argument};
 ghost use Rattle.world.specs.Views.{object_value_view};
 
 use class_table::built_ins::{CLASS, OUT_OF_MEMORY_ERROR};
-use class_table::class::{Field, FieldType};
+use class_table::class::FieldType;
+use class_table::own_fields::OwnFields;
 use class_table::table::ClassTable;
 use heap::{Addr, Heap, MOST_CELLS, Value};
 use jni_calls::statics::StaticReference;
@@ -129,11 +130,12 @@ fn make_objects(heap: &mut Heap, loaded: &mut Vec<Addr>, world: &World) -> Resul
 }
 
 /// What new fields hold.
-fn initial_values(alloc: Global, fields: &[Field]) -> Result<Vec<ObjectValue>, AllocError>
-    ensures { IfOk result (λ values. map object_value_view values.items ≡ map (λ f. initial (field_view f).type) fields.now) }
+fn initial_values(alloc: Global, fields: &OwnFields) -> Result<Vec<ObjectValue>, AllocError>
+    ensures { IfOk result (λ values. map object_value_view values.items ≡ map (λ f. initial f.type) fields.now) }
 {
     let mut values = Vec::new(alloc);
-    for field in fields {
+    for place in 0..fields.len() {
+        let field = fields.get(place).unwrap();
         values.push(initial(field.field_type))?;
     }
     Ok(values)

@@ -1,14 +1,15 @@
 //! The objects that are there when a run begins.
 
 ghost use Rattle.std.specs.Prelude.{◌≡◌, ◌≤◌, ◌+◌, [], IfOk, OnOk, length, map, take};
-ghost use Rattle.class_table.specs.Views.{field_type_view, field_view};
+ghost use Rattle.class_table.specs.Views.{field_type_view};
 ghost use Rattle.classes.specs.Fields.{layout};
 ghost use Rattle.source.specs.World.{initial, loaded_objects};
 ghost use Rattle.world.specs.Views.{object_value_view};
 
 use crate::store::Store;
 use class_table::built_ins::{CLASS, OUT_OF_MEMORY_ERROR};
-use class_table::class::{Field, FieldType};
+use class_table::class::FieldType;
+use class_table::own_fields::OwnFields;
 use class_table::table::ClassTable;
 use std::alloc::{AllocError, Global};
 use world::{ObjectValue, World};
@@ -60,11 +61,12 @@ fn make_objects(alloc: Global, store: &mut Store, world: &World) -> Result<(), A
 }
 
 /// What new fields hold.
-fn initial_values(alloc: Global, fields: &[Field]) -> Result<Vec<ObjectValue>, AllocError>
-    ensures { IfOk result (λ values. map object_value_view values.items ≡ map (λ f. initial (field_view f).type) fields.now) }
+fn initial_values(alloc: Global, fields: &OwnFields) -> Result<Vec<ObjectValue>, AllocError>
+    ensures { IfOk result (λ values. map object_value_view values.items ≡ map (λ f. initial f.type) fields.now) }
 {
     let mut values = Vec::new(alloc);
-    for field in fields {
+    for place in 0..fields.len() {
+        let field = fields.get(place).unwrap();
         values.push(initial(field.field_type))?;
     }
     Ok(values)

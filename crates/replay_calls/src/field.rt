@@ -8,7 +8,7 @@ ghost use Rattle.classes.specs.Grown.{IsGrown};
 ghost use Rattle.source.specs.Heap.{place_in};
 ghost use Rattle.replay_calls.specs.Actuals.{given_field};
 
-use class_table::class::{ElementType, FieldType};
+use class_table::class::{ElementType, FieldHandle, FieldType};
 use class_table::fields::FieldId;
 use class_table::table::ClassTable;
 
@@ -47,7 +47,7 @@ fn name_of<'a>(field: Option<FieldId<'a>>) -> &'a [u8]
     ensures { result.now ≡ (given_field field.entry).field.name }
 {
     match field {
-        Some(field) => &field.field.name,
+        Some(field) => field.field.name,
         None => &[],
     }
 }
@@ -56,7 +56,7 @@ fn name_of<'a>(field: Option<FieldId<'a>>) -> &'a [u8]
 fn is_field(field: Option<FieldId<'_>>, other: FieldId<'_>) -> bool
     ensures { result ≡ same_field (given_field field.entry) (field_id_view other.entry) }
 {
-    declaring(field) == other.class && name_of(field) == other.field.name.as_slice()
+    declaring(field) == other.class && name_of(field) == other.field.name
 }
 
 /// The place of the field among those of the objects of a class, and 0 where it isn't among them. A field that was found in these
@@ -125,14 +125,13 @@ fn searched_static_place(classes: &ClassTable, field: Option<FieldId<'_>>) -> us
     ensures { result ≡ place_in (given_field field.entry) (own_statics classes.now (given_field field.entry).class) }
 {
     let class = declaring(field);
-    let own = classes.own_statics(class);
-    for place in 0..own.len() {
-        let other = FieldId {
+    for place in 0..classes.own_statics(class).len() {
+        let handle = FieldHandle {
             class,
             place,
             is_static: true,
-            field: &own[place],
         };
+        let other = classes.field_at(handle).unwrap();
         if is_field(field, other) {
             return place;
         }

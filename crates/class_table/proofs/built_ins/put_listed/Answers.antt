@@ -3,11 +3,14 @@ use Rattle.classes.specs.BuiltIns.{number_array_classes}
 use Rattle.class_table.specs.BuiltInList.{listed_class, array_classes}
 use Rattle.class_table.specs.Tables.{names_differ}
 use Rattle.class_table.proofs.DistinctNames.{differ-front}
-use Rattle.class_table.proofs.KeptTables.{all-differ}
+use Rattle.class_table.proofs.KeptTables.{all-differ, all-once}
 use Rattle.class_table.proofs.built_ins.put_listed.Goals as goal
 
-pub put_built_ins-requires : goal.put_built_ins-requires
-put_built_ins-requires c =
+pub put_built_ins-requires-clause-once : goal.put_built_ins-requires-clause-once
+put_built_ins-requires-clause-once c = all-once c.args.built_ins.now c.requires.list
+
+pub put_built_ins-requires-clause-differ : goal.put_built_ins-requires-clause-differ
+put_built_ins-requires-clause-differ c =
     let P = map listed_class c.args.built_ins.now in
     ap (λ T. names_differ (T ++ P)) c.requires.empty
     ∙ differ-front P number_array_classes (differ-front (P ++ number_array_classes) (array_classes P) (all-differ c.args.built_ins.now c.requires.list))

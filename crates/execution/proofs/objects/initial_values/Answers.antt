@@ -1,21 +1,23 @@
-use Rattle.std.proofs.Common.{length, map, refl, ap, ◌∙◌}
-use Rattle.std.proofs.lemmas.Option.{slice_get_read}
+use Rattle.std.proofs.Common.{◌≡◌, ◌≤◌, length, map, sym, ap, ◌∙◌, arith}
+use Rattle.std.specs.Prelude.{slice_get, Some}
+use Rattle.std.specs.Option.{option_map}
+use Rattle.classes.specs.Class.{Field}
 use Rattle.class_table.specs.Views.{field_view}
-use Rattle.class_table.specs.declared.class.Field.{Field}
 use Rattle.source.specs.World.{initial}
 use Rattle.world.specs.Views.{object_value_view}
 use Rattle.execution.proofs.Lists.{mapped_more, mapped_all}
 use Rattle.execution.proofs.objects.initial_values.Goals as goal
 
-pub loop-field-preserved : goal.loop-field-preserved
-loop-field-preserved c =
+pub loop-place-preserved : goal.loop-place-preserved
+loop-place-preserved c =
     let fields = c.args.fields.now in
-    let i = c.loop-field.field-index in
-    let x = c.field-item.result in
-    let at = slice_get_read fields (length fields) i x refl c.loop-field-test.true c.field-item.is in
+    let field = c.unwrap-field.result in
+    let at : slice_get fields c.loop-place.place ≡ Some (field_view field) = sym c.get.ensures ∙ ap (option_map field_view) c.unwrap-field.ensures in
     ap (map object_value_view) c.in_ok-push.ensures.items
-    ∙ mapped_more object_value_view (λ (f : Field). initial (field_view f).type) c.loop-field.values.items c.initial.result fields i x at c.initial.ensures c.loop-field.invariant
+    ∙ mapped_more object_value_view (λ (f : Field). initial f.type) c.loop-place.values.items c.initial.result fields c.loop-place.place (field_view field) at c.initial.ensures c.loop-place.invariant
 
 pub returns : goal.returns
 returns c =
-    mapped_all (λ (f : Field). initial (field_view f).type) (map object_value_view c.loop-field.values.items) c.args.fields.now c.loop-field.field-index c.loop-field-test.false c.loop-field.invariant
+    let fields = c.args.fields.now in
+    let past : length fields ≤ c.loop-place.place = omega (arith, c.len-place-end.ensures, c.loop-place-test.false) in
+    mapped_all (λ (f : Field). initial f.type) (map object_value_view c.loop-place.values.items) fields c.loop-place.place past c.loop-place.invariant

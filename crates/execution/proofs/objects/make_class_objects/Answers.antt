@@ -2,10 +2,8 @@ use Rattle.std.proofs.Common.{◌≡◌, ℕ, ◌+◌, true, List, [], ◌∷◌
 use Rattle.std.specs.List.{list_all}
 use Rattle.std.proofs.lemmas.List.{length-map}
 use Rattle.class_table.proofs.FoundFields.{map-both}
-use Rattle.class_table.specs.Views.{field_view}
-use Rattle.class_table.specs.declared.class.Field.{Field}
 use Rattle.classes.specs.BuiltIns.{class_class}
-use Rattle.classes.specs.Class.{Classes}
+use Rattle.classes.specs.Class.{Field, Classes}
 use Rattle.classes.specs.Fields.{FieldId, own_statics}
 use Rattle.source.specs.Heap.{Heap}
 use Rattle.source.specs.Object.{ObjectValue, Object}
@@ -19,9 +17,9 @@ use Rattle.execution.proofs.objects.make_class_objects.Goals.{After-deref}
 use Rattle.execution.proofs.objects.make_class_objects.Goals as goal
 
 -- the values of a class object
-statics_new : (T : Classes) (c : ℕ) (fields : List Field) → map (λ f. let g : FieldId = record { class = c; is_static = true; field = field_view f } in g) fields ≡ own_statics T c → map (λ (f : Field). initial (field_view f).type) fields ≡ (class_object T c).values
+statics_new : (T : Classes) (c : ℕ) (fields : List Field) → map (λ f. let g : FieldId = record { class = c; is_static = true; field = f } in g) fields ≡ own_statics T c → map (λ (f : Field). initial f.type) fields ≡ (class_object T c).values
 statics_new T c fields e =
-    map-both (λ f. let g : FieldId = record { class = c; is_static = true; field = field_view f } in g) (λ (g : FieldId). initial g.field.type) fields
+    map-both (λ f. let g : FieldId = record { class = c; is_static = true; field = f } in g) (λ (g : FieldId). initial g.field.type) fields
     ∙ ap (map (λ (g : FieldId). initial g.field.type)) e
 
 values_are : (c : After-deref) → map object_value_view c.deref.result.now ≡ (class_object c.args.world.now.classes (c.loop-place.place + 1)).values

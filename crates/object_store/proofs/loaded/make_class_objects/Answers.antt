@@ -1,10 +1,8 @@
 use Rattle.std.proofs.Common.{◌≡◌, ℕ, ◌+◌, List, [], ◌∷◌, ◌++◌, length, map, take, sym, ap, ◌∙◌, arith, true}
 use Rattle.std.proofs.lemmas.List.{length-map}
 use Rattle.class_table.proofs.FoundFields.{map-both}
-use Rattle.class_table.specs.Views.{field_view}
-use Rattle.class_table.specs.declared.class.Field.{Field}
 use Rattle.classes.specs.BuiltIns.{class_class}
-use Rattle.classes.specs.Class.{Classes}
+use Rattle.classes.specs.Class.{Field, Classes}
 use Rattle.classes.specs.Fields.{FieldId, own_statics}
 use Rattle.source.specs.Heap.{Heap}
 use Rattle.source.specs.Object.{ObjectValue, Object}
@@ -16,9 +14,9 @@ use Rattle.object_store.proofs.LoadedLemmas.{loaded_short}
 use Rattle.object_store.proofs.loaded.make_class_objects.Goals as goal
 
 -- the values of a class object
-statics_new : (T : Classes) (c : ℕ) (fields : List Field) → map (λ f. let g : FieldId = record { class = c; is_static = true; field = field_view f } in g) fields ≡ own_statics T c → map (λ (f : Field). initial (field_view f).type) fields ≡ (class_object T c).values
+statics_new : (T : Classes) (c : ℕ) (fields : List Field) → map (λ f. let g : FieldId = record { class = c; is_static = true; field = f } in g) fields ≡ own_statics T c → map (λ (f : Field). initial f.type) fields ≡ (class_object T c).values
 statics_new T c fields e =
-    map-both (λ f. let g : FieldId = record { class = c; is_static = true; field = field_view f } in g) (λ (g : FieldId). initial g.field.type) fields
+    map-both (λ f. let g : FieldId = record { class = c; is_static = true; field = f } in g) (λ (g : FieldId). initial g.field.type) fields
     ∙ ap (map (λ (g : FieldId). initial g.field.type)) e
 
 pub add-requires : goal.add-requires

@@ -1,11 +1,10 @@
-use Rattle.std.proofs.Common.{◌≡◌, ℕ, true, List, length, map, Some, refl, sym, ap, ◌∙◌, arith}
+use Rattle.std.proofs.Common.{◌≡◌, ℕ, zero, suc, ◌<◌, true, List, [], ◌∷◌, length, map, Option, Some, None, refl, sym, ap, ◌∙◌, arith}
 use Rattle.std.specs.Prelude.{slice_get}
-use Rattle.std.specs.Option.{option_map}
+use Rattle.std.specs.Option.{IsSome, option_map}
 use Rattle.std.proofs.lemmas.List.{length-map}
-use Rattle.std.proofs.lemmas.Option.{slice_get_read, slice_get-map}
-use Rattle.class_table.specs.declared.class.Field.{Field}
-use Rattle.class_table.specs.Views.{field_view}
-use Rattle.classes.specs.Class.{Classes}
+use Rattle.class_table.specs.FieldViews.{field_id_view}
+use Rattle.class_table.specs.declared.fields.FieldId.{FieldId as IdInMemory}
+use Rattle.classes.specs.Class.{Field, Classes}
 use Rattle.classes.specs.Fields.{FieldId, own_statics, same_field}
 use Rattle.replay_calls.specs.Actuals.{given_field}
 use Rattle.replay_calls.proofs.FieldLemmas.{none_more, place_found, place_missing}
@@ -13,37 +12,40 @@ use Rattle.replay_calls.proofs.field.searched_static_place.Goals as goal
 
 -- a static of the class of this number
 abbrev as_static : ℕ → Field → FieldId
-as_static class x = record { class = class; is_static = true; field = field_view x }
+as_static class x = record { class = class; is_static = true; field = x }
 
--- the static at a place
-static_at : (classes : Classes) (class n : ℕ) (own : List Field) (place : ℕ) (x : Field) → n ≡ class → map (as_static n) own ≡ own_statics classes n → slice_get own place ≡ Some x → slice_get (own_statics classes class) place ≡ Some (as_static n x)
-static_at classes class n own place x same is here =
-    ap (λ m. slice_get (own_statics classes m) place) (sym same)
-    ∙ ap (λ (l : List FieldId). slice_get l place) (sym is)
-    ∙ slice_get-map (as_static n) own place
-    ∙ ap (option_map (as_static n)) here
+-- as many as the class declares
+counted : (classes : Classes) (class n : ℕ) (own : List Field) → n ≡ class → map (as_static n) own ≡ own_statics classes n → length own ≡ length (own_statics classes class)
+counted classes class n own same is = sym (length-map own (as_static n)) ∙ ap (λ (l : List FieldId). length l) is ∙ ap (λ m. length (own_statics classes m)) same
+
+-- what is looked up within a list is there
+there : (o : Option IdInMemory) (xs : List FieldId) (i : ℕ) → option_map field_id_view o ≡ slice_get xs i → i < length xs → IsSome o
+there (Some a) xs i e h = refl
+there None [] i e h = absurd (omega arith)
+there None (x ∷ xs) zero e h = absurd (cc)
+there None (x ∷ xs) (suc i) e h = there None xs i e (omega arith)
+
+pub unwrap-other-requires : goal.unwrap-other-requires
+unwrap-other-requires c =
+    let own = counted c.args.classes.now c.declaring-class.result c.declaring-class.result c.own_statics.result.now refl c.own_statics.ensures in
+    there c.field_at.result (own_statics c.args.classes.now c.declaring-class.result) c.loop-place.place c.field_at.ensures.view (omega (arith, own, c.len-place-end.ensures, c.loop-place-test.true))
 
 pub returns-then-is_field : goal.returns-then-is_field
 returns-then-is_field c =
-    let f = given_field c.args.field in
-    let own = c.own_statics-own.result.now in
-    let x = c.index-own-place.result in
-    let at = static_at c.args.classes.now f.class c.declaring-class.result own c.loop-place.place x c.declaring-class.ensures c.own_statics-own.ensures (slice_get_read own (length own) c.loop-place.place x refl c.loop-place-test.true c.index-own-place.is) in
-    place_found (same_field f) (own_statics c.args.classes.now f.class) c.loop-place.place (as_static c.declaring-class.result x) at (sym c.is_field.ensures ∙ c.if-is_field.true) c.loop-place.invariant
+    let fields = own_statics c.args.classes.now c.declaring-class.result in
+    let other = c.unwrap-other.result in
+    let at : slice_get fields c.loop-place.place ≡ Some (field_id_view other) = sym c.field_at.ensures.view ∙ ap (option_map field_id_view) c.unwrap-other.ensures in
+    place_found (same_field (given_field c.args.field)) (own_statics c.args.classes.now (given_field c.args.field).class) c.loop-place.place (field_id_view other) (ap (λ n. slice_get (own_statics c.args.classes.now n) c.loop-place.place) (sym c.declaring-class.ensures) ∙ at) (sym c.is_field.ensures ∙ c.if-is_field.true) c.loop-place.invariant
 
 pub loop-place-preserved : goal.loop-place-preserved
 loop-place-preserved c =
-    let f = given_field c.args.field in
-    let own = c.own_statics-own.result.now in
-    let x = c.index-own-place.result in
-    let at = static_at c.args.classes.now f.class c.declaring-class.result own c.loop-place.place x c.declaring-class.ensures c.own_statics-own.ensures (slice_get_read own (length own) c.loop-place.place x refl c.loop-place-test.true c.index-own-place.is) in
-    none_more (same_field f) (own_statics c.args.classes.now f.class) c.loop-place.place (as_static c.declaring-class.result x) at (sym c.is_field.ensures ∙ c.if-is_field.false) c.loop-place.invariant
+    let fields = own_statics c.args.classes.now c.declaring-class.result in
+    let other = c.unwrap-other.result in
+    let at : slice_get fields c.loop-place.place ≡ Some (field_id_view other) = sym c.field_at.ensures.view ∙ ap (option_map field_id_view) c.unwrap-other.ensures in
+    none_more (same_field (given_field c.args.field)) (own_statics c.args.classes.now (given_field c.args.field).class) c.loop-place.place (field_id_view other) (ap (λ n. slice_get (own_statics c.args.classes.now n) c.loop-place.place) (sym c.declaring-class.ensures) ∙ at) (sym c.is_field.ensures ∙ c.if-is_field.false) c.loop-place.invariant
 
 pub returns : goal.returns
 returns c =
     let f = given_field c.args.field in
-    let own = c.own_statics-own.result.now in
-    let n = c.declaring-class.result in
-    let long : length (own_statics c.args.classes.now f.class) ≡ length own =
-    ap (λ m. length (own_statics c.args.classes.now m)) (sym c.declaring-class.ensures) ∙ ap (λ (l : List FieldId). length l) (sym c.own_statics-own.ensures) ∙ length-map own (as_static n) in
-    place_missing (same_field f) (own_statics c.args.classes.now f.class) (λ i y low there. c.loop-place.invariant i y (omega (arith, low, long, c.loop-place-test.false)) there)
+    let own = counted c.args.classes.now f.class c.declaring-class.result c.own_statics.result.now c.declaring-class.ensures c.own_statics.ensures in
+    place_missing (same_field f) (own_statics c.args.classes.now f.class) (λ i y low within. c.loop-place.invariant i y (omega (arith, low, own, c.len-place-end.ensures, c.loop-place-test.false)) within)

@@ -1,10 +1,8 @@
 use Rattle.std.proofs.Common.{◌≡◌, ◌+◌, ◌<◌, true, map, length, ap, ◌∙◌, arith, sum_by, take}
 use Rattle.std.proofs.lemmas.List.{length-map}
 use Rattle.classes.specs.BuiltIns.{built_ins, out_of_memory_error}
-use Rattle.classes.specs.Class.{Classes}
+use Rattle.classes.specs.Class.{Field, Classes}
 use Rattle.classes.specs.Fields.{FieldId, own_statics, layout}
-use Rattle.class_table.specs.declared.class.Field.{Field as FieldInMemory}
-use Rattle.class_table.specs.Views.{field_view}
 use Rattle.world_text.proofs.WorldCells.{class_cells, error_fields, all_built_ins, few_cells, one_class_more}
 use Rattle.world_text.proofs.text.least_used.Goals as goal
 
@@ -12,19 +10,22 @@ pub loop-place-init : goal.loop-place-init
 loop-place-init c = omega (arith, c.layout_len-used.ensures.len, ap (λ (T : Classes). length (layout T out_of_memory_error)) c.requires, error_fields)
 
 -- the statics of the class of this place
-statics : (c : goal.After-own_statics) → sum_by class_cells (take (c.loop-place.place + 1) built_ins) ≡ sum_by class_cells (take c.loop-place.place built_ins) + (3 + length c.own_statics.result.now)
+statics : (c : goal.After-len) → sum_by class_cells (take (c.loop-place.place + 1) built_ins) ≡ sum_by class_cells (take c.loop-place.place built_ins) + (3 + length c.own_statics.result.now)
 statics c =
     let place = c.loop-place.place in
-    let view = λ (f : FieldInMemory). let g : FieldId = record { class = place + 1; is_static = true; field = field_view f } in g in
+    let view = λ (f : Field). let g : FieldId = record { class = place + 1; is_static = true; field = f } in g in
     let fields = c.own_statics.ensures ∙ ap (λ (T : Classes). own_statics T (place + 1)) c.requires in
     let within : place < length built_ins = omega (arith, c.loop-place-test.true, c.len-place-end.ensures.len, ap (λ (T : Classes). length T) c.requires) in
     one_class_more place (map view c.own_statics.result.now) within fields ∙ ap (λ n. sum_by class_cells (take place built_ins) + (3 + n)) (length-map c.own_statics.result.now view)
 
+pub overflow_add-used-in-loop-place : goal.overflow_add-used-in-loop-place
+overflow_add-used-in-loop-place c = omega (arith, c.len.ensures, statics c, few_cells (c.loop-place.place + 1))
+
 pub overflow_add-used-in-loop-place-2 : goal.overflow_add-used-in-loop-place-2
-overflow_add-used-in-loop-place-2 c = omega (arith, c.loop-place.invariant, statics c, few_cells (c.loop-place.place + 1))
+overflow_add-used-in-loop-place-2 c = omega (arith, c.len.ensures, c.loop-place.invariant, statics c, few_cells (c.loop-place.place + 1))
 
 pub loop-place-preserved : goal.loop-place-preserved
-loop-place-preserved c = omega (arith, c.loop-place.invariant, statics c)
+loop-place-preserved c = omega (arith, c.len.ensures, c.loop-place.invariant, statics c)
 
 pub returns : goal.returns
 returns c =

@@ -7,8 +7,17 @@ use Rattle.class_table.specs.Refusals.{first_broken}
 use Rattle.class_table.specs.Tables.{IsTable}
 use Rattle.class_table.specs.Views.{field_type_view}
 use Rattle.class_table.proofs.ChangedClasses.{after_either}
-use Rattle.class_table.proofs.KeptTables.{declared-table, grown-declared, named-low}
+use Rattle.class_table.proofs.KeptTables.{is_absent, declared-table, grown-declared, named-low}
 use Rattle.class_table.proofs.table.ClassTable.add_field.Goals as goal
+
+pub put_field-requires-clause-new : goal.put_field-requires-clause-new
+put_field-requires-clause-new c =
+    let T = c.self.inside.classes in
+    let low : 0 < c.in-Some.class = named-low _ c.in-Some.class (sym c.in-Some.ensures) in
+    let place : (c.in-Some.class - 1) + 1 ≡ c.in-Some.class = omega arith in
+    let broken = λ (t : Classes) (o : Option ℕ). first_broken (λ rule. field_breaks rule t o c.args.name.now c.args.signature.now) in
+    let right = ap (λ t. broken t (Some ((c.in-Some.class - 1) + 1))) c.self.view_is ∙ ap (λ n. broken c.args.self.now (Some n)) place ∙ ap (broken c.args.self.now) (sym c.in-Some.is) ∙ c.in_ok-field_type.ensures.0 in
+    is_absent T ((c.in-Some.class - 1) + 1) c.args.name.now c.args.signature.now c.args.is_static right
 
 pub invariant_of-self : goal.invariant_of-self
 invariant_of-self c =

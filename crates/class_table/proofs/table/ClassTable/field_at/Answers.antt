@@ -1,12 +1,15 @@
-use Rattle.std.proofs.Common.{◌≤◌, length, arith}
-use Rattle.class_table.proofs.HandledFields.{field_there, no_field_there}
+use Rattle.std.proofs.Common.{◌∙◌, ap, sym, slice_get}
+use Rattle.std.specs.Option.{option_map}
+use Rattle.class_table.proofs.FoundFields.{identified}
+use Rattle.class_table.proofs.HandledFields.{of_declared}
 use Rattle.class_table.proofs.table.ClassTable.field_at.Goals as goal
 
-pub returns-then-handle-own-clause-view : goal.returns-then-handle-own-clause-view
-returns-then-handle-own-clause-view c =
-    field_there c.args.self.now c.args.handle c.declared-own.result.now c.index-own-handle.result c.declared-own.ensures c.if-handle-own.true c.index-own-handle.is
+pub returns-in-Some-clause-view : goal.returns-in-Some-clause-view
+returns-in-Some-clause-view c =
+    let h = c.args.handle in
+    ap (option_map (identified h.is_static h.class)) (c.in-Some.ensures ∙ ap (λ fs. slice_get fs h.place) c.declared-own.ensures) ∙ sym (of_declared c.args.self.now h)
 
-pub returns-else-handle-own-clause-view : goal.returns-else-handle-own-clause-view
-returns-else-handle-own-clause-view c =
-    let past : length c.declared-own.result.now ≤ c.args.handle.place = omega arith in
-    no_field_there c.args.self.now c.args.handle c.declared-own.result.now c.declared-own.ensures past
+pub returns-in-None-clause-view : goal.returns-in-None-clause-view
+returns-in-None-clause-view c =
+    let h = c.args.handle in
+    ap (option_map (identified h.is_static h.class)) (c.in-None.ensures ∙ ap (λ fs. slice_get fs h.place) c.declared-own.ensures) ∙ sym (of_declared c.args.self.now h)
