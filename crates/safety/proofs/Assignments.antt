@@ -14,7 +14,7 @@ use Rattle.syntax.specs.Tree.{ResultType, Expr, Argument, Call, RightSide, FromE
 use Rattle.jni.specs.Access.{Access}
 use Rattle.jni.specs.JniFunction.{JniFunction, GetBuffer, prototype}
 use Rattle.jni.specs.Prototype.{ResultKind, NewLocal, NewGlobal, GivesFlag, GivesInt, GivesField, GivesNothing, GivesBuffer}
-use Rattle.sorts.specs.Sorts.{Sort, Word, Jint, Flag, Ref, Global, Buffer, sort_in, sort_of, is_ref, is_field, is_null, name_sort}
+use Rattle.sorts.specs.Sorts.{Sort, Word, Jint, Flag, Ref, Global, Buffer, sort_in, sort_of, is_buffer_for, is_ref, is_field, is_null, name_sort}
 use Rattle.sorts.specs.Sorts as sort
 use Rattle.sorts.specs.SortRules as rules
 use Rattle.sorts.specs.SortRules.{result_fits, call_fits, value_sets}
@@ -308,15 +308,15 @@ module _ (p : Point) (taken : List Identifier) (returns : ResultType) (known : I
   end_known = known_one later taken after_known x (set_to (FromCall c)) set_kin
 
   module _ (now : k end) where
-    buffer : (access : Access) (t : ElementType) (writable : Bool) → (prototype call.function).result ≡ GivesBuffer access → sort_in p.names x ≡ Some (Buffer t writable)
-        → (state_of later.regions x ≡ Some (BufferIn Free)) × k (at later (with_changed later.regions x (λ old. BufferIn (buffer_from get))))
-    buffer access t writable result e =
+    buffer : (access : Access) (t : ElementType) (writable : Bool) → (prototype call.function).result ≡ GivesBuffer access → sort_in p.names x ≡ Some (Buffer t writable) → is_buffer_for access (Some (Buffer t writable)) ≡ true
+        → (state_of later.regions x ≡ Some (BufferIn Free)) × (is_buffer_for access (Some (Buffer t writable)) ≡ true) × k (at later (with_changed later.regions x (λ old. BufferIn (buffer_from get))))
+    buffer access t writable result e for_it =
         let there = known.stated.buffer x t writable e in
         let is : function_called stmt ≡ Some (GetBuffer access, c.arguments) = call.called ∙ ap (λ (f : JniFunction). Some (f, c.arguments)) (is_a_get call.function access result) in
         let free = free_before (function_called stmt) access c.arguments (state_of p.regions x) there.0 is there.1 (unbroken p.regions stmt HeldBuffer obeys) in
         let state : state_of later.regions x ≡ Some (BufferIn Free) =
         ap (λ (r : RegionState). state_of r x) (get_keeps p.regions (function_called stmt) access c.arguments is) ∙ there.1 ∙ ap (λ (b : BufferState). Some (BufferIn b)) free in
-        (state, subst (λ (r : RegionState). k (at later r)) (changed_same later.regions x (set_to (FromCall c)) (λ old. BufferIn (buffer_from get)) (BufferIn Free) after_known.once state refl) now)
+        (state, for_it, subst (λ (r : RegionState). k (at later r)) (changed_same later.regions x (set_to (FromCall c)) (λ old. BufferIn (buffer_from get)) (BufferIn Free) after_known.once state refl) now)
 
     assigned : (o : Option Sort) → sort_in p.names x ≡ o → (result : ResultKind) → (prototype call.function).result ≡ result → result_fits o result ≡ true → AssignsResult later o x result get k
     assigned o e GivesInt is fit = subst (λ (o : Option Sort). AssignsResult later o x GivesInt get k) (sym (is_a_jint o fit)) (stateless_same later taken after_known x (set_to (FromCall c)) k Jint (e ∙ is_a_jint o fit) (λ h. h) now)
@@ -328,7 +328,7 @@ module _ (p : Point) (taken : List Identifier) (returns : ResultType) (known : I
         subst (λ (o : Option Sort). AssignsResult later o x NewLocal get k) (sym ref) (may_set p taken known line x (FromCall c) obeys (e ∙ ref), reference_set later taken after_known x (FromCall c) k (e ∙ ref) now)
     assigned o e (GivesBuffer access) is fit =
         let of = buffer_for access o fit in
-        subst (λ (o : Option Sort). AssignsResult later o x (GivesBuffer access) get k) (sym of.2) (buffer access of.0 of.1 is (e ∙ of.2))
+        subst (λ (o : Option Sort). AssignsResult later o x (GivesBuffer access) get k) (sym of.2) (buffer access of.0 of.1 is (e ∙ of.2) (ap (is_buffer_for access) (sym of.2) ∙ fit))
     assigned o e GivesNothing is fit = absurd (cc)
 
 pub assign_call : (line : ℕ) (x : Identifier) (c : Call) → Gives (tree.Assign line x (FromCall c))

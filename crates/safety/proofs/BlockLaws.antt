@@ -41,7 +41,7 @@ result_declared_more k l h p ScalarKind x GivesInt get r = (r.0, h _ r.1)
 result_declared_more k l h p ScalarKind x GivesFlag get r = (r.0, h _ r.1)
 result_declared_more k l h p ReferenceKind x NewLocal get r = (r.0, h _ r.1)
 result_declared_more k l h p FieldKind x GivesField get r = (r.0, h _ r.1)
-result_declared_more k l h p (BufferKind t) x (GivesBuffer access) get r = (r.0, (r.1.0, h _ r.1.1))
+result_declared_more k l h p (BufferKind t) x (GivesBuffer access) get r = (r.0, (r.1.0, r.1.1, h _ r.1.2))
 result_declared_more k l h p kind x result get r = absurd r
 
 result_assigned_more : (k l : Point → Type 0) → k ⇒ l → (p : Point) (s : Option Sort) (x : Identifier) (result : ResultKind) (get : Option (Access × Option Identifier)) → AssignsResult p s x result get k → AssignsResult p s x result get l
@@ -50,7 +50,7 @@ result_assigned_more k l h p (Some sort.Flag) x GivesFlag get r = h p r
 result_assigned_more k l h p (Some sort.Ref) x NewLocal get r = (r.0, h _ r.1)
 result_assigned_more k l h p (Some sort.Global) x NewGlobal get r = h p r
 result_assigned_more k l h p (Some sort.FieldId) x GivesField get r = h p r
-result_assigned_more k l h p (Some (sort.Buffer t writable)) x (GivesBuffer access) get r = (r.0, h _ r.1)
+result_assigned_more k l h p (Some (sort.Buffer t writable)) x (GivesBuffer access) get r = (r.0, r.1, h _ r.2)
 result_assigned_more k l h p s x result get r = absurd r
 
 null_more : (k l : Point → Type 0) → k ⇒ l → (p : Point) (target : Target) → SetsNullThere p target k → SetsNullThere p target l

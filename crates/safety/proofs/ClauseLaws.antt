@@ -189,7 +189,7 @@ module _ (ss : Statics) (vs : Variables) (frames : List Frame) (p : Point) {own 
   other_alive x sort.Ref o g away h = absurd (away refl)
   other_alive x sort.Global o g away (none, h) = subst (Serves x) (sym none) (tt, tt)
   other_alive x sort.FieldId o g away (f, h) = subst (Serves x) (sym h) (tt, tt)
-  other_alive x (sort.Buffer t w) o g away (u, b, h) = subst (Serves x) (sym h) (tt, tt)
+  other_alive x (sort.Buffer t w) o g away (b, h) = subst (Serves x) (sym h) (tt, tt)
   other_alive x (sort.Array t size) o g away (zs, h) = subst (Serves x) (sym h) (tt, tt)
   other_alive x sort.Truth o g away h = absurd h
   other_alive x sort.Word o g away (v, h, f) = subst (Serves x) (sym h) (tt, tt)

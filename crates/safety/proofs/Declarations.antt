@@ -103,7 +103,7 @@ module _ (q : Point) (taken : List Identifier) (known : IsKnown q taken) (x : Id
       → ((access : Access) (a : Identifier) → held_by (buffer_from get) ≡ Some (access, a) → has_name taken a ≡ true)
       → (IsKnown (record { names = (x, Buffer t writable) ∷ q.names; regions = with_new q.regions x (BufferIn (buffer_from get)) }) (taken ++ x ∷ []) → k (record { names = (x, Buffer t writable) ∷ q.names; regions = with_new q.regions x (BufferIn (buffer_from get)) }))
       → DeclaresResult q (BufferKind t) x result get k
-  buffer_result t writable (GivesBuffer access) get fit gets h = (is_new q taken x known new, (writable, h (known_new q taken known x new (Buffer t writable) (BufferIn (buffer_from get)) gets)))
+  buffer_result t writable (GivesBuffer access) get fit gets h = (is_new q taken x known new, (writable, fit, h (known_new q taken known x new (Buffer t writable) (BufferIn (buffer_from get)) gets)))
   buffer_result t writable result get fit gets h = absurd (cc)
 
 -- the array of a Get was taken

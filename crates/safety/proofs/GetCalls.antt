@@ -76,7 +76,7 @@ module _ (classes : Classes) (in_use : BuffersInUse) (k : ℕ) (s : Shared) (t :
         let other : a ≢ x = λ same. none_some (state_of p.regions x) (ReferenceAt level true) new.unknown (subst (λ (z : Identifier). state_of p.regions z ≡ Some (ReferenceAt level true)) same here_a) in
         subst (λ (v : VariableState). Shows (assign x (Elements u b) t.variables) v (Some (Elements u b))) one
         (u, b, refl, lent_moved t.variables (assign x (Elements u b) t.variables) access a b (lookup_other x a (Elements u b) t.variables other) is_lent);
-    sorts = sorts_named s.statics t.variables t.frames p stands x (Elements u b) (sort.Buffer u w) (u, b, refl);
+    sorts = sorts_named s.statics t.variables t.frames p stands x (Elements u b) (sort.Buffer u w) (b, refl);
     held = λ v c e. inr (access, a, inl (front_same x (BufferIn (Untested access a)) p.regions.variables));
     known_once = (new.unknown, stands.known_once);
     depth = stands.depth;
@@ -128,13 +128,13 @@ module _ (classes : Classes) (in_use : BuffersInUse) (k : ℕ) (s : Shared) (t :
       known_there x e = known_same p.regions x (λ v. BufferIn (Untested access a)) ∙ ap (option_map (λ (v : VariableState). BufferIn (Untested access a))) e
 
   declared : (kind : VariableKind) (x : Identifier) → DeclaresResult p kind x (GivesBuffer access) (Some (access, Some a)) (GoesOn rest) → Lands own s.statics (put (Declared kind x) (BufferResult b) s (with_tasks t rest))
-  declared (BufferKind u) x (new, (w, g)) = ((at (named p x (sort.Buffer u w)) (with_new p.regions x (BufferIn (Untested access a))), got_declared x u w new, g), same_statics s.statics)
+  declared (BufferKind u) x (new, (w, for_it, g)) = ((at (named p x (sort.Buffer u w)) (with_new p.regions x (BufferIn (Untested access a))), got_declared x u w new, g), same_statics s.statics)
   declared ScalarKind x h = absurd h
   declared ReferenceKind x h = absurd h
   declared FieldKind x h = absurd h
 
   assigned : (x : Identifier) (o : Option Sort) → AssignsResult p o x (GivesBuffer access) (Some (access, Some a)) (GoesOn rest) → Lands own s.statics (put_assigned x (BufferResult b) s (with_tasks t rest) (lookup x t.variables))
-  assigned x (Some (sort.Buffer u w)) (e, g) =
+  assigned x (Some (sort.Buffer u w)) (e, for_it, g) =
       let shown = stands.shows x (BufferIn Free) e in
       subst (λ (v : Option Variable). Lands own s.statics (put_assigned x (BufferResult b) s (with_tasks t rest) v)) (sym shown.2)
       ((at p (with_changed p.regions x (λ v. BufferIn (Untested access a))), got_assigned x shown.0 shown.1 e shown.2, g), same_statics s.statics)

@@ -43,7 +43,7 @@ module _ (classes : Classes) (in_use : BuffersInUse) (k : ℕ) (s : Shared) (t :
         let both : Some (BufferIn Free) ≡ Some v = sym (front_same x (BufferIn Free) p.regions.variables) ∙ e in
         let one : BufferIn Free ≡ v = cc in
         subst (λ (v : VariableState). Shows (assign x (Elements u NoBuffer) t.variables) v (Some (Elements u NoBuffer))) one (u, NoBuffer, refl, refl);
-    sorts = sorts_named s.statics t.variables t.frames p stands x (Elements u NoBuffer) (sort.Buffer u w) (u, NoBuffer, refl);
+    sorts = sorts_named s.statics t.variables t.frames p stands x (Elements u NoBuffer) (sort.Buffer u w) (NoBuffer, refl);
     held = λ v b e. inl (null_buffer u v b e);
     known_once = (new.unknown, stands.known_once);
     depth = stands.depth;

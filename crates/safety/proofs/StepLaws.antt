@@ -121,7 +121,10 @@ module _ (classes : Classes) (in_use : BuffersInUse) (k : ℕ) (s : Shared) (t :
   sort_of_buffer sort.Ref o g u b c e (level, q, h) = absurd (let d : Some (Elements u b) ≡ Some (LocalRef level q) = sym e ∙ h in cc)
   sort_of_buffer sort.Global o g u b c e (none, h) = absurd (none_some o (Elements u b) none e)
   sort_of_buffer sort.FieldId o g u b c e (f, h) = absurd (let d : Some (Elements u b) ≡ Some (FieldHandle f) = sym e ∙ h in cc)
-  sort_of_buffer (sort.Buffer v w) o g u b c e h = (u, c, refl)
+  sort_of_buffer (sort.Buffer v w) o g u b c e (d, h) =
+      let both : Some (Elements u b) ≡ Some (Elements v d) = sym e ∙ h in
+      let same : u ≡ v = cc in
+      (c, ap (λ (x : ElementType). Some (Elements x c)) same)
   sort_of_buffer (sort.Array v size) o g u b c e (zs, h) = absurd (let d : Some (Elements u b) ≡ Some (LocalArray v zs) = sym e ∙ h in cc)
   sort_of_buffer sort.Truth o g u b c e h = absurd h
   sort_of_buffer sort.Word o g u b c e (v, h, f) = absurd (let d : Some (Elements u b) ≡ Some (Scalar v) = sym e ∙ h in cc)
@@ -186,7 +189,7 @@ module _ (classes : Classes) (in_use : BuffersInUse) (k : ℕ) (s : Shared) (t :
       let c : Some (LocalArray v xs) ≡ Some (LocalArray u zs) = sym h ∙ e in
       let d : v ≡ u = cc in
       (ys, ap (λ (w : ElementType). Some (LocalArray w ys)) (sym d))
-  array_sort x (sort.Buffer v w) o g u zs ys fit e (a, b, h) = absurd (let c : Some (Elements a b) ≡ Some (LocalArray u zs) = sym h ∙ e in cc)
+  array_sort x (sort.Buffer v w) o g u zs ys fit e (b, h) = absurd (let c : Some (Elements v b) ≡ Some (LocalArray u zs) = sym h ∙ e in cc)
   array_sort x r o g u zs ys fit e h = absurd fit
 
   array_set : (x : Identifier) (u : ElementType) (zs ys : List ℤ) (r : Option Sort) → sort_in p.names x ≡ r → ElementsFit p x r → lookup x t.variables ≡ Some (LocalArray u zs) → Stands own s.statics (assign x (LocalArray u ys) t.variables) t.frames p

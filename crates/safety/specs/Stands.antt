@@ -30,7 +30,7 @@ abbrev pub VariableFits : Sort → Option Variable → Option StaticReference �
 VariableFits Ref v g = (level : ℕ) × (r : Reference) × (v ≡ Some (LocalRef level r))
 VariableFits Global v g = (v ≡ None) × ((r : StaticReference) × (g ≡ Some r))
 VariableFits sort.FieldId v g = (f : Option FieldId) × (v ≡ Some (FieldHandle f))
-VariableFits (Buffer t writable) v g = (u : ElementType) × (b : Buffer_) × (v ≡ Some (Elements u b))
+VariableFits (Buffer t writable) v g = (b : Buffer_) × (v ≡ Some (Elements t b))
 VariableFits (Array t size) v g = (zs : List ℤ) × (v ≡ Some (LocalArray t zs))
 VariableFits Truth v g = ⊥
 VariableFits s v g = (n : Value) × (v ≡ Some (Scalar n)) × (value_sort n ≡ s)

@@ -6,7 +6,7 @@ use Rattle.syntax.specs.Tree.{Stmt, If, IfElse, While, Block, End, Next, Argumen
 use Rattle.jni.specs.Access.{Access, is_critical}
 use Rattle.jni.specs.JniFunction.{JniFunction, GetBuffer, ReleaseBuffer, DeleteLocalRef, PushLocalFrame, PopLocalFrame, prototype}
 use Rattle.jni.specs.Prototype.{ResultKind, NewLocal, NewGlobal, GivesFlag, GivesInt, GivesField, GivesBuffer}
-use Rattle.sorts.specs.Sorts.{Sort, Jint, Flag, Truth, Ref, Global, Buffer, Array, sort_in}
+use Rattle.sorts.specs.Sorts.{Sort, Jint, Flag, Truth, Ref, Global, Buffer, Array, sort_in, is_buffer_for}
 use Rattle.sorts.specs.Sorts as sort
 use Rattle.region_rules.specs.RegionRules.{is_critical_call}
 use Rattle.region_rules.specs.RegionStates.{RegionState, VariableState, Free, Untested, Usable, ReferenceAt, BufferIn, state_of, with_new, with_changed, made_free, after_call, get_of, buffer_from, has_commit, FunctionCall}
@@ -116,7 +116,7 @@ DeclaresResult p ScalarKind x GivesFlag get k = IsNew p x × k (named p x Flag)
 DeclaresResult p ReferenceKind x NewLocal get k = IsNew p x × k (at (named p x Ref) (with_new p.regions x (ReferenceAt p.regions.frames true)))
 DeclaresResult p FieldKind x GivesField get k = IsNew p x × k (named p x sort.FieldId)
 DeclaresResult p (BufferKind t) x (GivesBuffer access) get k =
-    IsNew p x × ((writable : Bool) × k (at (named p x (Buffer t writable)) (with_new p.regions x (BufferIn (buffer_from get)))))
+    IsNew p x × ((writable : Bool) × (is_buffer_for access (Some (Buffer t writable)) ≡ true) × k (at (named p x (Buffer t writable)) (with_new p.regions x (BufferIn (buffer_from get)))))
 DeclaresResult p kind x result get k = ⊥
 
 -- a variable of this sort gets a call's result
@@ -127,7 +127,7 @@ AssignsResult p (Some Ref) x NewLocal get k = MaySet p x × k (at p (with_change
 AssignsResult p (Some Global) x NewGlobal get k = k p
 AssignsResult p (Some sort.FieldId) x GivesField get k = k p
 AssignsResult p (Some (Buffer t writable)) x (GivesBuffer access) get k =
-    (state_of p.regions x ≡ Some (BufferIn Free)) × k (at p (with_changed p.regions x (λ old. BufferIn (buffer_from get))))
+    (state_of p.regions x ≡ Some (BufferIn Free)) × (is_buffer_for access (Some (Buffer t writable)) ≡ true) × k (at p (with_changed p.regions x (λ old. BufferIn (buffer_from get))))
 AssignsResult p s x result get k = ⊥
 
 -- a call whose result is dropped gives no buffer and no global reference
