@@ -1,5 +1,5 @@
 -- An accepted unit is safe: from the entry of each of its functions the tasks break no rule.
-use Rattle.std.proofs.Common.{◌≡◌, Bool, true, false, List, [], ◌∷◌, ◌++◌, map, Option, Some, refl, ap, ◌∙◌, if◌then◌else◌}
+use Rattle.std.proofs.Common.{◌≡◌, ℕ, Bool, true, false, List, [], ◌∷◌, ◌++◌, map, Option, Some, refl, ap, ◌∙◌, if◌then◌else◌}
 use Rattle.std.specs.Prelude.{flat_map}
 use Rattle.std.specs.List.{list_any, AllByRecursion}
 use Rattle.std.specs.Str.{bytes_eq}
@@ -10,15 +10,23 @@ use Rattle.syntax.specs.Tree.{Void, Static, Function, Item, StaticItem, Function
 use Rattle.sorts.specs.Sorts.{Sort, Global, Scope, sort_in}
 use Rattle.sorts.specs.SortRules.{SortRule, UnknownName, DeclaredTwice, SortMisfit, UnknownFunction, ArgumentCount, ReferenceCopied, BadMode, ReadOnlyWrite, sort_rules, Place, StaticForm, HeadForm, has_name, has_repeated, breaks, broken_at, places_of, function_places, item_places, IsSorted}
 use Rattle.region_rules.specs.Regions.{AcceptedFunction, HasRegions}
+use Rattle.source.specs.Journal.{Journal}
+use Rattle.source.specs.Load.{Loads}
+use Rattle.source.specs.Run.{replay}
 use Rattle.source.specs.Start.{null_static, null_statics}
+use Rattle.source.specs.State.{State, thread_at}
 use Rattle.source.specs.Task.{tasks_of}
+use Rattle.source.specs.Thread.{Thread}
 use Rattle.source.specs.Variable.{StaticReference, Empty, Statics}
-use Rattle.safety.specs.StepSafe.{AcceptedIsSafe}
+use Rattle.source.specs.World.{World}
+use Rattle.safety.specs.Owners.{owners_after}
+use Rattle.safety.specs.Stands.{IsSound}
+use Rattle.safety.specs.StepSafe.{HasCalls, AcceptedIsSafe}
 use Rattle.safety.specs.Wanted.{GoesOn}
 use Rattle.safety.proofs.EntryPoints.{entry_scope, entry_point, SeesStatics, HasNamesOnce}
 use Rattle.safety.proofs.NameLaws.{front_same}
 use Rattle.sorts.proofs.PlaceLists.{AreUnbroken, first_empty, second_empty, front_unbroken, back_unbroken, none_broken, first_false, second_false}
-use Rattle.safety.proofs.Runs.{Enters, runs_are_safe}
+use Rattle.safety.proofs.Runs.{Enters, runs_are_safe, threads_are_sound}
 
 -- ---- heads
 
@@ -101,6 +109,11 @@ module _ (gives : (f : Function) (scope : Scope) → GivesWanted f scope) where
 
   accepted_enters : (unit : SourceUnit) → IsSorted unit → HasRegions unit → AllByRecursion (Enters (null_statics unit)) (functions_of unit)
   accepted_enters unit sorted regions = all_enter (null_statics unit) unit.items [] [] (no_names (null_statics unit)) (all_there (statics_of unit)) sorted regions
+
+  -- after each journal, each thread is at a point from which its tasks break no rule, or before an entry
+  pub accepted_are_sound : (unit : SourceUnit) (w : World) → IsSorted unit → HasRegions unit → Loads unit w → HasCalls w → (journal : Journal) (s : State) (k : ℕ) (t : Thread) → replay unit w journal ≡ Some s → thread_at s k ≡ Some t
+      → IsSound unit w.classes (owners_after unit w journal k) s.shared.statics t
+  accepted_are_sound unit w sorted regions loads has = threads_are_sound unit w (accepted_enters unit sorted regions) loads has
 
   -- an accepted unit is safe in each world that goes with it
   pub accepted_is_safe : AcceptedIsSafe

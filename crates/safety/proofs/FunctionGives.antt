@@ -1,15 +1,25 @@
 -- An accepted function's tasks break no rule from its entry on.
-use Rattle.std.proofs.Common.{◌≡◌, List, [], ◌∷◌, ◌++◌, map, refl, ap, subst}
+use Rattle.std.proofs.Common.{◌≡◌, ℕ, List, Some, [], ◌∷◌, ◌++◌, map, refl, ap, subst}
 use Rattle.syntax.specs.Parts.{parameter_names}
 use Rattle.syntax.specs.Tree as tree
 use Rattle.syntax.specs.Tree.{FromExpr, FromCall, Stmt, Function}
+use Rattle.syntax.specs.Tree.{SourceUnit}
 use Rattle.sorts.specs.Sorts.{Scope}
-use Rattle.region_rules.specs.Regions.{On, Returned}
+use Rattle.sorts.specs.SortRules.{IsSorted}
+use Rattle.region_rules.specs.Regions.{HasRegions, On, Returned}
 use Rattle.region_rules.specs.RegionStates.{RegionState}
+use Rattle.source.specs.Journal.{Journal}
+use Rattle.source.specs.Load.{Loads}
+use Rattle.source.specs.Run.{replay}
+use Rattle.source.specs.State.{State, thread_at}
 use Rattle.source.specs.Task.{Task, tasks_of}
-use Rattle.safety.specs.StepSafe.{AcceptedIsSafe}
+use Rattle.source.specs.Thread.{Thread}
+use Rattle.source.specs.World.{World}
+use Rattle.safety.specs.Owners.{owners_after}
+use Rattle.safety.specs.Stands.{IsSound}
+use Rattle.safety.specs.StepSafe.{HasCalls, AcceptedIsSafe}
 use Rattle.safety.specs.Wanted.{Outside, GoesOn}
-use Rattle.safety.proofs.Accepted.{GivesWanted, accepted_is_safe}
+use Rattle.safety.proofs.Accepted.{GivesWanted, accepted_is_safe, accepted_are_sound}
 use Rattle.safety.proofs.Assignments.{assign_value, assign_call}
 use Rattle.safety.proofs.BlockLaws.{block_goes}
 use Rattle.safety.proofs.Declarations.{declare_value, declare_buffer, declare_chars, declare_call, buffer_call, chars_call}
@@ -54,6 +64,11 @@ function_gives f scope globals once sorted accepted =
     subst (λ (l : List Task). GoesOn l p) (nil_after (tasks_of f.body))
     (block_goes f.body (Outside (λ q. ⊥)) [] (λ q o. o.2) p
     (block_gives plain_gives push_gives f.body p p taken taken f.result Returned (λ q. ⊥) known known (λ x s e. e) sorted accepted (λ after e now. goes_nowhere after e)))
+
+-- after each journal of an accepted unit, each thread is at a point, or before an entry
+pub unit_is_sound : (unit : SourceUnit) (w : World) → IsSorted unit → HasRegions unit → Loads unit w → HasCalls w → (journal : Journal) (s : State) (k : ℕ) (t : Thread) → replay unit w journal ≡ Some s → thread_at s k ≡ Some t
+    → IsSound unit w.classes (owners_after unit w journal k) s.shared.statics t
+unit_is_sound = accepted_are_sound function_gives
 
 -- an accepted unit is safe
 pub unit_is_safe : AcceptedIsSafe

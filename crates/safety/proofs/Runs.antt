@@ -39,7 +39,7 @@ use Rattle.safety.proofs.FrameLaws.{both_true}
 use Rattle.safety.proofs.KeptCalls.{KeepsCalls, calls_kept}
 use Rattle.safety.proofs.OwnerLaws.{LandsBy, LandsByIfPossible}
 use Rattle.safety.proofs.RefusedLaws.{marked_step_lands}
-use Rattle.safety.proofs.StepClauses.{view, return, references, owned, release, declared}
+use Rattle.safety.proofs.StepClauses.{view, return, references, owned, release, declared, free, possible}
 
 -- ---- statics
 
@@ -279,7 +279,12 @@ module _ (unit : SourceUnit) (w : World) (enters : AllByRecursion (Enters (null_
   start_running : Loads unit w → HasCalls w → Running (λ k. no_owner) (start unit w)
   start_running loads has = record { sound = all_waiting (λ k. no_owner) 1 w.threads loads has; stay = λ x r e. (r, e) }
 
-  -- where each function's tasks break no rule, no step of any replay does
+  -- where each function's tasks break no rule, each thread is at a point, or before an entry, after each journal
+  pub threads_are_sound : Loads unit w → HasCalls w → (journal : Journal) (s : State) (k : ℕ) (t : Thread) → replay_from unit w (start unit w) journal ≡ Some s → thread_at s k ≡ Some t → IsSound unit w.classes (owners_after unit w journal k) s.shared.statics t
+  threads_are_sound loads has journal s k t replayed there =
+      thread_sound unit w.classes (null_statics unit) enters (owners_after unit w journal) s k t (replay_running journal (λ k. no_owner) (start unit w) s (start_running loads has) replayed) there
+
+  -- and no step of any replay breaks one
   pub runs_are_safe : Loads unit w → HasCalls w → IsSafe unit w
   runs_are_safe loads has journal s k t replayed there =
       let running : Running (owners_after unit w journal) s = replay_running journal (λ k. no_owner) (start unit w) s (start_running loads has) replayed in
@@ -291,5 +296,7 @@ module _ (unit : SourceUnit) (w : World) (enters : AllByRecursion (Enters (null_
         owned = owned (owners_after unit w journal k) s.shared t sound.goes;
         release = release (owners_after unit w journal k) s.shared t sound.goes;
         declared = declared (owners_after unit w journal k) s.shared t sound.goes;
+        free = free (owners_after unit w journal k) s.shared t sound.goes;
+        possible = possible (owners_after unit w journal k) s.shared t sound.goes;
         progress = step_there unit w.classes (null_statics unit) enters (owners_after unit w journal) s k t running there;
       }

@@ -7,7 +7,7 @@ use Rattle.jni.specs.JniFunction.{JniFunction, ReleaseBuffer, prototype}
 use Rattle.jni.specs.Prototype.{NewLocal}
 use Rattle.source.specs.Arguments.{Actual, object_given, variable_given}
 use Rattle.source.specs.Checks.{frames_after}
-use Rattle.source.specs.Effect.{Calls, Returns, NoEffect}
+use Rattle.source.specs.Effect.{Calls, Returns, NoEffect, effect_of}
 use Rattle.source.specs.Object.{Reference}
 use Rattle.source.specs.Task.{Task, Target, Assigned}
 use Rattle.source.specs.Thread.{Thread, Shared, sight_of, viewed_by}
@@ -16,13 +16,14 @@ use Rattle.source.specs.Variable.{LocalRef}
 use Rattle.safety.specs.Owners.{Owners, IsOwn}
 use Rattle.safety.specs.Follows.{Follows}
 use Rattle.safety.specs.Stands.{Goes}
-use Rattle.safety.specs.StepSafe.{MayMeetView, MayReturn, IsAlive, came_from}
+use Rattle.safety.specs.StepSafe.{MayMeetView, MayReturn, IsAlive, came_from, HoldsNoBuffer, SetsWhole}
 use Rattle.safety.specs.Used.{task_names}
 use Rattle.safety.specs.Wanted.{GoesOn}
 use Rattle.safety.proofs.ClauseLaws.{view_clause, return_clause, reference_clause, owned_clause}
 use Rattle.safety.proofs.EffectLaws.{effect_follows, call_fits}
 use Rattle.safety.proofs.LevelLaws.{level_clause}
 use Rattle.safety.proofs.ReleaseLaws.{release_clause}
+use Rattle.safety.proofs.WholeLaws.{whole_clause}
 
 no_call : (line : ℕ) (target : Target) (f : JniFunction) (args : List Actual) → NoEffect ≡ Calls line target f args → ⊥
 no_call line target f args e = cc
@@ -56,6 +57,20 @@ module _ (own : Owners) (s : Shared) (t : Thread) where
       let called = subst (Follows own (sight_of s t) s.statics t.variables t.frames p rest) e (effect_follows s.heap s.statics t.variables t.frames p stands rest task runs) in
       level_clause s.statics t.variables t.frames p stands (GoesOn rest) x level r there line f called.0 called.3 gives
 
+  none_set : (x : Identifier) → SetsWhole x NoEffect → ⊥
+  none_set x h = h
+
+  at_whole : (o : Option (List Task)) → Goes own s.statics t o → (x : Identifier) → SetsWhole x (next_effect s t o) → HoldsNoBuffer (lookup x t.variables)
+  at_whole None g x h = absurd (none_set x h)
+  at_whole (Some []) g x h = absurd (none_set x h)
+  at_whole (Some (task ∷ rest)) (p, stands, runs) x h =
+      whole_clause (sight_of s t) s.statics t.variables t.frames p stands rest x (effect_of (sight_of s t) task) h (effect_follows s.heap s.statics t.variables t.frames p stands rest task runs)
+
+  at_effect : (tasks : List Task) → Goes own s.statics t (Some tasks) → next_effect s t (Some tasks) ≢ NoEffect
+  at_effect [] g e = absurd (g.2)
+  at_effect (task ∷ rest) (p, stands, runs) e =
+      absurd (subst (Follows own (sight_of s t) s.statics t.variables t.frames p rest) e (effect_follows s.heap s.statics t.variables t.frames p stands rest task runs))
+
   module _ (goes : Goes own s.statics t t.tasks) where
     pub view : (task : Task) (rest : List Task) → t.tasks ≡ Some (task ∷ rest) → viewed_by t ≢ [] → MayMeetView task
     view task rest e held = let g : Goes own s.statics t (Some (task ∷ rest)) = subst (Goes own s.statics t) e goes in view_clause s.statics t.variables t.frames g.0 g.1 task (GoesOn rest) g.2 held
@@ -71,6 +86,13 @@ module _ (own : Owners) (s : Shared) (t : Thread) where
 
     pub release : (line : ℕ) (target : Target) (access : Access) (args : List Actual) → next_effect s t t.tasks ≡ Calls line target (ReleaseBuffer access) args → came_from (lookup (variable_given args 1) t.variables) ≡ Some (object_given args 0)
     release line target access args e = at_release t.tasks goes line target access args e
+
+    pub free : (x : Identifier) → SetsWhole x (next_effect s t t.tasks) → HoldsNoBuffer (lookup x t.variables)
+    free x h = at_whole t.tasks goes x h
+
+    pub possible : (tasks : List Task) → t.tasks ≡ Some tasks → next_effect s t t.tasks ≢ NoEffect
+    possible tasks e =
+        subst (λ (o : Option (List Task)). next_effect s t o ≢ NoEffect) (sym e) (at_effect tasks (subst (Goes own s.statics t) e goes))
 
     pub declared : (line : ℕ) (x : Identifier) (f : JniFunction) (args : List Actual) (level : ℕ) (r : Reference)
         → next_effect s t t.tasks ≡ Calls line (Assigned x) f args → (prototype f).result ≡ NewLocal → lookup x t.variables ≡ Some (LocalRef level r) → level ≡ length (frames_after f t.frames)

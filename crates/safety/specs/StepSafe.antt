@@ -1,9 +1,10 @@
 -- What no thread of an accepted unit ever does, in any replay.
-use Rattle.std.specs.Prelude.{◌≡◌, ◌≢◌, ℕ, ◌-◌, ◌==◌, nat_le, if◌then◌else◌, Bool, true, false, List, [], ◌∷◌, length, slice_get, Option, Some, None, IsTrue}
+use Rattle.std.specs.Prelude.{◌≡◌, ◌≢◌, ◌⊎◌, ℕ, ◌-◌, ◌==◌, nat_le, if◌then◌else◌, Bool, true, false, List, [], ◌∷◌, length, slice_get, Option, Some, None, IsTrue}
 use Rattle.std.specs.List.{list_any, list_all, AllByRecursion}
 use Rattle.base.specs.Bytes.{Identifier, lookup}
+use Rattle.base.specs.Element.{ElementType}
 use Rattle.syntax.specs.Tree.{SourceUnit}
-use Rattle.jni.specs.JniFunction.{JniFunction, ReleaseBuffer, prototype}
+use Rattle.jni.specs.JniFunction.{JniFunction, GetBuffer, ReleaseBuffer, prototype}
 use Rattle.jni.specs.Prototype.{NewLocal}
 use Rattle.sorts.specs.SortRules.{IsSorted}
 use Rattle.source.specs.declared.journal.Entry.TheVariants.{Step}
@@ -11,7 +12,7 @@ use Rattle.source.specs.Journal.{Journal}
 use Rattle.source.specs.World.{Invocation, World}
 use Rattle.source.specs.Arguments.{Actual, object_given, variable_given}
 use Rattle.source.specs.Checks.{frames_after}
-use Rattle.source.specs.Effect.{Calls, Returns}
+use Rattle.source.specs.Effect.{Effect, Sets, SetsNull, MakesArray, Calls, Returns, NoEffect}
 use Rattle.source.specs.Load.{Loads}
 use Rattle.source.specs.Object.{Reference}
 use Rattle.region_rules.specs.RegionRules.{is_critical_call}
@@ -22,8 +23,8 @@ use Rattle.source.specs.Step.{can_step, world_step}
 use Rattle.source.specs.Task.{Task, Assigned, Invoke, Print}
 use Rattle.source.specs.Thread.{Thread, Frame, viewed_by}
 use Rattle.source.specs.ThreadStep.{next_effect}
-use Rattle.source.specs.Variable.{Variable, LocalRef, Elements, NoBuffer, Copy, View}
-use Rattle.safety.specs.Owners.{Owners, IsOwn, owners_after}
+use Rattle.source.specs.Variable.{Variable, LocalRef, Elements, Buffer, NoBuffer, Copy, View}
+use Rattle.safety.specs.Owners.{Owners, IsOwn, is_target, owners_after}
 use Rattle.safety.specs.Used.{task_names}
 
 -- ---- a view
@@ -70,6 +71,25 @@ came_from (Some (Elements kind (Copy n zs))) = Some n
 came_from (Some (Elements kind (View n))) = Some n
 came_from v = None
 
+-- ---- a variable that is set as a whole
+
+-- a variable that is there and a buffer is NULL
+abbrev pub HoldsNoBuffer : Option Variable → Type 0
+HoldsNoBuffer v = (kind : ElementType) (b : Buffer) → v ≡ Some (Elements kind b) → b ≡ NoBuffer
+
+-- a call tells this variable whether its buffer is a copy
+abbrev pub IsTold : JniFunction → List Actual → Identifier → Type 0
+IsTold (GetBuffer access) args x = (variable_given args 1 ≡ x) × (x ≢ [])
+IsTold f args x = ⊥
+
+-- an effect sets this variable, not only an element of it, and not to give a buffer up
+abbrev pub SetsWhole : Identifier → Effect → Type 0
+SetsWhole x (Sets y v) = y ≡ x
+SetsWhole x (SetsNull target) = is_target target x ≡ true
+SetsWhole x (MakesArray kind y size) = y ≡ x
+SetsWhole x (Calls line target f args) = (is_target target x ≡ true) ⊎ IsTold f args x
+SetsWhole x e = ⊥
+
 -- ---- each step
 
 -- thread k, which is t, and of which these variables have references of their own, does none of what JNI leaves undefined, and
@@ -88,6 +108,10 @@ pub record StepSafe (unit : SourceUnit) (w : World) (s : State) (own : Owners) (
   -- a call that gives a new local reference to a variable that is there already finds it declared at the frame that is then current
   pub declared : (line : ℕ) (x : Identifier) (f : JniFunction) (args : List Actual) (level : ℕ) (r : Reference)
       → next_effect s.shared t t.tasks ≡ Calls line (Assigned x) f args → (prototype f).result ≡ NewLocal → lookup x t.variables ≡ Some (LocalRef level r) → level ≡ length (frames_after f t.frames)
+  -- a variable that it sets as a whole is no buffer that holds something, so that no copy is lost and no view
+  pub free : (x : Identifier) → SetsWhole x (next_effect s.shared t t.tasks) → HoldsNoBuffer (lookup x t.variables)
+  -- in a call, the next step has an effect
+  pub possible : (tasks : List Task) → t.tasks ≡ Some tasks → next_effect s.shared t t.tasks ≢ NoEffect
   -- if it isn't ended, blocked or stopped, it can step
   pub progress : can_step w.classes s k ≡ true → (next : State) × (world_step unit w.classes s (Step k false) ≡ Some next)
 
