@@ -11,6 +11,7 @@ use Rattle.source.specs.Object.{ObjectValue, Number, Refers, Reference, Object}
 use Rattle.source.specs.Reachable.{loaded_count}
 use Rattle.source.specs.World.{Invocation, World, made_before, fits_cells}
 use Rattle.world.specs.CallArguments.{are_arguments}
+use Rattle.world.specs.DeclaredFields.{DeclaresWell}
 use Rattle.world.specs.WorldRules.{is_in_range}
 
 -- ---- objects
@@ -54,6 +55,7 @@ has_call (call ∷ calls) = true
 
 pub record IsSound (w : World) : Type 0 where
   pub grown : IsGrown w.classes
+  pub declares : DeclaresWell w.classes
   pub cells : w.cells ≤ 1048576
   pub fits : IsTrue (fits_cells w)
   pub few_objects : length w.objects ≤ 65536

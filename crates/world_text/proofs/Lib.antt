@@ -7,6 +7,7 @@ pub mod WorldTables
 pub mod KeptBuiltIns
 pub mod WorldCells
 pub mod GrownClasses
+pub mod DeclaredTables
 pub mod FittingObjects
 pub mod Soundness
 pub mod NamesInMemory

@@ -19,6 +19,7 @@ use Rattle.world.specs.SoundWorlds.{IsObjectAfter, AreObjectsAfter, has_call, Is
 use Rattle.world.specs.WorldLines.{WorldValue, WorldLine, ClassLine, FieldLine, StaticLine, ObjectLine, ObjectsLine, ArrayLine, StringLine, ThreadLine, CallLine, Lines}
 use Rattle.world.specs.WorldMeaning.{table_of, objects_defined, value_of, values_of_line, object_of, invocation_of_line, with_last, threads_with, threads_of, world_of, cells_of}
 use Rattle.world.specs.WorldRules.{part_of, is_known_value, value_in_range, types_of_line, each_in_range, broken_after}
+use Rattle.world_text.proofs.DeclaredTables.{Declares, built_ins_declare, line_declares, declares_well}
 use Rattle.world_text.proofs.FittingObjects.{made_so_far, same_classes, made-length, are_given, object_fits}
 use Rattle.world_text.proofs.GrownClasses.{IsGrownTable, built_ins_grown, line_grows}
 use Rattle.world_text.proofs.GrownLines.{objects_of, are_known, table_grows, table_stays, first_or_later, before_or_thread, known_grow, objects_grow, threads_grow, no_thread, no_threads, first_lines_next, no_objects_made, thread_no_object}
@@ -70,6 +71,7 @@ calls_with_last c (calls ∷ next ∷ threads) h =
 pub record AreSound (cells : ℕ) (L : Lines) : Type 0 where
   pub table : IsGrownTable (table_of L)
   pub built_ins : KeepsBuiltIns (table_of L)
+  pub declares : Declares (table_of L)
   pub known : are_known L ≡ true
   pub objects : AreObjectsAfter (table_of L) (made_before (table_of L)) (objects_of L)
   pub few_objects : length (objects_defined L) ≤ 65536
@@ -89,6 +91,7 @@ pub none_sound : (cells : ℕ) → 512 ≤ cells → AreSound cells []
 none_sound cells low = record {
   table = built_ins_grown;
   built_ins = built_ins_kept;
+  declares = built_ins_declare;
   known = refl;
   objects = tt;
   few_objects = omega arith;
@@ -189,6 +192,7 @@ module _ (cells : ℕ) (L : Lines) (n : ℕ) (line : WorldLine) (s : AreSound ce
   line_sound = record {
     table = table_next;
     built_ins = subst KeepsBuiltIns (sym (table_grows L n line)) (line_kept (table_of L) s.built_ins line k.allowed);
+    declares = subst Declares (sym (table_grows L n line)) (line_declares (table_of L) s.table.table s.declares line k.class_rules k.well k.allowed);
     known = known_grow L n line k.ordered s.known k.known;
     objects = fitting_next;
     few_objects = k.few_objects;
@@ -210,6 +214,7 @@ sound_world cells lines high s =
     let few : length (objects_of lines) ≤ 65536 = omega (arith, as_many lines, s.few_objects) in
     record {
       grown = s.table.grown;
+      declares = declares_well (table_of lines) s.table.table s.built_ins s.declares;
       cells = high;
       fits = at_most_so (cells_of lines) cells s.fits;
       few_objects = few;

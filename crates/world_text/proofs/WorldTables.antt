@@ -52,7 +52,7 @@ named T name c h =
     let number : suc i.0 ≡ c = omega (arith, i.2) in
     record { class = at.0; is = ap (class_at T) (sym number) ∙ at.1; same = same_bytes at.0.name name at.2; low = omega (arith, number); high = omega (arith, number, below) }
 
-named_kept : (T X : Classes) (name : Identifier) (c : ℕ) → class_named T name ≡ Some c → class_named (T ++ X) name ≡ Some c
+pub named_kept : (T X : Classes) (name : Identifier) (c : ℕ) → class_named T name ≡ Some c → class_named (T ++ X) name ≡ Some c
 named_kept T X name c h =
     let i = mapped (λ i. i + 1) (found (is_named name) T) c (sym (named-found T name) ∙ h) in
     named-found (T ++ X) name ∙ ap (option_map (λ i. i + 1)) (kept_place (is_named name) T X i.0 i.1) ∙ ap Some i.2
@@ -215,7 +215,7 @@ module _ (T : Classes) (name : Identifier) (s : Option ℕ) (t : IsWorldTable T)
   abbrev by_names : Bool → Bool → Option ℕ
   by_names a b = cond a (Some (length T + 1)) (cond b (Some (length T + 2)) None)
 
-  named_after : (m : Identifier) → class_named T m ≡ None → class_named (T ++ added) m ≡ by_names (bytes_eq name m) (bytes_eq (array_name name) m)
+  pub named_after : (m : Identifier) → class_named T m ≡ None → class_named (T ++ added) m ≡ by_names (bytes_eq name m) (bytes_eq (array_name name) m)
   named_after m h = named_later T added m h ∙ by_tests (bytes_eq name m) (bytes_eq (array_name name) m)
     where
       by_tests : (a b : Bool) → option_map (λ i. i + 1) (option_map (λ (i : ℕ). length T + i) (cond a (Some 0) (option_map (λ (i : ℕ). suc i) (cond b (Some 0) None)))) ≡ cond a (Some (length T + 1)) (cond b (Some (length T + 2)) None)
@@ -229,7 +229,7 @@ module _ (T : Classes) (name : Identifier) (s : Option ℕ) (t : IsWorldTable T)
   kind_stays : (c : ℕ) → c ≤ length T → class_kind (T ++ added) c ≡ class_kind T c
   kind_stays c h = ap kind_of (at_front T added c h)
 
-  not_named : (m : Identifier) → bytes_eq name (array_name m) ≡ false
+  pub not_named : (m : Identifier) → bytes_eq name (array_name m) ≡ false
   not_named m = by_test (bytes_eq name (array_name m)) refl
     where
       by_test : (b : Bool) → bytes_eq name (array_name m) ≡ b → b ≡ false
@@ -306,7 +306,7 @@ module _ (change : Class → Class) (same_name : (d : Class) → (change d).name
       by_test false = refl
   changed-kind n (d ∷ ds) (suc i) = changed-kind (n + 1) ds i
 
-  changed_named : (T : Classes) (name : Identifier) → class_named (with_changed_class T number change) name ≡ class_named T name
+  pub changed_named : (T : Classes) (name : Identifier) → class_named (with_changed_class T number change) name ≡ class_named T name
   changed_named T name = named-found (with_changed_class T number change) name ∙ ap (option_map (λ i. i + 1)) (changed-found name 1 T) ∙ sym (named-found T name)
 
   changed_kind : (T : Classes) (c : ℕ) → class_kind (with_changed_class T number change) c ≡ class_kind T c
