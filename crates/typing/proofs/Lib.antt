@@ -1,0 +1,14 @@
+pub mod Lists
+pub mod Heaps
+pub mod Ranges
+pub mod Places
+pub mod TableKinds
+pub mod Writes
+pub mod Arguments
+pub mod FieldWrites
+pub mod Calls
+pub mod TaskTexts
+pub mod Results
+pub mod Steps
+pub mod Loads
+pub mod Runs

@@ -1,0 +1,4 @@
+-- what objects are made of, in any run
+pub mod Objects
+pub mod Texts
+pub mod Law
