@@ -8,7 +8,7 @@ use Rattle.heap.specs.Heap.{Space}
 use Rattle.jni.specs.JniFunction.{is_built_function, JniFunction, DeleteLocalRef, DeleteGlobalRef, PopLocalFrame, GetBuffer, prototype}
 use Rattle.jni.specs.Prototype.{ResultKind, NewLocal, NewGlobal, GivesFlag, GivesInt, GivesField, GivesNothing, GivesBuffer}
 use Rattle.source.specs.Arguments.{Actual, reference_given, variable_given}
-use Rattle.source.specs.Object.{Object}
+use Rattle.source.specs.Object.{Object, sizes}
 use Rattle.source.specs.CallEffects.{level_of, CallEffect, CallResult, Halts, Leaves, ScalarResult, Throws, refuses_frames, with_capacity}
 use Rattle.source.specs.CallStep.{after_call, after_refusal, call_step, checked, effect_of_call, makes_objects, put, trap_of_call}
 use Rattle.source.specs.CallTable.{call_effect}
@@ -41,13 +41,13 @@ use Rattle.jni_calls.specs.declared.store.Store.{Store}
 use Rattle.jni_calls.specs.declared.activation.Activation.{Activation}
 use Rattle.execution.specs.declared.execute.Event.TheVariants as event
 use Rattle.execution.specs.declared.execute.Executed.TheVariants.{Did}
-use Rattle.execution.specs.Executes.{CallStands, Executes, GoesOn, WorkAgrees, after_any}
+use Rattle.execution.specs.Executes.{CallStands, Executes, GoesOn, WorkAgrees, after_any, cells_made}
 use Rattle.jni_calls.specs.Locals.{FramesAgree}
 use Rattle.jni_calls.specs.WorkedOut.{IsWorkedOut, deletes}
 use Rattle.jni_calls.specs.Answers.{HoldsObject, IsAnswer}
 use Rattle.jni_calls.specs.Asked.{IsAsked, references_of}
 use Rattle.jni_calls.specs.Statics.{all_held}
-use Rattle.jni_calls.specs.CarriedOut.{CarriesOut, IsLeft, IsPossible, can_fail, frames_left, pending_after, result_after, shared_after}
+use Rattle.jni_calls.specs.CarriedOut.{CarriesOut, GoesByRoom, IsLeft, IsPossible, IsShortOf, can_fail, frames_left, made_by, pending_after, result_after, shared_after}
 use Rattle.jni_calls.specs.Checked.{puts_local, trap_found}
 use Rattle.tables.specs.Locals.{has_room}
 use Rattle.jni_calls.specs.Given.{held_in, key_at, operand_of}
@@ -73,7 +73,9 @@ use Rattle.std.specs.Str.{bytes_eq}
 use Rattle.jni_calls.proofs.LocalFrames.{full_where}
 use Rattle.execution.proofs.StaticArguments.{object_held}
 use Rattle.source.specs.Checks.{is_full, frames_after as source_frames_after}
-use Rattle.source.specs.ThreadStep.{next_effect}
+use Rattle.source.specs.ThreadStep.{after_effect, next_effect}
+use Rattle.source.proofs.HeapGrows.{effect_keeps}
+use Rattle.execution.proofs.CellsMade.{call_cells}
 use Rattle.execution.proofs.Invocations.{finishes, going, resumption}
 use Rattle.jni_calls.proofs.HeldStatics.{place_below}
 use Rattle.jni_calls.specs.declared.statics.StaticReference.{StaticReference}
@@ -467,7 +469,13 @@ module _ (p : Lowered) (w : World) (store : Store) (pending : Option ℕ) (call 
           calls = refl;
           ending = refl;
           viewless = h.viewless;
+          short = λ e. absurd (cc);
         })
+
+    -- what the step makes is what the effect makes
+    pub cells_wanted : trap_of_call w.classes shared s called.target called.f called.args ≡ None
+        → cells_made shared (after_effect w.classes in_use k shared s rest (Calls called.line called.target called.f called.args)) ≡ sizes (made_by w.classes (call_effect w.classes in_use k shared s called.args called.f))
+    cells_wanted free = call_cells w.classes in_use k shared s called.line called.target called.f called.args rest _ (effect_is free in_use k) (effect_keeps w.classes in_use k shared s called.args called.f)
 
     -- a step of the call is one of the first task
     stepped : (refused : Bool) (t : source.Thread) (next : Shared) → call_step w.classes in_use k shared s called.line called.target called.f called.args rest refused ≡ source.Advances next t source.Quiet
@@ -510,4 +518,7 @@ module _ (p : Lowered) (w : World) (store : Store) (pending : Option ℕ) (call 
           calls = refl {a = s.calls};
           ending = refl {a = s.ending};
           viewless = ends.viewless;
+          short = λ was.
+              subst (λ (n : ℕ). IsShortOf n store.heap store'.heap) (sym (cells_wanted free))
+              (subst (λ (b : Bool). GoesByRoom b (sizes (made_by w.classes effect)) store.heap store'.heap) was carried.room);
         })

@@ -254,6 +254,7 @@ module _ (p : Lowered) (w : World) (store : Store) (in_use : BuffersInUse) (k : 
           calls = refl;
           ending = refl;
           viewless = none;
+          short = λ e. absurd (cc);
         }
 
     writes : (did : Effect) (changed : Visible → Type 0) → Writes code r.known call.place call.stack held seen changed rest → (vs : _) → after_effect classes in_use k shared s rest did ≡ source.Advances shared (record s { tasks = Some rest; variables = vs }) source.Quiet
@@ -282,6 +283,7 @@ module _ (p : Lowered) (w : World) (store : Store) (in_use : BuffersInUse) (k : 
           calls = refl;
           ending = refl;
           viewless = no_view;
+          short = λ e. absurd (cc);
         }
 
     traps : (reason : Trap) (line : ℕ) → Stops code r.known call.place call.stack held seen reason line → agrees.GoesOn p w space store in_use k own shared s rest after pending (TrapsAt reason line) false e
@@ -310,6 +312,7 @@ module _ (p : Lowered) (w : World) (store : Store) (in_use : BuffersInUse) (k : 
           calls = refl;
           ending = refl;
           viewless = none;
+          short = λ e. absurd (cc);
         }
 
     sets_element : (x : Identifier) (j : ℕ) (z : ℤ) (t : ElementType) → seen.array_type x ≡ Some t → Writes code r.known call.place call.stack held seen (IsElementSet seen t x j z) rest → SetsWhatIsThere seen.sight (SetsElement x j z)
@@ -369,6 +372,7 @@ module _ (p : Lowered) (w : World) (store : Store) (in_use : BuffersInUse) (k : 
             calls = refl;
             ending = refl;
             viewless = none;
+            short = λ e. absurd (cc);
           }
 
   -- NULL is stored
@@ -405,6 +409,7 @@ module _ (p : Lowered) (w : World) (store : Store) (in_use : BuffersInUse) (k : 
             calls = refl;
             ending = refl;
             viewless = null.viewless;
+            short = λ e. absurd (cc);
           }
 
   -- a print
@@ -436,6 +441,7 @@ module _ (p : Lowered) (w : World) (store : Store) (in_use : BuffersInUse) (k : 
             calls = refl;
             ending = refl;
             viewless = none;
+            short = λ e. absurd (cc);
           }
 
   -- a return

@@ -323,4 +323,5 @@ enters p w store in_use k own shared t after s n call lowered shares h none call
         caught = λ b. absurd (cc);
         viewless = parameters_viewless (zip f.function.parameters c.call.arguments);
       });
+      short = λ e. absurd (cc);
     }

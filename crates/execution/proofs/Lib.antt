@@ -1,4 +1,5 @@
 pub mod Views
+pub mod CellsMade
 pub mod Changes
 pub mod StillShown
 pub mod Elements
@@ -15,6 +16,7 @@ pub mod EffectFrames
 pub mod KeysLeft
 pub mod OwnedKeys
 pub mod CallInstructions
+pub mod AnsweredCalls
 pub mod ArgumentSlots
 pub mod EntryTables
 pub mod EntryKeys

@@ -32,7 +32,8 @@ use Rattle.jni_calls.specs.declared.store.Store.{Store}
 use Rattle.jni_calls.specs.StoreAgrees.{StoreAgrees, Keeps}
 use Rattle.execution.specs.ThreadAgrees.{CallsAgree, ThreadAgrees, ending_view}
 use Rattle.execution.specs.Advances.{Advances, ending_after, calls_after}
-use Rattle.execution.specs.Executes.{CallStands, WorkAgrees, GoesOn, after_any, event_view, owners_left}
+use Rattle.execution.specs.Executes.{CallStands, WorkAgrees, GoesOn, after_any, cells_made, event_view, owners_left}
+use Rattle.jni_calls.specs.CarriedOut.{IsShortOf}
 use Rattle.jni_calls.proofs.Keeping.{keeps_same}
 use Rattle.jni_calls.specs.HeapAgrees.{ReferenceAgrees, BlocksAgree}
 use Rattle.execution.proofs.Calls.{ready, slots_of, does_cases}
@@ -121,6 +122,7 @@ module _ (p : Lowered) (w : World) (old : Space) (in_use : BuffersInUse) (k : 鈩
           caught = 位 b. absurd (subst (位 (o : Option (List Task)). WorkAgrees p w.classes store.heap (visible_to owned g.next_shared g.next) (Some after) g.next.frames o) b g.work);
           viewless = g.viewless;
         });
+    short = 位 was. subst (位 (a : source.Advance). IsShortOf (cells_made shared a) old store.heap) (sym (steps_by false task rest is)) (g.short was);
   }
 
 -- ---- a return
@@ -220,4 +222,5 @@ module _ (p : Lowered) (w : World) (old : Space) (in_use : BuffersInUse) (k : 鈩
           caught = 位 b. refl;
           viewless = refl;
         };
+        short = 位 e. absurd (cc);
       }

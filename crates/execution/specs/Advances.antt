@@ -17,13 +17,14 @@ use Rattle.execution.specs.declared.advance.Advanced.TheVariants as advanced
 use Rattle.execution.specs.declared.thread.Thread.{Thread}
 use Rattle.execution.specs.declared.thread.PendingCall.{PendingCall}
 use Rattle.jni_calls.specs.declared.store.Store.{Store}
+use Rattle.jni_calls.specs.CarriedOut.{IsShortOf}
 use Rattle.jni_calls.specs.StoreAgrees.{StoreAgrees, Keeps}
-use Rattle.execution.specs.Executes.{event_view}
+use Rattle.execution.specs.Executes.{cells_made, event_view}
 use Rattle.execution.specs.ThreadAgrees.{ThreadAgrees}
 
 -- ---- steps
 
--- the thread took the step that the source's thread takes, or the same with its allocation refused
+-- the thread took the step that the source's thread takes, or the same with its allocation refused, where too few cells were left
 pub record Advances (p : Lowered) (w : World) (old : Space) (store : Store) (in_use : BuffersInUse) (k : ℕ) (own : Owners) (shared : Shared) (s : source.Thread) (t : Thread) (refused : Bool) (event : Event) : Type 0 where
   pub next_shared : Shared
   pub next : source.Thread
@@ -31,6 +32,7 @@ pub record Advances (p : Lowered) (w : World) (old : Space) (store : Store) (in_
   pub store_agrees : StoreAgrees p w store next_shared
   pub keeps : Keeps old shared store.heap next_shared
   pub agrees : ThreadAgrees p w.classes store.heap (length (loaded_objects w)) (after_advance shared s own (source.Advances next_shared next (event_view event))) next_shared t next
+  pub short : refused ≡ true → IsShortOf (cells_made shared (thread_step (unit_tree p.unit) w.classes in_use k shared s false)) old store.heap
 
 -- the same by what is told of it
 abbrev pub AdvancesBy : Lowered → World → Space → Store → BuffersInUse → ℕ → Owners → Shared → source.Thread → Thread → Advanced → Type 0

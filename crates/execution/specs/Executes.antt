@@ -1,11 +1,11 @@
 -- How a call in progress stands for its tasks, and what an instruction does to it.
-use Rattle.std.specs.Prelude.{◌≡◌, ℕ, Bool, true, false, List, [], ◌∷◌, length, Option, Some, None, slice_get}
+use Rattle.std.specs.Prelude.{◌≡◌, ℕ, ◌<◌, Bool, true, false, List, [], ◌∷◌, length, drop, Option, Some, None, slice_get}
 use Rattle.std.specs.List.{AllByRecursion}
 use Rattle.base.specs.Bytes.{Identifier, lookup}
 use Rattle.classes.specs.Class.{Classes}
 use Rattle.classes.specs.Fields.{FieldId}
 use Rattle.heap.specs.Heap.{Space}
-use Rattle.source.specs.Object.{Reference}
+use Rattle.source.specs.Object.{Reference, sizes}
 use Rattle.source.specs.World.{World}
 use Rattle.code.specs.Depth.{Listing, depth_at}
 use Rattle.source.specs.Effect.{Effect, Calls, Returns}
@@ -17,7 +17,7 @@ use Rattle.safety.specs.Used.{task_names}
 use Rattle.jni.specs.JniFunction.{JniFunction, prototype}
 use Rattle.jni.specs.Prototype.{NewLocal}
 use Rattle.source.specs.Thread as source
-use Rattle.source.specs.Thread.{BuffersInUse, Shared, Advance, viewed_by}
+use Rattle.source.specs.Thread.{BuffersInUse, Shared, Advance, Advances, NoAdvance, viewed_by}
 use Rattle.source.specs.Variable.{LocalRef, Variables}
 use Rattle.source.specs.ThreadStep.{next_effect, after_effect, after_refused_effect}
 use Rattle.lowered.specs.Layout.{Known}
@@ -29,7 +29,10 @@ use Rattle.execution.specs.declared.execute.Event.TheVariants.{Quiet, Printed, T
 use Rattle.jni_calls.specs.declared.activation.Activation.{Activation}
 use Rattle.execution.specs.declared.execute.Executed.{Executed}
 use Rattle.execution.specs.declared.execute.Executed.TheVariants.{Did, Refused, Returned}
+use Rattle.execution.specs.declared.fault.StepFault.{StepFault}
+use Rattle.execution.specs.declared.fault.StepFault.TheVariants.{NoRoom, Memory}
 use Rattle.jni_calls.specs.declared.store.Store.{Store}
+use Rattle.jni_calls.specs.CarriedOut.{IsShortOf}
 use Rattle.jni_calls.specs.HeapAgrees.{ReferenceAgrees}
 use Rattle.jni_calls.specs.Locals.{FramesAgree, KeysAgree}
 use Rattle.jni_calls.specs.Traps.{trap_view}
@@ -89,13 +92,25 @@ abbrev pub after_any : Classes → BuffersInUse → ℕ → Shared → source.Th
 after_any classes in_use k shared s rest false effect = after_effect classes in_use k shared s rest effect
 after_any classes in_use k shared s rest true effect = after_refused_effect classes in_use k shared s rest effect
 
+-- the cells of the objects that a step makes
+abbrev pub cells_made : Shared → Advance → ℕ
+cells_made shared (Advances next t event) = sizes (drop (length shared.heap) next.heap)
+cells_made shared NoAdvance = 0
+
+-- Why a step that makes objects of so many cells was not taken: fewer are left after the highest block, and it may not be refused yet;
+-- or host memory was refused, which no step needs that makes objects.
+abbrev pub IsHindered : (left cells : ℕ) → (may_refuse : Bool) → StepFault → Type 0
+IsHindered left cells may_refuse NoRoom = (may_refuse ≡ false) × (left < cells)
+IsHindered left cells may_refuse Memory = cells ≡ 0
+
 -- the variables' own references once the first task has had this effect, which leaves these variables; a trap leaves them as they were
 abbrev pub owners_left : Effect → source.Event → (frames : ℕ) → Owners → Variables → Owners
 owners_left (Calls line target f args) (source.Trapped trap at) frames own vs = own
 owners_left (Calls line target f args) event frames own vs = after_call target f args frames own vs
 owners_left other event frames own vs = own
 
--- The first task had this effect on thread k, with the rest still to do: the thread goes on within its call.
+-- The first task had this effect on thread k, with the rest still to do: the thread goes on within its call. Its allocation was
+-- refused only where too few cells were left.
 pub record GoesOn (p : Lowered) (w : World) (old : Space) (store : Store) (in_use : BuffersInUse) (k : ℕ) (own : Owners) (shared : Shared) (s : source.Thread) (rest : List Task) (call : Activation) (pending : Option ℕ) (effect : Effect) (refused : Bool) (event : Event) : Type 0 where
   pub next_shared : Shared
   pub next : source.Thread
@@ -107,6 +122,7 @@ pub record GoesOn (p : Lowered) (w : World) (old : Space) (store : Store) (in_us
   pub calls : next.calls ≡ s.calls
   pub ending : next.ending ≡ s.ending
   pub viewless : viewed_by next ≡ []
+  pub short : refused ≡ true → IsShortOf (cells_made shared (after_effect w.classes in_use k shared s rest effect)) old store.heap
 
 -- what an instruction did is the effect of the first of the tasks; a return leaves the store as it was
 abbrev pub Executes : Lowered → World → Space → Store → BuffersInUse → ℕ → Owners → Shared → source.Thread → (rest : List Task) → Activation → (pending : Option ℕ) → Effect → Executed → Type 0

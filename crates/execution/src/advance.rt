@@ -1,21 +1,24 @@
 //! A step of a thread.
 
-ghost use Rattle.std.specs.Prelude.{◌≡◌, ℕ, ◌<◌, Some, None, ◌∷◌, List, length, IfOk, OnOk, OnErr};
+ghost use Rattle.std.specs.Prelude.{◌≡◌, ℕ, ◌<◌, true, false, Some, None, ◌∷◌, List, length, Ok, IfOk, IfErr, OnOk, OnErr};
 ghost use Rattle.std.specs.Option.{option_and_then};
 ghost use Rattle.std.specs.VecDeque.{deque_len};
-ghost use Rattle.heap.specs.Heap.{IsAddress, class_at};
+ghost use Rattle.heap.specs.Heap.{IsAddress, class_at, left_of};
+ghost use Rattle.syntax.specs.Views.{unit_tree};
 ghost use Rattle.source.specs.Thread.{BuffersInUse, Shared, Thread as SourceThread};
+ghost use Rattle.source.specs.ThreadStep.{thread_step};
 ghost use Rattle.source.specs.World.{loaded_objects};
 ghost use Rattle.safety.specs.Owners.{Owners};
 ghost use Rattle.lowered.specs.Lowered.{IsLowered};
 ghost use Rattle.jni_calls.specs.StoreAgrees.{StoreAgrees};
 ghost use Rattle.execution.specs.ThreadAgrees.{ThreadAgrees};
 ghost use Rattle.execution.specs.Advances.{AdvancesBy, ending_after, calls_after};
-ghost use Rattle.execution.specs.Executes.{IsSteady};
+ghost use Rattle.execution.specs.Executes.{IsHindered, IsSteady, cells_made};
 ghost use Rattle.execution.specs.Entry.{IsReady, Begins};
 
 use crate::entry::begin;
 use crate::execute::{Event, Executed, execute};
+use crate::fault::StepFault;
 use crate::thread::{Ending, PendingCall, Thread};
 use heap::{Addr, Heap};
 use jni_calls::activation::Activation;
@@ -35,13 +38,17 @@ pub enum Advanced {
 
 /// Takes one step of a thread that has not ended. Only the entry into a call, a new frame and a new global reference
 /// take host memory.
+///
+/// Where the step's objects have no room, its allocation is refused if it may be. Else `NoRoom` says so, before anything has
+/// changed: room can be made then, and the same step asked for again. It takes no host memory.
 #[inline(always)]
 pub fn advance(
     program: &Program<'_>,
     world: &World,
     store: &mut Store,
     thread: &mut Thread,
-) -> Result<Advanced, AllocError>
+    may_refuse: bool,
+) -> Result<Advanced, StepFault>
     requires lowered { IsLowered program.now }
     requires agrees { (own : Owners) × (shared : Shared) × (s : SourceThread) × StoreAgrees program.now world.now store.old shared
         × ThreadAgrees program.now world.now.classes store.old.heap (length (loaded_objects world.now)) own shared thread.old s × (thread.old.ending ≡ Ending.Unfinished) × IsSteady own shared s }
@@ -49,22 +56,27 @@ pub fn advance(
         → ThreadAgrees program.now world.now.classes store.old.heap (length (loaded_objects world.now)) own shared thread.old s
         → IsSteady own shared s
         → AdvancesBy program.now world.now store.old.heap store.new in_use k own shared s thread.new advanced) }
+    ensures hindered { IfErr result (λ fault. (in_use : BuffersInUse) (k : ℕ) (own : Owners) (shared : Shared) (s : SourceThread) → StoreAgrees program.now world.now store.old shared
+        → ThreadAgrees program.now world.now.classes store.old.heap (length (loaded_objects world.now)) own shared thread.old s
+        → IsSteady own shared s
+        → IsHindered (left_of store.old.heap) (cells_made shared (thread_step (unit_tree program.now.unit) world.now.classes in_use k shared s false)) may_refuse fault) }
+    ensures refuses { result ≡ Ok Advanced.Refused → may_refuse ≡ true }
     ensures store { OnErr result (store.new ≡ store.old) }
     ensures thread { OnErr result (thread.new ≡ thread.old) }
 {
     match &mut thread.call {
         None => match enter(program, &store.loaded, thread) {
             Ok(()) => Ok(Advanced::Did(Event::Quiet)),
-            Err(refused) => Err(refused),
+            Err(_) => Err(StepFault::Memory),
         },
-        Some(call) => match execute(program, world, store, &mut thread.pending, call) {
+        Some(call) => match execute(program, world, store, &mut thread.pending, call, may_refuse) {
             Ok(Executed::Did(event)) => Ok(Advanced::Did(event)),
             Ok(Executed::Refused) => Ok(Advanced::Refused),
             Ok(Executed::Returned) => {
                 leave(&store.heap, thread);
                 Ok(Advanced::Did(Event::Quiet))
             }
-            Err(refused) => Err(refused),
+            Err(fault) => Err(fault),
         },
     }
 }

@@ -1,20 +1,23 @@
 //! An instruction of a call in progress.
 
-ghost use Rattle.std.specs.Prelude.{◌≡◌, ℕ, ◌+◌, ◌<◌, ◌^◌, ◌∷◌, Option, Some, IsSome, List, length, IfOk, OnErr};
+ghost use Rattle.std.specs.Prelude.{◌≡◌, ℕ, ◌+◌, ◌<◌, ◌^◌, ◌∷◌, true, Option, Some, IsSome, Ok, List, length, IfOk, IfErr, OnErr};
 ghost use Rattle.std.specs.Bool.{beq};
 ghost use Rattle.code.specs.Depth.{depth_after};
 ghost use Rattle.code.specs.Effect.{plain_of, truth_word};
+ghost use Rattle.heap.specs.Heap.{left_of};
 ghost use Rattle.source.specs.Effect.{effect_of};
 ghost use Rattle.source.specs.Task.{Task};
 ghost use Rattle.source.specs.Thread.{BuffersInUse, Shared, Thread as SourceThread, sight_of};
+ghost use Rattle.source.specs.ThreadStep.{after_effect};
 ghost use Rattle.safety.specs.Owners.{Owners};
 ghost use Rattle.lowered.specs.Lowered.{IsLowered};
 ghost use Rattle.jni_calls.specs.Asked.{references_of};
-ghost use Rattle.execution.specs.Executes.{IsExecuting, Executes};
+ghost use Rattle.execution.specs.Executes.{IsExecuting, IsHindered, Executes, cells_made};
 ghost use Rattle.execution.specs.Invoked.{executed_as};
 ghost use Rattle.execution.specs.Moved.{HasMoved, IsReachable, MovesPlainly};
 ghost use Rattle.execution.specs.Variables.{is_null, HasSlot, nulled_references, nulled_fields, nulled_statics};
 
+use crate::fault::StepFault;
 use crate::invoke::{Invoked, invoke};
 use crate::variable::{is_null, set_null};
 use code::instr::{Instr, NullableVariable, Plain};
@@ -26,7 +29,6 @@ use jni_calls::statics::StaticReference;
 use jni_calls::store::Store;
 use jni_calls::trap::{Trap, trap_of};
 use lowered::Program;
-use std::alloc::AllocError;
 use world::World;
 
 /// What is seen of a thread's step by others.
@@ -48,7 +50,7 @@ pub enum Executed {
     Returned,
 }
 
-/// One instruction of a call.
+/// One instruction of a call. Where what it makes has no room, it is refused if it may be, and else the fault says so.
 #[inline(always)]
 pub fn execute(
     program: &Program<'_>,
@@ -56,11 +58,15 @@ pub fn execute(
     store: &mut Store,
     pending: &mut Option<Addr>,
     call: &mut Activation,
-) -> Result<Executed, AllocError>
+    may_refuse: bool,
+) -> Result<Executed, StepFault>
     requires lowered { IsLowered program.now }
     requires stands { (own : Owners) × (shared : Shared) × (s : SourceThread) × (task : Task) × (rest : List Task) × IsExecuting program.now world.now store.old call.old pending.old own shared s task rest }
     ensures done { IfOk result (λ done. (in_use : BuffersInUse) (k : ℕ) (own : Owners) (shared : Shared) (s : SourceThread) (task : Task) (rest : List Task) → IsExecuting program.now world.now store.old call.old pending.old own shared s task rest
         → Executes program.now world.now store.old.heap store.new in_use k own shared s rest call.new pending.new (effect_of (sight_of shared s) task) done) }
+    ensures hindered { IfErr result (λ fault. (in_use : BuffersInUse) (k : ℕ) (own : Owners) (shared : Shared) (s : SourceThread) (task : Task) (rest : List Task) → IsExecuting program.now world.now store.old call.old pending.old own shared s task rest
+        → IsHindered (left_of store.old.heap) (cells_made shared (after_effect world.now.classes in_use k shared s rest (effect_of (sight_of shared s) task))) may_refuse fault) }
+    ensures refuses { result ≡ Ok Executed.Refused → may_refuse ≡ true }
     ensures store { OnErr result (store.new ≡ store.old) }
     ensures pending { OnErr result (pending.new ≡ pending.old) }
     ensures call { OnErr result (call.new ≡ call.old) }
@@ -83,8 +89,10 @@ pub fn execute(
         }
         Instr::Call(boxed) => {
             let function = boxed.call();
-            let invoked = invoke(world, store, pending, call, function)?;
-            Ok(outcome_of(function.line, invoked))
+            match invoke(world, store, pending, call, function, may_refuse) {
+                Ok(invoked) => Ok(outcome_of(function.line, invoked)),
+                Err(fault) => Err(fault),
+            }
         }
         Instr::Return | Instr::ReturnJint | Instr::ReturnReference(_) => Ok(Executed::Returned),
         _ => Ok(Executed::Did(run_plain(instr, call))),

@@ -1,4 +1,4 @@
-//! Why a world was not loaded.
+//! Why a world was not loaded, and why a step was not taken.
 
 ghost use Rattle.std.specs.Prelude.{◌≡◌};
 ghost use Rattle.execution.specs.declared.fault.LoadFault.TheVariants.{Memory};
@@ -32,4 +32,13 @@ impl<T: Drop> From<AllocFailed<T>> for LoadFault {
     fn from(_e: AllocFailed<T>) -> LoadFault {
         LoadFault::Memory
     }
+}
+
+/// Why a step was not taken. Nothing has changed then.
+#[derive(Clone, Copy)]
+pub enum StepFault {
+    /// The heap has fewer cells left after its highest block than the step's objects take.
+    NoRoom,
+    /// Host memory was refused.
+    Memory,
 }

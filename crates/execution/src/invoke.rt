@@ -1,22 +1,28 @@
 //! Calls of functions of the JNI (JNI Specification, chapter 4).
 
-ghost use Rattle.std.specs.Prelude.{◌≡◌, ◌+◌, ◌<◌, ◌^◌, ℕ, List, Option, Some, IfOk, IfErr, OnErr};
+ghost use Rattle.std.specs.Prelude.{◌≡◌, ◌+◌, ◌<◌, ◌^◌, ◌||◌, ℕ, nat_le, true, List, Option, Some, Ok, IfOk, IfErr, OnErr};
 ghost use Rattle.code.specs.Call.{IsPrepared};
+ghost use Rattle.heap.specs.Heap.{left_of};
 ghost use Rattle.source.specs.Effect.{effect_of};
 ghost use Rattle.source.specs.Task.{Task};
 ghost use Rattle.source.specs.Thread.{BuffersInUse, Shared, Thread as SourceThread, sight_of};
+ghost use Rattle.source.specs.ThreadStep.{after_effect};
 ghost use Rattle.safety.specs.Owners.{Owners};
 ghost use Rattle.lowered.specs.Lowered.{Lowered};
-ghost use Rattle.execution.specs.Executes.{Executes};
+ghost use Rattle.execution.specs.Executes.{Executes, IsHindered, cells_made};
+ghost use Rattle.jni_calls.specs.CarriedOut.{is_of_references};
+ghost use Rattle.jni_calls.specs.Made.{cells_of};
 ghost use Rattle.jni_calls.specs.Traps.{trap_view};
 ghost use Rattle.execution.specs.Invoked.{AtCall, IsAnswered, trap_at, done_or_refused, executed_as};
 
+use crate::fault::StepFault;
 use crate::receive::receive;
+use class_table::table::ClassTable;
 use code::instr::Call;
-use heap::Addr;
+use heap::{Addr, Heap};
 use jni_calls::activation::Activation;
 use jni_calls::answer::{Answer, work_out};
-use jni_calls::carry_out::carry_out;
+use jni_calls::carry_out::{carry_out, has_room};
 use jni_calls::check::check;
 use jni_calls::references::References;
 use jni_calls::store::Store;
@@ -33,7 +39,8 @@ pub enum Invoked {
     Trapped(Trap),
 }
 
-/// The instruction that calls a function. Only a new frame and a new global reference take host memory.
+/// The instruction that calls a function. Only a new frame and a new global reference take host memory. Where what is made has no
+/// room, the call is refused if it may be, and else the fault says so.
 #[inline(never)]
 pub fn invoke(
     world: &World,
@@ -41,20 +48,41 @@ pub fn invoke(
     pending: &mut Option<Addr>,
     call: &mut Activation,
     function: &Call,
-) -> Result<Invoked, AllocError>
+    may_refuse: bool,
+) -> Result<Invoked, StepFault>
     requires at_call { (p : Lowered) × (own : Owners) × (shared : Shared) × (s : SourceThread) × (task : Task) × (rest : List Task) × AtCall p world.now store.old pending.old call.old function.now own shared s task rest }
     requires place { call.old.place + 1 < 2 ^ 64 }
     requires prepared { IsPrepared function.now }
     ensures done { IfOk result (λ done. (p : Lowered) (in_use : BuffersInUse) (k : ℕ) (own : Owners) (shared : Shared) (s : SourceThread) (task : Task) (rest : List Task) → AtCall p world.now store.old pending.old call.old function.now own shared s task rest
         → Executes p world.now store.old.heap store.new in_use k own shared s rest call.new pending.new (effect_of (sight_of shared s) task) (executed_as function.now.line done)) }
+    ensures hindered { IfErr result (λ fault. (p : Lowered) (in_use : BuffersInUse) (k : ℕ) (own : Owners) (shared : Shared) (s : SourceThread) (task : Task) (rest : List Task) → AtCall p world.now store.old pending.old call.old function.now own shared s task rest
+        → IsHindered (left_of store.old.heap) (cells_made shared (after_effect world.now.classes in_use k shared s rest (effect_of (sight_of shared s) task))) may_refuse fault) }
+    ensures refuses { result ≡ Ok Invoked.Refused → may_refuse ≡ true }
     ensures store { OnErr result (store.new ≡ store.old) }
     ensures pending { OnErr result (pending.new ≡ pending.old) }
     ensures call { OnErr result (call.new ≡ call.old) }
 {
     match answer_or_trap(world, store, *pending, call, function) {
-        Ok(answer) => finish(world, store, pending, call, function, answer),
+        Ok(answer) => {
+            if goes_ahead(world.classes(), &store.heap, &answer, may_refuse) {
+                match finish(world, store, pending, call, function, answer) {
+                    Ok(invoked) => Ok(invoked),
+                    Err(_) => Err(StepFault::Memory),
+                }
+            } else {
+                Err(StepFault::NoRoom)
+            }
+        }
         Err(trap) => Ok(Invoked::Trapped(trap)),
     }
+}
+
+/// Whether an answer is carried out: it may be refused, or what it makes has room.
+#[inline(always)]
+fn goes_ahead(classes: &ClassTable, heap: &Heap, answer: &Answer, may_refuse: bool) -> bool
+    ensures { result ≡ (may_refuse || nat_le (cells_of classes.now answer.now) (left_of heap.now)) }
+{
+    may_refuse || has_room(classes, heap, answer)
 }
 
 /// What a call answers, or the trap that a check found.
@@ -117,6 +145,8 @@ fn finish(
     requires answered { IsAnswered world.now store.old pending.old call.old function.now answer }
     ensures done { IfOk result (λ done. (p : Lowered) (in_use : BuffersInUse) (k : ℕ) (own : Owners) (shared : Shared) (s : SourceThread) (task : Task) (rest : List Task) → AtCall p world.now store.old pending.old call.old function.now own shared s task rest
         → Executes p world.now store.old.heap store.new in_use k own shared s rest call.new pending.new (effect_of (sight_of shared s) task) (executed_as function.now.line done)) }
+    ensures refused { result ≡ Ok Invoked.Refused → left_of store.old.heap < cells_of world.now.classes answer }
+    ensures of_references { OnErr result (is_of_references answer ≡ true) }
     ensures store { OnErr result (store.new ≡ store.old) }
     ensures pending { OnErr result (pending.new ≡ pending.old) }
     ensures call { OnErr result (call.new ≡ call.old) }

@@ -6,7 +6,7 @@ use Rattle.base.specs.Bytes.{Identifier}
 use Rattle.heap.specs.Heap.{name_at}
 use Rattle.lowered.specs.Slots.{static_index}
 use Rattle.source.specs.CallEffects.{without_one}
-use Rattle.source.specs.Object.{Reference}
+use Rattle.source.specs.Object.{Reference, object_size, sizes}
 use Rattle.source.specs.Variable.{Empty, Live, Deleted, assign}
 use Rattle.tables.specs.Globals.{without}
 use Rattle.tables.specs.References.{address_at}
@@ -19,7 +19,8 @@ use Rattle.std.specs.Prelude.{slice_get, slice_set, nat_le, if◌then◌else◌}
 use Rattle.std.proofs.lemmas.Bool.{le-leb, leb-true}
 use Rattle.std.proofs.lemmas.Option.{slice_get_within}
 use Rattle.classes.specs.Class.{Classes}
-use Rattle.heap.specs.Heap.{Space, with_value}
+use Rattle.classes.specs.Fields.{layout}
+use Rattle.heap.specs.Heap.{Space, left_of, with_value}
 use Rattle.heap.specs.declared.value.Value.{Value}
 use Rattle.jni.specs.Prototype.{ResultKind, NewLocal, NewGlobal, GivesFlag, GivesInt, GivesField, GivesNothing, GivesBuffer}
 use Rattle.source.specs.CallEffects.{frames_effect, without_local, CallResult, Leaves, NoResult, ReferenceResult, ScalarResult, CallEffect, out_of_memory, refuses_frames, with_capacity}
@@ -38,13 +39,14 @@ use Rattle.jni_calls.specs.declared.answer.Given.TheVariants as given
 use Rattle.jni_calls.specs.declared.store.Store.{Store}
 use Rattle.jni_calls.specs.StoreAgrees.{HeldAgrees, StoreAgrees, Keeps}
 use Rattle.jni_calls.specs.Answers.{GivenAgrees, IsAnswer}
-use Rattle.jni_calls.specs.CarriedOut.{CarriesOut, IsFresh, IsLeft, IsPossible, ResultAgrees, can_fail, failed}
+use Rattle.jni_calls.specs.CarriedOut.{CarriesOut, IsFresh, IsLeft, IsPossible, ResultAgrees, can_fail, failed, made_by}
 use Rattle.jni_calls.specs.Locals.{FramesAgree, IsKeyOf}
 use Rattle.tables.specs.Locals as tables
 use Rattle.tables.specs.Locals.{Frame, LocalTable, capacities, popped}
 use Rattle.jni_calls.specs.HeapAgrees.{ReferenceAgrees}
 use Rattle.jni_calls.specs.Made.{HasMade, MakesGlobal}
 use Rattle.jni_calls.proofs.AnswerCases.{gives_it, makes_it, throws_it, writes_it}
+use Rattle.jni_calls.proofs.CellsMade.{cells_made, fresh_size, nothing_asked}
 use Rattle.jni_calls.proofs.Keeping.{frames_stay, keeps_same, key_stays, reference_stays}
 use Rattle.jni_calls.proofs.Makes as making
 use Rattle.jni_calls.proofs.LocalFrames.{frame_ended, frame_made, key_deleted, key_ensured, key_popped, key_pushed, no_frames, reference_deleted, room_ensured, same_capacities}
@@ -100,8 +102,8 @@ module _ (p : Lowered) (w : World) (store : Store) (pending : Option ℕ) (local
       subst (λ (o : Option ℕ). ReferenceAgrees store.heap o (Some (out_of_memory w.classes))) (sym found.1) (table.named (length w.classes) found.0 found.1)
 
   -- the allocation was refused
-  refuses : (a : Answer) (effect : CallEffect) → makes_objects effect ≡ true → Carries a effect true store (slice_get store.loaded.items (length w.classes)) (failed kind)
-  refuses a effect makes = record {
+  refuses : (a : Answer) (effect : CallEffect) → makes_objects effect ≡ true → left_of store.heap < sizes (made_by w.classes effect) → Carries a effect true store (slice_get store.loaded.items (length w.classes)) (failed kind)
+  refuses a effect makes short = record {
     store_agrees = h.store_agrees;
     keeps = keeps_same store.heap shared;
     pending_agrees = error_there;
@@ -110,16 +112,21 @@ module _ (p : Lowered) (w : World) (store : Store) (pending : Option ℕ) (local
     given_agrees = failed_agrees w.classes store kind h.fails;
     still = λ same. refl;
     could_refuse = λ e. makes;
+    room = (short, refl);
   }
 
   abbrev Does : Answer → CallEffect → Type 0
   Does a effect = IsAnswer w.classes store.heap locals kind shared s a effect
 
-  pub refuses_object : (class : ℕ) (effect : CallEffect) → Does (answer.Makes class) effect → Carries (answer.Makes class) effect true store (slice_get store.loaded.items (length w.classes)) (failed kind)
-  refuses_object class effect does = refuses (answer.Makes class) effect (ap makes_objects (makes_it w.classes store.heap locals kind shared s class effect does).is)
+  pub refuses_object : (class : ℕ) (effect : CallEffect) → Does (answer.Makes class) effect → left_of store.heap < object_size (length (layout w.classes class)) → Carries (answer.Makes class) effect true store (slice_get store.loaded.items (length w.classes)) (failed kind)
+  refuses_object class effect does short =
+      refuses (answer.Makes class) effect (ap makes_objects (makes_it w.classes store.heap locals kind shared s class effect does).is)
+      (omega (arith, short, cells_made w.classes store.heap locals kind shared s (answer.Makes class) effect does))
 
-  pub refuses_exception : (class : ℕ) (effect : CallEffect) → Does (answer.Throws class) effect → Carries (answer.Throws class) effect true store (slice_get store.loaded.items (length w.classes)) (failed kind)
-  refuses_exception class effect does = refuses (answer.Throws class) effect (ap makes_objects (throws_it w.classes store.heap locals kind shared s class effect does).is)
+  pub refuses_exception : (class : ℕ) (effect : CallEffect) → Does (answer.Throws class) effect → left_of store.heap < object_size (length (layout w.classes class)) → Carries (answer.Throws class) effect true store (slice_get store.loaded.items (length w.classes)) (failed kind)
+  refuses_exception class effect does short =
+      refuses (answer.Throws class) effect (ap makes_objects (throws_it w.classes store.heap locals kind shared s class effect does).is)
+      (omega (arith, short, cells_made w.classes store.heap locals kind shared s (answer.Throws class) effect does))
 
   -- nothing is added to the heap
   same_heap : (t : Shared) → record t { heap = t.heap ++ [] } ≡ t
@@ -137,6 +144,7 @@ module _ (p : Lowered) (w : World) (store : Store) (pending : Option ℕ) (local
         given_agrees = result_agrees w.classes store kind _ _ (it.agrees);
         still = λ same. refl;
         could_refuse = λ e. absurd (cc);
+        room = nothing_asked store.heap;
       })
 
   pub writes : (a place : ℕ) (v : Value) (effect : CallEffect) → Does (answer.Writes a place v) effect → Carries (answer.Writes a place v) effect false (record store { heap = with_value store.heap a place v }) pending given.Nothing
@@ -154,6 +162,7 @@ module _ (p : Lowered) (w : World) (store : Store) (pending : Option ℕ) (local
         given_agrees = result_agrees w.classes after kind _ _ (subst (λ (k : ResultKind). GivenAgrees w.classes after.heap k given.Nothing NoResult) (sym it.kind_is) tt);
         still = λ same. ap (λ (x : Shared). x.statics) it.writes.is;
         could_refuse = λ e. absurd (cc);
+        room = nothing_asked store.heap;
       })
 
   -- the frames can't have more room
@@ -168,6 +177,7 @@ module _ (p : Lowered) (w : World) (store : Store) (pending : Option ℕ) (local
         given_agrees = result_agrees w.classes store kind _ _ (subst (λ (k : ResultKind). GivenAgrees w.classes store.heap k (given.Number (2 ^ 32 - 4)) (ScalarResult (Int (negsuc 3)))) (sym int) (refl, record { sfits = omega arith }));
         still = λ same. refl;
         could_refuse = λ e. absurd (cc);
+        room = nothing_asked store.heap;
       })
 
   pub refuses_room : (effect : CallEffect) → Does answer.RefusesFrames effect → Carries answer.RefusesFrames effect false store (slice_get store.loaded.items (length w.classes)) (given.Number (2 ^ 32 - 4))
@@ -190,6 +200,7 @@ module _ (p : Lowered) (w : World) (store : Store) (pending : Option ℕ) (local
         given_agrees = result_agrees w.classes store kind g c given_agrees;
         still = λ same. refl;
         could_refuse = λ e. absurd (cc);
+        room = nothing_asked store.heap;
       })
 
   -- these frames are wanted, of which there can be so much room at most
@@ -278,6 +289,7 @@ module _ (p : Lowered) (w : World) (store : Store) (pending : Option ℕ) (local
         given_agrees = (global, (None, inl refl, subst (λ (x : StaticReference). HeldAgrees store.heap (held_of globals x) Empty) (sym made.1) tt, λ key e. absurd (let clash : static.Empty ≡ static.Live key = sym made.1 ∙ e in cc)));
         still = λ same. refl;
         could_refuse = λ e. absurd (cc);
+        room = nothing_asked store.heap;
       })
   makes_global globals held effect (Some a) (Some n) global agrees is made =
       let after : Shared = record shared { globals = n ∷ shared.globals } in
@@ -298,6 +310,7 @@ module _ (p : Lowered) (w : World) (store : Store) (pending : Option ℕ) (local
         );
         still = λ same. refl;
         could_refuse = λ e. absurd (cc);
+        room = nothing_asked store.heap;
       })
 
   -- the global reference of a static ended
@@ -316,6 +329,7 @@ module _ (p : Lowered) (w : World) (store : Store) (pending : Option ℕ) (local
         given_agrees = subst (λ (k : ResultKind). GivenAgrees w.classes store.heap k given.Nothing NoResult) (sym nothing) tt;
         still = λ same. absurd (let clash : GivesNothing ≡ NewGlobal = sym nothing ∙ same in cc);
         could_refuse = λ e. absurd (cc);
+        room = nothing_asked store.heap;
       })
 
   -- the global reference of a static ended, as was answered
@@ -327,6 +341,9 @@ module _ (p : Lowered) (w : World) (store : Store) (pending : Option ℕ) (local
       (deletes_global statics effect does.1.0 i live.key live.address does.1.1 does.0 live.at live.held live.named does.1.2.place does.1.3 marked)
 
   module _ (new : Store) (class a : ℕ) (made : HasMade w.classes store class new a) where
+    object_fits : sizes (fresh_object w.classes class ∷ []) ≤ left_of store.heap
+    object_fits = omega (arith, made.room, fresh_size w.classes class)
+
     pub makes : (effect : CallEffect) → Does (answer.Makes class) effect → Carries (answer.Makes class) effect false new pending (given.Reference (Some a))
     makes effect does =
         let it = makes_it w.classes store.heap locals kind shared s class effect does in
@@ -340,6 +357,7 @@ module _ (p : Lowered) (w : World) (store : Store) (pending : Option ℕ) (local
               (making.made_named p w store new shared class a h.store_agrees made));
           still = λ same. refl;
           could_refuse = λ e. absurd (cc);
+          room = object_fits;
         })
 
     pub throws : (effect : CallEffect) → Does (answer.Throws class) effect → Carries (answer.Throws class) effect false new (Some a) (failed kind)
@@ -354,4 +372,5 @@ module _ (p : Lowered) (w : World) (store : Store) (pending : Option ℕ) (local
           given_agrees = failed_agrees w.classes new kind h.fails;
           still = λ same. refl;
           could_refuse = λ e. absurd (cc);
+          room = object_fits;
         })

@@ -5,6 +5,7 @@ pub mod CallChecks
 pub mod CallOperands
 pub mod CallTraps
 pub mod CarryOuts
+pub mod CellsMade
 pub mod Classed
 pub mod FewValues
 pub mod FieldValues

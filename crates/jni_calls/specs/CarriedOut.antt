@@ -1,12 +1,12 @@
 -- What carrying out an answer leaves, by the effect of the source's call.
-use Rattle.std.specs.Prelude.{◌≡◌, ◌≢◌, ℕ, ◌-◌, ◌^◌, Bool, true, false, List, [], ◌∷◌, ◌++◌, length, slice_get, ◌⊎◌, IsSome, Option, Some, None}
+use Rattle.std.specs.Prelude.{◌≡◌, ◌≢◌, ℕ, ◌-◌, ◌^◌, ◌<◌, ◌≤◌, Bool, true, false, List, [], ◌∷◌, ◌++◌, length, slice_get, ◌⊎◌, IsSome, Option, Some, None}
 use Rattle.classes.specs.Class.{Classes}
-use Rattle.heap.specs.Heap.{Space}
+use Rattle.heap.specs.Heap.{Space, left_of}
 use Rattle.jni.specs.Prototype.{ResultKind, NewLocal, NewGlobal, GivesFlag, GivesInt, GivesField, GivesNothing}
 use Rattle.source.specs.CallEffects.{CallResult, NoResult, NullResult, ReferenceResult, CallEffect, Leaves, Throws, Halts, out_of_memory}
 use Rattle.source.specs.CallStep.{failure, makes_objects}
 use Rattle.source.specs.Heap.{next_name}
-use Rattle.source.specs.Object.{Reference}
+use Rattle.source.specs.Object.{Object, Reference, sizes}
 use Rattle.source.specs.Thread as source
 use Rattle.source.specs.Thread.{Shared, Thread}
 use Rattle.source.specs.World.{World, fresh_object}
@@ -55,6 +55,21 @@ result_after kind false (Leaves made s' t' given) = given
 result_after kind false (Throws c) = failure kind
 result_after kind false (Halts trap) = NoResult
 
+-- the objects that a call of this effect makes, if nothing is refused
+abbrev pub made_by : Classes → CallEffect → List Object
+made_by classes (Leaves made s t given) = made
+made_by classes (Throws c) = fresh_object classes c ∷ []
+made_by classes (Halts trap) = []
+
+-- fewer than so many cells are left after the highest block, and the heap is as it was
+abbrev pub IsShortOf : (cells : ℕ) → (old new : Space) → Type 0
+IsShortOf cells old new = (left_of old < cells) × (new ≡ old)
+
+-- an allocation of so many cells is refused exactly where fewer are left
+abbrev pub GoesByRoom : (refused : Bool) → (cells : ℕ) → (old new : Space) → Type 0
+GoesByRoom true cells old new = IsShortOf cells old new
+GoesByRoom false cells old new = cells ≤ left_of old
+
 -- a global reference that no static holds, or none
 abbrev pub IsFresh : Store → StaticReference → Type 0
 IsFresh store s = (key : ℕ) → s ≡ static.Live key → IsSome (address_at store.globals key) × ((i : ℕ) → slice_get store.statics.items i ≡ Some (static.Live key) → ⊥)
@@ -86,7 +101,8 @@ IsLeft (answer.Pops a) frames key level = level ≢ frames
 IsLeft a frames key level = Unit {0}
 
 -- The store, the frames and the exception that is pending are those that the effect leaves, and what is given is what the call
--- gives. Keys that the answer leaves are those of the same references. Only what makes objects can be refused.
+-- gives. Keys that the answer leaves are those of the same references. Only what makes objects can be refused, and only where they have
+-- no room.
 pub record CarriesOut (p : Lowered) (w : World) (old : Space) (before : LocalTable) (answer : Answer) (kind : ResultKind) (shared : Shared) (s : Thread) (effect : CallEffect) (refused : Bool) (store : Store) (pending : Option ℕ) (locals : LocalTable) (given : Given) : Type 0 where
   pub store_agrees : StoreAgrees p w store (shared_after w.classes refused shared effect)
   pub keeps : Keeps old shared store.heap (shared_after w.classes refused shared effect)
@@ -96,6 +112,7 @@ pub record CarriesOut (p : Lowered) (w : World) (old : Space) (before : LocalTab
   pub given_agrees : ResultAgrees w.classes store given kind (result_after kind refused effect)
   pub still : kind ≡ NewGlobal → (shared_after w.classes refused shared effect).statics ≡ shared.statics
   pub could_refuse : refused ≡ true → makes_objects effect ≡ true
+  pub room : GoesByRoom refused (sizes (made_by w.classes effect)) old store.heap
 
 -- what a call of this kind of result gives where it fails
 abbrev pub failed : ResultKind → Given

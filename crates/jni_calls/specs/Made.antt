@@ -7,6 +7,8 @@ use Rattle.heap.specs.Heap.{Block, end_of, left_of, with_block}
 use Rattle.heap.specs.declared.value.Value.{Value}
 use Rattle.heap.specs.declared.value.Value.TheVariants as value
 use Rattle.tables.specs.References.{IsPut}
+use Rattle.jni_calls.specs.declared.answer.Answer.{Answer}
+use Rattle.jni_calls.specs.declared.answer.Answer.TheVariants as answer
 use Rattle.jni_calls.specs.declared.statics.StaticReference.{StaticReference}
 use Rattle.jni_calls.specs.declared.statics.StaticReference.TheVariants as static
 use Rattle.jni_calls.specs.declared.store.Store.{Store}
@@ -43,3 +45,9 @@ Makes classes old class new (Some a) = HasMade classes old class new a
 abbrev pub MakesGlobal : (old : List (Option ℕ)) → Option ℕ → (new : List (Option ℕ)) → StaticReference → Type 0
 MakesGlobal old None new held = (new ≡ old) × (held ≡ static.Empty)
 MakesGlobal old (Some a) new held = (key : ℕ) × (held ≡ static.Live key) × IsPut 0 old key a new
+
+-- the cells that an answer takes
+abbrev pub cells_of : Classes → Answer → ℕ
+cells_of classes (answer.Makes class) = object_size (length (layout classes class))
+cells_of classes (answer.Throws class) = object_size (length (layout classes class))
+cells_of classes a = 0

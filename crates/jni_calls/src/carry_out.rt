@@ -1,6 +1,7 @@
 //! What a call does to the store, and which exception is pending then.
 
-ghost use Rattle.std.specs.Prelude.{◌≡◌, ◌-◌, ◌<◌, ◌≤◌, ◌^◌, length, slice_get, true, false, IfOk, OnErr};
+ghost use Rattle.std.specs.Prelude.{◌≡◌, ◌-◌, ◌<◌, ◌≤◌, ◌^◌, length, nat_le, slice_get, true, false, IfOk, OnErr};
+ghost use Rattle.heap.specs.Heap.{left_of};
 ghost use Rattle.jni.specs.Prototype.{ResultKind as SourceKind};
 ghost use Rattle.jni.specs.Table.{result_value};
 ghost use Rattle.source.specs.CallEffects.{CallEffect};
@@ -10,13 +11,15 @@ ghost use Rattle.tables.specs.declared.locals.TheConstants.{MOST_LOCALS};
 ghost use Rattle.tables.specs.Locals.{capacities, ensured, popped};
 ghost use Rattle.jni_calls.specs.Answers.{IsAnswer};
 ghost use Rattle.jni_calls.specs.CarriedOut.{CarriesOut, IsPossible, failed, is_of_frames, is_of_references};
+ghost use Rattle.jni_calls.specs.Made.{cells_of};
 ghost use Rattle.jni_calls.specs.declared.answer.Given.TheVariants.{Number};
 
 use crate::answer::{Answer, Given};
 use crate::make::make;
 use crate::statics::{StaticReference, delete_global, make_global};
 use crate::store::Store;
-use heap::Addr;
+use class_table::table::ClassTable;
+use heap::{Addr, Heap};
 use jni::ResultKind;
 use std::alloc::AllocError;
 use tables::{Locals, TableFault};
@@ -29,8 +32,19 @@ pub struct Carried {
     pub refused: bool,
 }
 
-/// Does to the store and to a call's frames what a function of this kind of result answers. An object or an exception that has
-/// no room in the heap is refused: then the OutOfMemoryError object is pending, and the call fails.
+/// Whether what an answer makes has room in the heap.
+pub fn has_room(classes: &ClassTable, heap: &Heap, answer: &Answer) -> bool
+    ensures { result ≡ nat_le (cells_of classes.now answer.now) (left_of heap.now) }
+{
+    match *answer {
+        Answer::Makes(class) => 3 + classes.layout_len(class) <= heap.left(),
+        Answer::Throws(class) => 3 + classes.layout_len(class) <= heap.left(),
+        _ => true,
+    }
+}
+
+/// Does to the store and to a call's frames what a function of this kind of result answers. An object or an exception is refused
+/// exactly where it has no room in the heap: then the OutOfMemoryError object is pending, and the call fails.
 ///
 /// An error says that host memory for a frame or a global reference was refused; then all is as before.
 pub fn carry_out(
@@ -49,6 +63,7 @@ pub fn carry_out(
     ensures store { OnErr result (store.new ≡ store.old) }
     ensures pending { OnErr result (pending.new ≡ pending.old) }
     ensures locals { OnErr result (locals.new ≡ locals.old) }
+    ensures of_references { OnErr result (is_of_references answer ≡ true) }
 {
     // Here the proof takes up what is known of a world.
     let _ = world.threads();

@@ -1,5 +1,5 @@
 -- A step of the machine is a step of the state that its journal leads to.
-use Rattle.std.proofs.Common.{◌≡◌, ℕ, suc, ◌*◌, ◌≤◌, Bool, true, false, List, [], ◌∷◌, ◌++◌, ◌+◌, length, take, drop, arith, Option, Some, None, refl, sym, ap, ◌∙◌, subst}
+use Rattle.std.proofs.Common.{◌≡◌, ℕ, suc, ◌*◌, ◌<◌, ◌≤◌, Bool, true, false, List, [], ◌∷◌, ◌++◌, ◌+◌, length, take, drop, arith, Option, Some, None, refl, sym, ap, ◌∙◌, subst}
 use Rattle.std.specs.Prelude.{slice_get, slice_set}
 use Rattle.std.specs.Option.{option_map}
 use Rattle.std.proofs.Math.ListN.{length-set}
@@ -10,8 +10,10 @@ use Rattle.source.specs.declared.journal.Entry.{Entry}
 use Rattle.source.specs.declared.journal.Entry.TheVariants.{Step}
 use Rattle.source.specs.declared.printed.Printed.{Printed}
 use Rattle.source.specs.World.{World, loaded_objects}
-use Rattle.source.specs.State.{State, thread_at, set_thread, in_use, with_event, advanced}
+use Rattle.source.specs.State.{State, thread_at, set_thread, in_use, with_event}
+use Rattle.source.specs.State.{advanced as advanced_to}
 use Rattle.source.specs.Step.{can_step, is_unfinished, world_step}
+use Rattle.source.specs.ThreadStep.{thread_step}
 use Rattle.source.specs.Thread as source
 use Rattle.source.specs.Thread.{BuffersInUse, Shared}
 use Rattle.source.proofs.RunLaws.{replay_more, each-more}
@@ -20,7 +22,7 @@ use Rattle.source.specs.Object.{sizes}
 use Rattle.source.proofs.LiveSizes.{live_within, sizes_split}
 use Rattle.source.specs.Start.{start}
 use Rattle.source.proofs.StepLaws.{Steps, steps, step-thread}
-use Rattle.heap.specs.Heap.{end_of}
+use Rattle.heap.specs.Heap.{end_of, left_of}
 use Rattle.heap.proofs.Layouts.{ends_within}
 use Rattle.world.proofs.LoadedWorlds.{few_objects}
 use Rattle.lowered.specs.Lowered.{Lowered}
@@ -32,13 +34,13 @@ use Rattle.execution.specs.declared.thread.Thread.{Thread}
 use Rattle.machine.specs.declared.stop.Stop.{Stop}
 use Rattle.machine.specs.Stops.{stop_view, stop_after}
 use Rattle.jni_calls.specs.declared.store.Store.{Store}
-use Rattle.execution.specs.Executes.{IsSteady, event_view}
+use Rattle.execution.specs.Executes.{IsSteady, cells_made, event_view}
 use Rattle.jni_calls.specs.StoreAgrees.{StoreAgrees}
 use Rattle.execution.specs.ThreadAgrees.{ThreadAgrees, ThreadsAgree, ending_view}
-use Rattle.execution.specs.Advances.{Advances, AdvancesBy}
+use Rattle.execution.specs.Advances.{Advances}
 use Rattle.execution.specs.declared.advance.Advanced.{Advanced}
 use Rattle.execution.specs.declared.advance.Advanced.TheVariants as advanced
-use Rattle.machine.specs.Run.{Run, Corresponds, CouldStep, TurnHolds, entry_of, event_of, is_refused, printed_after, turn_after, HasEnded}
+use Rattle.machine.specs.Run.{Run, AdvancesAlways, Corresponds, CouldStep, HadNoRoom, TurnHolds, entry_of, event_of, is_refused, printed_after, turn_after, HasEnded}
 use Rattle.machine.proofs.KeptThreads.{threads_stay}
 use Rattle.machine.proofs.OwnerSteps.{Found, changed, found, owner_elsewhere, owner_here, owners_stepped}
 use Rattle.execution.proofs.Threads.{unblocked}
@@ -70,9 +72,9 @@ threads_next s k shared t event.Quiet = refl
 threads_next s k shared t (event.Printed z) = refl
 threads_next s k shared t (event.Trapped trap line) = refl
 
--- the thread took the step that the source's thread takes, whatever state it stands for
-abbrev pub AdvancesAlways : Lowered → World → (store store' : Store) → Thread → Thread → (refused : Bool) → Event → Type 0
-AdvancesAlways p w store store' t after refused e =
+-- the thread took this step, whatever state it stands for
+abbrev pub StepsAlways : Lowered → World → (store store' : Store) → Thread → Thread → (refused : Bool) → Event → Type 0
+StepsAlways p w store store' t after refused e =
     (in_use : BuffersInUse) (k : ℕ) (own : Owners) (shared : Shared) (s : source.Thread) → StoreAgrees p w store shared → ThreadAgrees p w.classes store.heap (length (loaded_objects w)) own shared t s → IsSteady own shared s
     → Advances p w store.heap store' in_use k own shared s after refused e
 
@@ -96,6 +98,13 @@ has_room p w store s next k shares kept step some =
     let cells : store.heap.cells ≡ w.cells = shares.cells in
     let size_made : sizes (made (unit_tree p.unit) w s k) ≡ sizes (drop (length s.shared.heap) next.shared.heap) = ap sizes made_now in
     omega (arith, live, split, filled, within, cells, size_made, kept)
+
+-- the cells of what a step makes
+made_cells : (s : State) (k : ℕ) (a : source.Advance) → sizes (made_between s (advanced_to s k a)) ≡ cells_made s.shared a
+made_cells s k (source.Advances shared t source.Quiet) = refl
+made_cells s k (source.Advances shared t (source.PrintedNumber z)) = refl
+made_cells s k (source.Advances shared t (source.Trapped trap line)) = refl
+made_cells s k source.NoAdvance = refl
 
 -- ---- thread k of the state that the journal leads to, which is the machine's at i
 
@@ -149,7 +158,7 @@ module _ (p : Lowered) (world : World) (store : Store) (ts : List Thread) (print
   fits_entry store' false next shares kept step = has_room p world store' c.state next k shares kept step
 
   -- the machine after the step
-  pub steps_on : (store' : Store) (after : Thread) (refused : Bool) (e : Event) → stop ≡ None → t.ending ≡ Unfinished → AdvancesAlways p world store store' t after refused e
+  pub steps_on : (store' : Store) (after : Thread) (refused : Bool) (e : Event) → stop ≡ None → t.ending ≡ Unfinished → StepsAlways p world store store' t after refused e
       → Corresponds p world store' (slice_set ts i after) (printed_after printed k e) (stop_after stop k e) (journal ++ Step k refused ∷ [])
   steps_on store' after refused e goes live advances =
       let f = the_thread in
@@ -157,7 +166,7 @@ module _ (p : Lowered) (world : World) (store : Store) (ts : List Thread) (print
       let a = advances (in_use c.state) k (owners k) c.state.shared f.source c.store_agrees f.agrees steady in
       let next = next_state c.state k a.next_shared a.next e in
       let step : world_step (unit_tree p.unit) classes c.state entry ≡ Some next =
-      step-thread (unit_tree p.unit) classes c.state k f.source refused (steps_here goes live) ∙ ap (advanced c.state k) a.steps in
+      step-thread (unit_tree p.unit) classes c.state k f.source refused (steps_here goes live) ∙ ap (advanced_to c.state k) a.steps in
       let shared_is : next.shared ≡ a.next_shared = shared_next c.state k a.next_shared a.next e in
       let others = threads_stay p classes count_made store.heap store'.heap c.state.shared a.next_shared a.keeps owners 1 ts c.state.threads c.threads_agree in
       let shares : StoreAgrees p world store' next.shared = subst (StoreAgrees p world store') (sym shared_is) a.store_agrees in
@@ -185,21 +194,39 @@ module _ (p : Lowered) (world : World) (store : Store) (ts : List Thread) (print
         few = subst (λ n. n ≤ 8) (sym (length-set ts i after)) c.few;
       }
 
+  -- a step that was refused had no room for what it would have made
+  no_room : (store' : Store) (after : Thread) → stop ≡ None → t.ending ≡ Unfinished → StepsAlways p world store store' t after true event.Quiet → left_of store'.heap < sizes (made (unit_tree p.unit) world c.state k)
+  no_room store' after goes live advances =
+      let f = the_thread in
+      let a = advances (in_use c.state) k (owners k) c.state.shared f.source c.store_agrees f.agrees steady in
+      let short = a.short refl in
+      let same : left_of store'.heap ≡ left_of store.heap = ap left_of short.1 in
+      let step = ap (made_between c.state) (step-thread (unit_tree p.unit) classes c.state k f.source false (steps_here goes live)) in
+      let cells : sizes (made (unit_tree p.unit) world c.state k) ≡ cells_made c.state.shared (thread_step (unit_tree p.unit) classes (in_use c.state) k c.state.shared f.source false) =
+      ap sizes step ∙ made_cells c.state k (thread_step (unit_tree p.unit) classes (in_use c.state) k c.state.shared f.source false) in
+      omega (arith, short.0, same, cells)
+
   -- the same by what is told of the step
   pub steps_by : (store' : Store) (after : Thread) (x : Advanced) → stop ≡ None → t.ending ≡ Unfinished
-      → ((in_use : BuffersInUse) (k : ℕ) (own : Owners) (shared : Shared) (s : source.Thread) → StoreAgrees p world store shared → ThreadAgrees p classes store.heap count_made own shared t s → IsSteady own shared s → AdvancesBy p world store.heap store' in_use k own shared s after x)
+      → AdvancesAlways p world store store' t after x
       → Corresponds p world store' (slice_set ts i after) (printed_after printed k (event_of x)) (stop_after stop k (event_of x)) (journal ++ Step k (is_refused x) ∷ [])
   steps_by store' after (advanced.Did e) goes live advances = steps_on store' after false e goes live advances
   steps_by store' after advanced.Refused goes live advances = steps_on store' after true event.Quiet goes live advances
 
+  pub short_by : (store' : Store) (after : Thread) (x : Advanced) → stop ≡ None → t.ending ≡ Unfinished → AdvancesAlways p world store store' t after x
+      → x ≡ advanced.Refused → left_of store'.heap < sizes (made (unit_tree p.unit) world c.state k)
+  short_by store' after (advanced.Did e) goes live advances is = absurd (cc)
+  short_by store' after advanced.Refused goes live advances is = no_room store' after goes live advances
+
 -- the turn was the step that the run has more
 pub turn_holds : (old : Run) (unit : List Item) (world : World) (before after : List Entry) (had left : ℕ) (k : ℕ) (x : Advanced) → record { unit = unit; world = world; journal = before; left = had } ≡ old → after ≡ before ++ Step k (is_refused x) ∷ []
-    → CouldStep old k → TurnHolds old k (record { unit = unit; world = world; journal = after; left = left }) (turn_after x)
-turn_holds old unit world before after had left k (advanced.Did e) is more could = (
+    → CouldStep old k → (x ≡ advanced.Refused → HadNoRoom old k left) → TurnHolds old k (record { unit = unit; world = world; journal = after; left = left }) (turn_after x)
+turn_holds old unit world before after had left k (advanced.Did e) is more could short = (
   ap (λ (j : List Entry). let r : Run = record { unit = unit; world = world; journal = j; left = left } in r) more ∙ ap (λ (r : Run). let s : Run = record r { journal = r.journal ++ Step k false ∷ []; left = left } in s) is,
   could,
 )
-turn_holds old unit world before after had left k advanced.Refused is more could = (
+turn_holds old unit world before after had left k advanced.Refused is more could short = (
   ap (λ (j : List Entry). let r : Run = record { unit = unit; world = world; journal = j; left = left } in r) more ∙ ap (λ (r : Run). let s : Run = record r { journal = r.journal ++ Step k true ∷ []; left = left } in s) is,
   could,
+  short refl,
 )

@@ -19,11 +19,12 @@ use Rattle.source.specs.Report.{ShownRow}
 use Rattle.source.specs.ReportOf.{shown, shown_row}
 use Rattle.source.specs.Heap.{Heap}
 use Rattle.reached.specs.Rows.{AreReported}
-use Rattle.source.specs.Run.{replay, Follows, UnmarkedFit}
+use Rattle.source.specs.Object.{sizes}
+use Rattle.source.specs.Run.{replay, made, Follows, UnmarkedFit}
 use Rattle.source.specs.State.{State, thread_at}
 use Rattle.source.specs.Step.{can_step, is_blocked, is_unfinished}
-use Rattle.source.specs.Thread.{Thread as SourceThread}
-use Rattle.safety.specs.Owners.{owners_after}
+use Rattle.source.specs.Thread.{BuffersInUse, Shared, Thread as SourceThread}
+use Rattle.safety.specs.Owners.{Owners, owners_after}
 use Rattle.safety.specs.StepSafe.{IsSafe}
 use Rattle.lowered.specs.Lowered.{Lowered, IsLowered}
 use Rattle.execution.specs.declared.thread.Thread.{Thread}
@@ -40,7 +41,9 @@ use Rattle.machine.specs.declared.turn.Turn.TheVariants as turn
 use Rattle.machine.specs.declared.stop.Stop.{Stop}
 use Rattle.jni_calls.specs.declared.store.Store.{Store}
 use Rattle.jni_calls.specs.StoreAgrees.{StoreAgrees}
-use Rattle.execution.specs.ThreadAgrees.{ThreadsAgree}
+use Rattle.execution.specs.Advances.{AdvancesBy}
+use Rattle.execution.specs.Executes.{IsSteady}
+use Rattle.execution.specs.ThreadAgrees.{ThreadAgrees, ThreadsAgree}
 use Rattle.machine.specs.Stops.{stop_view}
 
 -- a program's items, the world, the steps taken, and the cells after the heap's highest block
@@ -86,6 +89,12 @@ printed_after printed k (event.Trapped trap line) = printed
 abbrev pub event_of : Advanced → Event
 event_of (advanced.Did e) = e
 event_of advanced.Refused = event.Quiet
+
+-- the thread took the step that the source's thread takes, whatever state it stands for
+abbrev pub AdvancesAlways : Lowered → World → (store after : Store) → Thread → Thread → Advanced → Type 0
+AdvancesAlways p w store after t t' x =
+    (in_use : BuffersInUse) (k : ℕ) (own : Owners) (shared : Shared) (s : SourceThread) → StoreAgrees p w store shared → ThreadAgrees p w.classes store.heap (length (loaded_objects w)) own shared t s → IsSteady own shared s
+    → AdvancesBy p w store.heap after in_use k own shared s t' x
 
 -- whether its allocation was refused
 abbrev pub is_refused : Advanced → Bool
@@ -145,13 +154,17 @@ abbrev pub turn_after : Advanced → Answer
 turn_after (advanced.Did e) = turn.Stepped
 turn_after advanced.Refused = turn.Short
 
--- what a turn of thread k was
+-- so many cells are fewer than the objects take that a step of thread k would have made
+abbrev pub HadNoRoom : Run → ℕ → (left : ℕ) → Type 0
+HadNoRoom r k left = InState r (λ s. left < sizes (made (unit_tree r.unit) r.world s k))
+
+-- what a turn of thread k was; an allocation was refused only where it had no room
 abbrev pub TurnHolds : Run → ℕ → Run → Answer → Type 0
 TurnHolds old k new turn.Stopped = (new ≡ old) × InState old (λ s. IsSome s.stop)
 TurnHolds old k new turn.Ended = (new ≡ old) × InState old (λ s. HasEnded s k)
 TurnHolds old k new (turn.Blocked all) = (new ≡ old) × InState old (λ s. IsWaiting old.world.classes s k all)
 TurnHolds old k new turn.Full = (new ≡ old) × (1000000 ≤ length old.journal) × InState old (λ s. can_turn old s k ≡ true)
-TurnHolds old k new turn.Short = (new ≡ refused old k new.left) × CouldStep old k
+TurnHolds old k new turn.Short = (new ≡ refused old k new.left) × CouldStep old k × HadNoRoom old k new.left
 TurnHolds old k new turn.Stepped = (new ≡ stepped old k new.left) × CouldStep old k
 
 -- the turn of a thread that takes no step, by what is known before

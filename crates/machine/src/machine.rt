@@ -9,9 +9,15 @@ ghost use Rattle.heap.specs.Heap.{left_of};
 ghost use Rattle.source.specs.Load.{first_load_fault};
 ghost use Rattle.source.specs.Object.{sizes};
 ghost use Rattle.source.specs.World.{loaded_objects};
+ghost use Rattle.safety.specs.Owners.{Owners};
+ghost use Rattle.source.specs.Thread.{Shared, Thread as SourceThread};
+ghost use Rattle.lowered.specs.Lowered.{IsLowered};
+ghost use Rattle.jni_calls.specs.StoreAgrees.{StoreAgrees};
+ghost use Rattle.execution.specs.Executes.{IsSteady};
 ghost use Rattle.execution.specs.Loading.{IsLoadFault};
+ghost use Rattle.execution.specs.ThreadAgrees.{ThreadAgrees};
 ghost use Rattle.source.specs.declared.journal.Entry.TheVariants.{Step};
-ghost use Rattle.machine.specs.Run.{replay_of, Corresponds, IsUnstarted, CouldStep, TurnHolds, RunsAlong, RunsInto, PrintedBy, IsFinished, has_ended, ReportsRun, AreShown, ShowsObjects, GivesNoStep, GivesStep, StoppedBy, event_of, is_refused, printed_after, turn_after, turn_without_step};
+ghost use Rattle.machine.specs.Run.{replay_of, AdvancesAlways, Corresponds, IsUnstarted, CouldStep, TurnHolds, RunsAlong, RunsInto, PrintedBy, IsFinished, has_ended, ReportsRun, AreShown, ShowsObjects, GivesNoStep, GivesStep, StoppedBy, event_of, is_refused, printed_after, turn_after, turn_without_step};
 ghost use Rattle.machine.specs.Stops.{stop_after, standing_of, standing_by_ending};
 
 use crate::fault::{ReportFault, RunFault};
@@ -23,7 +29,7 @@ use arrayvec::ArrayVec;
 use class_table::table::ClassTable;
 use execution::advance::{Advanced, advance};
 use execution::execute::Event;
-use execution::fault::LoadFault;
+use execution::fault::{LoadFault, StepFault};
 use execution::load::load_threads;
 use execution::objects::load_store;
 use execution::thread::{Ending, Thread};
@@ -154,7 +160,7 @@ impl<'a> Machine<'a> {
             return Ok(turn);
         }
         make_room(&mut self.printed, &mut self.journal)?;
-        let advanced = advance(
+        let advanced = advance_or_refuse(
             &self.program,
             &self.world,
             &mut self.store,
@@ -362,6 +368,33 @@ fn make_room(printed: &mut Vec<Printed>, journal: &mut Vec<Entry>) -> Result<(),
 {
     journal.reserve(1)?;
     printed.reserve(1)
+}
+
+/// Takes one step of a thread that has not ended. Its allocation is refused where what it makes has no room, which a step is asked for
+/// before anything has changed: there a collection will stand, between two steps. Only a step that makes nothing takes host memory,
+/// so what is refused can't fail.
+#[inline(always)]
+fn advance_or_refuse(
+    program: &Program<'_>,
+    world: &World,
+    store: &mut Store,
+    thread: &mut Thread,
+) -> Result<Advanced, AllocError>
+    requires lowered { IsLowered program.now }
+    requires agrees { (own : Owners) × (shared : Shared) × (s : SourceThread) × StoreAgrees program.now world.now store.old shared
+        × ThreadAgrees program.now world.now.classes store.old.heap (length (loaded_objects world.now)) own shared thread.old s × (thread.old.ending ≡ Ending.Unfinished) × IsSteady own shared s }
+    ensures advances { IfOk result (AdvancesAlways program.now world.now store.old store.new thread.old thread.new) }
+    ensures store { OnErr result (store.new ≡ store.old) }
+    ensures thread { OnErr result (thread.new ≡ thread.old) }
+{
+    match advance(program, world, store, thread, false) {
+        Ok(advanced) => Ok(advanced),
+        Err(StepFault::Memory) => Err(AllocError),
+        Err(StepFault::NoRoom) => match advance(program, world, store, thread, true) {
+            Ok(advanced) => Ok(advanced),
+            Err(_) => unreachable!(),
+        },
+    }
 }
 
 /// Writes down what thread `k` did, and tells the turn.

@@ -1,7 +1,9 @@
 use Rattle.std.proofs.Common.{◌≡◌, ℕ, true, false, List, Option, Some, None, length, sym, ap, ◌∙◌, subst, refl}
 use Rattle.std.specs.Prelude.{IsSome}
 use Rattle.std.specs.Option.{option_map}
-use Rattle.heap.specs.Heap.{Block, Space, IsAddress, block_at}
+use Rattle.syntax.specs.Views.{unit_tree}
+use Rattle.heap.specs.Heap.{Block, Space, IsAddress, block_at, left_of}
+use Rattle.source.specs.ThreadStep.{step_within}
 use Rattle.source.specs.Effect.{effect_of}
 use Rattle.source.specs.Object.{Reference}
 use Rattle.source.specs.Thread as source
@@ -14,7 +16,7 @@ use Rattle.jni_calls.specs.declared.store.Store.{Store}
 use Rattle.jni_calls.specs.declared.activation.Activation.{Activation}
 use Rattle.execution.specs.declared.thread.Thread.{Thread}
 use Rattle.execution.specs.declared.execute.Event.TheVariants.{Quiet}
-use Rattle.execution.specs.Executes.{IsSteady, IsExecuting, Executes}
+use Rattle.execution.specs.Executes.{IsHindered, IsSteady, IsExecuting, Executes, cells_made}
 use Rattle.jni_calls.specs.StoreAgrees.{StoreAgrees}
 use Rattle.execution.specs.ThreadAgrees.{ThreadAgrees}
 use Rattle.execution.specs.declared.execute.Executed.{Executed}
@@ -106,3 +108,12 @@ returns-in-Ok-Returned-clause-advances c in_use k own shared s shares h steady =
     let executed = c.in-Ok-Returned.ensures.done in_use k own shared s b.task b.rest (executing p w old own shared c.args.thread.now s c.in-Some.call shares h c.in-Some.is steady) in
     let left = subst (λ (x : Executed). Executes p w old.heap c.execute.new.store in_use k own shared s b.rest c.execute.new.call c.execute.new.pending (effect_of (sight_of shared s) b.task) x) c.in-Ok-Returned.field-0-is executed in
     returned p w old.heap in_use k own shared c.args.thread.now s h c.execute.new.store c.execute.new.pending c.leave.new.thread b.task b.rest b.is left.1 left.2 left.3 c.requires.agrees.5 left.0 c.leave.ensures.call c.leave.ensures.pending c.leave.ensures.calls c.leave.ensures.ending
+
+pub returns-in-Err-execute-clause-hindered : goal.returns-in-Err-execute-clause-hindered
+returns-in-Err-execute-clause-hindered c in_use k own shared s shares h steady =
+    let p = c.args.program.now in
+    let w = c.args.world.now in
+    let old = c.args.store.now in
+    let b = works p w old own shared c.args.thread.now s c.in-Some.call h c.in-Some.is in
+    let told = c.in-Err-execute.ensures.hindered in_use k own shared s b.task b.rest (executing p w old own shared c.args.thread.now s c.in-Some.call shares h c.in-Some.is steady) in
+    subst (λ (a : source.Advance). IsHindered (left_of old.heap) (cells_made shared a) c.args.may_refuse c.in-Err-execute.fault) (sym (ap (step_within (unit_tree p.unit) w.classes in_use k shared s false) b.is)) told

@@ -155,11 +155,11 @@ returns-in_default-clause-done c in_use k own shared s task rest e =
     plain_executes c.args.program.now c.args.world.now c.args.store.now in_use k own shared e.store_agrees s c.args.pending.now e.pending_agrees e.viewless c.args.call.now f.code task rest (ready_for _ c.args.world.now.classes c.args.store.now.heap _ _ f (visible_to own shared s) s.frames task rest e.stands) c.instr_at-instr.result.now f.at e.tasks
     c.run_plain.new.call c.run_plain.result m.way m.stack m.numbers m.is m.moved m.way_seen
 
-pub returns-in_ok-invoked-in-Call-clause-done : goal.returns-in_ok-invoked-in-Call-clause-done
-returns-in_ok-invoked-in-Call-clause-done c in_use k own shared s task rest e =
-    let f = fetched (goal.at.returns-in_ok-invoked-in-Call-clause-done c).After-instr_at-instr in
+pub returns-in-Ok-clause-done : goal.returns-in-Ok-clause-done
+returns-in-Ok-clause-done c in_use k own shared s task rest e =
+    let f = fetched (goal.at.returns-in-Ok-clause-done c).After-instr_at-instr in
     subst (λ (done : Executed). Executes c.args.program.now c.args.world.now c.args.store.now.heap c.invoke.new.store in_use k own shared s rest c.invoke.new.call c.invoke.new.pending (effect_of (sight_of shared s) task) done) (sym c.outcome_of.ensures)
-    (c.in_ok-invoked-in-Call.ensures.done c.args.program.now in_use k own shared s task rest
+    (c.in-Ok.ensures.done c.args.program.now in_use k own shared s task rest
     (at_call c.args.program.now c.args.world.now c.args.store.now c.args.pending.now c.args.call.now c.instr_at-instr.result.now f c.call-function.result.now (c.in-Call.is ∙ ap (λ (x : Call). instr.Call x) (sym c.call-function.ensures.view)) own shared s task rest e))
 
 pub returns-in-PutJint-clause-done : goal.returns-in-PutJint-clause-done
@@ -186,3 +186,9 @@ pub returns-in-Return-3-clause-done : goal.returns-in-Return-3-clause-done
 returns-in-Return-3-clause-done c in_use k own shared s task rest e =
     let f = fetched (goal.at.returns-in-Return-3-clause-done c).After-instr_at-instr in
     return_executes _ c.args.world.now c.args.store.now in_use k own shared e.store_agrees s c.args.pending.now e.pending_agrees e.viewless _ f.code task rest (ready_for _ c.args.world.now.classes c.args.store.now.heap _ _ f (visible_to own shared s) s.frames task rest e.stands) c.instr_at-instr.result.now f.at (returns_is _ c.in-Return.is) c.args.call.now
+
+pub returns-in-Err-clause-hindered : goal.returns-in-Err-clause-hindered
+returns-in-Err-clause-hindered c in_use k own shared s task rest e =
+    let f = fetched (goal.at.returns-in-Err-clause-hindered c).After-instr_at-instr in
+    c.in-Err.ensures.hindered c.args.program.now in_use k own shared s task rest
+    (at_call c.args.program.now c.args.world.now c.args.store.now c.args.pending.now c.args.call.now c.instr_at-instr.result.now f c.call-function.result.now (c.in-Call.is ∙ ap (λ (x : Call). instr.Call x) (sym c.call-function.ensures.view)) own shared s task rest e)

@@ -1,17 +1,15 @@
 use Rattle.std.specs.Vec.{with_items}
 use Rattle.std.proofs.lemmas.List.{with_items_is, places}
-use Rattle.std.proofs.Common.{rules, length, ◌≡◌, ℕ, Bool, true, false, List, Option, None, sym, ap, ◌∙◌, subst}
-use Rattle.jni.specs.JniFunction.{JniFunction, prototype}
+use Rattle.std.proofs.Common.{rules, length, ◌≡◌, ℕ, Bool, true, false, List, Option, sym, ap, ◌∙◌, subst, refl, arith}
+use Rattle.jni.specs.JniFunction.{prototype}
 use Rattle.jni.specs.Prototype.{ResultKind}
 use Rattle.jni.specs.Table.{function_value, result_value}
-use Rattle.source.specs.CallEffects.{CallEffect}
-use Rattle.source.specs.CallStep.{trap_of_call}
+use Rattle.source.specs.Object.{sizes}
 use Rattle.source.specs.CallTable.{call_effect}
 use Rattle.source.specs.Effect.{Effect, effect_of}
 use Rattle.source.specs.Task.{Task}
 use Rattle.source.specs.Thread.{BuffersInUse, Shared, Thread, sight_of}
 use Rattle.source.specs.World.{World}
-use Rattle.code.specs.Call.{call_view}
 use Rattle.code.specs.declared.instr.Call.{Call}
 use Rattle.heap.specs.Heap.{Space}
 use Rattle.lowered.specs.Lowered.{Lowered}
@@ -22,18 +20,19 @@ use Rattle.jni_calls.specs.declared.store.Store.{Store}
 use Rattle.jni_calls.specs.declared.activation.Activation.{Activation}
 use Rattle.jni_calls.specs.declared.statics.StaticReference.{StaticReference}
 use Rattle.jni_calls.specs.Answers.{IsAnswer}
-use Rattle.jni_calls.specs.Asked.{references_of}
-use Rattle.jni_calls.specs.CarriedOut.{CarriesOut, IsPossible, shared_after}
-use Rattle.jni_calls.specs.WorkedOut.{IsWorkedOut}
+use Rattle.jni_calls.specs.CarriedOut.{CarriesOut, GoesByRoom, made_by, shared_after}
 use Rattle.safety.specs.Owners.{Owners}
 use Rattle.execution.specs.declared.execute.Event.TheVariants.{Quiet}
 use Rattle.execution.specs.declared.execute.Executed.{Executed}
 use Rattle.execution.specs.Executes.{Executes, GoesOn}
+use Rattle.execution.specs.declared.invoke.Invoked.{Invoked}
+use Rattle.execution.specs.declared.invoke.Invoked.TheVariants as invoked
 use Rattle.execution.specs.Invoked.{AtCall, IsAnswered, done_or_refused, executed_as}
 use Rattle.execution.specs.Received.{HasRoom, HasStatic, Receives, statics_with}
-use Rattle.jni_calls.proofs.CallAnswers.{answers}
+use Rattle.jni_calls.proofs.CellsMade.{cells_made}
 use Rattle.jni_calls.proofs.StaticStores.{shared_long, statics_long}
-use Rattle.execution.proofs.CallInstructions.{CalledAs, called, r, goes_on, held, has_static, has_target, possible, owned_key, room_after, trap_is}
+use Rattle.execution.proofs.AnsweredCalls.{answered, can_carry, does, free, it, kind_is, worked}
+use Rattle.execution.proofs.CallInstructions.{called, goes_on, has_static, has_target, room_after}
 use Rattle.execution.proofs.invoke.finish.Goals as goal
 
 -- what a call came to, by whether its allocation was refused
@@ -44,47 +43,21 @@ executes p w old store in_use k own shared s rest call pending e line false h = 
 
 -- the machine is at a call that no check stops
 module _ (p : Lowered) (w : World) (store : Store) (pending : Option ℕ) (call : Activation) (function : Call) (own : Owners) (shared : Shared) (s : Thread) (task : Task) (rest : List Task) (h : AtCall p w store pending call function own shared s task rest) (answer : Answer) (given : IsAnswered w store pending call function answer) where
-  abbrev it : CalledAs p w store pending call h.code (call_view function) own shared s task rest (r p w store pending call function own shared s task rest h) (effect_of (sight_of shared s) task)
-  it = called p w store pending call function own shared s task rest h
-
-  -- no check stops the source's
-  free : trap_of_call w.classes shared s it.target it.f it.args ≡ None
-  free = sym (trap_is p w store pending call function own shared s task rest h) ∙ given.free
-
-  worked : IsWorkedOut w.classes store.heap store.loaded.items (references_of store call) call.fields.items call.stack (call_view function) it.f answer
-  worked = subst (λ (x : JniFunction). IsWorkedOut w.classes store.heap store.loaded.items (references_of store call) call.fields.items call.stack (call_view function) x answer) it.asked.same_function given.works
-
-  -- the effect of the source's call
-  abbrev does : BuffersInUse → ℕ → CallEffect
-  does in_use k = call_effect w.classes in_use k shared s it.args it.f
-
   -- the kind of its result
   module _ (kind : ResultKind) (same : kind ≡ (prototype (function_value function.function)).result) where
-    kind_is : kind ≡ (prototype it.f).result
-    kind_is = same ∙ ap (λ (f : JniFunction). (prototype f).result) it.asked.same_function
-
-    answered : (in_use : BuffersInUse) (k : ℕ) → IsAnswer w.classes store.heap call.locals kind shared s answer (does in_use k)
-    answered in_use k =
-        subst (λ (x : ResultKind). IsAnswer w.classes store.heap call.locals x shared s answer (does in_use k)) (sym kind_is)
-        (answers p w store pending call (call_view function) shared s given.sound in_use k it.args it.f it.asked it.target free answer worked
-        (owned_key p w store pending call function own shared s task rest h) (held p w store pending call function own shared s task rest h))
-
-    can_carry : IsPossible p w store pending call.locals kind shared s
-    can_carry = subst (λ (x : ResultKind). IsPossible p w store pending call.locals x shared s) (sym kind_is) (possible p w store pending call function own shared s task rest h)
-
     -- what was carried out
-    module _ (in_use : BuffersInUse) (k : ℕ) (refused : Bool) (after : Store) (exception : Option ℕ) (locals : LocalTable) (g : Given) (carried : CarriesOut p w store.heap call.locals answer kind shared s (does in_use k) refused after exception locals g) where
+    module _ (in_use : BuffersInUse) (k : ℕ) (refused : Bool) (after : Store) (exception : Option ℕ) (locals : LocalTable) (g : Given) (carried : CarriesOut p w store.heap call.locals answer kind shared s (does p w store pending call function own shared s task rest h answer given in_use k) refused after exception locals g) where
       static_there : (statics : List StaticReference) → statics ≡ after.statics.items → HasStatic function.target (length statics)
       static_there statics same_statics =
           subst (λ (l : List StaticReference). HasStatic function.target (length l)) (sym same_statics)
           (has_static p w store pending call function own shared s task rest h (length after.statics.items)
-          (shared_long p w store shared h.shares ∙ sym (statics_long p w after (shared_after w.classes refused shared (does in_use k)) carried.store_agrees)))
+          (shared_long p w store shared h.shares ∙ sym (statics_long p w after (shared_after w.classes refused shared (does p w store pending call function own shared s task rest h answer given in_use k)) carried.store_agrees)))
 
-      carried_as : CarriesOut p w store.heap call.locals answer (prototype it.f).result shared s (does in_use k) refused after exception locals g
-      carried_as = subst (λ (x : ResultKind). CarriesOut p w store.heap call.locals answer x shared s (does in_use k) refused after exception locals g) kind_is carried
+      carried_as : CarriesOut p w store.heap call.locals answer (prototype (it p w store pending call function own shared s task rest h answer given).f).result shared s (does p w store pending call function own shared s task rest h answer given in_use k) refused after exception locals g
+      carried_as = subst (λ (x : ResultKind). CarriesOut p w store.heap call.locals answer x shared s (does p w store pending call function own shared s task rest h answer given in_use k) refused after exception locals g) (kind_is p w store pending call function own shared s task rest h answer given kind same) carried
 
       room_there : HasRoom kind locals
-      room_there = subst (λ (x : ResultKind). HasRoom x locals) (sym kind_is) (room_after p w store pending call function own shared s task rest h in_use k free refused after exception locals g answer carried_as)
+      room_there = subst (λ (x : ResultKind). HasRoom x locals) (sym (kind_is p w store pending call function own shared s task rest h answer given kind same)) (room_after p w store pending call function own shared s task rest h in_use k (free p w store pending call function own shared s task rest h answer given) refused after exception locals g answer carried_as)
 
 no_buffers : BuffersInUse
 no_buffers = record { copied = 0; views = 0 }
@@ -158,3 +131,23 @@ returns-clause-done c p in_use k own shared s task rest h =
     (carried_as p w store pending call function own shared s task rest h c.args.answer c.requires.answered kind same in_use k refused c.carry_out.new.store c.carry_out.new.pending c.carry_out.new.locals g carried)
     (subst (λ (x : ResultKind). Receives function.target x g (record call { locals = c.carry_out.new.locals }) c.receive.new.call) is c.receive.ensures.call)
     (with_items_is c.carry_out.new.store.statics c.receive.new.statics (search (rules, places)) ∙ c.receive.ensures.statics ∙ ap (λ (l : List StaticReference). statics_with function.target g l) c.deref_mut.ensures.value)))
+
+-- it was refused
+was_refused : (refused : Bool) (x : Invoked) → x ≡ done_or_refused refused → x ≡ invoked.Refused → refused ≡ true
+was_refused true x told is = refl
+was_refused false x told is = absurd (let clash : invoked.Done ≡ invoked.Refused = sym told ∙ is in cc)
+
+pub returns-clause-refused : goal.returns-clause-refused
+returns-clause-refused c is =
+    let a = c.requires.at_call in
+    let w = c.args.world.now in
+    let store = c.args.store.now in
+    let call = c.args.call.now in
+    let kind = result_value c.args.function.now.result in
+    let same = c.requires.prepared.result in
+    let effect = does a.0 w store c.args.pending.now call c.args.function.now a.1 a.2 a.3 a.4 a.5 a.6 c.args.answer c.requires.answered no_buffers 0 in
+    let answer = answered a.0 w store c.args.pending.now call c.args.function.now a.1 a.2 a.3 a.4 a.5 a.6 c.args.answer c.requires.answered kind same no_buffers 0 in
+    let carried = c.in_ok-carried.ensures.carried a.0 a.2 a.3 effect (can_carry a.0 w store c.args.pending.now call c.args.function.now a.1 a.2 a.3 a.4 a.5 a.6 c.args.answer c.requires.answered kind same) answer in
+    let refused = was_refused c.in_ok-carried.carried.refused c.done_or_refused.result c.done_or_refused.ensures (cc (is)) in
+    let short = subst (λ (b : Bool). GoesByRoom b (sizes (made_by w.classes effect)) store.heap c.carry_out.new.store.heap) refused carried.room in
+    omega (arith, short.0, cells_made w.classes store.heap call.locals kind a.2 a.3 c.args.answer effect answer)

@@ -1,10 +1,12 @@
 use Rattle.std.proofs.Common.{◌≡◌, ℕ, ◌<◌, ◌≤◌, ◌^◌, Option, Some, None, length, true, false, Result, Ok, Err, sym, subst, arith}
 use Rattle.std.specs.Prelude.{slice_get, IfOk}
 use Rattle.classes.specs.Class.{Classes}
-use Rattle.heap.specs.Heap.{Space}
+use Rattle.classes.specs.Fields.{layout}
+use Rattle.heap.specs.Heap.{Space, left_of}
 use Rattle.jni.specs.Prototype.{ResultKind}
 use Rattle.jni.specs.Table.{result_value}
 use Rattle.source.specs.CallEffects.{CallEffect}
+use Rattle.source.specs.Object.{object_size}
 use Rattle.source.specs.Thread.{Shared, Thread}
 use Rattle.source.specs.World.{World}
 use Rattle.world.proofs.LoadedWorlds.{few_loaded}
@@ -36,6 +38,10 @@ has_made classes table old new class a o same made is = subst (λ (t : Classes).
 
 unchanged : (table : Classes) (old new : Store) (class : ℕ) (o : Option ℕ) → Makes table old class new o → o ≡ None → new ≡ old
 unchanged table old new class o made is = (subst (Makes table old class new) is made).0
+
+-- none has room for it
+short : (classes table : Classes) (old new : Store) (class : ℕ) (o : Option ℕ) → table ≡ classes → Makes table old class new o → o ≡ None → left_of old.heap < object_size (length (layout classes class))
+short classes table old new class o same made is = subst (λ (t : Classes). left_of old.heap < object_size (length (layout t class))) same (subst (Makes table old class new) is made).1
 
 module _ (p : Lowered) (w : World) (space : Space) (before : LocalTable) (a : Answer) (kind : ResultKind) (shared : Shared) (s : Thread) (effect : CallEffect) where
   -- what was refused, told of a store that is as it was
@@ -94,7 +100,7 @@ returns-in-None-clause-carried c p shared s effect h does =
     carries.by_answer p w old.heap c.args.locals.now k shared s effect c.args.answer (answer.Makes c.in-Makes.class) c.in-Makes.is _ _ _ _ _ (λ makes.
     refused_in p w old.heap c.args.locals.now (answer.Makes c.in-Makes.class) k shared s effect old c.make.new.store c.refuse.new.pending c.args.locals.now c.refuse.result
     (unchanged c.classes.result.now old c.make.new.store c.in-Makes.class c.make.result c.make.ensures c.in-None.is) c.refuse.ensures.pending c.refuse.ensures.carried
-    (carries.refuses_object p w old c.args.pending.now c.args.locals.now k shared s h c.in-Makes.class effect makes)) does
+    (carries.refuses_object p w old c.args.pending.now c.args.locals.now k shared s h c.in-Makes.class effect makes (short w.classes c.classes.result.now old c.make.new.store c.in-Makes.class c.make.result c.classes.ensures.classes c.make.ensures c.in-None.is))) does
 
 pub returns-in-Some-make-clause-carried : goal.returns-in-Some-make-clause-carried
 returns-in-Some-make-clause-carried c p shared s effect h does =
@@ -114,7 +120,7 @@ returns-in-None-make-clause-carried c p shared s effect h does =
     carries.by_answer p w old.heap c.args.locals.now k shared s effect c.args.answer (answer.Throws c.in-Throws.class) c.in-Throws.is _ _ _ _ _ (λ throws.
     refused_in p w old.heap c.args.locals.now (answer.Throws c.in-Throws.class) k shared s effect old c.make-in-Throws.new.store c.refuse-in-None-make.new.pending c.args.locals.now c.refuse-in-None-make.result
     (unchanged c.classes-in-Throws.result.now old c.make-in-Throws.new.store c.in-Throws.class c.make-in-Throws.result c.make-in-Throws.ensures c.in-None-make.is) c.refuse-in-None-make.ensures.pending c.refuse-in-None-make.ensures.carried
-    (carries.refuses_exception p w old c.args.pending.now c.args.locals.now k shared s h c.in-Throws.class effect throws)) does
+    (carries.refuses_exception p w old c.args.pending.now c.args.locals.now k shared s h c.in-Throws.class effect throws (short w.classes c.classes-in-Throws.result.now old c.make-in-Throws.new.store c.in-Throws.class c.make-in-Throws.result c.classes-in-Throws.ensures.classes c.make-in-Throws.ensures c.in-None-make.is))) does
 
 pub returns-in-Gives-clause-carried : goal.returns-in-Gives-clause-carried
 returns-in-Gives-clause-carried c p shared s effect h does =

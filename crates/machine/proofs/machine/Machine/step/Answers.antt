@@ -18,7 +18,10 @@ use Rattle.machine.specs.Stops.{stop_view}
 use Rattle.execution.specs.declared.thread.Thread.{Thread}
 use Rattle.machine.specs.Run.{has_ended as ended, Run, InState, CouldStep, TurnHolds, turn_without_step, replay_of, printed_after, can_turn, event_of, is_refused}
 use Rattle.jni_calls.specs.declared.store.Store.{Store}
-use Rattle.machine.proofs.Steps.{steady, the_thread, can_turn_here, has_ended, steps_by, turn_holds}
+use Rattle.source.specs.Object.{sizes}
+use Rattle.source.specs.Run.{made}
+use Rattle.syntax.specs.Views.{unit_tree}
+use Rattle.machine.proofs.Steps.{steady, the_thread, can_turn_here, has_ended, short_by, steps_by, turn_holds}
 use Rattle.machine.proofs.machine.Machine.step.Goals as goal
 use Rattle.machine.proofs.machine.Machine.step.Goals.{After-index, After-make_room}
 
@@ -151,16 +154,16 @@ returns-in_err-make_room-clause-err c =
 
 pub returns-in_err-advanced-clause-err : goal.returns-in_err-advanced-clause-err
 returns-in_err-advanced-clause-err c =
-    err_so c.self.inside.program.unit c.self.inside.world _ _ c.advance.new.store _ _ _ _ c.make_room.ensures.journal c.in_err-advanced.ensures.store c.self.view_is (could_step (goal.at.returns-in_err-advanced-clause-err c).After-index (tested (goal.at.returns-in_err-advanced-clause-err c).After-make_room))
+    err_so c.self.inside.program.unit c.self.inside.world _ _ c.advance_or_refuse.new.store _ _ _ _ c.make_room.ensures.journal c.in_err-advanced.ensures.store c.self.view_is (could_step (goal.at.returns-in_err-advanced-clause-err c).After-index (tested (goal.at.returns-in_err-advanced-clause-err c).After-make_room))
 
 -- the thread that steps is the one that was looked at
 same_thread : (ts : List Thread) (i : ℕ) (a b : Thread) → slice_get ts i ≡ Some a → slice_get ts i ≡ Some b → a.ending ≡ Unfinished → b.ending ≡ Unfinished
 same_thread ts i a b e f live = let same : a ≡ b = cc in ap (λ (t : Thread). t.ending) (sym same) ∙ live
 
-pub advance-requires-clause-agrees : goal.advance-requires-clause-agrees
-advance-requires-clause-agrees c =
-    let a = (goal.at.advance-requires-clause-agrees c).After-index in
-    let free = tested (goal.at.advance-requires-clause-agrees c).After-make_room in
+pub advance_or_refuse-requires-clause-agrees : goal.advance_or_refuse-requires-clause-agrees
+advance_or_refuse-requires-clause-agrees c =
+    let a = (goal.at.advance_or_refuse-requires-clause-agrees c).After-index in
+    let free = tested (goal.at.advance_or_refuse-requires-clause-agrees c).After-make_room in
     let seen = there a c.index.result.now c.index.ensures in
     let at = there a c.index_mut.result.now c.index_mut.ensures.value in
     let f = the_thread _ _ _ _ _ _ _ c.self.invariant c.args.k (c.from-index.result - 1) c.index_mut.result.now (number a) at in
@@ -179,18 +182,29 @@ invariant_of-self-2 c =
     let seen = there a c.index.result.now c.index.ensures in
     let at = there a c.index_mut.result.now c.index_mut.ensures.value in
     let stays = same_thread i.threads.items (c.from-index.result - 1) _ _ seen at (live a free) in
-    let s = steps_by _ _ _ _ _ _ _ c.self.invariant c.args.k (c.from-index.result - 1) c.index_mut.result.now (number a) at c.advance.new.store c.advance.new.thread x (running a free) stays c.in_ok-advanced.ensures.advances in
+    let s = steps_by _ _ _ _ _ _ _ c.self.invariant c.args.k (c.from-index.result - 1) c.index_mut.result.now (number a) at c.advance_or_refuse.new.store c.advance_or_refuse.new.thread x (running a free) stays c.in_ok-advanced.ensures.advances in
     let printed : c.write_step.new.printed.items ≡ printed_after i.printed.items c.args.k (event_of x) = c.write_step.ensures.printed ∙ ap (λ l. printed_after l c.args.k (event_of x)) c.make_room.ensures.printed in
     let journal = one_more i.journal.items c.make_room.new.journal.items c.write_step.new.journal.items (Step c.args.k (is_refused x)) c.write_step.ensures.journal c.make_room.ensures.journal in
     rw (printed, c.write_step.ensures.stop, journal) s
 
 pub returns-clause-turn : goal.returns-clause-turn
 returns-clause-turn c =
+    let a = (goal.at.returns-clause-turn c).After-index in
+    let free = tested (goal.at.returns-clause-turn c).After-make_room in
     let i = c.self.inside in
     let x = c.in_ok-advanced.advanced in
+    let seen = there a c.index.result.now c.index.ensures in
+    let at = there a c.index_mut.result.now c.index_mut.ensures.value in
+    let stays = same_thread i.threads.items (c.from-index.result - 1) _ _ seen at (live a free) in
     let journal = one_more i.journal.items c.make_room.new.journal.items c.write_step.new.journal.items (Step c.args.k (is_refused x)) c.write_step.ensures.journal c.make_room.ensures.journal in
-    rw c.write_step.ensures.turn (turn_holds c.args.self.now i.program.unit i.world i.journal.items c.write_step.new.journal.items (left_of i.store.heap) (left_of c.advance.new.store.heap) c.args.k x c.self.view_is journal
-    (could_step (goal.at.returns-clause-turn c).After-index (tested (goal.at.returns-clause-turn c).After-make_room)))
+    let left = left_of c.advance_or_refuse.new.store.heap in
+    rw c.write_step.ensures.turn (turn_holds c.args.self.now i.program.unit i.world i.journal.items c.write_step.new.journal.items (left_of i.store.heap) left c.args.k x c.self.view_is journal
+    (could_step a free) (λ refused. (
+      c.self.invariant.state,
+      replays a,
+      subst (λ (r : Run). left < sizes (made (unit_tree r.unit) r.world c.self.invariant.state c.args.k)) c.self.view_is
+          (short_by _ _ _ _ _ _ _ c.self.invariant c.args.k (c.from-index.result - 1) c.index_mut.result.now (number a) at c.advance_or_refuse.new.store c.advance_or_refuse.new.thread x (running a free) stays c.in_ok-advanced.ensures.advances refused),
+    )))
 
 pub returns-clause-runs : goal.returns-clause-runs
 returns-clause-runs c = rw (invariant_of-self-2 c).replays refl
