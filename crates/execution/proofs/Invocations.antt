@@ -549,7 +549,7 @@ module _ (p : Lowered) (w : World) (old : Space) (store : Store) (own : Owners) 
             ∙ ap (put_assigned x c next (resuming s.variables)) unnamed
             ∙ ap (λ (v : StaticReference). source.Advances (record next { statics = assign x v next.statics }) (resuming s.variables) source.Quiet) n.gave;
         store_agrees = with_static p w store next shares statics x i n.held h assigned place n.agrees (keys_put store.globals store.statics.items i n.held n.fresh shares.keys);
-        keeps = record { names = keeps.names; statics = inr (x, h, now_statics); sizes = keeps.sizes };
+        keeps = record { names = keeps.names; statics = inr (x, h, now_statics); shapes = keeps.shapes; room = keeps.room; few = keeps.few };
         stands = fewer_stands p w.classes space after own (put_owners (Assigned x) own s.variables) now (resuming s.variables) (frames_received kind c left) rest (fewer_static x own s.variables unnamed) (record {
           code = code;
           of_function = ap (slice_get p.codes) receives.function ∙ r.of_function;

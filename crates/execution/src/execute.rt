@@ -61,6 +61,7 @@ pub fn execute(
     may_refuse: bool,
 ) -> Result<Executed, StepFault>
     requires lowered { IsLowered program.now }
+    requires few { store.old.births + 2 < 2 ^ 32 }
     requires stands { (own : Owners) × (shared : Shared) × (s : SourceThread) × (task : Task) × (rest : List Task) × IsExecuting program.now world.now store.old call.old pending.old own shared s task rest }
     ensures done { IfOk result (λ done. (in_use : BuffersInUse) (k : ℕ) (own : Owners) (shared : Shared) (s : SourceThread) (task : Task) (rest : List Task) → IsExecuting program.now world.now store.old call.old pending.old own shared s task rest
         → Executes program.now world.now store.old.heap store.new in_use k own shared s rest call.new pending.new (effect_of (sight_of shared s) task) done) }

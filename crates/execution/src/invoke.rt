@@ -52,6 +52,7 @@ pub fn invoke(
 ) -> Result<Invoked, StepFault>
     requires at_call { (p : Lowered) × (own : Owners) × (shared : Shared) × (s : SourceThread) × (task : Task) × (rest : List Task) × AtCall p world.now store.old pending.old call.old function.now own shared s task rest }
     requires place { call.old.place + 1 < 2 ^ 64 }
+    requires few { store.old.births + 2 < 2 ^ 32 }
     requires prepared { IsPrepared function.now }
     ensures done { IfOk result (λ done. (p : Lowered) (in_use : BuffersInUse) (k : ℕ) (own : Owners) (shared : Shared) (s : SourceThread) (task : Task) (rest : List Task) → AtCall p world.now store.old pending.old call.old function.now own shared s task rest
         → Executes p world.now store.old.heap store.new in_use k own shared s rest call.new pending.new (effect_of (sight_of shared s) task) (executed_as function.now.line done)) }
@@ -141,6 +142,7 @@ fn finish(
 ) -> Result<Invoked, AllocError>
     requires at_call { (p : Lowered) × (own : Owners) × (shared : Shared) × (s : SourceThread) × (task : Task) × (rest : List Task) × AtCall p world.now store.old pending.old call.old function.now own shared s task rest }
     requires place { call.old.place + 1 < 2 ^ 64 }
+    requires few { store.old.births + 2 < 2 ^ 32 }
     requires prepared { IsPrepared function.now }
     requires answered { IsAnswered world.now store.old pending.old call.old function.now answer }
     ensures done { IfOk result (λ done. (p : Lowered) (in_use : BuffersInUse) (k : ℕ) (own : Owners) (shared : Shared) (s : SourceThread) (task : Task) (rest : List Task) → AtCall p world.now store.old pending.old call.old function.now own shared s task rest

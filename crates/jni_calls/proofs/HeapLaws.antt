@@ -81,7 +81,7 @@ get_kept [] ys i o h = absurd (cc)
 get_kept (x ∷ xs) ys zero o h = h
 get_kept (x ∷ xs) ys (suc i) o h = get_kept xs ys i o h
 
-object_kept : (heap more : Heap) (n : ℕ) (o : Object) → object_at heap n ≡ Some o → object_at (heap ++ more) n ≡ Some o
+pub object_kept : (heap more : Heap) (n : ℕ) (o : Object) → object_at heap n ≡ Some o → object_at (heap ++ more) n ≡ Some o
 object_kept heap more zero o h = h
 object_kept heap more (suc i) o h = get_kept heap more i o h
 

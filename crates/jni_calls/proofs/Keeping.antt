@@ -1,15 +1,13 @@
 -- What a step leaves as it was, and what agrees with it still.
-use Rattle.std.proofs.Common.{◌≡◌, ℕ, ◌-◌, List, [], ◌∷◌, ◌++◌, length, take, inl, Option, Some, None, refl, ap, ◌∙◌, arith}
-use Rattle.std.specs.Prelude.{slice_set}
+use Rattle.std.proofs.Common.{◌≡◌, ◌≤◌, ℕ, List, [], ◌∷◌, ◌++◌, length, drop, inl, Option, Some, None, refl, ap, arith}
 use Rattle.std.specs.List.{AllZip}
-use Rattle.std.proofs.Math.ListN.{length-set}
-use Rattle.std.proofs.lemmas.List.{take_all}
-use Rattle.heap.specs.Heap.{Space, name_at}
-use Rattle.source.specs.Heap.{Heap, object_at, class_of, values_of, with_value_at}
-use Rattle.source.specs.Object.{Object, ObjectValue, Reference, sizes}
+use Rattle.std.proofs.Math.ListN.{drop_of_length-le}
+use Rattle.std.proofs.Math.Seq.{drop-append_seam}
+use Rattle.heap.specs.Heap.{Space, left_of, name_at}
+use Rattle.source.specs.Heap.{Heap}
+use Rattle.source.specs.Object.{Reference, sizes}
 use Rattle.source.specs.Thread as source
 use Rattle.source.specs.Thread.{Shared}
-use Rattle.source.proofs.LiveSizes.{written_sizes}
 use Rattle.source.specs.Variable.{StaticReference, Empty, Live, Deleted, Statics}
 use Rattle.tables.specs.References.{references_in}
 use Rattle.jni_calls.specs.declared.references.Held.{Held}
@@ -21,23 +19,23 @@ use Rattle.jni_calls.specs.StoreAgrees.{HeldAgrees, Keeps, StaticsAgree}
 
 -- ---- what keeps all
 
+-- what makes nothing has room
+pub none_made : (space : Space) (before after : Heap) → length after ≤ length before → sizes (drop (length before) after) ≤ left_of space
+none_made space before after short = let none : sizes (drop (length before) after) ≡ 0 = ap sizes (drop_of_length-le after short) in omega (arith, none)
+
+-- what was made, where there are objects more
+pub more_made : (space : Space) (heap more : Heap) → sizes more ≤ left_of space → sizes (drop (length heap) (heap ++ more)) ≤ left_of space
+more_made space heap more room = let made : sizes (drop (length heap) (heap ++ more)) ≡ sizes more = ap sizes (drop-append_seam heap more) in omega (arith, made, room)
+
 -- nothing changes
 pub keeps_same : (space : Space) (shared : Shared) → Keeps space shared space shared
-keeps_same space shared = record { names = λ a n h. h; statics = inl refl; sizes = ap sizes (take_all (length shared.heap) shared.heap (omega arith)) }
-
--- the sizes where a value of an object that is there changes
-pub sizes_written : (heap : Heap) (n i : ℕ) (v : ObjectValue) (o : Object) → object_at heap n ≡ Some o → sizes (take (length heap) (with_value_at heap n i v)) ≡ sizes heap
-sizes_written heap n i v o at =
-    let new : Object = record { class = class_of heap n; values = slice_set (values_of heap n) i v } in
-    ap sizes (take_all (length heap) (with_value_at heap n i v) (omega (arith, length-set heap (n - 1) new))) ∙ written_sizes heap n i v o at
-
--- the sizes where there are objects more
-pub sizes_more : (heap more : Heap) → sizes (take (length heap) (heap ++ more)) ≡ sizes heap
-sizes_more heap more = ap sizes (take_front heap more)
-  where
-    take_front : (xs ys : Heap) → take (length xs) (xs ++ ys) ≡ xs
-    take_front [] ys = refl
-    take_front (x ∷ xs) ys = ap (λ (l : Heap). x ∷ l) (take_front xs ys)
+keeps_same space shared = record {
+  names = λ a n h. h;
+  statics = inl refl;
+  shapes = λ n o at. (o, at, refl, refl);
+  room = none_made space shared.heap shared.heap (omega arith);
+  few = omega arith;
+}
 
 -- ---- what agrees still
 

@@ -2,17 +2,16 @@
 use Rattle.std.specs.Global.{Vec}
 use Rattle.std.proofs.Common.{inl, ◌≡◌, ℕ, ◌+◌, ◌<◌, ◌≤◌, ◌^◌, List, Option, [], ◌∷◌, ◌++◌, length, map, Some, refl, sym, ap, ◌∙◌, subst, arith, length-append}
 use Rattle.std.proofs.lemmas.List.{length-map}
-use Rattle.std.proofs.lemmas.List.Sums.{sum_by-append, sum_by-cons}
+use Rattle.std.proofs.lemmas.List.Sums.{sum_by-cons}
 use Rattle.classes.specs.Class.{FieldType, NumberField, ReferenceField}
 use Rattle.classes.specs.Fields.{FieldId, layout}
 use Rattle.heap.specs.Heap.{Block, Space, IsLaidOut, end_of, left_of, name_at, with_block}
-use Rattle.heap.proofs.Layouts.{end_from-push, ends_within, LieFrom-push}
+use Rattle.heap.proofs.Layouts.{LieFrom-push}
 use Rattle.source.specs.Heap.{next_name}
-use Rattle.source.specs.Object.{Object, size, sizes}
+use Rattle.source.specs.Object.{Object, size}
 use Rattle.source.specs.Reachable.{IsName}
 use Rattle.source.specs.Thread.{Shared}
 use Rattle.source.specs.World.{World, fresh_object, initial, loaded_objects}
-use Rattle.world.proofs.LoadedWorlds.{few_objects}
 use Rattle.lowered.specs.Lowered.{Lowered}
 use Rattle.jni_calls.specs.declared.store.Store.{Store}
 use Rattle.jni_calls.specs.HeapAgrees.{SlotsAgree}
@@ -24,8 +23,8 @@ use Rattle.jni_calls.specs.Answers.{IsMakeable}
 use Rattle.jni_calls.specs.HeapAgrees.{HeapAgrees, IsTable, ValueAgrees, ValuesAgree}
 use Rattle.jni_calls.specs.Made.{HasMade, initial_value, new_block}
 use Rattle.jni_calls.proofs.Classed.{classed_more}
-use Rattle.jni_calls.proofs.HeapLaws.{IsNext, IsName-more, Needs, agrees_with_block, name_kept, name_new, table_kept}
-use Rattle.jni_calls.proofs.Keeping.{slots_stay, sizes_more, statics_stay}
+use Rattle.jni_calls.proofs.HeapLaws.{IsNext, IsName-more, Needs, agrees_with_block, name_kept, name_new, object_kept, table_kept}
+use Rattle.jni_calls.proofs.Keeping.{more_made, slots_stay, statics_stay}
 
 -- zero and NULL
 initial_agree : (space : Space) (fields : List FieldId) → ValuesAgree space (map (λ (f : FieldId). initial_value f.field.type) fields) (map (λ (f : FieldId). initial f.field.type) fields)
@@ -35,16 +34,6 @@ initial_agree space (f ∷ fields) = (one f.field.type, initial_agree space fiel
     one : (type : FieldType) → ValueAgrees space (initial_value type) (initial type)
     one (NumberField t) = (record { sfits = omega arith }, refl)
     one (ReferenceField c) = tt
-
--- few objects have been made, since each has at least three cells
-pub few_births : (p : Lowered) (w : World) (store : Store) (shared : Shared) → StoreAgrees p w store shared → w.cells ≤ 1048576 → store.births + 1 < 2 ^ 32
-few_births p w store shared h limit =
-    let few = few_objects shared.heap in
-    let filled : end_of store.heap ≡ sizes shared.heap = h.filled in
-    let cells : store.heap.cells ≡ w.cells = h.cells in
-    let births : store.births ≡ length shared.heap = h.births in
-    let within : end_of store.heap ≤ store.heap.cells = ends_within 0 store.heap.blocks store.heap.cells h.laid_out in
-    omega arith
 
 module _ (p : Lowered) (w : World) (store new : Store) (shared : Shared) (c a : ℕ) (h : StoreAgrees p w store shared) (made : HasMade w.classes store c new a) where
   abbrev o : Object
@@ -72,10 +61,7 @@ module _ (p : Lowered) (w : World) (store new : Store) (shared : Shared) (c a : 
   made_agrees makeable =
       let count = length-append shared.heap (o ∷ []) in
       let long : length b.values ≡ length (layout w.classes c) = length-map (layout w.classes c) (λ (f : FieldId). initial_value f.field.type) in
-      let filled : end_of store.heap ≡ sizes shared.heap = h.filled in
       let size_is : length o.values ≡ length (layout w.classes c) = length-map (layout w.classes c) (λ (f : FieldId). initial f.field.type) in
-      let both = sum_by-append size shared.heap (o ∷ []) in
-      let one = sum_by-cons size o [] in
       let births : store.births ≡ length shared.heap = h.births in
       let begun : length (loaded_objects w) ≤ length shared.heap = h.begun in
       record {
@@ -83,7 +69,6 @@ module _ (p : Lowered) (w : World) (store new : Store) (shared : Shared) (c a : 
             (agrees_with_block store.heap shared.heap (IsName shared.heap) (IsName (shared.heap ++ o ∷ [])) b o h.heap h.laid_out next
             (subst (λ (n : ℕ). Needs (IsName shared.heap) (IsName (shared.heap ++ o ∷ [])) n) (sym next.birth) (IsName-more shared.heap o)));
         laid_out = subst IsLaidOut (sym made.heap) (LieFrom-push 0 store.heap.blocks b store.heap.cells h.laid_out (omega arith) (omega (arith, room)));
-        filled = ap end_of made.heap ∙ end_from-push 0 store.heap.blocks b ∙ omega arith;
         cells = ap (λ (s : Space). s.cells) made.heap ∙ h.cells;
         table = subst (λ (s : Space). IsTable s new.loaded.items (length (loaded_objects w))) (sym made.heap)
             (subst (λ (l : List ℕ). IsTable (with_block store.heap b) l (length (loaded_objects w))) (sym (ap (λ v. v.items) made.loaded)) (table_kept store.heap b store.loaded.items (length (loaded_objects w)) h.table));
@@ -98,7 +83,13 @@ module _ (p : Lowered) (w : World) (store new : Store) (shared : Shared) (c a : 
       }
 
   pub made_keeps : Keeps store.heap shared new.heap with_object
-  made_keeps = record { names = names_stay; statics = inl refl; sizes = sizes_more shared.heap (o ∷ []) }
+  made_keeps = record {
+    names = names_stay;
+    statics = inl refl;
+    shapes = λ n x at. (x, object_kept shared.heap (o ∷ []) n x at, refl, refl);
+    room = more_made store.heap shared.heap (o ∷ []) (omega (arith, room, sum_by-cons size o []));
+    few = omega (arith, length-append shared.heap (o ∷ []));
+  }
 
   -- the object is at its address
   pub made_named : name_at new.heap a ≡ Some (next_name shared.heap)

@@ -9,14 +9,13 @@ use Rattle.jni_calls.proofs.GlobalLaws.{address_new, slots_deleted, slots_made, 
 use Rattle.jni_calls.specs.declared.references.Held.TheVariants as memory
 use Rattle.source.specs.CallEffects.{without_one}
 use Rattle.tables.specs.Globals.{without}
-use Rattle.std.proofs.lemmas.List.{length-map, take_all}
+use Rattle.std.proofs.lemmas.List.{length-map}
 use Rattle.std.proofs.lemmas.Option.{slice_get-map}
 use Rattle.std.specs.Option.{option_map}
 use Rattle.syntax.specs.Parts.{statics_of}
 use Rattle.syntax.specs.Tree.{Static}
 use Rattle.syntax.specs.Views.{unit_tree}
 use Rattle.base.specs.Bytes.{Identifier, lookup}
-use Rattle.source.specs.Object.{sizes}
 use Rattle.source.specs.Thread.{Shared}
 use Rattle.source.specs.Variable.{Live, Deleted, Statics, StaticReference, assign}
 use Rattle.source.specs.World.{World}
@@ -29,6 +28,7 @@ use Rattle.jni_calls.specs.declared.store.Store.{Store}
 use Rattle.jni_calls.specs.HeapAgrees.{SlotsAgree}
 use Rattle.jni_calls.specs.StoreAgrees.{AreNamed, HeldAgrees, Keeps, MayChange, StaticsAgree, StoreAgrees}
 use Rattle.jni_calls.specs.Statics.{HaveKeys, all_held, held, held_at, held_or_null}
+use Rattle.jni_calls.proofs.Keeping.{none_made}
 use Rattle.jni_calls.proofs.HeldStatics.{held_set, same_names, static_put, static_there, statics_count}
 
 module _ (p : Lowered) (w : World) (store : Store) (shared : Shared) (h : StoreAgrees p w store shared) where
@@ -38,7 +38,6 @@ module _ (p : Lowered) (w : World) (store : Store) (shared : Shared) (h : StoreA
   with_references statics globals names source_globals agree named keys same = record {
     heap = h.heap;
     laid_out = h.laid_out;
-    filled = h.filled;
     cells = h.cells;
     table = h.table;
     begun = h.begun;
@@ -130,4 +129,10 @@ module _ (p : Lowered) (w : World) (store : Store) (shared : Shared) (h : StoreA
 
   -- a step that changes statics alone
   pub keeps_but_statics : (statics : Statics) (globals : List ℕ) → MayChange shared.statics statics → Keeps store.heap shared store.heap (record shared { statics = statics; globals = globals })
-  keeps_but_statics statics globals may = record { names = λ a n e. e; statics = may; sizes = ap sizes (take_all (length shared.heap) shared.heap (omega arith)) }
+  keeps_but_statics statics globals may = record {
+    names = λ a n e. e;
+    statics = may;
+    shapes = λ n o at. (o, at, refl, refl);
+    room = none_made store.heap shared.heap shared.heap (omega arith);
+    few = omega arith;
+  }

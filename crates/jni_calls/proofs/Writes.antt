@@ -2,16 +2,16 @@
 use Rattle.std.proofs.Common.{inl, ◌≡◌, ◌≢◌, ℕ, zero, suc, ◌+◌, ◌-◌, ◌<◌, ◌≤◌, Bool, true, false, cond, eqb, List, [], ◌∷◌, length, map, get_or, Option, Some, None, refl, sym, ap, ◌∙◌, subst, arith, ⊎_elim, Contains}
 use Rattle.std.specs.Prelude.{find, slice_get, slice_set}
 use Rattle.std.specs.Option.{option_map, option_map_or}
+use Rattle.std.proofs.lemmas.Bool.{cases_eq}
 use Rattle.std.proofs.lemmas.Bool.Decides.{eqb_tells}
 use Rattle.std.proofs.lemmas.Option.{slice_get_within}
 use Rattle.std.proofs.Math.ListN.{length-set}
 use Rattle.heap.specs.Heap.{Block, Space, block_at, block_end, name_at, AreNamesUnique, IsLaidOut, LieFrom, with_value}
 use Rattle.heap.specs.declared.value.Value.{Value}
 use Rattle.heap.specs.declared.value.Value.TheVariants.{Number as Word, Null, Block as Address}
-use Rattle.heap.proofs.Changes.{LeavesPlace, changed, changed_elsewhere, changed_here, end_from-changed}
+use Rattle.heap.proofs.Changes.{LeavesPlace, changed, changed_elsewhere, changed_here}
 use Rattle.heap.proofs.Names.{AreNamesUnique-with_changed, one_address}
 use Rattle.heap.proofs.Spaces.{IsLaidOut-with_changed, part-changed}
-use Rattle.source.proofs.LiveSizes.{written_sizes}
 use Rattle.source.specs.Heap.{Heap, class_of, object_at, values_of, with_value_at}
 use Rattle.source.specs.Object.{Object, ObjectValue, Number, Refers}
 use Rattle.source.specs.Reachable.{from_one, IsName}
@@ -26,7 +26,7 @@ use Rattle.jni_calls.specs.HeapAgrees.{BlockAgrees, BlocksAgree, ValueAgrees, Va
 use Rattle.jni_calls.proofs.BlocksOfNames.{Named, named}
 use Rattle.jni_calls.proofs.SetPlaces.{get_set_same, get_set_other}
 use Rattle.jni_calls.proofs.Classed.{classed_written}
-use Rattle.jni_calls.proofs.Keeping.{slots_stay, reference_stays, sizes_written, statics_stay}
+use Rattle.jni_calls.proofs.Keeping.{none_made, slots_stay, reference_stays, statics_stay}
 
 -- ---- each block is found at its address
 
@@ -119,6 +119,20 @@ module _ (space : Space) (heap : Heap) (a place : ℕ) (v : Value) (name : ℕ) 
           let before : suc j - 1 ≡ j = omega arith in
           subst (λ (k : ℕ). slice_get (slice_set heap k new) i ≡ Some o) (sym before) (get_set_other heap j i new (λ same. ne (ap suc same)) ∙ e)
 
+  -- each object keeps its class and its number of values
+  pub shapes_after : (n : ℕ) (o x : Object) → object_at heap name ≡ Some x → object_at heap n ≡ Some o → (p : Object) × (object_at heap_after n ≡ Some p) × (p.class ≡ o.class) × (length p.values ≡ length o.values)
+  shapes_after n o x is at =
+      ⊎_elim
+      (λ (same : n ≡ name).
+      let here : object_at heap name ≡ Some o = ap (object_at heap) (sym same) ∙ at in (
+        new,
+        ap (object_at heap_after) same ∙ object_here o here,
+        ap (λ (p : Option Object). option_map_or (λ (x : Object). x.class) p 0) here,
+        length-set (values_of heap name) place value ∙ ap (λ (p : Option Object). length (option_map_or (λ (x : Object). x.values) p [])) here,
+      ))
+      (λ (other : n ≢ name). (o, object_elsewhere n o x is other at, refl, refl))
+      (cases_eq n name)
+
   module _ (agrees : ValueAgrees space v value) (object_there : (o : Object) × (object_at heap name ≡ Some o)) where
     -- the block at the address
     block_here : (b : Block) → b.birth ≡ name → BlockAgrees space heap b → BlockAgrees written heap_after (change b)
@@ -193,7 +207,6 @@ module _ (p : Lowered) (w : World) (store : Store) (shared after : Shared) (a pl
       there = λ n need. let was = h.heap.there n (names_counted heap_then shared.heap n count need) in (was.0, stays was.0 n was.1);
     };
     laid_out = IsLaidOut-with_changed store.heap a (λ (b : Block). record b { values = slice_set b.values place v }) leaving h.laid_out;
-    filled = end_from-changed a (λ (b : Block). record b { values = slice_set b.values place v }) leaving 0 store.heap.blocks ∙ h.filled ∙ sym (written_sizes shared.heap writes.name place writes.value object_is.0 object_is.1);
     cells = h.cells;
     table = record { counted = h.table.counted; named = λ i x at. stays x (i + 1) (h.table.named i x at) };
     begun = subst (λ (n : ℕ). length (loaded_objects w) ≤ n) (sym count) h.begun;
@@ -211,4 +224,10 @@ module _ (p : Lowered) (w : World) (store : Store) (shared after : Shared) (a pl
 
   pub written_keeps : Keeps store.heap shared store_after.heap after
   written_keeps = subst (λ (s : Shared). Keeps store.heap shared store_after.heap s) (sym writes.is)
-      (record { names = stays; statics = inl refl; sizes = sizes_written shared.heap writes.name place writes.value object_is.0 object_is.1 })
+      (record {
+        names = stays;
+        statics = inl refl;
+        shapes = λ n o at. shapes_after store.heap shared.heap a place v writes.name writes.value h.laid_out h.heap.unique writes.there n o object_is.0 object_is.1 at;
+        room = none_made store.heap shared.heap heap_then (omega (arith, count));
+        few = omega (arith, count);
+      })

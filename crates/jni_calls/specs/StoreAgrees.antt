@@ -1,11 +1,12 @@
 -- How the store stands for what all threads of the source share.
-use Rattle.std.specs.Prelude.{◌≡◌, ℕ, ◌≤◌, List, [], ◌∷◌, length, map, take, Some, ◌⊎◌}
+use Rattle.std.specs.Prelude.{◌≡◌, ℕ, ◌+◌, ◌≤◌, List, [], ◌∷◌, length, map, drop, Some, ◌⊎◌}
 use Rattle.base.specs.Bytes.{Identifier}
 use Rattle.syntax.specs.Parts.{statics_of}
 use Rattle.syntax.specs.Tree.{Static}
 use Rattle.syntax.specs.Views.{unit_tree}
-use Rattle.heap.specs.Heap.{Space, IsLaidOut, end_of, name_at}
-use Rattle.source.specs.Object.{sizes}
+use Rattle.heap.specs.Heap.{Space, IsLaidOut, left_of, name_at}
+use Rattle.source.specs.Heap.{Heap, object_at}
+use Rattle.source.specs.Object.{Object, sizes}
 use Rattle.source.specs.World.{World, loaded_objects}
 use Rattle.source.specs.Reachable.{IsName}
 use Rattle.source.specs.Thread.{Shared}
@@ -45,7 +46,6 @@ pub record StoreAgrees (p : Lowered) (w : World) (store : Store) (shared : Share
   -- nothing is collected yet, so all objects are there
   pub heap : HeapAgrees store.heap shared.heap (IsName shared.heap)
   pub laid_out : IsLaidOut store.heap
-  pub filled : end_of store.heap ≡ sizes shared.heap
   pub cells : store.heap.cells ≡ w.cells
   -- the objects made at load stay for ever
   pub table : IsTable store.heap store.loaded.items (length (loaded_objects w))
@@ -63,10 +63,17 @@ pub record StoreAgrees (p : Lowered) (w : World) (store : Store) (shared : Share
 abbrev pub MayChange : Statics → Statics → Type 0
 MayChange before after = (after ≡ before) ⊎ ((x : Identifier) × (r : StaticReference) × (after ≡ assign x r before))
 
--- what a step of one thread leaves as it was for the others
+-- each object that was there is there, of its class and with as many values
+abbrev pub SameShapes : Heap → Heap → Type 0
+SameShapes before after = (n : ℕ) (o : Object) → object_at before n ≡ Some o → (p : Object) × (object_at after n ≡ Some p) × (p.class ≡ o.class) × (length p.values ≡ length o.values)
+
+-- what a step of one thread leaves as it was for the others, and what it may add
 pub record Keeps (space : Space) (shared : Shared) (space' : Space) (shared' : Shared) : Type 0 where
   -- objects stay where they are
   pub names : (a n : ℕ) → name_at space a ≡ Some n → name_at space' a ≡ Some n
   pub statics : MayChange shared.statics shared'.statics
   -- none is taken out, and none takes more cells or fewer
-  pub sizes : sizes (take (length shared.heap) shared'.heap) ≡ sizes shared.heap
+  pub shapes : SameShapes shared.heap shared'.heap
+  -- what was made had room after the highest block, and no step makes more than two objects
+  pub room : sizes (drop (length shared.heap) shared'.heap) ≤ left_of space
+  pub few : length shared'.heap ≤ length shared.heap + 2

@@ -1,6 +1,6 @@
 //! What a call does to the store, and which exception is pending then.
 
-ghost use Rattle.std.specs.Prelude.{◌≡◌, ◌-◌, ◌<◌, ◌≤◌, ◌^◌, length, nat_le, slice_get, true, false, IfOk, OnErr};
+ghost use Rattle.std.specs.Prelude.{◌≡◌, ◌+◌, ◌-◌, ◌<◌, ◌≤◌, ◌^◌, length, nat_le, slice_get, true, false, IfOk, OnErr};
 ghost use Rattle.heap.specs.Heap.{left_of};
 ghost use Rattle.jni.specs.Prototype.{ResultKind as SourceKind};
 ghost use Rattle.jni.specs.Table.{result_value};
@@ -57,6 +57,7 @@ pub fn carry_out(
 ) -> Result<Carried, AllocError>
     requires possible { (p : Lowered) × (shared : Shared) × (s : SourceThread) × (effect : CallEffect) × IsPossible p world.now store.old pending.old locals.old (result_value kind) shared s
         × IsAnswer world.now.classes store.old.heap locals.old (result_value kind) shared s answer effect }
+    requires few { store.old.births + 2 < 2 ^ 32 }
     ensures carried { IfOk result (λ carried. (p : Lowered) (shared : Shared) (s : SourceThread) (effect : CallEffect) → IsPossible p world.now store.old pending.old locals.old (result_value kind) shared s
         → IsAnswer world.now.classes store.old.heap locals.old (result_value kind) shared s answer effect
         → CarriesOut p world.now store.old.heap locals.old answer (result_value kind) shared s effect carried.refused store.new pending.new locals.new carried.given) }

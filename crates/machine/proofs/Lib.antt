@@ -1,4 +1,5 @@
 pub mod KeptThreads
+pub mod LiveBlocks
 pub mod OwnerSteps
 pub mod Steps
 pub mod SafeLoads

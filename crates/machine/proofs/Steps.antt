@@ -1,5 +1,5 @@
 -- A step of the machine is a step of the state that its journal leads to.
-use Rattle.std.proofs.Common.{◌≡◌, ℕ, suc, ◌*◌, ◌<◌, ◌≤◌, Bool, true, false, List, [], ◌∷◌, ◌++◌, ◌+◌, length, take, drop, arith, Option, Some, None, refl, sym, ap, ◌∙◌, subst}
+use Rattle.std.proofs.Common.{◌≡◌, ℕ, suc, ◌<◌, ◌≤◌, Bool, true, false, List, [], ◌∷◌, ◌++◌, ◌+◌, length, drop, arith, length-append, Option, Some, None, refl, sym, ap, ◌∙◌, subst}
 use Rattle.std.specs.Prelude.{slice_get, slice_set}
 use Rattle.std.specs.Option.{option_map}
 use Rattle.std.proofs.Math.ListN.{length-set}
@@ -19,12 +19,12 @@ use Rattle.source.specs.Thread.{BuffersInUse, Shared}
 use Rattle.source.proofs.RunLaws.{replay_more, each-more}
 use Rattle.source.specs.Run.{Fits, FitsUnmarked, made, made_between}
 use Rattle.source.specs.Object.{sizes}
-use Rattle.source.proofs.LiveSizes.{live_within, sizes_split}
+use Rattle.source.specs.Reachable.{IsName, Reachable, FromRoot, FromObject}
 use Rattle.source.specs.Start.{start}
 use Rattle.source.proofs.StepLaws.{Steps, steps, step-thread}
-use Rattle.heap.specs.Heap.{end_of, left_of}
+use Rattle.heap.specs.Heap.{left_of}
 use Rattle.heap.proofs.Layouts.{ends_within}
-use Rattle.world.proofs.LoadedWorlds.{few_objects}
+use Rattle.machine.proofs.LiveBlocks.{live_below}
 use Rattle.lowered.specs.Lowered.{Lowered}
 use Rattle.execution.specs.declared.thread.Ending.{Ending}
 use Rattle.execution.specs.declared.thread.Ending.TheVariants.{Unfinished, Ended, Uncaught}
@@ -80,24 +80,20 @@ StepsAlways p w store store' t after refused e =
 
 -- ---- room
 
--- each object takes three cells, so birth numbers are small
-pub births_few : (p : Lowered) (w : World) (store : Store) (shared : Shared) → StoreAgrees p w store shared → 3 * store.births ≤ store.heap.cells
-births_few p w store shared shares =
-    let filled : end_of store.heap ≡ sizes shared.heap = shares.filled in
-    let births : store.births ≡ length shared.heap = shares.births in
-    omega (arith, filled, births, few_objects shared.heap, ends_within 0 store.heap.blocks store.heap.cells shares.laid_out)
+-- a reachable object has a name
+is_name : (w : World) (s : State) (n : ℕ) → Reachable w s n → IsName s.shared.heap n
+is_name w s n (FromRoot m a c) = a
+is_name w s n (FromObject m q r a c) = a
 
 -- a step that isn't refused has room beside what is reachable
-has_room : (p : Lowered) (w : World) (store : Store) (s next : State) (k : ℕ) → StoreAgrees p w store next.shared → sizes (take (length s.shared.heap) next.shared.heap) ≡ sizes s.shared.heap → world_step (unit_tree p.unit) w.classes s (entry_of k) ≡ Some next → Fits (unit_tree p.unit) w s k
-has_room p w store s next k shares kept step some =
+has_room : (p : Lowered) (w : World) (store : Store) (s next : State) (k : ℕ) → StoreAgrees p w store s.shared → sizes (drop (length s.shared.heap) next.shared.heap) ≤ left_of store.heap → world_step (unit_tree p.unit) w.classes s (entry_of k) ≡ Some next → Fits (unit_tree p.unit) w s k
+has_room p w store s next k shares room step some =
     let made_now : made (unit_tree p.unit) w s k ≡ drop (length s.shared.heap) next.shared.heap = ap (made_between s) step in
-    let live = live_within w s in
-    let split = sizes_split next.shared.heap (length s.shared.heap) in
-    let filled : end_of store.heap ≡ sizes next.shared.heap = shares.filled in
+    let live = live_below w s store.heap shares.heap.blocks shares.laid_out (λ n r. shares.heap.there n (is_name w s n r)) in
     let within = ends_within 0 store.heap.blocks store.heap.cells shares.laid_out in
     let cells : store.heap.cells ≡ w.cells = shares.cells in
     let size_made : sizes (made (unit_tree p.unit) w s k) ≡ sizes (drop (length s.shared.heap) next.shared.heap) = ap sizes made_now in
-    omega (arith, live, split, filled, within, cells, size_made, kept)
+    omega (arith, live, within, cells, size_made, room)
 
 -- the cells of what a step makes
 made_cells : (s : State) (k : ℕ) (a : source.Advance) → sizes (made_between s (advanced_to s k a)) ≡ cells_made s.shared a
@@ -152,10 +148,9 @@ module _ (p : Lowered) (world : World) (store : Store) (ts : List Thread) (print
   has_ended goes ended = record { running = running goes; thread = the_thread.source; is = there; ended = ap is_unfinished the_thread.agrees.ending ∙ is_over t.ending ended }
 
   -- what is asked of the entry
-  fits_entry : (store' : Store) (refused : Bool) (next : State) → StoreAgrees p world store' next.shared → sizes (take (length c.state.shared.heap) next.shared.heap) ≡ sizes c.state.shared.heap
-      → world_step (unit_tree p.unit) classes c.state (Step k refused) ≡ Some next → FitsUnmarked (unit_tree p.unit) world c.state (Step k refused)
-  fits_entry store' true next shares kept step = tt
-  fits_entry store' false next shares kept step = has_room p world store' c.state next k shares kept step
+  fits_entry : (refused : Bool) (next : State) → sizes (drop (length c.state.shared.heap) next.shared.heap) ≤ left_of store.heap → world_step (unit_tree p.unit) classes c.state (Step k refused) ≡ Some next → FitsUnmarked (unit_tree p.unit) world c.state (Step k refused)
+  fits_entry true next room step = tt
+  fits_entry false next room step = has_room p world store c.state next k c.store_agrees room step
 
   -- the machine after the step
   pub steps_on : (store' : Store) (after : Thread) (refused : Bool) (e : Event) → stop ≡ None → t.ending ≡ Unfinished → StepsAlways p world store store' t after refused e
@@ -170,7 +165,7 @@ module _ (p : Lowered) (world : World) (store : Store) (ts : List Thread) (print
       let shared_is : next.shared ≡ a.next_shared = shared_next c.state k a.next_shared a.next e in
       let others = threads_stay p classes count_made store.heap store'.heap c.state.shared a.next_shared a.keeps owners 1 ts c.state.threads c.threads_agree in
       let shares : StoreAgrees p world store' next.shared = subst (StoreAgrees p world store') (sym shared_is) a.store_agrees in
-      let kept : sizes (take (length c.state.shared.heap) next.shared.heap) ≡ sizes c.state.shared.heap = ap (λ (x : Shared). sizes (take (length c.state.shared.heap) x.heap)) shared_is ∙ a.keeps.sizes in
+      let room : sizes (drop (length c.state.shared.heap) next.shared.heap) ≤ left_of store.heap = subst (λ (x : Shared). sizes (drop (length c.state.shared.heap) x.heap) ≤ left_of store.heap) (sym shared_is) a.keeps.room in
       record {
         lowered = c.lowered;
         safe = c.safe;
@@ -189,7 +184,11 @@ module _ (p : Lowered) (world : World) (store : Store) (ts : List Thread) (print
         same_printed = printed_next c.state k a.next_shared a.next e ∙ ap (λ l. printed_after l k e) c.same_printed;
         same_stop = stop_next c.state k a.next_shared a.next e stop c.same_stop;
         fits = each-more (unit_tree p.unit) world (FitsUnmarked (unit_tree p.unit) world) (Some (start (unit_tree p.unit) world)) journal entry c.fits
-            (λ s there. let same : c.state ≡ s = cc (sym c.replays, there) in subst (λ (x : State). FitsUnmarked (unit_tree p.unit) world x (Step k refused)) same (fits_entry store' refused next shares kept step));
+            (λ s there. let same : c.state ≡ s = cc (sym c.replays, there) in subst (λ (x : State). FitsUnmarked (unit_tree p.unit) world x (Step k refused)) same (fits_entry refused next room step));
+        born =
+            let before : store.births ≡ length c.state.shared.heap = c.store_agrees.births in
+            let now : store'.births ≡ length a.next_shared.heap = a.store_agrees.births in
+            omega (arith, c.born, before, now, a.keeps.few, length-append journal (entry ∷ []));
         count = length-set ts i after ∙ c.count;
         few = subst (λ n. n ≤ 8) (sym (length-set ts i after)) c.few;
       }

@@ -1,5 +1,5 @@
 -- A run, as its program, its world, the steps taken and the room that is left.
-use Rattle.std.specs.Prelude.{◌≡◌, ℕ, ◌<◌, ◌≤◌, Bool, true, false, List, [], ◌∷◌, ◌++◌, length, map, Option, Some, None, Result, Ok, Err, IsSome, is_some, not, ◌||◌}
+use Rattle.std.specs.Prelude.{◌≡◌, ℕ, ◌+◌, ◌*◌, ◌<◌, ◌≤◌, Bool, true, false, List, [], ◌∷◌, ◌++◌, length, map, Option, Some, None, Result, Ok, Err, IsSome, is_some, not, ◌||◌}
 use Rattle.std.specs.Option.{option_map}
 use Rattle.std.specs.List.{list_all, enumerate_from}
 use Rattle.syntax.specs.declared.unit.Item.{Item}
@@ -74,6 +74,8 @@ pub record Corresponds (p : Lowered) (world : World) (store : Store) (threads : 
   pub threads_agree : ThreadsAgree p world.classes store.heap (length (loaded_objects world)) (owners_after (unit_tree p.unit) world journal) 1 state.shared threads state.threads
   pub same_printed : state.printed ≡ printed
   pub same_stop : state.stop ≡ option_map stop_view stop
+  -- fewer objects were made at load than a heap has cells, and each step makes two at most
+  pub born : store.births ≤ 1048576 + 2 * length journal
   -- the steps that made objects had room
   pub fits : UnmarkedFit (unit_tree p.unit) world journal
   pub count : length threads ≡ length world.threads

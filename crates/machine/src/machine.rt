@@ -1,6 +1,6 @@
 //! The machine.
 
-ghost use Rattle.std.specs.Prelude.{◌≡◌, ◌+◌, ◌-◌, ◌<◌, ◌≤◌, [], ◌∷◌, ◌++◌, length, map, replicate, IfOk, IfErr, OnOk, OnErr, IfSome, IfNone, IsSome, Err, None, is_some, nat_le, vec_len, vec_capacity};
+ghost use Rattle.std.specs.Prelude.{◌≡◌, ◌+◌, ◌-◌, ◌<◌, ◌≤◌, ◌^◌, [], ◌∷◌, ◌++◌, length, map, replicate, IfOk, IfErr, OnOk, OnErr, IfSome, IfNone, IsSome, Err, None, is_some, nat_le, vec_len, vec_capacity};
 ghost use Rattle.std.specs.List.{list_all, enumerate_from};
 ghost use Rattle.syntax.specs.Views.{unit_tree};
 ghost use Rattle.report.specs.Sink.{CanFail};
@@ -381,6 +381,7 @@ fn advance_or_refuse(
     thread: &mut Thread,
 ) -> Result<Advanced, AllocError>
     requires lowered { IsLowered program.now }
+    requires few { store.old.births + 2 < 2 ^ 32 }
     requires agrees { (own : Owners) × (shared : Shared) × (s : SourceThread) × StoreAgrees program.now world.now store.old shared
         × ThreadAgrees program.now world.now.classes store.old.heap (length (loaded_objects world.now)) own shared thread.old s × (thread.old.ending ≡ Ending.Unfinished) × IsSteady own shared s }
     ensures advances { IfOk result (AdvancesAlways program.now world.now store.old store.new thread.old thread.new) }

@@ -132,7 +132,7 @@ pub invoke-requires : goal.invoke-requires
 invoke-requires c =
     let s = c.requires.stands in
     let f = fetched (goal.at.invoke-requires c).After-instr_at-instr in
-    record { at_call = (c.args.program.now, s.0, s.1, s.2, s.3, s.4, at_call c.args.program.now c.args.world.now c.args.store.now c.args.pending.now c.args.call.now c.instr_at-instr.result.now f c.call-function.result.now (c.in-Call.is ∙ ap (λ (x : Call). instr.Call x) (sym c.call-function.ensures.view)) s.0 s.1 s.2 s.3 s.4 s.5); place = c.instr_at-instr.ensures.limit; prepared = c.call-function.ensures.prepared }
+    record { at_call = (c.args.program.now, s.0, s.1, s.2, s.3, s.4, at_call c.args.program.now c.args.world.now c.args.store.now c.args.pending.now c.args.call.now c.instr_at-instr.result.now f c.call-function.result.now (c.in-Call.is ∙ ap (λ (x : Call). instr.Call x) (sym c.call-function.ensures.view)) s.0 s.1 s.2 s.3 s.4 s.5); place = c.instr_at-instr.ensures.limit; few = c.requires.few; prepared = c.call-function.ensures.prepared }
 
 pub returns-in-TestNull-clause-done : goal.returns-in-TestNull-clause-done
 returns-in-TestNull-clause-done c in_use k own shared s task rest e =

@@ -77,6 +77,7 @@ carry_out-requires c =
         can_carry a.0 w c.args.store.now c.args.pending.now c.args.call.now c.args.function.now a.1 a.2 a.3 a.4 a.5 a.6 c.args.answer c.requires.answered kind c.requires.prepared.result,
         answered a.0 w c.args.store.now c.args.pending.now c.args.call.now c.args.function.now a.1 a.2 a.3 a.4 a.5 a.6 c.args.answer c.requires.answered kind c.requires.prepared.result no_buffers 0,
       );
+      few = c.requires.few;
     }
 
 pub receive-requires-clause-target : goal.receive-requires-clause-target

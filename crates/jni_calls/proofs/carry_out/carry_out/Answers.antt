@@ -25,7 +25,6 @@ use Rattle.jni_calls.specs.Made.{HasMade, Makes}
 use Rattle.jni_calls.proofs.AnswerCases.{makes_it, throws_it}
 use Rattle.jni_calls.proofs.CarryOuts as carries
 use Rattle.jni_calls.proofs.LongTables.{classes_loaded}
-use Rattle.jni_calls.proofs.Makes.{few_births}
 use Rattle.jni_calls.proofs.carry_out.carry_out.Goals as goal
 
 -- a class of the table has a small number
@@ -60,9 +59,6 @@ make-requires-clause-class c =
     small w c.in-Makes.class c.threads.ensures.sound
     (makes_it w.classes c.args.store.now.heap c.args.locals.now k r.1 r.2 c.in-Makes.class r.3 (subst (λ (a : Answer). IsAnswer w.classes c.args.store.now.heap c.args.locals.now k r.1 r.2 a r.3) c.in-Makes.is r.5)).makeable.high
 
-pub make-requires-clause-few : goal.make-requires-clause-few
-make-requires-clause-few c = few_births c.requires.possible.0 c.args.world.now c.args.store.now c.requires.possible.1 c.requires.possible.4.store_agrees c.threads.ensures.sound.cells
-
 pub make-requires-in-Throws-clause-class : goal.make-requires-in-Throws-clause-class
 make-requires-in-Throws-clause-class c =
     let r = c.requires.possible in
@@ -70,9 +66,6 @@ make-requires-in-Throws-clause-class c =
     let k = result_value c.args.kind in
     small w c.in-Throws.class c.threads.ensures.sound
     (throws_it w.classes c.args.store.now.heap c.args.locals.now k r.1 r.2 c.in-Throws.class r.3 (subst (λ (a : Answer). IsAnswer w.classes c.args.store.now.heap c.args.locals.now k r.1 r.2 a r.3) c.in-Throws.is r.5)).makeable.high
-
-pub make-requires-in-Throws-clause-few : goal.make-requires-in-Throws-clause-few
-make-requires-in-Throws-clause-few c = few_births c.requires.possible.0 c.args.world.now c.args.store.now c.requires.possible.1 c.requires.possible.4.store_agrees c.threads.ensures.sound.cells
 
 pub returns-in-Writes-clause-carried : goal.returns-in-Writes-clause-carried
 returns-in-Writes-clause-carried c p shared s effect h does =

@@ -4,6 +4,8 @@ use Rattle.machine.proofs.SafeLoads.{all_load, all_have_calls}
 use Rattle.std.proofs.Common.{◌≡◌, ℕ, List, [], Option, length, replicate, refl, sym, ap, ◌∙◌, subst, arith}
 use Rattle.syntax.specs.Views.{unit_tree}
 use Rattle.source.specs.Start.{start, waiting_thread}
+use Rattle.source.specs.World.{loaded_objects}
+use Rattle.world.proofs.LoadedWorlds.{few_loaded}
 use Rattle.std.proofs.lemmas.List.{length-map}
 use Rattle.jni_calls.proofs.Classed.{classed_loaded}
 use Rattle.execution.proofs.ThreadLoads.{agree_length}
@@ -36,7 +38,6 @@ returns-in-Ok-clause-begins c =
       store_agrees = record {
         heap = made.agree;
         laid_out = made.laid_out;
-        filled = made.filled;
         cells = c.in_ok-store.ensures.cells;
         table = made.table;
         begun = omega arith;
@@ -52,6 +53,7 @@ returns-in-Ok-clause-begins c =
       threads_agree = agree;
       same_printed = refl;
       same_stop = refl;
+      born = let births : c.in_ok-store.store.births ≡ length (loaded_objects w) = c.in_ok-store.ensures.births in omega (arith, births, few_loaded w c.threads.ensures.sound);
       fits = tt;
       count = count;
       few = omega (arith, count, c.threads.ensures.sound.few_threads);

@@ -169,6 +169,13 @@ advance_or_refuse-requires-clause-agrees c =
     let f = the_thread _ _ _ _ _ _ _ c.self.invariant c.args.k (c.from-index.result - 1) c.index_mut.result.now (number a) at in
     (_, c.self.invariant.state.shared, f.source, c.self.invariant.store_agrees, f.agrees, same_thread c.self.inside.threads.items (c.from-index.result - 1) _ _ seen at (live a free), steady _ _ _ _ _ _ _ c.self.invariant c.args.k (c.from-index.result - 1) c.index_mut.result.now (number a) at)
 
+-- few objects have been made
+pub advance_or_refuse-requires-clause-few : goal.advance_or_refuse-requires-clause-few
+advance_or_refuse-requires-clause-few c =
+    let a = (goal.at.advance_or_refuse-requires-clause-few c).After-index in
+    let free = tested (goal.at.advance_or_refuse-requires-clause-few c).After-make_room in
+    omega (arith, c.self.invariant.born, a.len-entries.ensures, below a.len-entries.result free.2)
+
 -- the journal has one more entry
 one_more : (old before after : List Entry) (e : Entry) → after ≡ before ++ e ∷ [] → before ≡ old → after ≡ old ++ e ∷ []
 one_more old before after e written kept = written ∙ ap (λ (j : List Entry). j ++ e ∷ []) kept
