@@ -21,8 +21,8 @@ found_agrees s heap a (c ∷ bs) b h e = either (eqb c.address a) h.0 (λ f. fou
     either true k further e = let same : c ≡ b = cc in subst (BlockAgrees s heap) same k
     either false k further e = further e
 
-pub named : (s : Space) (heap : Heap) (N : ℕ → Type 0) (a n : ℕ) → HeapAgrees s heap N → name_at s a ≡ Some n → Named s heap a n
-named s heap N a n h e = by_block (block_at s a) refl e
+pub named : (s : Space) (heap : Heap) (a n : ℕ) → HeapAgrees s heap → name_at s a ≡ Some n → Named s heap a n
+named s heap a n h e = by_block (block_at s a) refl e
   where
     by_block : (o : Option Block) → block_at s a ≡ o → option_map (λ (b : Block). b.birth) o ≡ Some n → Named s heap a n
     by_block None at e = absurd (cc)
@@ -45,7 +45,7 @@ object_below heap zero o e = absurd (cc)
 object_below heap (suc i) o e = let low = get_below heap i o e in (omega arith, omega (arith, low))
 
 -- a name of a block is that of an object
-pub name_within : (s : Space) (heap : Heap) (N : ℕ → Type 0) (a n : ℕ) → HeapAgrees s heap N → name_at s a ≡ Some n → (0 < n) × (n ≤ length heap)
-name_within s heap N a n h e =
-    let b = named s heap N a n h e in
+pub name_within : (s : Space) (heap : Heap) (a n : ℕ) → HeapAgrees s heap → name_at s a ≡ Some n → (0 < n) × (n ≤ length heap)
+name_within s heap a n h e =
+    let b = named s heap a n h e in
     object_below heap n b.agrees.object (subst (λ m. object_at heap m ≡ Some b.agrees.object) b.birth b.agrees.is)

@@ -24,7 +24,6 @@ use Rattle.source.specs.CallStep.{trap_of_call}
 use Rattle.source.specs.CallTable.{call_effect}
 use Rattle.source.specs.Heap.{class_of, object_at, field_place, number_in, place_in, value_at, reference_in, static_place, with_value_at}
 use Rattle.source.specs.Object.{Object, Reference, ObjectValue, Number, Refers}
-use Rattle.source.specs.Reachable.{IsName}
 use Rattle.source.specs.Task.{Target}
 use Rattle.source.specs.Thread.{Shared, Thread, BuffersInUse}
 use Rattle.source.specs.World.{World, fresh_object, loaded_objects}
@@ -97,7 +96,7 @@ module _ (p : Lowered) (w : World) (store : Store) (pending : Option ℕ) (call 
   -- the object of a name that a block has
   object_of : (f : JniFunction) → Asked f → (a n : ℕ) → name_at store.heap a ≡ Some n → (o : Object) × (object_at shared.heap n ≡ Some o)
   object_of f h a n there =
-      let object : Named store.heap shared.heap a n = named store.heap shared.heap (IsName shared.heap) a n h.store_agrees.heap there in
+      let object : Named store.heap shared.heap a n = named store.heap shared.heap a n h.store_agrees.heap there in
       (object.agrees.object, ap (object_at shared.heap) (sym object.birth) ∙ object.agrees.is)
 
   low_name : (n : ℕ) (o : Object) → object_at shared.heap n ≡ Some o → 0 < n
@@ -138,9 +137,9 @@ module _ (p : Lowered) (w : World) (store : Store) (pending : Option ℕ) (call 
   answers_new_local h answer is = subst (λ (x : Answer). Does NewLocalRef x) (sym is) (refl, refl, agrees NewLocalRef h 0)
 
   -- an object has a name, so that its number isn't that of NULL
-  has_name : (o : Option ℕ) (n : ℕ) → HeapAgrees store.heap shared.heap (IsName shared.heap) → ReferenceAgrees store.heap o (Some n) → 0 < n
+  has_name : (o : Option ℕ) (n : ℕ) → HeapAgrees store.heap shared.heap → ReferenceAgrees store.heap o (Some n) → 0 < n
   has_name None n same h = absurd h
-  has_name (Some a) n same h = (name_within store.heap shared.heap (IsName shared.heap) a n same h).0
+  has_name (Some a) n same h = (name_within store.heap shared.heap a n same h).0
 
   no_null : (n : ℕ) → 0 < n → ((0 == n) ≡ false) × ((n == 0) ≡ false)
   no_null n low =
@@ -148,7 +147,7 @@ module _ (p : Lowered) (w : World) (store : Store) (pending : Option ℕ) (call 
       let second : (n == 0) ≡ false = grind (arith, nat_tests, low) in
       (first, second)
 
-  same_names : (o p : Option ℕ) (q r : Reference) → HeapAgrees store.heap shared.heap (IsName shared.heap) → ReferenceAgrees store.heap o q → ReferenceAgrees store.heap p r → (name_or_zero q == name_or_zero r) ≡ same_reference q r
+  same_names : (o p : Option ℕ) (q r : Reference) → HeapAgrees store.heap shared.heap → ReferenceAgrees store.heap o q → ReferenceAgrees store.heap p r → (name_or_zero q == name_or_zero r) ≡ same_reference q r
   same_names o p None None same h g = refl
   same_names o p None (Some m) same h g = (no_null m (has_name p m same g)).0
   same_names o p (Some n) None same h g = (no_null n (has_name o n same h)).1

@@ -11,7 +11,6 @@ use Rattle.jni.specs.Prototype.{GivesNothing}
 use Rattle.source.specs.CallEffects.{heap_effect}
 use Rattle.source.specs.Heap.{Heap, class_of, number_in, object_at, reference_in, value_at, value_or_zero, values_of, with_value_at}
 use Rattle.source.specs.Object.{Object, ObjectValue, Number, Refers}
-use Rattle.source.specs.Reachable.{IsName}
 use Rattle.source.specs.Thread.{Shared, Thread}
 use Rattle.source.specs.Value.{Int}
 use Rattle.source.specs.World.{World}
@@ -99,7 +98,7 @@ module _ (p : Lowered) (w : World) (store : Store) (shared : Shared) (h : StoreA
 
   stored : (a n : ℕ) → name_at store.heap a ≡ Some n → Stored a n
   stored a n there =
-      let block : Named store.heap shared.heap a n = named store.heap shared.heap (IsName shared.heap) a n h.heap there in
+      let block : Named store.heap shared.heap a n = named store.heap shared.heap a n h.heap there in
       let is : object_at shared.heap n ≡ Some block.agrees.object = ap (object_at shared.heap) (sym block.birth) ∙ block.agrees.is in
       record {
         object = block.agrees.object;

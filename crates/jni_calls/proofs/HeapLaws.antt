@@ -14,8 +14,7 @@ use Rattle.heap.specs.Heap.{Block, Space, block_end, end_from, end_of, LieFrom, 
 use Rattle.heap.proofs.Layouts.{from_below_end}
 use Rattle.source.specs.Object.{Object, ObjectValue, Number, Refers}
 use Rattle.source.specs.Heap.{Heap, object_at}
-use Rattle.source.specs.Reachable.{from_one, IsName}
-use Rattle.source.proofs.ShownRows.{from_one-contains}
+use Rattle.source.specs.Reachable.{from_one}
 use Rattle.jni_calls.specs.HeapAgrees.{ReferenceAgrees, ValueAgrees, ValuesAgree, BlockAgrees, BlocksAgree, HeapAgrees, IsTable}
 
 -- ---- the block at an address
@@ -134,10 +133,6 @@ unique_push s heap bs b h birth unique i j d below within =
 
 -- ---- the heap with a further block
 
--- Each object that is needed afterwards was needed before, or is the new one.
-abbrev pub Needs : (Before After : ℕ → Type 0) → (new : ℕ) → Type 0
-Needs Before After new = (n : ℕ) → After n → Before n ⊎ (n ≡ new)
-
 -- a block as that of the next object
 pub record IsNext (s : Space) (heap : Heap) (b : Block) (o : Object) : Type 0 where
   pub after : b.address ≡ end_of s
@@ -145,15 +140,11 @@ pub record IsNext (s : Space) (heap : Heap) (b : Block) (o : Object) : Type 0 wh
   pub class : b.class ≡ o.class
   pub values : ValuesAgree s b.values o.values
 
-pub agrees_with_block : (s : Space) (heap : Heap) (Before After : ℕ → Type 0) (b : Block) (o : Object) → HeapAgrees s heap Before → IsLaidOut s → IsNext s heap b o → Needs Before After b.birth → HeapAgrees (with_block s b) (heap ++ o ∷ []) After
-agrees_with_block s heap Before After b o h laid next needs = record {
+pub agrees_with_block : (s : Space) (heap : Heap) (b : Block) (o : Object) → HeapAgrees s heap → IsNext s heap b o → HeapAgrees (with_block s b) (heap ++ o ∷ [])
+agrees_with_block s heap b o h next = record {
   blocks = blocks_push (with_block s b) (heap ++ o ∷ []) s.blocks b (blocks_kept s heap (o ∷ []) b s.blocks h.blocks)
       (record { object = o; is = object_new heap o b.birth next.birth; class = next.class; values = values_kept s b b.values o.values next.values });
   unique = unique_push s heap s.blocks b h.blocks next.birth h.unique;
-  there = λ n need. ⊎_elim
-      (λ (old : Before n). let t = h.there n old in (t.0, name_kept s b t.0 n t.1))
-      (λ (new : n ≡ b.birth). (b.address, name_new s b laid next.after ∙ ap (λ (m : ℕ). Some m) (sym new)))
-      (needs n need);
 }
 
 -- ---- the table of the objects made at load
@@ -199,13 +190,3 @@ from_one-bounds (suc k) n c =
     (λ (old : Contains (from_one k) n). let b = from_one-bounds k n old in (b.0, omega arith))
     (λ (new : Contains (suc k ∷ []) n). let e : n ≡ suc k = only (suc k) n new in (omega arith, omega arith))
     (Contains-append_cases (from_one k) (suc k ∷ []) n c)
-
--- each name of a heap with one more object is an old name or the new one
-pub IsName-more : (heap : Heap) (o : Object) → Needs (IsName heap) (IsName (heap ++ o ∷ [])) (length heap + 1)
-IsName-more heap o n h =
-    let count = length-append heap (o ∷ []) in
-    let b = from_one-bounds (length (heap ++ o ∷ [])) n h in
-    ⊎_elim
-    (λ (l : n < length heap + 1). inl (from_one-contains (length heap) n b.0 (omega arith)))
-    (λ (l : length heap + 1 ≤ n). inr (omega arith))
-    (cases_lt n (length heap + 1))

@@ -1,5 +1,5 @@
 -- Objects that are made one after another.
-use Rattle.std.proofs.Common.{◌≡◌, ℕ, suc, ◌+◌, ◌≤◌, Bool, true, false, cond, eqb, List, [], ◌∷◌, ◌++◌, length, map, Option, refl, sym, ap, ◌∙◌, subst, arith, ⊎_elim, ◌⊎◌, length-append}
+use Rattle.std.proofs.Common.{◌≡◌, ℕ, suc, ◌+◌, ◌≤◌, Bool, true, false, cond, eqb, List, [], ◌∷◌, ◌++◌, length, map, Option, refl, sym, ap, ◌∙◌, subst, arith, ⊎_elim, length-append}
 use Rattle.std.specs.Option.{option_map_or}
 use Rattle.std.proofs.lemmas.Bool.Decides.{eqb_tells}
 use Rattle.std.proofs.lemmas.List.{map-append}
@@ -9,14 +9,13 @@ use Rattle.heap.specs.Heap.{Block, Space, block_end, end_from, end_of, left_of, 
 use Rattle.heap.proofs.Layouts.{from_below_end, end_from-push, LieFrom-push}
 use Rattle.source.specs.Object.{Object, ObjectValue, size, sizes}
 use Rattle.source.specs.Heap.{Heap}
-use Rattle.source.specs.Reachable.{IsName}
 use Rattle.jni_calls.specs.HeapAgrees.{ValuesAgree, IsTable, AreMade}
-use Rattle.jni_calls.proofs.HeapLaws.{IsNext, block_new, agrees_with_block, table_push, from_one-bounds, IsName-more}
+use Rattle.jni_calls.proofs.HeapLaws.{IsNext, block_new, agrees_with_block, table_push}
 
 -- nothing has been made
 pub none_made : (cells : ℕ) → AreMade (record { cells = cells; blocks = [] }) [] []
 none_made cells = record {
-  agree = record { blocks = tt; unique = λ i j d below within. absurd (omega arith); there = λ n h. absurd (let b = from_one-bounds 0 n h in omega arith) };
+  agree = record { blocks = tt; unique = λ i j d below within. absurd (omega arith) };
   table = record { counted = refl; named = λ i a at. absurd (cc) };
   laid_out = let low : 0 ≤ cells = omega arith in low;
   filled = refl;
@@ -40,7 +39,7 @@ made_more s addresses objects b o h next room =
     let one = sum_by-cons size o [] in
     let birth : b.birth ≡ length objects + 1 = next.birth in
     record {
-      agree = agrees_with_block s objects (IsName objects) (IsName (objects ++ o ∷ [])) b o h.agree h.laid_out next (subst (λ (n : ℕ). (m : ℕ) → IsName (objects ++ o ∷ []) m → IsName objects m ⊎ (m ≡ n)) (sym birth) (IsName-more objects o));
+      agree = agrees_with_block s objects b o h.agree next;
       table = subst (IsTable (with_block s b) (addresses ++ b.address ∷ [])) (sym count) (table_push s b addresses (length objects) h.table h.laid_out after birth);
       laid_out = LieFrom-push 0 s.blocks b s.cells h.laid_out (omega arith) (omega arith);
       filled = end_from-push 0 s.blocks b ∙ omega arith;

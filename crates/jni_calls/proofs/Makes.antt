@@ -1,15 +1,14 @@
 -- A store with a new object stands for the source's heap with it.
 use Rattle.std.specs.Global.{Vec}
-use Rattle.std.proofs.Common.{inl, ◌≡◌, ℕ, ◌+◌, ◌<◌, ◌≤◌, ◌^◌, List, Option, [], ◌∷◌, ◌++◌, length, map, Some, refl, sym, ap, ◌∙◌, subst, arith, length-append}
+use Rattle.std.proofs.Common.{inl, ◌≡◌, ℕ, ◌+◌, ◌≤◌, List, Option, [], ◌∷◌, ◌++◌, length, map, Some, refl, sym, ap, ◌∙◌, subst, arith, length-append}
 use Rattle.std.proofs.lemmas.List.{length-map}
 use Rattle.std.proofs.lemmas.List.Sums.{sum_by-cons}
 use Rattle.classes.specs.Class.{FieldType, NumberField, ReferenceField}
 use Rattle.classes.specs.Fields.{FieldId, layout}
-use Rattle.heap.specs.Heap.{Block, Space, IsLaidOut, end_of, left_of, name_at, with_block}
+use Rattle.heap.specs.Heap.{Block, Space, IsLaidOut, left_of, name_at, with_block}
 use Rattle.heap.proofs.Layouts.{LieFrom-push}
 use Rattle.source.specs.Heap.{next_name}
 use Rattle.source.specs.Object.{Object, size}
-use Rattle.source.specs.Reachable.{IsName}
 use Rattle.source.specs.Thread.{Shared}
 use Rattle.source.specs.World.{World, fresh_object, initial, loaded_objects}
 use Rattle.lowered.specs.Lowered.{Lowered}
@@ -23,7 +22,7 @@ use Rattle.jni_calls.specs.Answers.{IsMakeable}
 use Rattle.jni_calls.specs.HeapAgrees.{HeapAgrees, IsTable, ValueAgrees, ValuesAgree}
 use Rattle.jni_calls.specs.Made.{HasMade, initial_value, new_block}
 use Rattle.jni_calls.proofs.Classed.{classed_more}
-use Rattle.jni_calls.proofs.HeapLaws.{IsNext, IsName-more, Needs, agrees_with_block, name_kept, name_new, object_kept, table_kept}
+use Rattle.jni_calls.proofs.HeapLaws.{IsNext, agrees_with_block, name_kept, name_new, object_kept, table_kept}
 use Rattle.jni_calls.proofs.Keeping.{more_made, slots_stay, statics_stay}
 
 -- zero and NULL
@@ -65,9 +64,7 @@ module _ (p : Lowered) (w : World) (store new : Store) (shared : Shared) (c a : 
       let births : store.births ≡ length shared.heap = h.births in
       let begun : length (loaded_objects w) ≤ length shared.heap = h.begun in
       record {
-        heap = subst (λ (s : Space). HeapAgrees s (shared.heap ++ o ∷ []) (IsName (shared.heap ++ o ∷ []))) (sym made.heap)
-            (agrees_with_block store.heap shared.heap (IsName shared.heap) (IsName (shared.heap ++ o ∷ [])) b o h.heap h.laid_out next
-            (subst (λ (n : ℕ). Needs (IsName shared.heap) (IsName (shared.heap ++ o ∷ [])) n) (sym next.birth) (IsName-more shared.heap o)));
+        heap = subst (λ (s : Space). HeapAgrees s (shared.heap ++ o ∷ [])) (sym made.heap) (agrees_with_block store.heap shared.heap b o h.heap next);
         laid_out = subst IsLaidOut (sym made.heap) (LieFrom-push 0 store.heap.blocks b store.heap.cells h.laid_out (omega arith) (omega (arith, room)));
         cells = ap (λ (s : Space). s.cells) made.heap ∙ h.cells;
         table = subst (λ (s : Space). IsTable s new.loaded.items (length (loaded_objects w))) (sym made.heap)

@@ -1,5 +1,5 @@
 -- A store in which a value of an object changes stands for the source's heap in which it does.
-use Rattle.std.proofs.Common.{inl, ◌≡◌, ◌≢◌, ℕ, zero, suc, ◌+◌, ◌-◌, ◌<◌, ◌≤◌, Bool, true, false, cond, eqb, List, [], ◌∷◌, length, map, get_or, Option, Some, None, refl, sym, ap, ◌∙◌, subst, arith, ⊎_elim, Contains}
+use Rattle.std.proofs.Common.{inl, ◌≡◌, ◌≢◌, ℕ, zero, suc, ◌+◌, ◌-◌, ◌<◌, ◌≤◌, Bool, true, false, cond, eqb, List, [], ◌∷◌, length, map, get_or, Option, Some, None, refl, sym, ap, ◌∙◌, subst, arith, ⊎_elim}
 use Rattle.std.specs.Prelude.{find, slice_get, slice_set}
 use Rattle.std.specs.Option.{option_map, option_map_or}
 use Rattle.std.proofs.lemmas.Bool.{cases_eq}
@@ -14,7 +14,6 @@ use Rattle.heap.proofs.Names.{AreNamesUnique-with_changed, one_address}
 use Rattle.heap.proofs.Spaces.{IsLaidOut-with_changed, part-changed}
 use Rattle.source.specs.Heap.{Heap, class_of, object_at, values_of, with_value_at}
 use Rattle.source.specs.Object.{Object, ObjectValue, Number, Refers}
-use Rattle.source.specs.Reachable.{from_one, IsName}
 use Rattle.source.specs.Thread.{Shared}
 use Rattle.source.specs.World.{World, loaded_objects}
 use Rattle.lowered.specs.Lowered.{Lowered}
@@ -168,9 +167,6 @@ module _ (space : Space) (heap : Heap) (a place : ℕ) (v : Value) (name : ℕ) 
 
 -- ---- the store
 
-names_counted : (xs ys : Heap) (n : ℕ) → length xs ≡ length ys → IsName xs n → IsName ys n
-names_counted xs ys n same h = subst (λ (k : ℕ). Contains (from_one k) n) same h
-
 -- any block
 blank : Block
 blank = record { address = 0; class = 0; birth = 0; values = []; pins = 0 }
@@ -180,7 +176,7 @@ module _ (p : Lowered) (w : World) (store : Store) (shared after : Shared) (a pl
   store_after = record store { heap = with_value store.heap a place v }
 
   object : Named store.heap shared.heap a writes.name
-  object = named store.heap shared.heap (IsName shared.heap) a writes.name h.heap writes.there
+  object = named store.heap shared.heap a writes.name h.heap writes.there
 
   -- the object that changes
   object_is : (o : Object) × (object_at shared.heap writes.name ≡ Some o)
@@ -204,7 +200,6 @@ module _ (p : Lowered) (w : World) (store : Store) (shared after : Shared) (a pl
       blocks = blocks_after store.heap shared.heap a place v writes.name writes.value h.laid_out h.heap.unique writes.there writes.agrees object_is store.heap.blocks blank
           (λ i less. found_at 0 store.heap.blocks store.heap.cells i blank h.laid_out less) h.heap.blocks;
       unique = AreNamesUnique-with_changed store.heap a (λ (b : Block). record b { values = slice_set b.values place v }) (λ b. refl) h.heap.unique;
-      there = λ n need. let was = h.heap.there n (names_counted heap_then shared.heap n count need) in (was.0, stays was.0 n was.1);
     };
     laid_out = IsLaidOut-with_changed store.heap a (λ (b : Block). record b { values = slice_set b.values place v }) leaving h.laid_out;
     cells = h.cells;

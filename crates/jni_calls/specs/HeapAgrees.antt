@@ -6,7 +6,6 @@ use Rattle.heap.specs.declared.value.Value.TheVariants.{Number as Word, Null, Bl
 use Rattle.heap.specs.Heap.{Block, Space, IsLaidOut, end_of, name_at, AreNamesUnique}
 use Rattle.source.specs.Object.{Object, ObjectValue, Number, Refers, Reference, sizes}
 use Rattle.source.specs.Heap.{Heap, object_at}
-use Rattle.source.specs.Reachable.{IsName}
 use Rattle.tables.specs.References.{references_in}
 
 -- ---- references and values
@@ -70,12 +69,11 @@ BlocksAgree space heap (b ∷ blocks) = BlockAgrees space heap b × BlocksAgree 
 abbrev pub IsNamed : Space → ℕ → Type 0
 IsNamed space n = (a : ℕ) × (name_at space a ≡ Some n)
 
--- The blocks stand for objects of the source's heap, out of which nothing is ever taken: no two for one object, and one
--- for each object that is needed. A block of an object that isn't needed any more may be gone.
-pub record HeapAgrees (space : Space) (heap : Heap) (IsNeeded : ℕ → Type 0) : Type 0 where
+-- The blocks stand for objects of the source's heap, out of which nothing is ever taken: no two for one object. The block of an
+-- object may be gone. Those that can still be reached have theirs: what refers to them agrees, and so does what blocks refer to.
+pub record HeapAgrees (space : Space) (heap : Heap) : Type 0 where
   pub blocks : BlocksAgree space heap space.blocks
   pub unique : AreNamesUnique space
-  pub there : (n : ℕ) → IsNeeded n → IsNamed space n
 
 -- ---- the objects made at load
 
@@ -86,7 +84,7 @@ pub record IsTable (space : Space) (addresses : List ℕ) (count : ℕ) : Type 0
 
 -- These objects have been made, one after another from the lowest cell on, and nothing else.
 pub record AreMade (space : Space) (addresses : List ℕ) (objects : Heap) : Type 0 where
-  pub agree : HeapAgrees space objects (IsName objects)
+  pub agree : HeapAgrees space objects
   pub table : IsTable space addresses (length objects)
   pub laid_out : IsLaidOut space
   pub filled : end_of space ≡ sizes objects

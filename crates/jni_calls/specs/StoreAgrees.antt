@@ -8,7 +8,6 @@ use Rattle.heap.specs.Heap.{Space, IsLaidOut, left_of, name_at}
 use Rattle.source.specs.Heap.{Heap, object_at}
 use Rattle.source.specs.Object.{Object, sizes}
 use Rattle.source.specs.World.{World, loaded_objects}
-use Rattle.source.specs.Reachable.{IsName}
 use Rattle.source.specs.Thread.{Shared}
 use Rattle.source.specs.Variable.{StaticReference, Empty, Live, Deleted, Statics, assign}
 use Rattle.lowered.specs.Lowered.{Lowered}
@@ -43,8 +42,8 @@ AreNamed p shared = map (λ (s : Identifier × StaticReference). s.0) shared.sta
 
 -- The store stands for the shared state of the source.
 pub record StoreAgrees (p : Lowered) (w : World) (store : Store) (shared : Shared) : Type 0 where
-  -- nothing is collected yet, so all objects are there
-  pub heap : HeapAgrees store.heap shared.heap (IsName shared.heap)
+  -- blocks of objects that can't be reached any more may be gone
+  pub heap : HeapAgrees store.heap shared.heap
   pub laid_out : IsLaidOut store.heap
   pub cells : store.heap.cells ≡ w.cells
   -- the objects made at load stay for ever

@@ -14,11 +14,9 @@ use Rattle.heap.specs.Heap.{Block, Space, IsAddress, block_at, class_at, name_at
 use Rattle.heap.proofs.Names.{one_address}
 use Rattle.source.specs.Object.{Object, ObjectValue, Number, Refers, Reference}
 use Rattle.source.specs.Heap.{Heap, object_at, class_of, values_of}
-use Rattle.source.specs.Reachable.{IsName}
-use Rattle.source.proofs.ShownRows.{from_one-contains}
-use Rattle.jni_calls.specs.HeapAgrees.{ValueAgrees, ValuesAgree, HeapAgrees, IsTable, IsNamed}
-use Rattle.machine.specs.Rows.{value_in, object_of, heap_of, IsThere, AreThere, AreBlocks}
-use Rattle.jni_calls.proofs.BlocksOfNames.{Named, named, is_address, get_below, name_within}
+use Rattle.jni_calls.specs.HeapAgrees.{ValueAgrees, ValuesAgree, HeapAgrees}
+use Rattle.machine.specs.Rows.{value_in, object_in, object_of, heap_of, IsThere, AreSeen, AreThere, AreBlocks}
+use Rattle.jni_calls.proofs.BlocksOfNames.{Named, named, is_address, name_within}
 
 -- ---- what cells hold
 
@@ -76,86 +74,101 @@ blocks_there s heap a n h =
 
 -- ---- the table
 
-same_list : (xs ys : Heap) → length xs ≡ length ys → ((i : ℕ) (y : Object) → slice_get ys i ≡ Some y → slice_get xs i ≡ Some y) → xs ≡ ys
-same_list [] [] e h = refl
-same_list [] (y ∷ ys) e h = absurd (omega (arith, e))
-same_list (x ∷ xs) [] e h = absurd (omega (arith, e))
-same_list (x ∷ xs) (y ∷ ys) e h =
-    let head : Some x ≡ Some y = h 0 y refl in
-    let same : x ≡ y = cc in
-    let rest = same_list xs ys (omega (arith, e)) (λ i z at. h (suc i) z at) in
-    ap (λ (z : Object). z ∷ xs) same ∙ ap (λ (l : Heap). y ∷ l) rest
-
-length_all : (s : Space) (xs : List ℕ) → length (heap_of s xs) ≡ length xs
+length_all : (s : Space) (xs : List (Option ℕ)) → length (heap_of s xs) ≡ length xs
 length_all s [] = refl
 length_all s (x ∷ xs) = ap suc (length_all s xs)
 
-pub get_all : (s : Space) (xs : List ℕ) (i a : ℕ) → slice_get xs i ≡ Some a → slice_get (heap_of s xs) i ≡ Some (object_of s a)
-get_all s [] i a e = absurd (cc)
-get_all s (x ∷ xs) zero a e = let same : x ≡ a = cc in ap (λ n. Some (object_of s n)) same
-get_all s (x ∷ xs) (suc i) a e = get_all s xs i a e
+pub get_all : (s : Space) (xs : List (Option ℕ)) (i : ℕ) (o : Option ℕ) → slice_get xs i ≡ Some o → slice_get (heap_of s xs) i ≡ Some (object_in s o)
+get_all s [] i o e = absurd (cc)
+get_all s (x ∷ xs) zero o e = let same : x ≡ o = cc in ap (λ y. Some (object_in s y)) same
+get_all s (x ∷ xs) (suc i) o e = get_all s xs i o e
 
-pub get_there : (xs : List ℕ) (i : ℕ) → i < length xs → (a : ℕ) × (slice_get xs i ≡ Some a)
-get_there [] i h = absurd (omega arith)
-get_there (x ∷ xs) zero h = (x, refl)
-get_there (x ∷ xs) (suc i) h = get_there xs i (omega arith)
+-- a table has the addresses of all blocks, at the places of their names, and no others
+pub record HasBlocks (s : Space) (table : List (Option ℕ)) : Type 0 where
+  pub placed : (a n : ℕ) → name_at s a ≡ Some n → slice_get table (n - 1) ≡ Some (Some a)
+  pub only : (i a : ℕ) → slice_get table i ≡ Some (Some a) → name_at s a ≡ Some (i + 1)
 
--- the objects in the order of the table are those of the heap
-pub table_is : (s : Space) (heap : Heap) (N : ℕ → Type 0) (table : List ℕ) → HeapAgrees s heap N → IsTable s table (length heap) → heap_of s table ≡ heap
-table_is s heap N table h t =
-    same_list (heap_of s table) heap (length_all s table ∙ t.counted) (λ i o at.
-    let low = get_below heap i o at in
-    let found = get_there table i (omega (arith, low, t.counted)) in
-    let name = t.named i found.0 found.1 in
-    let e : i + 1 ≡ suc i = omega arith in
-    get_all s table i found.0 found.1 ∙ ap (λ (x : Object). Some x) (object_is s heap found.0 (i + 1) o (named s heap N found.0 (i + 1) h name) (ap (object_at heap) e ∙ at)))
+-- the objects that have blocks are those of the heap
+pub table_seen : (s : Space) (heap : Heap) (table : List (Option ℕ)) → HeapAgrees s heap → length table ≡ length heap → HasBlocks s table → AreSeen s heap (heap_of s table)
+table_seen s heap table h count has = record {
+  count = length_all s table ∙ count;
+  same = λ n there. by_name n there.0 there.1 (named s heap there.0 n h there.1);
+}
+  where
+    by_name : (n a : ℕ) → name_at s a ≡ Some n → Named s heap a n → object_at (heap_of s table) n ≡ object_at heap n
+    by_name zero a name b = absurd (let low = (name_within s heap a zero h name).0 in omega (arith, low))
+    by_name (suc i) a name b =
+        let before : suc i - 1 ≡ i = omega arith in
+        let is : object_at heap (suc i) ≡ Some b.agrees.object = ap (object_at heap) (sym b.birth) ∙ b.agrees.is in
+        get_all s table i (Some a) (ap (slice_get table) (sym before) ∙ has.placed a (suc i) name)
+        ∙ ap (λ (x : Object). Some x) (object_is s heap a (suc i) b.agrees.object b is)
+        ∙ sym is
 
-pub table_there : (s : Space) (heap : Heap) (N : ℕ → Type 0) (table : List ℕ) → HeapAgrees s heap N → IsTable s table (length heap) → AreBlocks s table
-table_there s heap N table h t i a at =
-    let name = t.named i a at in
-    (is_address s a (i + 1) name, blocks_there s heap a (i + 1) (named s heap N a (i + 1) h name))
+pub table_there : (s : Space) (heap : Heap) (table : List (Option ℕ)) → HeapAgrees s heap → HasBlocks s table → AreBlocks s table
+table_there s heap table h has i a at =
+    let name = has.only i a at in
+    (is_address s a (i + 1) name, blocks_there s heap a (i + 1) (named s heap a (i + 1) h name))
 
 -- ---- filling the table
 
-get_set_same : (xs : List ℕ) (i x : ℕ) → i < length xs → slice_get (set xs i x) i ≡ Some x
+get_set_same : (xs : List (Option ℕ)) (i : ℕ) (x : Option ℕ) → i < length xs → slice_get (set xs i x) i ≡ Some x
 get_set_same [] i x h = absurd (omega arith)
 get_set_same (y ∷ xs) zero x h = refl
 get_set_same (y ∷ xs) (suc i) x h = get_set_same xs i x (omega arith)
 
-get_set_other : (xs : List ℕ) (i j x : ℕ) → (j ≡ i → ⊥) → slice_get (set xs i x) j ≡ slice_get xs j
+get_set_other : (xs : List (Option ℕ)) (i j : ℕ) (x : Option ℕ) → (j ≡ i → ⊥) → slice_get (set xs i x) j ≡ slice_get xs j
 get_set_other [] i j x h = refl
 get_set_other (y ∷ xs) zero zero x h = absurd (h refl)
 get_set_other (y ∷ xs) zero (suc j) x h = refl
 get_set_other (y ∷ xs) (suc i) zero x h = refl
 get_set_other (y ∷ xs) (suc i) (suc j) x h = get_set_other xs i j x (λ e. h (ap suc e))
 
--- the blocks at the first places are in the table
-unfoldable pub ArePlaced : Space → List ℕ → ℕ → Type 0
-ArePlaced s table place = (j a n : ℕ) → j < place → slice_get (addresses s) j ≡ Some a → name_at s a ≡ Some n → slice_get table (n - 1) ≡ Some a
+-- the blocks at the first places are in the table, and nothing else is
+pub record ArePlaced (s : Space) (table : List (Option ℕ)) (place : ℕ) : Type 0 where
+  pub placed : (j a n : ℕ) → j < place → slice_get (addresses s) j ≡ Some a → name_at s a ≡ Some n → slice_get table (n - 1) ≡ Some (Some a)
+  pub only : (i a : ℕ) → slice_get table i ≡ Some (Some a) → name_at s a ≡ Some (i + 1)
 
-pub placed_next : (s : Space) (heap : Heap) (N : ℕ → Type 0) (table : List ℕ) (place a n : ℕ) → HeapAgrees s heap N → length table ≡ length heap → slice_get (addresses s) place ≡ Some a → name_at s a ≡ Some n → ArePlaced s table place → ArePlaced s (set table (n - 1) a) (place + 1)
-unfolding ArePlaced
-placed_next s heap N table place a n h count here name before j b m low at named_so =
-    let w = name_within s heap N a n h name in
-    let v = name_within s heap N b m h named_so in
-    ⊎_elim
-    (λ (e : m ≡ n).
-    let same : b ≡ a = one_address s b a n h.unique (subst (λ k. name_at s b ≡ Some k) e named_so) name in
-    ap (λ k. slice_get (set table (n - 1) a) (k - 1)) e ∙ get_set_same table (n - 1) a (omega (arith, w.0, w.1, count)) ∙ ap (λ (k : ℕ). Some k) (sym same))
-    (λ (ne : m ≡ n → ⊥). ⊎_elim
-    (λ (e : j ≡ place).
-    let same : a ≡ b = cc (sym here ∙ ap (slice_get (addresses s)) (sym e) ∙ at) in
-    let one : n ≡ m = cc (sym name ∙ ap (name_at s) same ∙ named_so) in
-    absurd (ne (sym one)))
-    (λ (other : j ≡ place → ⊥).
-    get_set_other table (n - 1) (m - 1) a (λ (f : m - 1 ≡ n - 1). ne (omega (arith, f, w.0, v.0)))
-    ∙ before j b m (omega arith) at named_so)
-    (cases_eq j place))
-    (cases_eq m n)
+pub placed_next : (s : Space) (heap : Heap) (table : List (Option ℕ)) (place a n : ℕ) → HeapAgrees s heap → length table ≡ length heap → slice_get (addresses s) place ≡ Some a → name_at s a ≡ Some n → ArePlaced s table place → ArePlaced s (set table (n - 1) (Some a)) (place + 1)
+placed_next s heap table place a n h count here name before = record { placed = placed; only = only }
+  where
+    low : n - 1 < length table
+    low = let w = name_within s heap a n h name in omega (arith, w.0, w.1, count)
 
-pub placed_none : (s : Space) (table : List ℕ) → ArePlaced s table 0
-unfolding ArePlaced
-placed_none s table j a n low at name = absurd (omega (arith, low))
+    placed : (j b m : ℕ) → j < place + 1 → slice_get (addresses s) j ≡ Some b → name_at s b ≡ Some m → slice_get (set table (n - 1) (Some a)) (m - 1) ≡ Some (Some b)
+    placed j b m less at named_so =
+        let w = name_within s heap a n h name in
+        let v = name_within s heap b m h named_so in
+        ⊎_elim
+        (λ (e : m ≡ n).
+        let same : b ≡ a = one_address s b a n h.unique (subst (λ k. name_at s b ≡ Some k) e named_so) name in
+        ap (λ k. slice_get (set table (n - 1) (Some a)) (k - 1)) e ∙ get_set_same table (n - 1) (Some a) low ∙ ap (λ (k : ℕ). Some (Some k)) (sym same))
+        (λ (ne : m ≡ n → ⊥). ⊎_elim
+        (λ (e : j ≡ place).
+        let same : a ≡ b = cc (sym here ∙ ap (slice_get (addresses s)) (sym e) ∙ at) in
+        let one : n ≡ m = cc (sym name ∙ ap (name_at s) same ∙ named_so) in
+        absurd (ne (sym one)))
+        (λ (other : j ≡ place → ⊥).
+        get_set_other table (n - 1) (m - 1) (Some a) (λ (f : m - 1 ≡ n - 1). ne (omega (arith, f, w.0, v.0)))
+        ∙ before.placed j b m (omega arith) at named_so)
+        (cases_eq j place))
+        (cases_eq m n)
+
+    only : (i b : ℕ) → slice_get (set table (n - 1) (Some a)) i ≡ Some (Some b) → name_at s b ≡ Some (i + 1)
+    only i b at =
+        ⊎_elim
+        (λ (e : i ≡ n - 1).
+        let there : slice_get (set table (n - 1) (Some a)) i ≡ Some (Some a) = ap (slice_get (set table (n - 1) (Some a))) e ∙ get_set_same table (n - 1) (Some a) low in
+        let same : a ≡ b = let both : Some (Some a) ≡ Some (Some b) = sym there ∙ at in cc in
+        let next : n ≡ i + 1 = let w = name_within s heap a n h name in omega (arith, e, w.0) in
+        ap (name_at s) (sym same) ∙ name ∙ ap (λ (k : ℕ). Some k) next)
+        (λ (ne : i ≡ n - 1 → ⊥). before.only i b (sym (get_set_other table (n - 1) i (Some a) ne) ∙ at))
+        (cases_eq i (n - 1))
+
+pub placed_none : (s : Space) (table : List (Option ℕ)) → ((i : ℕ) (o : Option ℕ) → slice_get table i ≡ Some o → o ≡ None) → ArePlaced s table 0
+placed_none s table empty = record {
+  placed = λ j a n less at name. absurd (omega (arith, less));
+  only = λ i a at. absurd (let none : Some a ≡ None = empty i (Some a) at in cc);
+}
 
 place_in : (bs : List Block) (a : ℕ) → IsSome (find (λ (b : Block). eqb b.address a) bs) → (k : ℕ) × (k < length bs) × (slice_get (map (λ (b : Block). b.address) bs) k ≡ Some a)
 place_in [] a some = absurd (cc)
@@ -168,46 +181,44 @@ place_in (b ∷ bs) a some =
     (suc later.0, omega arith, later.2))
     (eqb_tells b.address a)
 
--- when all blocks are in the table, it has all objects
-pub table_filled : (s : Space) (heap : Heap) (table : List ℕ) (place : ℕ) → HeapAgrees s heap (IsName heap) → length table ≡ length heap → ArePlaced s table place → length s.blocks ≤ place → IsTable s table (length heap)
-unfolding ArePlaced
-table_filled s heap table place h count placed past = record {
-  counted = count;
-  named = λ i a at.
-      let low : i < length table = within table i a at in
-      let there : IsNamed s (i + 1) = h.there (i + 1) (from_one-contains (length heap) (i + 1) (omega arith) (omega (arith, low, count))) in
-      let at_place = place_in s.blocks there.0 (is_address s there.0 (i + 1) there.1) in
-      let found = placed at_place.0 there.0 (i + 1) (omega (arith, at_place.1, past)) at_place.2 there.1 in
-      let e : i + 1 - 1 ≡ i = omega arith in
-      let same : there.0 ≡ a = cc (sym found ∙ ap (slice_get table) e ∙ at) in
-      subst (λ b. name_at s b ≡ Some (i + 1)) same there.1;
+-- when all blocks are in the table, it has them all
+pub table_filled : (s : Space) (table : List (Option ℕ)) (place : ℕ) → ArePlaced s table place → length s.blocks ≤ place → HasBlocks s table
+table_filled s table place h past = record {
+  placed = λ a n name.
+      let there = place_in s.blocks a (is_address s a n name) in
+      let within : there.0 < length s.blocks = there.1 in
+      h.placed there.0 a n (omega (arith, within, past)) there.2 name;
+  only = h.only;
 }
-  where
-    within : (xs : List ℕ) (i a : ℕ) → slice_get xs i ≡ Some a → i < length xs
-    within [] i a e = absurd (cc)
-    within (x ∷ xs) zero a e = omega arith
-    within (x ∷ xs) (suc i) a e = let rest : i < length xs = within xs i a e in omega arith
 
 -- ---- what is read of an object
 
--- the address of a name, where the objects are seen as a heap
-pub record IsAt (s : Space) (table : List ℕ) (heap : Heap) (name a : ℕ) : Type 0 where
-  pub place : slice_get table (name - 1) ≡ Some a
-  pub object : object_at heap name ≡ Some (object_of s a)
+-- the address of a name, or none, where the objects are seen as a heap
+pub record IsAt (s : Space) (table : List (Option ℕ)) (heap : Heap) (name : ℕ) (o : Option ℕ) : Type 0 where
+  pub place : slice_get table (name - 1) ≡ Some o
+  pub object : object_at heap name ≡ Some (object_in s o)
 
-pub is_at : (s : Space) (table : List ℕ) (heap : Heap) (name a : ℕ) → heap_of s table ≡ heap → (0 < name) × (name ≤ length heap) → a ≡ get_or table (name - 1) a → IsAt s table heap name a
-is_at s table heap zero a e w read = absurd (omega (arith, w.0))
-is_at s table heap (suc i) a e w read =
+pub is_at : (s : Space) (table : List (Option ℕ)) (heap : Heap) (name : ℕ) (o p : Option ℕ) → heap_of s table ≡ heap → (0 < name) × (name ≤ length heap) → o ≡ get_or table (name - 1) o → o ≡ p → IsAt s table heap name p
+is_at s table heap zero o p e w read is = absurd (omega (arith, w.0))
+is_at s table heap (suc i) o p e w read is =
     let count : length table ≡ length heap = sym (length_all s table) ∙ ap (λ (h : Heap). length h) e in
     let first : suc i - 1 ≡ i = omega arith in
     let low : suc i - 1 < length table = omega (arith, w.1, count) in
-    let place : slice_get table (suc i - 1) ≡ Some a = slice_get-get_or table (suc i - 1) a low ∙ ap (λ (n : ℕ). Some n) (sym read) in
-    record {
+    let place : slice_get table (suc i - 1) ≡ Some o = slice_get-get_or table (suc i - 1) o low ∙ ap (λ (x : Option ℕ). Some x) (sym read) in
+    subst (IsAt s table heap (suc i)) is (record {
       place = place;
-      object = ap (λ (h : Heap). slice_get h i) (sym e) ∙ get_all s table i a (ap (slice_get table) (sym first) ∙ place);
-    }
+      object = ap (λ (h : Heap). slice_get h i) (sym e) ∙ get_all s table i o (ap (slice_get table) (sym first) ∙ place);
+    })
 
-module _ (s : Space) (table : List ℕ) (heap : Heap) (name a : ℕ) (h : IsAt s table heap name a) where
+-- nothing is seen of an object whose block is gone
+module _ (s : Space) (table : List (Option ℕ)) (heap : Heap) (name : ℕ) (h : IsAt s table heap name None) where
+  pub no_class : class_of heap name ≡ 0
+  no_class = ap (λ (o : Option Object). option_map_or (λ (x : Object). x.class) o 0) h.object
+
+  pub no_values : length (values_of heap name) ≡ 0
+  no_values = ap (λ (o : Option Object). length (option_map_or (λ (x : Object). x.values) o [])) h.object
+
+module _ (s : Space) (table : List (Option ℕ)) (heap : Heap) (name a : ℕ) (h : IsAt s table heap name (Some a)) where
   pub class_is : (r : ℕ) → class_at s a ≡ Some r → r ≡ class_of heap name
   class_is r class = sym (ap (λ (o : Option Object). option_map_or (λ (x : Object). x.class) o 0) h.object ∙ ap (λ (o : Option ℕ). option_map_or (λ (c : ℕ). c) o 0) class)
 
@@ -226,8 +237,8 @@ module _ (s : Space) (table : List ℕ) (heap : Heap) (name a : ℕ) (h : IsAt s
       get_map (y ∷ ws) (suc i) x e = get_map ws i x e
 
 -- a block of the order of addresses is there
-pub address_there : (s : Space) (heap : Heap) (N : ℕ → Type 0) (place a : ℕ) → HeapAgrees s heap N → slice_get (addresses s) place ≡ Some a → block_at s a ≡ slice_get s.blocks place → IsAddress s a
-address_there s heap N place a h at block = found s.blocks place at (block_at s a) block
+pub address_there : (s : Space) (heap : Heap) (place a : ℕ) → HeapAgrees s heap → slice_get (addresses s) place ≡ Some a → block_at s a ≡ slice_get s.blocks place → IsAddress s a
+address_there s heap place a h at block = found s.blocks place at (block_at s a) block
   where
     found : (bs : List Block) (i : ℕ) → slice_get (map (λ (b : Block). b.address) bs) i ≡ Some a → (o : Option Block) → o ≡ slice_get bs i → IsSome o
     found [] i e o f = absurd (cc)

@@ -7,4 +7,5 @@ pub mod Runs
 pub mod Standings
 pub mod BlockObjects
 pub mod RootNames
+pub mod ReachableNames
 pub mod Reports

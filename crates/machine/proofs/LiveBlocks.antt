@@ -1,5 +1,5 @@
 -- The reachable objects take no more cells than the blocks that stand for them.
-use Rattle.std.proofs.Common.{◌≡◌, ℕ, zero, suc, ◌+◌, ◌≤◌, Bool, true, false, cond, eqb, List, [], ◌∷◌, ◌++◌, length, map, Option, Some, None, refl, sym, ap, ◌∙◌, subst, arith, ⊎_elim}
+use Rattle.std.proofs.Common.{◌≡◌, ℕ, zero, suc, ◌+◌, ◌≤◌, Bool, true, false, cond, eqb, List, [], ◌∷◌, ◌++◌, length, map, Option, Some, refl, sym, ap, ◌∙◌, subst, arith, ⊎_elim}
 use Rattle.std.specs.Prelude.{◌==◌, filter, find, not, sum_by}
 use Rattle.std.specs.Option.{option_map, option_map_or}
 use Rattle.std.proofs.lemmas.Bool.{cond_both, eq-eqb, false≢true}

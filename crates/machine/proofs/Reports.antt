@@ -1,5 +1,5 @@
 -- The report of the state that a machine's journal leads to.
-use Rattle.std.proofs.Common.{append-nil, append_assoc, ◌≡◌, ℕ, zero, suc, ◌+◌, Bool, false, cond, List, [], ◌∷◌, ◌++◌, length, map, Option, Some, None, Result, refl, sym, ap, ◌∙◌, subst}
+use Rattle.std.proofs.Common.{append-nil, append_assoc, ⊎_elim, ◌≡◌, ℕ, zero, suc, ◌+◌, Bool, false, cond, List, [], ◌∷◌, ◌++◌, length, map, Option, Some, None, Result, refl, sym, ap, ◌∙◌, subst}
 use Rattle.std.specs.Prelude.{slice_get, flat_map, ◌==◌, is_some, not, ◌||◌, ◌&&◌}
 use Rattle.std.specs.List.{list_all, enumerate_from, AllZip}
 use Rattle.std.specs.Option.{option_map}
@@ -22,7 +22,7 @@ use Rattle.report.specs.RunText as run_text
 use Rattle.source.specs.State as state
 use Rattle.source.specs.State.{State, views}
 use Rattle.source.specs.Heap.{Heap}
-use Rattle.source.specs.Reachable.{from_one, loaded_count, thread_roots, roots}
+use Rattle.source.specs.Reachable.{from_one, loaded_count, thread_roots, roots, Reachable}
 use Rattle.source.specs.Task.{Task}
 use Rattle.source.proofs.ShownRows.{length-loaded}
 use Rattle.source.specs.Value.{trap_number}
@@ -40,7 +40,10 @@ use Rattle.execution.specs.declared.thread.Thread.{Thread}
 use Rattle.machine.specs.declared.stop.Stop.{Stop}
 use Rattle.execution.specs.ThreadAgrees.{ThreadsAgree, ending_view}
 use Rattle.execution.specs.Executes.{WorkAgrees}
-use Rattle.jni_calls.specs.HeapAgrees.{times}
+use Rattle.jni_calls.specs.HeapAgrees.{IsNamed, times}
+use Rattle.machine.specs.Rows.{AreSeen}
+use Rattle.machine.proofs.ReachableNames.{loaded_named, reachable_named, slots_named, threads_named}
+use Rattle.source.proofs.ReachableLemmas.{In, contains_in, in_append_cases}
 use Rattle.safety.specs.Owners.{AllOwners, owners_after}
 use Rattle.machine.specs.Stops as machine
 use Rattle.machine.specs.Stops.{stop_view}
@@ -197,6 +200,25 @@ module _ (p : Lowered) (world : World) (store : Store) (ts : List Thread) (print
       ∙ ap (λ n. (from_one n ++ globals) ++ names) count
       ∙ append_assoc (from_one (length store.loaded.items)) globals names
 
+  -- each of these has a block
+  root_there : (n : ℕ) → Contains (roots world c.state) n → IsNamed store.heap n
+  root_there n k =
+      let front = from_one (length store.loaded.items) in
+      let globals = c.state.shared.globals in
+      let names = flat_map thread_roots c.state.threads in
+      let there : In (front ++ (globals ++ names)) n = contains_in (front ++ (globals ++ names)) n (subst (λ (l : List ℕ). Contains l n) roots_are k) in
+      ⊎_elim
+      (λ (l : In front n). loaded_named store.heap store.loaded.items (length (loaded_objects world)) n c.store_agrees.table l)
+      (λ (l : In (globals ++ names) n). ⊎_elim
+      (λ (g : In globals n). slots_named store.heap store.globals globals n c.store_agrees.globals g)
+      (λ (t : In names n). threads_named store.heap ts c.state.threads n roots_in t)
+      (in_append_cases globals names n l))
+      (in_append_cases front (globals ++ names) n there)
+
+  -- and so has each object that can be reached
+  pub reachable_there : (n : ℕ) → Reachable world c.state n → IsNamed store.heap n
+  reachable_there = reachable_named store.heap world c.state c.store_agrees.heap root_there
+
   -- each is there as often among the names that the tables have
   roots_same : ThreadsAreStacked ts → (n : ℕ) → times n (map (name_of store.heap) (references_in store.globals) ++ flat_map (thread_names store.heap) ts) ≡ times n (c.state.shared.globals ++ flat_map thread_roots c.state.threads)
   roots_same stacked n =
@@ -205,7 +227,7 @@ module _ (p : Lowered) (world : World) (store : Store) (ts : List Thread) (print
 
   -- the rows of what can be reached from them are the state's
   pub rows_are : (classes : Classes) (objects : Heap) (loaded : ℕ) (names : List ℕ) (rows : List ShownRow)
-      → classes ≡ world.classes → objects ≡ c.state.shared.heap → loaded ≡ length store.loaded.items → names ≡ map (name_of store.heap) (references_in store.globals) ++ flat_map (thread_names store.heap) ts → ThreadsAreStacked ts
+      → classes ≡ world.classes → AreSeen store.heap c.state.shared.heap objects → loaded ≡ length store.loaded.items → names ≡ map (name_of store.heap) (references_in store.globals) ++ flat_map (thread_names store.heap) ts → ThreadsAreStacked ts
       → AreReported classes objects loaded names rows → rows ≡ map (shown_row world.classes c.state.shared.heap) (shown world c.state)
   unfolding report
   rows_are classes objects loaded names rows k h l n stacked told =
@@ -214,7 +236,8 @@ module _ (p : Lowered) (world : World) (store : Store) (ts : List Thread) (print
       let often : (i : ℕ) → times i names ≡ times i source_names = λ i. ap (times i) n ∙ roots_same stacked i in
       told world c.state (record {
         classes = sym k;
-        heap = sym h;
+        count = sym h.count;
+        same = λ m r. sym (h.same m (reachable_there m r));
         sound = λ m there. among_last (from_one loaded) source_names names (λ i. sym (often i)) m (subst (λ (ns : List ℕ). Contains ns m) same there);
         complete = λ m there. subst (λ (ns : List ℕ). Contains ns m) (sym same) (among_last (from_one loaded) names source_names often m there);
       })
@@ -222,7 +245,7 @@ module _ (p : Lowered) (world : World) (store : Store) (ts : List Thread) (print
 module _ (p : Lowered) (world : World) (store : Store) (ts : List Thread) (printed : List Printed) (stop : Option Stop) (journal : List Entry) (c : Corresponds p world store ts printed stop journal) (now : Run)
     (view : ◌≡◌ {A = Run} (record { unit = p.unit; world = world; journal = journal; left = left_of store.heap }) now) where
   -- the names of the tables lead to what is shown
-  pub are_shown : (objects : Heap) (names : List ℕ) → objects ≡ c.state.shared.heap → names ≡ map (name_of store.heap) (references_in store.globals) ++ flat_map (thread_names store.heap) ts → ThreadsAreStacked ts → AreShown now objects names
+  pub are_shown : (objects : Heap) (names : List ℕ) → AreSeen store.heap c.state.shared.heap objects → names ≡ map (name_of store.heap) (references_in store.globals) ++ flat_map (thread_names store.heap) ts → ThreadsAreStacked ts → AreShown now objects names
   are_shown objects names h n stacked =
       subst (λ (r : Run). AreShown r objects names) view
       (λ rows told. (c.state, c.replays, rows_are p world store ts printed stop journal c world.classes objects (length (loaded_objects world)) names rows refl h (sym c.store_agrees.table.counted) n stacked told))

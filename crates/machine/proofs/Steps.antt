@@ -19,7 +19,9 @@ use Rattle.source.specs.Thread.{BuffersInUse, Shared}
 use Rattle.source.proofs.RunLaws.{replay_more, each-more}
 use Rattle.source.specs.Run.{Fits, FitsUnmarked, made, made_between}
 use Rattle.source.specs.Object.{sizes}
-use Rattle.source.specs.Reachable.{IsName, Reachable, FromRoot, FromObject}
+use Rattle.source.specs.Reachable.{Reachable}
+use Rattle.jni_calls.specs.HeapAgrees.{IsNamed}
+use Rattle.machine.proofs.Reports.{reachable_there}
 use Rattle.source.specs.Start.{start}
 use Rattle.source.proofs.StepLaws.{Steps, steps, step-thread}
 use Rattle.heap.specs.Heap.{left_of}
@@ -80,16 +82,11 @@ StepsAlways p w store store' t after refused e =
 
 -- ---- room
 
--- a reachable object has a name
-is_name : (w : World) (s : State) (n : ℕ) → Reachable w s n → IsName s.shared.heap n
-is_name w s n (FromRoot m a c) = a
-is_name w s n (FromObject m q r a c) = a
-
 -- a step that isn't refused has room beside what is reachable
-has_room : (p : Lowered) (w : World) (store : Store) (s next : State) (k : ℕ) → StoreAgrees p w store s.shared → sizes (drop (length s.shared.heap) next.shared.heap) ≤ left_of store.heap → world_step (unit_tree p.unit) w.classes s (entry_of k) ≡ Some next → Fits (unit_tree p.unit) w s k
-has_room p w store s next k shares room step some =
+has_room : (p : Lowered) (w : World) (store : Store) (s next : State) (k : ℕ) → StoreAgrees p w store s.shared → ((n : ℕ) → Reachable w s n → IsNamed store.heap n) → sizes (drop (length s.shared.heap) next.shared.heap) ≤ left_of store.heap → world_step (unit_tree p.unit) w.classes s (entry_of k) ≡ Some next → Fits (unit_tree p.unit) w s k
+has_room p w store s next k shares named room step some =
     let made_now : made (unit_tree p.unit) w s k ≡ drop (length s.shared.heap) next.shared.heap = ap (made_between s) step in
-    let live = live_below w s store.heap shares.heap.blocks shares.laid_out (λ n r. shares.heap.there n (is_name w s n r)) in
+    let live = live_below w s store.heap shares.heap.blocks shares.laid_out named in
     let within = ends_within 0 store.heap.blocks store.heap.cells shares.laid_out in
     let cells : store.heap.cells ≡ w.cells = shares.cells in
     let size_made : sizes (made (unit_tree p.unit) w s k) ≡ sizes (drop (length s.shared.heap) next.shared.heap) = ap sizes made_now in
@@ -150,7 +147,7 @@ module _ (p : Lowered) (world : World) (store : Store) (ts : List Thread) (print
   -- what is asked of the entry
   fits_entry : (refused : Bool) (next : State) → sizes (drop (length c.state.shared.heap) next.shared.heap) ≤ left_of store.heap → world_step (unit_tree p.unit) classes c.state (Step k refused) ≡ Some next → FitsUnmarked (unit_tree p.unit) world c.state (Step k refused)
   fits_entry true next room step = tt
-  fits_entry false next room step = has_room p world store c.state next k c.store_agrees room step
+  fits_entry false next room step = has_room p world store c.state next k c.store_agrees (reachable_there p world store ts printed stop journal c) room step
 
   -- the machine after the step
   pub steps_on : (store' : Store) (after : Thread) (refused : Bool) (e : Event) → stop ≡ None → t.ending ≡ Unfinished → StepsAlways p world store store' t after refused e

@@ -3,8 +3,8 @@
 ghost use Rattle.std.specs.Prelude.{◌≡◌, length, IfOk};
 ghost use Rattle.heap.specs.Heap.{IsLaidOut};
 ghost use Rattle.source.specs.Heap.{Heap as SourceHeap};
-ghost use Rattle.source.specs.Reachable.{IsName};
 ghost use Rattle.jni_calls.specs.HeapAgrees.{HeapAgrees};
+ghost use Rattle.machine.specs.Rows.{AreSeen};
 
 use heap::{Addr, Heap, Value};
 use reached::Objects;
@@ -12,12 +12,13 @@ use std::alloc::{AllocError, Global};
 use std::marker::Model;
 use world::ObjectValue;
 
-/// The objects of a heap by their names, seen as the heap of the definitions.
+/// The objects of a heap by their names, seen as a heap of the definitions. An object whose block is gone has no class and no
+/// values there.
 #[derive(Drop)]
 pub struct NamedBlocks<'a> {
     heap: &'a Heap,
-    /// The addresses of the objects, in the order of their names.
-    addresses: Vec<Addr>,
+    /// The addresses of the objects' blocks, in the order of their names; none where the block is gone.
+    addresses: Vec<Option<Addr>>,
 }
 
 impl<'a> Model for NamedBlocks<'a> {
@@ -39,18 +40,27 @@ impl<'a> Objects for NamedBlocks<'a> {
     }
 
     fn class_of(&self, name: usize) -> usize {
-        self.heap.class_of(self.addresses[name - 1]) as usize
+        match self.addresses[name - 1] {
+            None => 0,
+            Some(addr) => self.heap.class_of(addr) as usize,
+        }
     }
 
     fn count(&self, name: usize) -> usize {
-        self.heap.len_of(self.addresses[name - 1])
+        match self.addresses[name - 1] {
+            None => 0,
+            Some(addr) => self.heap.len_of(addr),
+        }
     }
 
     fn value(&self, name: usize, index: usize) -> ObjectValue {
-        match self.heap.get(self.addresses[name - 1], index) {
-            Value::Number(word) => ObjectValue::Number(word.cast_signed()),
-            Value::Null => ObjectValue::Reference(None),
-            Value::Block(addr) => ObjectValue::Reference(Some(self.heap.birth_of(addr) as usize)),
+        match self.addresses[name - 1] {
+            None => unreachable!(),
+            Some(addr) => match self.heap.get(addr, index) {
+                Value::Number(word) => ObjectValue::Number(word.cast_signed()),
+                Value::Null => ObjectValue::Reference(None),
+                Value::Block(to) => ObjectValue::Reference(Some(self.heap.birth_of(to) as usize)),
+            },
         }
     }
 }
@@ -61,13 +71,13 @@ pub fn named_blocks<'a>(
     heap: &'a Heap,
     births: u32,
 ) -> Result<NamedBlocks<'a>, AllocError>
-    requires { (objects : SourceHeap) × HeapAgrees heap.now objects (IsName objects) × (births ≡ length objects) × IsLaidOut heap.now }
-    ensures { IfOk result (λ named. (objects : SourceHeap) → HeapAgrees heap.now objects (IsName objects) → births ≡ length objects → named ≡ objects) }
+    requires { (objects : SourceHeap) × HeapAgrees heap.now objects × (births ≡ length objects) × IsLaidOut heap.now }
+    ensures { IfOk result (λ named. (objects : SourceHeap) → HeapAgrees heap.now objects → births ≡ length objects → AreSeen heap.now objects named) }
 {
-    let mut addresses = vec![in alloc; Addr::new(0); births as usize]?;
+    let mut addresses: Vec<Option<Addr>> = vec![in alloc; None; births as usize]?;
     for place in 0..heap.count() {
         let addr = heap.address(place);
-        addresses[heap.birth_of(addr) as usize - 1] = addr;
+        addresses[heap.birth_of(addr) as usize - 1] = Some(addr);
     }
     Ok(NamedBlocks { heap, addresses })
 }

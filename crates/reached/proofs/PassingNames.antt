@@ -1,14 +1,15 @@
 -- The names of the objects that a report shows, counted up from the first.
-use Rattle.std.specs.Prelude.{◌≡◌, ℕ, zero, suc, ◌+◌, ◌-◌, ◌<◌, ◌≤◌, Bool, true, false, cond, nat_lt, List, [], ◌∷◌, ◌++◌, length, filter, map, refl}
-use Rattle.std.proofs.Common.{sym, ◌∙◌, ap, arith, ⊎_elim}
-use Rattle.std.proofs.lemmas.Bool.{cases_lt}
+use Rattle.std.specs.Prelude.{◌≡◌, ℕ, zero, suc, ◌+◌, ◌-◌, ◌<◌, ◌≤◌, Bool, true, false, cond, nat_lt, List, [], ◌∷◌, ◌++◌, length, filter, refl}
+use Rattle.std.proofs.Common.{sym, ◌∙◌, ap, arith, subst, ⊎_elim}
+use Rattle.std.proofs.lemmas.Bool.{cases_lt, cond_both}
 use Rattle.std.proofs.lemmas.Bool.Decides.{nat_tests}
-use Rattle.source.specs.Reachable.{from_one}
-use Rattle.source.specs.ReportOf.{shown, shown_row, report}
+use Rattle.source.specs.Reachable.{from_one, reachable, Reachable}
+use Rattle.source.specs.ReportOf.{shown}
 use Rattle.source.specs.State.{State}
 use Rattle.source.specs.World.{World}
 use Rattle.source.proofs.ShownNames as source
-use Rattle.source.proofs.ShownNames.{Tells}
+use Rattle.source.proofs.ShownNames.{Tells, from_listed}
+use Rattle.source.proofs.ReachableLemmas.{In, in_cases, in_head, in_tail}
 use Rattle.reached.specs.Rows.{count_from, passing}
 
 -- ---- the names from one to before another
@@ -96,6 +97,14 @@ shown_are w s test h =
     ∙ ap (λ n. filter test (count_from (length w.classes + 1 + 1) n)) count
     ∙ ap (λ n. filter test (count_from n (length s.shared.heap + 1 - (length w.classes + 2)))) first
 
-pub objects_are : (w : World) (s : State) (test : ℕ → Bool) → Tells w s test → (report w s).objects ≡ map (shown_row w.classes s.shared.heap) (passing test (length w.classes + 2) (length s.shared.heap + 1))
-unfolding report
-objects_are w s test h = ap (map (shown_row w.classes s.shared.heap)) (shown_are w s test h)
+-- an object that is shown can be reached
+pub shown_reachable : (w : World) (s : State) (n : ℕ) → In (shown w s) n → Reachable w s n
+shown_reachable w s n h = from_listed w s n (kept_by (λ m. nat_lt (length w.classes + 1) m) (reachable w s) n h)
+  where
+    kept_by : (p : ℕ → Bool) (xs : List ℕ) (x : ℕ) → In (filter p xs) x → In xs x
+    kept_by p [] x k = k
+    kept_by p (y ∷ ys) x k =
+        cond_both (p y) (y ∷ filter p ys) (filter p ys) (λ l. In l x → In (y ∷ ys) x)
+        (λ e l. ⊎_elim (λ (same : y ≡ x). subst (λ z. In (y ∷ ys) z) same (in_head y ys)) (λ (later : In (filter p ys) x). in_tail y ys x (kept_by p ys x later)) (in_cases y (filter p ys) x l))
+        (λ e l. in_tail y ys x (kept_by p ys x l))
+        k

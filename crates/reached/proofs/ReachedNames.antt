@@ -1,10 +1,13 @@
 -- The names that are reached in the graph of names are those of the reachable objects.
-use Rattle.std.proofs.Common.{◌≡◌, ℕ, zero, suc, ◌+◌, ◌<◌, Bool, true, List, [], ◌∷◌, ◌++◌, length, map, Option, Some, None, sym, ap, ◌∙◌, subst, arith, inl, inr, ◌⊎◌, Contains}
+use Rattle.std.proofs.Common.{◌≡◌, ℕ, zero, suc, ◌+◌, ◌<◌, Bool, true, List, [], ◌∷◌, ◌++◌, length, map, Option, Some, None, refl, sym, ap, ◌∙◌, subst, arith, inl, inr, ◌⊎◌, Contains}
 use Rattle.std.specs.Prelude.{filter_map, slice_index_or}
 use Rattle.std.proofs.lemmas.Bool.{false≢true}
 use Rattle.classes.specs.Class.{Classes}
-use Rattle.source.specs.Heap.{Heap, reference_in, values_of}
-use Rattle.source.specs.Object.{ObjectValue, Number, Refers}
+use Rattle.source.specs.Heap.{Heap, object_at, reference_in, values_of}
+use Rattle.source.specs.Object.{Object, ObjectValue, Number, Refers}
+use Rattle.source.specs.Report.{ShownRow}
+use Rattle.source.specs.ReportOf.{report, row, shown, shown_row}
+use Rattle.std.specs.Option.{option_map_or}
 use Rattle.source.specs.Reachable.{from_one, IsName, roots, references_of, Reachable, FromRoot, FromObject}
 use Rattle.source.specs.State.{State}
 use Rattle.source.specs.World.{World}
@@ -17,7 +20,7 @@ use Rattle.marking.specs.Marks.{is_marked, AreReached}
 use Rattle.reached.specs.Names.{IsWithin, within, references_in, AreRoots}
 use Rattle.reached.specs.Rows.{marked_rows, AreReported}
 use Rattle.reached.proofs.MarkedRoots.{within_yes, from_within, from_one-within}
-use Rattle.reached.proofs.PassingNames.{objects_are}
+use Rattle.reached.proofs.PassingNames.{shown_are, shown_reachable}
 
 -- ---- the references of an object
 
@@ -74,25 +77,37 @@ is_name heap n w = from_one-contains (length heap) n w.0 w.1
 is_within : (heap : Heap) (n : ℕ) → IsName heap n → IsWithin (length heap) n
 is_within heap n c = from_one-within (length heap) n (contains_in (from_one (length heap)) n c)
 
-module _ (w : World) (s : State) (marks : List Bool) (are : AreRoots (length s.shared.heap) (Contains (roots w s)) marks) where
-  abbrev heap : Heap
-  heap = s.shared.heap
+-- what is in an object of a name
+values_at : (heap other : Heap) (n : ℕ) → object_at heap n ≡ object_at other n → values_of heap n ≡ values_of other n
+values_at heap other n e = ap (λ (o : Option Object). option_map_or (λ (x : Object). x.values) o []) e
 
+-- A state's objects that can be reached are those of a heap with as many.
+module _ (w : World) (s : State) (objects : Heap) (count : length s.shared.heap ≡ length objects) (same : (n : ℕ) → Reachable w s n → object_at s.shared.heap n ≡ object_at objects n) (marks : List Bool) (are : AreRoots (length objects) (Contains (roots w s)) marks) where
   abbrev reached : ℕ → Type 0
-  reached n = IsReached (references_in heap) (λ r. is_marked marks r ≡ true) n
+  reached n = IsReached (references_in objects) (λ r. is_marked marks r ≡ true) n
+
+  named : (n : ℕ) → IsWithin (length objects) n → IsName s.shared.heap n
+  named n within = is_name s.shared.heap n (subst (λ (c : ℕ). IsWithin c n) (sym count) within)
+
+  named_within : (n : ℕ) → IsName s.shared.heap n → IsWithin (length objects) n
+  named_within n name = subst (λ (c : ℕ). IsWithin c n) count (is_within s.shared.heap n name)
 
   sound : (n : ℕ) → reached n → Reachable w s n
-  sound n (Root p m) = let r = are.sound p m in FromRoot p (is_name heap p r.0) r.1
+  sound n (Root p m) = let r = are.sound p m in FromRoot p (named p r.0) r.1
   sound n (Referred p q k c) =
-      let t = from_target (length heap) (values_of heap p) q c.0 c.1 c.2 in
-      FromObject p q (sound p k) (is_name heap q t.1) (to_contains (references_of heap p) q t.0)
+      let there = sound p k in
+      let t = from_target (length objects) (values_of objects p) q c.0 c.1 c.2 in
+      let among = subst (λ (vs : List ObjectValue). In (filter_map reference_in vs) q) (sym (values_at s.shared.heap objects p (same p there))) t.0 in
+      FromObject p q there (named q t.1) (to_contains (references_of s.shared.heap p) q among)
 
   complete : (n : ℕ) → Reachable w s n → reached n
-  complete n (FromRoot p a c) = Root p (are.complete p (is_within heap p a) c)
-  complete n (FromObject m q r a c) = Referred m q (complete m r) (to_target (length heap) (values_of heap m) q (is_within heap q a) (contains_in (references_of heap m) q c))
+  complete n (FromRoot p a c) = Root p (are.complete p (named_within p a) c)
+  complete n (FromObject m q r a c) =
+      let among = subst (λ (vs : List ObjectValue). In (filter_map reference_in vs) q) (values_at s.shared.heap objects m (same m r)) (contains_in (references_of s.shared.heap m) q c) in
+      Referred m q (complete m r) (to_target (length objects) (values_of objects m) q (named_within q a) among)
 
   -- what is reached tells which objects are reachable
-  pub tells : (after : List Bool) → AreReached (references_in heap) marks after → Tells w s (is_marked after)
+  pub tells : (after : List Bool) → AreReached (references_in objects) marks after → Tells w s (is_marked after)
   tells after h = record {
     sound = λ n a m. sound n (h.sound n m);
     complete = λ n r. h.complete n (complete n r);
@@ -100,21 +115,26 @@ module _ (w : World) (s : State) (marks : List Bool) (are : AreRoots (length s.s
 
 -- ---- the rows
 
-abbrev Marked : Heap → ℕ → List ℕ → List Bool → List Bool → Type 0
-Marked heap loaded names marks after = AreRoots (length heap) (Contains (from_one loaded ++ names)) marks × AreReached (references_in heap) marks after
+-- the rows of two heaps are the same where the objects of the names are
+same_rows : (classes : Classes) (heap other : Heap) (names : List ℕ) → ((n : ℕ) → In names n → object_at heap n ≡ object_at other n) → map (shown_row classes heap) names ≡ map (shown_row classes other) names
+same_rows classes heap other [] same = refl
+same_rows classes heap other (n ∷ names) same =
+    ap (λ (o : Option Object). row classes n (option_map_or (λ (x : Object). x.class) o 0) (option_map_or (λ (x : Object). x.values) o []) ∷ map (shown_row classes heap) names) (same n (in_head n names))
+    ∙ ap (λ (rows : List ShownRow). shown_row classes other n ∷ rows) (same_rows classes heap other names (λ m k. same m (in_tail n names m k)))
 
 pub are_reported : (classes : Classes) (heap : Heap) (loaded : ℕ) (names : List ℕ) (marks after : List Bool) (first end : ℕ) → AreRoots (length heap) (Contains (from_one loaded ++ names)) marks → AreReached (references_in heap) marks after → first ≡ length classes + 2 → end ≡ length heap + 1
     → AreReported classes heap loaded names (marked_rows classes heap after first end)
+unfolding report
 are_reported classes heap loaded names marks after first end roots_marked reached begins ends w s has =
-    let both : Marked heap loaded names marks after = (roots_marked, reached) in
-    let of_heap : Marked s.shared.heap loaded names marks after = subst (λ (h : Heap). Marked h loaded names marks after) (sym has.heap) both in
-    let of_roots : AreRoots (length s.shared.heap) (Contains (roots w s)) marks = record {
-      counted = of_heap.0.counted;
-      sound = λ n marked. let it = of_heap.0.sound n marked in (it.0, has.complete n it.1);
-      complete = λ n within root. of_heap.0.complete n within (has.sound n root);
+    let of_roots : AreRoots (length heap) (Contains (roots w s)) marks = record {
+      counted = roots_marked.counted;
+      sound = λ n marked. let it = roots_marked.sound n marked in (it.0, has.complete n it.1);
+      complete = λ n within root. roots_marked.complete n within (has.sound n root);
     } in
+    let told = tells w s heap has.count has.same marks of_roots after reached in
     ap (λ n. marked_rows classes heap after n end) begins
     ∙ ap (λ n. marked_rows classes heap after (length classes + 2) n) ends
     ∙ ap (λ (c : Classes). marked_rows c heap after (length c + 2) (length heap + 1)) (sym has.classes)
-    ∙ ap (λ (h : Heap). marked_rows w.classes h after (length w.classes + 2) (length h + 1)) (sym has.heap)
-    ∙ sym (objects_are w s (is_marked after) (tells w s marks of_roots after of_heap.1))
+    ∙ ap (λ (n : ℕ). marked_rows w.classes heap after (length w.classes + 2) (n + 1)) (sym has.count)
+    ∙ ap (map (shown_row w.classes heap)) (sym (shown_are w s (is_marked after) told))
+    ∙ sym (same_rows w.classes s.shared.heap heap (shown w s) (λ n k. has.same n (shown_reachable w s n k)))

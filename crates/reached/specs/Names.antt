@@ -1,9 +1,9 @@
 -- Names of objects, and what an object refers to.
 use Rattle.std.specs.Prelude.{◌≡◌, ℕ, ◌+◌, ◌<◌, ◌≤◌, nat_lt, nat_le, ◌&&◌, if◌then◌else◌, Bool, true, List, ◌++◌, map, length, Option, Some, None, Contains}
 use Rattle.classes.specs.Class.{Classes}
-use Rattle.source.specs.Heap.{Heap, reference_in, values_of}
+use Rattle.source.specs.Heap.{Heap, object_at, reference_in, values_of}
 use Rattle.source.specs.Object.{Reference, ObjectValue}
-use Rattle.source.specs.Reachable.{from_one, roots}
+use Rattle.source.specs.Reachable.{from_one, roots, Reachable}
 use Rattle.source.specs.State.{State}
 use Rattle.source.specs.World.{World}
 use Rattle.marking.specs.Marks.{is_marked}
@@ -21,11 +21,12 @@ within count (Some n) = if nat_lt 0 n && nat_le n count then Some n else None
 abbrev pub references_in : Heap → ℕ → List (Option ℕ)
 references_in heap n = map (λ (v : ObjectValue). within (length heap) (reference_in v)) (values_of heap n)
 
--- A state has this heap, made this number of objects at load, and besides them has these roots, in
--- whatever order.
+-- A state has as many objects as this heap, and each that can be reached is the same in both; it made this number of objects at
+-- load, and besides them has these roots, in whatever order.
 pub record HasRoots (table : Classes) (objects : Heap) (loaded : ℕ) (names : List ℕ) (w : World) (s : State) : Type 0 where
   pub classes : w.classes ≡ table
-  pub heap : s.shared.heap ≡ objects
+  pub count : length s.shared.heap ≡ length objects
+  pub same : (n : ℕ) → Reachable w s n → object_at s.shared.heap n ≡ object_at objects n
   pub sound : (n : ℕ) → Contains (roots w s) n → Contains (from_one loaded ++ names) n
   pub complete : (n : ℕ) → Contains (from_one loaded ++ names) n → Contains (roots w s) n
 

@@ -22,6 +22,6 @@ passing test k end = filter test (count_from k (end - k))
 abbrev pub marked_rows : Classes → Heap → List Bool → (first end : ℕ) → List ShownRow
 marked_rows classes heap marks first end = map (shown_row classes heap) (passing (is_marked marks) first end)
 
--- the rows are those of the report of each state with these roots
+-- the rows are those of the report of each state with these roots, in which what can be reached is as in this heap
 abbrev pub AreReported : Classes → Heap → (loaded : ℕ) → (names : List ℕ) → List ShownRow → Type 0
 AreReported classes heap loaded names rows = (w : World) (s : State) → HasRoots classes heap loaded names w s → rows ≡ (report w s).objects

@@ -10,7 +10,7 @@ use Rattle.source.specs.Journal.{Journal}
 use Rattle.source.specs.JournalText.{journal_line}
 use Rattle.classes.specs.Class.{Classes}
 use Rattle.reached.specs.Rows.{AreReported}
-use Rattle.source.specs.Heap.{Heap}
+use Rattle.source.specs.Heap.{Heap, object_at}
 use Rattle.source.specs.Reachable.{roots, from_one, loaded_count}
 use Rattle.source.specs.Report.{Report, ShownRow}
 use Rattle.source.specs.ReportOf.{report}
@@ -130,7 +130,8 @@ rows_are unit w m s classes objects loaded names rows h k o l n told =
     ∙ ap (λ (ns : List ℕ). from_one loaded ++ ns) (sym n) in
     told w s (record {
       classes = ap (λ (v : World). v.classes) h.world ∙ sym k;
-      heap = ap (λ (x : Shared). x.heap) h.shared ∙ sym o;
+      count = ap (λ (x : Heap). length x) (ap (λ (x : Shared). x.heap) h.shared ∙ sym o);
+      same = λ i there. ap (λ (x : Heap). object_at x i) (ap (λ (x : Shared). x.heap) h.shared ∙ sym o);
       sound = λ i there. subst (λ (l : List ℕ). Contains l i) same there;
       complete = λ i there. subst (λ (l : List ℕ). Contains l i) (sym same) there;
     })

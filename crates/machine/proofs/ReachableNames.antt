@@ -1,0 +1,133 @@
+-- Each object that can be reached has a block.
+use Rattle.std.proofs.Common.{◌≡◌, ℕ, zero, suc, ◌+◌, ◌-◌, ◌<◌, Bool, true, false, eqb, List, [], ◌∷◌, length, Option, Some, None, refl, sym, ap, ◌∙◌, subst, arith, if◌then◌else◌, Contains, ⊎_elim}
+use Rattle.std.specs.Prelude.{filter_map, flat_map, slice_get}
+use Rattle.std.specs.Option.{option_map_or, option_to_list}
+use Rattle.std.specs.List.{AllZip}
+use Rattle.std.proofs.lemmas.Bool.{false≢true}
+use Rattle.std.proofs.lemmas.Bool.Decides.{eqb_tells}
+use Rattle.heap.specs.declared.value.Value.{Value}
+use Rattle.heap.specs.declared.value.Value.TheVariants.{Number as Word, Null, Block as Address}
+use Rattle.heap.specs.Heap.{Space}
+use Rattle.source.specs.Heap.{Heap, object_at, reference_in, values_of}
+use Rattle.source.specs.Object.{Object, ObjectValue, Number, Refers, Reference}
+use Rattle.source.specs.Reachable.{from_one, references_of, roots, thread_roots, Reachable, FromRoot, FromObject}
+use Rattle.source.specs.State.{State}
+use Rattle.source.specs.Thread as source
+use Rattle.source.specs.World.{World}
+use Rattle.source.proofs.ReachableLemmas.{In, contains_in, in_append_cases, in_cases, in_head, in_tail, to_contains}
+use Rattle.tables.specs.Locals.{FrameSlots, by_frame}
+use Rattle.tables.specs.References.{references_in}
+use Rattle.jni_calls.specs.declared.activation.Activation.{Activation}
+use Rattle.execution.specs.declared.thread.Thread.{Thread}
+use Rattle.jni_calls.specs.HeapAgrees.{HeapAgrees, IsNamed, IsTable, NamesAgree, ReferenceAgrees, SlotsAgree, ValuesAgree, times}
+use Rattle.jni_calls.specs.Locals.{FrameAgrees}
+use Rattle.jni_calls.proofs.BlocksOfNames.{named}
+use Rattle.jni_calls.proofs.HeapLaws.{from_one-bounds}
+use Rattle.machine.proofs.RootNames.{CallFrames, HasRootsOf}
+
+-- ---- among as often
+
+in_times : (xs : List ℕ) (n : ℕ) → In xs n → 0 < times n xs
+in_times [] n h = absurd (false≢true h)
+in_times (m ∷ xs) n h =
+    ⊎_elim
+    (λ (t : (eqb n m ≡ true) × (n ≡ m)). let e : times n (m ∷ xs) ≡ suc (times n xs) = ap (λ (b : Bool). if b then suc (times n xs) else times n xs) t.0 in omega (arith, e))
+    (λ (t : (eqb n m ≡ false) × (n ≡ m → ⊥)).
+    let e : times n (m ∷ xs) ≡ times n xs = ap (λ (b : Bool). if b then suc (times n xs) else times n xs) t.0 in
+    ⊎_elim (λ (same : m ≡ n). absurd (t.1 (sym same))) (λ (l : In xs n). omega (arith, e, in_times xs n l)) (in_cases m xs n h))
+    (eqb_tells n m)
+
+times_in : (xs : List ℕ) (n : ℕ) → 0 < times n xs → In xs n
+times_in [] n h = absurd (omega (arith, h))
+times_in (m ∷ xs) n h =
+    ⊎_elim
+    (λ (t : (eqb n m ≡ true) × (n ≡ m)). subst (λ z. In (m ∷ xs) z) (sym t.1) (in_head m xs))
+    (λ (t : (eqb n m ≡ false) × (n ≡ m → ⊥)).
+    let e : times n (m ∷ xs) ≡ times n xs = ap (λ (b : Bool). if b then suc (times n xs) else times n xs) t.0 in
+    in_tail m xs n (times_in xs n (omega (arith, h, e))))
+    (eqb_tells n m)
+
+module _ (space : Space) where
+  -- ---- roots
+
+  names_named : (places ns : List ℕ) (n : ℕ) → NamesAgree space places ns → In ns n → IsNamed space n
+  names_named [] [] n h k = absurd (false≢true k)
+  names_named [] (m ∷ ns) n h k = absurd h
+  names_named (a ∷ places) [] n h k = absurd h
+  names_named (a ∷ places) (m ∷ ns) n h k =
+      ⊎_elim (λ (same : m ≡ n). (a, h.0 ∙ ap (λ (x : ℕ). Some x) same)) (λ (l : In ns n). names_named places ns n h.1 l) (in_cases m ns n k)
+
+  pub slots_named : (slots : List (Option ℕ)) (source_names : List ℕ) (n : ℕ) → SlotsAgree space slots source_names → In source_names n → IsNamed space n
+  slots_named slots source_names n h k =
+      let often = in_times source_names n k in
+      names_named (references_in slots) h.names n h.agree (times_in h.names n (omega (arith, often, h.same n)))
+
+  frames_named : (fs : List FrameSlots) (gs : List source.Frame) (n : ℕ) → AllZip (FrameAgrees space) fs gs → In (flat_map (λ (g : source.Frame). g.references) gs) n → IsNamed space n
+  frames_named [] [] n h k = absurd (false≢true k)
+  frames_named [] (g ∷ gs) n h k = absurd h
+  frames_named (f ∷ fs) [] n h k = absurd h
+  frames_named (f ∷ fs) (g ∷ gs) n h k =
+      ⊎_elim
+      (λ (l : In g.references n). slots_named f.slots g.references n (h.0).references l)
+      (λ (l : In (flat_map (λ (g : source.Frame). g.references) gs) n). frames_named fs gs n h.1 l)
+      (in_append_cases g.references (flat_map (λ (g : source.Frame). g.references) gs) n k)
+
+  call_named : (call : Option Activation) (gs : List source.Frame) (n : ℕ) → CallFrames space call gs → In (flat_map (λ (g : source.Frame). g.references) gs) n → IsNamed space n
+  call_named None gs n h k = absurd (false≢true (subst (λ (l : List source.Frame). In (flat_map (λ (g : source.Frame). g.references) l) n) h k))
+  call_named (Some call) gs n h k = frames_named (by_frame call.locals) gs n h k
+
+  reference_named : (o : Option ℕ) (r : Reference) (n : ℕ) → ReferenceAgrees space o r → In (option_to_list r) n → IsNamed space n
+  reference_named o None n h k = absurd (false≢true k)
+  reference_named None (Some m) n h k = absurd h
+  reference_named (Some a) (Some m) n h k =
+      ⊎_elim (λ (same : m ≡ n). (a, h ∙ ap (λ (x : ℕ). Some x) same)) (λ (l : In [] n). absurd (false≢true l)) (in_cases m [] n k)
+
+  pub threads_named : (ts : List Thread) (ss : List source.Thread) (n : ℕ) → AllZip (HasRootsOf space) ts ss → In (flat_map thread_roots ss) n → IsNamed space n
+  threads_named [] [] n h k = absurd (false≢true k)
+  threads_named [] (s ∷ ss) n h k = absurd h
+  threads_named (t ∷ ts) [] n h k = absurd h
+  threads_named (t ∷ ts) (s ∷ ss) n h k =
+      ⊎_elim
+      (λ (l : In (thread_roots s) n). ⊎_elim
+      (λ (f : In (flat_map (λ (g : source.Frame). g.references) s.frames) n). call_named t.call s.frames n (h.0).frames f)
+      (λ (q : In (option_to_list s.pending) n). reference_named t.pending s.pending n (h.0).pending q)
+      (in_append_cases (flat_map (λ (g : source.Frame). g.references) s.frames) (option_to_list s.pending) n l))
+      (λ (l : In (flat_map thread_roots ss) n). threads_named ts ss n h.1 l)
+      (in_append_cases (thread_roots s) (flat_map thread_roots ss) n k)
+
+  get_there : (xs : List ℕ) (i : ℕ) → i < length xs → (a : ℕ) × (slice_get xs i ≡ Some a)
+  get_there [] i h = absurd (omega (arith, h))
+  get_there (x ∷ xs) zero h = (x, refl)
+  get_there (x ∷ xs) (suc i) h = get_there xs i (omega (arith, h))
+
+  pub loaded_named : (addresses : List ℕ) (count n : ℕ) → IsTable space addresses count → In (from_one (length addresses)) n → IsNamed space n
+  loaded_named addresses count n table k =
+      let b = from_one-bounds (length addresses) n (to_contains (from_one (length addresses)) n k) in
+      let at = get_there addresses (n - 1) (omega (arith, b.0, b.1)) in
+      let next : n - 1 + 1 ≡ n = omega (arith, b.0) in
+      (at.0, table.named (n - 1) at.0 at.1 ∙ ap (λ (x : ℕ). Some x) next)
+
+  -- ---- what blocks refer to
+
+  values_named : (ws : List Value) (vs : List ObjectValue) (n : ℕ) → ValuesAgree space ws vs → In (filter_map reference_in vs) n → IsNamed space n
+  values_named [] [] n h k = absurd (false≢true k)
+  values_named [] (v ∷ vs) n h k = absurd h
+  values_named (w ∷ ws) [] n h k = absurd h
+  values_named (w ∷ ws) (Number z ∷ vs) n h k = values_named ws vs n h.1 k
+  values_named (w ∷ ws) (Refers None ∷ vs) n h k = values_named ws vs n h.1 k
+  values_named (Word x ∷ ws) (Refers (Some m) ∷ vs) n h k = absurd h.0
+  values_named (Null ∷ ws) (Refers (Some m) ∷ vs) n h k = absurd h.0
+  values_named (Address a ∷ ws) (Refers (Some m) ∷ vs) n h k =
+      ⊎_elim (λ (same : m ≡ n). (a, h.0 ∙ ap (λ (x : ℕ). Some x) same)) (λ (l : In (filter_map reference_in vs) n). values_named ws vs n h.1 l) (in_cases m (filter_map reference_in vs) n k)
+
+  referred_named : (heap : Heap) (m n : ℕ) → HeapAgrees space heap → IsNamed space m → In (references_of heap m) n → IsNamed space n
+  referred_named heap m n h there k =
+      let b = named space heap there.0 m h there.1 in
+      let is : object_at heap m ≡ Some b.agrees.object = ap (object_at heap) (sym b.birth) ∙ b.agrees.is in
+      let values : values_of heap m ≡ b.agrees.object.values = ap (λ (o : Option Object). option_map_or (λ (x : Object). x.values) o []) is in
+      values_named b.block.values b.agrees.object.values n b.agrees.values (subst (λ (vs : List ObjectValue). In (filter_map reference_in vs) n) values k)
+
+  -- where each root has a block
+  pub reachable_named : (w : World) (s : State) → HeapAgrees space s.shared.heap → ((n : ℕ) → Contains (roots w s) n → IsNamed space n) → (n : ℕ) → Reachable w s n → IsNamed space n
+  reachable_named w s h root n (FromRoot m a c) = root m c
+  reachable_named w s h root n (FromObject m q r a c) = referred_named s.shared.heap m q h (reachable_named w s h root m r) (contains_in (references_of s.shared.heap m) n c)
