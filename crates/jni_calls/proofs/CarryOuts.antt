@@ -13,7 +13,6 @@ use Rattle.tables.specs.References.{address_at}
 use Rattle.jni_calls.specs.declared.statics.StaticReference.{StaticReference}
 use Rattle.jni_calls.specs.declared.statics.StaticReference.TheVariants as static
 use Rattle.jni_calls.specs.Statics.{held as held_of, held_at}
-use Rattle.jni_calls.proofs.GlobalLaws.{address_new}
 use Rattle.jni_calls.proofs.StaticStores.{fresh_global, keeps_but_statics, live_there, with_deleted, with_global}
 use Rattle.std.specs.Prelude.{slice_get, slice_set, nat_le, if◌then◌else◌}
 use Rattle.std.proofs.lemmas.Bool.{le-leb, leb-true}
@@ -304,7 +303,7 @@ module _ (p : Lowered) (w : World) (store : Store) (pending : Option ℕ) (local
           (
             Some n,
             inl refl,
-            subst (λ (x : StaticReference). HeldAgrees store.heap (held_of globals x) (Live n)) (sym made.1) (subst (λ (o : Option ℕ). HeldAgrees store.heap (held_at o) (Live n)) (sym (address_new store.globals globals made.0 a made.2)) agrees),
+            subst (λ (x : StaticReference). HeldAgrees store.heap (held_of globals x) (Live n)) (sym made.1) (subst (λ (o : Option ℕ). HeldAgrees store.heap (held_at o) (Live n)) (sym made.2.has) agrees),
             subst (IsFresh (record store { globals = globals })) (sym made.1) (fresh_global p w store shared h.store_agrees globals made.0 a made.2),
           ),
         );

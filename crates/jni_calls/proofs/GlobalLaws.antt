@@ -6,6 +6,8 @@ use Rattle.std.proofs.lemmas.List.Elements.{Contains-append_cases, Contains-appe
 use Rattle.heap.specs.Heap.{Space, name_at}
 use Rattle.source.specs.CallEffects.{without_one}
 use Rattle.tables.specs.Globals.{without}
+use Rattle.tables.proofs.Keys.{one_more}
+use Rattle.tables.specs.Keys.{Gains}
 use Rattle.tables.specs.References.{IsPut, address_at, references_in}
 use Rattle.jni_calls.specs.declared.statics.StaticReference.{StaticReference}
 use Rattle.jni_calls.specs.declared.statics.StaticReference.TheVariants as static
@@ -108,6 +110,25 @@ module _ (space : Space) where
         same = λ n. more.2 n ∙ behind n m h.names source_globals (h.same n);
       }
 
+  -- names with another one among them
+  among_names : (front back names : List ℕ) (a m : ℕ) → NamesAgree space (front ++ back) names → name_at space a ≡ Some m → (with : List ℕ) × NamesAgree space (front ++ a ∷ back) with × ((n : ℕ) → times n with ≡ times n (m ∷ names))
+  among_names [] back names a m h named = (m ∷ names, (named, h), λ n. refl)
+  among_names (b ∷ front) back [] a m h named = absurd h
+  among_names (b ∷ front) back (k ∷ names) a m h named =
+      let further = among_names front back names a m h.1 named in
+      (k ∷ further.0, (h.0, further.1), λ n. behind n k further.0 (m ∷ names) (further.2 n) ∙ exchanged n k m names)
+
+  -- one reference more, under a key
+  pub slots_gained : (globals globals' : List (Option ℕ)) (source_globals : List ℕ) (key a m : ℕ) → SlotsAgree space globals source_globals → Gains globals key a globals' → name_at space a ≡ Some m → SlotsAgree space globals' (m ∷ source_globals)
+  slots_gained globals globals' source_globals key a m h gains named =
+      let more = one_more globals globals' key a gains in
+      let among = among_names more.front more.back h.names a m (subst (λ (l : List ℕ). NamesAgree space l h.names) more.before_is h.agree) named in
+      record {
+        names = among.0;
+        agree = subst (λ (l : List ℕ). NamesAgree space l among.0) (sym more.after_is) among.1;
+        same = λ n. among.2 n ∙ behind n m h.names source_globals (h.same n);
+      }
+
   -- ---- one less
 
   taken_names : (slots : List (Option ℕ)) (names : List ℕ) (place a m : ℕ) → NamesAgree space (references_in slots) names → slice_get slots place ≡ Some (Some a) → name_at space a ≡ Some m
@@ -163,57 +184,15 @@ no_some : (o : Option ℕ) → o ≡ None → IsSome o → ⊥
 no_some None e h = cc
 no_some (Some b) e h = cc
 
--- another slot keeps its address
-set_kept : (slots : List (Option ℕ)) (place k a : ℕ) → slice_get slots place ≡ Some None → IsSome (address_at slots k) → address_at (slice_set slots place (Some a)) k ≡ address_at slots k
-set_kept [] place k a free some = refl
-set_kept (x ∷ slots) zero zero a free some = absurd (no_some x (let none : x ≡ None = cc in none) some)
-set_kept (x ∷ slots) zero (suc k) a free some = refl
-set_kept (x ∷ slots) (suc place) zero a free some = refl
-set_kept (x ∷ slots) (suc place) (suc k) a free some = set_kept slots place k a free some
-
-added_kept : (slots : List (Option ℕ)) (k a : ℕ) → IsSome (address_at slots k) → address_at (slots ++ Some a ∷ []) k ≡ address_at slots k
-added_kept [] k a some = absurd (cc)
-added_kept (x ∷ slots) zero a some = refl
-added_kept (x ∷ slots) (suc k) a some = added_kept slots k a some
-
-set_there : (slots : List (Option ℕ)) (place a : ℕ) → slice_get slots place ≡ Some None → address_at (slice_set slots place (Some a)) place ≡ Some a
-set_there [] place a free = absurd (cc)
-set_there (x ∷ slots) zero a free = refl
-set_there (x ∷ slots) (suc place) a free = set_there slots place a free
-
-added_there : (slots : List (Option ℕ)) (a : ℕ) → address_at (slots ++ Some a ∷ []) (length slots) ≡ Some a
-added_there [] a = refl
-added_there (x ∷ slots) a = added_there slots a
-
-free_before : (slots : List (Option ℕ)) (place : ℕ) → slice_get slots place ≡ Some None → address_at slots place ≡ None
-free_before [] place free = refl
-free_before (x ∷ slots) zero free = let none : x ≡ None = cc in none
-free_before (x ∷ slots) (suc place) free = free_before slots place free
-
-none_past : (slots : List (Option ℕ)) → address_at slots (length slots) ≡ None
-none_past [] = refl
-none_past (x ∷ slots) = none_past slots
-
 -- A global reference was made.
 module _ (globals globals' : List (Option ℕ)) (key a : ℕ) where
-  address_kept : (k : ℕ) → IsPut 0 globals key a globals' → IsSome (address_at globals k) → address_at globals' k ≡ address_at globals k
-  address_kept k (inl uses) some = ap (λ (l : List (Option ℕ)). address_at l k) uses.changes ∙ set_kept globals key k a uses.was_free some
-  address_kept k (inr adds) some = ap (λ (l : List (Option ℕ)). address_at l k) adds.adds ∙ added_kept globals k a some
+  address_kept : (k : ℕ) → Gains globals key a globals' → IsSome (address_at globals k) → address_at globals' k ≡ address_at globals k
+  address_kept k put some = put.others k (λ e. no_some (address_at globals k) (ap (address_at globals) e ∙ put.was_free) some)
 
-  -- its key has its address
-  pub address_new : IsPut 0 globals key a globals' → address_at globals' key ≡ Some a
-  address_new (inl uses) = ap (λ (l : List (Option ℕ)). address_at l key) uses.changes ∙ set_there globals key a uses.was_free
-  address_new (inr adds) = ap (λ (l : List (Option ℕ)). address_at l key) adds.adds ∙ ap (address_at (globals ++ Some a ∷ [])) adds.is_end ∙ added_there globals a
-
-  -- and had none
-  address_before : IsPut 0 globals key a globals' → address_at globals key ≡ None
-  address_before (inl uses) = free_before globals key uses.was_free
-  address_before (inr adds) = ap (address_at globals) adds.is_end ∙ none_past globals
-
-  module _ (statics : List StaticReference) (put : IsPut 0 globals key a globals') (keys : HaveKeys globals statics) where
+  module _ (statics : List StaticReference) (put : Gains globals key a globals') (keys : HaveKeys globals statics) where
     -- no static holds it
     pub key_fresh : (i : ℕ) → slice_get statics i ≡ Some (static.Live key) → ⊥
-    key_fresh i at = no_some (address_at globals key) (address_before put) (keys.live i key at)
+    key_fresh i at = no_some (address_at globals key) put.was_free (keys.live i key at)
 
     -- the statics keep their keys
     pub keys_kept : HaveKeys globals' statics

@@ -3,9 +3,10 @@ use Rattle.std.proofs.Common.{◌≡◌, ℕ, List, ◌∷◌, length, Option, S
 use Rattle.std.specs.Global.{Vec}
 use Rattle.std.specs.Prelude.{slice_get, slice_set, IsSome}
 use Rattle.heap.specs.Heap.{name_at}
-use Rattle.tables.specs.References.{IsPut, address_at}
+use Rattle.tables.specs.Keys.{Gains}
+use Rattle.tables.specs.References.{address_at}
 use Rattle.jni_calls.specs.CarriedOut.{IsFresh}
-use Rattle.jni_calls.proofs.GlobalLaws.{address_new, slots_deleted, slots_made, helds_kept, helds_marked, key_fresh, keys_kept, keys_marked, slot_there}
+use Rattle.jni_calls.proofs.GlobalLaws.{slots_deleted, slots_gained, helds_kept, helds_marked, key_fresh, keys_kept, keys_marked, slot_there}
 use Rattle.jni_calls.specs.declared.references.Held.TheVariants as memory
 use Rattle.source.specs.CallEffects.{without_one}
 use Rattle.tables.specs.Globals.{without}
@@ -74,20 +75,20 @@ module _ (p : Lowered) (w : World) (store : Store) (shared : Shared) (h : StoreA
       with_references statics store.globals shared.statics shared.globals (subst (λ (l : List InMemory). StaticsAgree store.heap (all_held store.globals l) shared.statics) (sym is) h.statics) h.named (subst (HaveKeys store.globals) (sym is) h.keys) h.globals
 
   -- a global reference was made
-  pub with_global : (globals : List (Option ℕ)) (key a n : ℕ) → IsPut 0 store.globals key a globals → name_at store.heap a ≡ Some n → StoreAgrees p w (record store { globals = globals }) (record shared { globals = n ∷ shared.globals })
+  pub with_global : (globals : List (Option ℕ)) (key a n : ℕ) → Gains store.globals key a globals → name_at store.heap a ≡ Some n → StoreAgrees p w (record store { globals = globals }) (record shared { globals = n ∷ shared.globals })
   with_global globals key a n put named =
       with_references store.statics globals shared.statics (n ∷ shared.globals)
       (subst (λ (l : List Held). StaticsAgree store.heap l shared.statics) (sym (helds_kept store.globals globals key a store.statics.items put h.keys)) h.statics)
       h.named
       (keys_kept store.globals globals key a store.statics.items put h.keys)
-      (slots_made store.heap store.globals globals shared.globals key a n h.globals put named)
+      (slots_gained store.heap store.globals globals shared.globals key a n h.globals put named)
 
   -- its key is one that no static holds
-  pub fresh_global : (globals : List (Option ℕ)) (key a : ℕ) → IsPut 0 store.globals key a globals → IsFresh (record store { globals = globals }) (static.Live key)
+  pub fresh_global : (globals : List (Option ℕ)) (key a : ℕ) → Gains store.globals key a globals → IsFresh (record store { globals = globals }) (static.Live key)
   fresh_global globals key a put k is =
       let same : key ≡ k = cc in
       subst (λ (j : ℕ). IsSome (address_at globals j) × ((i : ℕ) → slice_get store.statics.items i ≡ Some (static.Live j) → ⊥)) same
-      (some_there (address_at globals key) a (address_new store.globals globals key a put), key_fresh store.globals globals key a store.statics.items put h.keys)
+      (some_there (address_at globals key) a put.has, key_fresh store.globals globals key a store.statics.items put h.keys)
     where
       some_there : (o : Option ℕ) (a : ℕ) → o ≡ Some a → IsSome o
       some_there None a e = absurd (cc)

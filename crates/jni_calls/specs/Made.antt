@@ -6,7 +6,7 @@ use Rattle.source.specs.Object.{object_size}
 use Rattle.heap.specs.Heap.{Block, end_of, left_of, with_block}
 use Rattle.heap.specs.declared.value.Value.{Value}
 use Rattle.heap.specs.declared.value.Value.TheVariants as value
-use Rattle.tables.specs.References.{IsPut}
+use Rattle.tables.specs.Keys.{Gains}
 use Rattle.jni_calls.specs.declared.answer.Answer.{Answer}
 use Rattle.jni_calls.specs.declared.answer.Answer.TheVariants as answer
 use Rattle.jni_calls.specs.declared.statics.StaticReference.{StaticReference}
@@ -44,7 +44,7 @@ Makes classes old class new (Some a) = HasMade classes old class new a
 -- a global reference to the object at an address is made, and none for NULL
 abbrev pub MakesGlobal : (old : List (Option ℕ)) → Option ℕ → (new : List (Option ℕ)) → StaticReference → Type 0
 MakesGlobal old None new held = (new ≡ old) × (held ≡ static.Empty)
-MakesGlobal old (Some a) new held = (key : ℕ) × (held ≡ static.Live key) × IsPut 0 old key a new
+MakesGlobal old (Some a) new held = (key : ℕ) × (held ≡ static.Live key) × Gains old key a new
 
 -- the cells that an answer takes
 abbrev pub cells_of : Classes → Answer → ℕ

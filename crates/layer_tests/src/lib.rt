@@ -5,6 +5,12 @@
 #[cfg(test)]
 mod class_tables;
 #[cfg(test)]
+mod copies;
+#[cfg(test)]
+mod entries;
+#[cfg(test)]
+mod globals;
+#[cfg(test)]
 mod heaps;
 #[cfg(test)]
 mod instructions;

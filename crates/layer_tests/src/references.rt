@@ -1,9 +1,9 @@
-//! Local and global references: each public call once with success, and each refusal once.
+//! Local references: each public call once with success, and each refusal once.
 
 use heap::Addr;
 use std::alloc::Global as Host;
 use std::test::Fail;
-use tables::{Global, Globals, Local, Locals, TableFault};
+use tables::{Local, Locals, TableFault};
 
 /// A frame with room for two references, which has two.
 fn full_frame(alloc: Host) -> Result<(Locals, Local, Local), Fail> {
@@ -87,37 +87,5 @@ fn a_popped_frame_ends_its_references(rt: HostRuntime) -> Result<(), Fail> {
     locals.pop();
     let kept = leads_to(&locals, first, 5) && locals.len() == 2;
     assert!(rt; got == [true; 3] && kept && is_dead(&mut locals, inner));
-    Ok(())
-}
-
-/// Two global references.
-fn two_globals(alloc: Host) -> Result<(Globals, Global, Global), Fail> {
-    let mut globals = Globals::new(alloc);
-    let first = globals.make(Addr::new(5))?;
-    let second = globals.make(Addr::new(9))?;
-    Ok((globals, first, second))
-}
-
-#[test]
-fn global_references_come_and_go(rt: HostRuntime) -> Result<(), Fail> {
-    let (mut globals, first, second) = two_globals(rt.alloc())?;
-    globals.delete(first)?;
-    let dead = globals.get(first) == Err(TableFault::Dead);
-    let gone = globals.delete(first) == Err(TableFault::Dead);
-    let third = globals.make(Addr::new(7))?;
-    let got = [globals.get(third), globals.get(second)];
-    assert!(rt; dead && gone && third == first);
-    assert!(rt; got == [Ok(Addr::new(7)), Ok(Addr::new(9))]);
-    Ok(())
-}
-
-#[test]
-fn global_roots_are_set(rt: HostRuntime) -> Result<(), Fail> {
-    let (mut globals, first, second) = two_globals(rt.alloc())?;
-    if globals.len() == 2 && globals.root(1).is_some() {
-        globals.set_root(1, Addr::new(11));
-    }
-    let got = [globals.get(first), globals.get(second)];
-    assert!(rt; got == [Ok(Addr::new(5)), Ok(Addr::new(11))]);
     Ok(())
 }
