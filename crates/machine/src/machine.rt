@@ -136,6 +136,15 @@ impl<'a> Machine<'a> {
         self.store.heap.left()
     }
 
+    /// How many threads there are, 8 at most.
+    pub fn threads(&self) -> u8
+        ensures { result ≡ length self.now.world.threads }
+    {
+        // Here the proof takes up the machine's invariant.
+        let _ = &self.world;
+        self.threads.len() as u8
+    }
+
     /// The numbers printed so far.
     pub fn lines(&self) -> &[Printed]
         ensures { PrintedBy self.now result.now }
