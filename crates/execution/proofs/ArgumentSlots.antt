@@ -7,7 +7,7 @@ use Rattle.std.proofs.Math.Facts.{to_z-of_z}
 use Rattle.base.specs.Element.{JInt}
 use Rattle.world.specs.WorldRules.{is_in_range}
 use Rattle.std.proofs.lemmas.Bool.Decides.{nat_tests}
-use Rattle.world.specs.declared.object.ObjectValue.{ObjectValue as Argument}
+use Rattle.source.specs.declared.object_value.ObjectValue.{ObjectValue as Argument}
 use Rattle.source.specs.Object.{ObjectValue, Number, Refers}
 use Rattle.world.specs.Views.{object_value_view}
 use Rattle.lowered.specs.Slots.{argument_reference}

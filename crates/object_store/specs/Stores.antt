@@ -2,7 +2,7 @@
 use Rattle.std.specs.Prelude.{◌≡◌, ◌<◌, ◌^◌, ℕ, List, map, length, slice_get, Some}
 use Rattle.source.specs.Object.{Object}
 use Rattle.object_store.specs.declared.store.Object.{Object as ObjectInMemory}
-use Rattle.world.specs.Views.{object_value_view}
+use Rattle.source.specs.Views.{object_value_view}
 
 abbrev pub object_view : ObjectInMemory → Object
 object_view o = record { class = o.class; values = map object_value_view o.values.items }

@@ -4,11 +4,11 @@ ghost use Rattle.std.specs.Prelude.{◌≡◌, ◌<◌, ◌^◌, ◌++◌, ◌�
 ghost use Rattle.std.specs.Option.{option_map};
 ghost use Rattle.source.specs.Heap.{object_at, class_of, value_at, values_of, with_value_at};
 ghost use Rattle.object_store.specs.Stores.{object_view};
-ghost use Rattle.world.specs.Views.{object_value_view};
+ghost use Rattle.source.specs.Views.{object_value_view};
 
+use source::{ObjectValue, Objects};
 use std::alloc::{AllocError, Global};
 use std::marker::Model;
-use world::ObjectValue;
 
 /// An object: the number of its class, and its values.
 #[derive(Drop)]
@@ -34,6 +34,26 @@ impl Model for Store {
     ghost view = { λ s. map object_view s.objects.items };
 
     ghost invariant = { λ s. AreShort s.objects.items };
+}
+
+impl Objects for Store {
+    ghost heap = { λ s. s };
+
+    fn len(&self) -> usize {
+        self.objects.len()
+    }
+
+    fn class_of(&self, name: usize) -> usize {
+        Store::class_of(self, name)
+    }
+
+    fn count(&self, name: usize) -> usize {
+        self.values_of(name).len()
+    }
+
+    fn value(&self, name: usize, index: usize) -> ObjectValue {
+        self.values_of(name)[index]
+    }
 }
 
 impl Store {

@@ -1,16 +1,13 @@
 -- Names of objects, and what an object refers to.
-use Rattle.std.specs.Prelude.{◌≡◌, ℕ, ◌+◌, ◌<◌, ◌≤◌, nat_lt, nat_le, ◌&&◌, if◌then◌else◌, Bool, true, List, ◌++◌, map, length, Option, Some, None, Contains}
+use Rattle.std.specs.Prelude.{◌≡◌, ℕ, ◌+◌, nat_lt, nat_le, ◌&&◌, if◌then◌else◌, Bool, true, List, ◌++◌, map, length, Option, Some, None, Contains}
 use Rattle.classes.specs.Class.{Classes}
 use Rattle.source.specs.Heap.{Heap, object_at, reference_in, values_of}
 use Rattle.source.specs.Object.{Reference, ObjectValue}
 use Rattle.source.specs.Reachable.{from_one, roots, Reachable}
 use Rattle.source.specs.State.{State}
+pub use Rattle.source.specs.Views.{IsWithin}
 use Rattle.source.specs.World.{World}
 use Rattle.marking.specs.Marks.{is_marked}
-
--- the name of one of this number of objects
-abbrev pub IsWithin : (count : ℕ) → ℕ → Type 0
-IsWithin count n = (0 < n) × (n ≤ count)
 
 -- a reference to one of this number of objects
 abbrev pub within : (count : ℕ) → Reference → Reference

@@ -2,10 +2,9 @@
 #![tactic(auto)]
 
 mod names;
-mod objects;
 mod roots;
 mod row;
 mod rows;
 
-pub use objects::Objects;
 pub use rows::{ReachedRows, reached_rows};
+pub use source::Objects;

@@ -3,9 +3,8 @@
 ghost use Rattle.std.specs.Prelude.{◌≡◌, Some};
 ghost use Rattle.reached.specs.Names.{within};
 
-use crate::objects::Objects;
 use marking::Graph;
-use world::ObjectValue;
+use source::{ObjectValue, Objects};
 
 /// The names of objects as the places of a graph. A reference to no object is none.
 #[derive(Clone, Copy)]

@@ -7,12 +7,11 @@ ghost use Rattle.report.specs.Sink.{CanFail, Writes};
 ghost use Rattle.source.specs.Heap.{values_of};
 ghost use Rattle.source.specs.ReportOf.{shown_value, shown_row};
 ghost use Rattle.reached.specs.Names.{IsWithin};
-ghost use Rattle.world.specs.Views.{object_value_view};
+ghost use Rattle.source.specs.Views.{object_value_view};
 
-use crate::objects::Objects;
 use class_table::table::ClassTable;
 use report::{Shown, Sink, SinkFailed, put_row_end, put_row_head, put_value};
-use world::ObjectValue;
+use source::{ObjectValue, Objects};
 
 /// A value as a row shows it: a class object by its class.
 fn shown(classes: &ClassTable, value: ObjectValue) -> Shown<'_>

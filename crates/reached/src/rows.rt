@@ -6,11 +6,11 @@ ghost use Rattle.report.specs.Sink.{CanFail, Writes};
 ghost use Rattle.reached.specs.Rows.{marked_rows, AreReported};
 
 use crate::names::Names;
-use crate::objects::Objects;
 use crate::roots::marked_roots;
 use crate::row::put_row;
 use class_table::table::ClassTable;
 use report::{Rows, Sink, SinkFailed};
+use source::Objects;
 use std::alloc::{AllocError, Global};
 use std::marker::Model;
 

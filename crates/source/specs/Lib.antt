@@ -36,3 +36,5 @@ pub mod Report
 pub mod ReportOf
 pub mod Run
 pub mod AccountLaws
+-- values and names of objects in memory
+pub mod Views

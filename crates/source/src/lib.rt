@@ -1,8 +1,10 @@
 //! What a program does: its run on a heap where objects have names and never move. The definitions are in `specs/`; the code has only the words of journals, of schedules
-//! and of what is printed, and the laws.
+//! and of what is printed, objects by name, and the laws.
 #![tactic(auto)]
 
 mod journal;
+mod object_value;
+mod objects;
 mod printed;
 mod schedule;
 
@@ -10,6 +12,8 @@ ghost use Rattle.source.specs.AccountLaws.{OthersStay, StepsMay};
 ghost use Rattle.source.specs.Reachable.{ReachableIsComputed};
 
 pub use journal::Entry;
+pub use object_value::ObjectValue;
+pub use objects::Objects;
 pub use printed::Printed;
 pub use schedule::ScheduleWord;
 

@@ -26,7 +26,7 @@ use Rattle.threads.specs.declared.thread.Step.{Step}
 use Rattle.threads.specs.declared.thread.Step.TheVariants as step
 use Rattle.steps.specs.Activations.{tasks_left, IsInRange}
 use Rattle.terms.specs.Views.{assign_all, variables_view, trap_view}
-use Rattle.world.specs.declared.object.ObjectValue.{ObjectValue as ObjectValueInMemory}
+use Rattle.source.specs.declared.object_value.ObjectValue.{ObjectValue as ObjectValueInMemory}
 use Rattle.world.specs.Views.{object_value_view}
 
 -- the tasks of the call in progress, if there is one

@@ -1,8 +1,3 @@
--- The values of objects and calls, as they are held in memory.
-use Rattle.world.specs.declared.object.ObjectValue.{ObjectValue as InMemory}
-use Rattle.world.specs.declared.object.ObjectValue.TheVariants as held
-use Rattle.source.specs.Object.{ObjectValue, Number, Refers}
+-- The values of objects and calls as they are held in memory, passed on from `source`.
 
-abbrev pub object_value_view : InMemory → ObjectValue
-object_value_view (held.Number z) = Number z
-object_value_view (held.Reference r) = Refers r
+pub use Rattle.source.specs.Views.{object_value_view}

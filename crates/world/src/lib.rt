@@ -4,5 +4,6 @@
 mod object;
 mod world;
 
-pub use object::{Object, ObjectValue};
+pub use object::Object;
+pub use source::ObjectValue;
 pub use world::{Call, World};

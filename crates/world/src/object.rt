@@ -3,17 +3,8 @@
 ghost use Rattle.std.specs.Prelude.{◌≡◌, map};
 ghost use Rattle.world.specs.Views.{object_value_view};
 
+use source::ObjectValue;
 use std::marker::Model;
-
-/// What is in a field, in an array or a string, or what a call is given. An object goes by its number in the order in which
-/// they are made at load, counted from 1: the class objects, the OutOfMemoryError object, the world's objects.
-#[derive(Clone, Copy, PartialEq, Eq)]
-pub enum ObjectValue {
-    /// In the range of `jint`.
-    Number(i32),
-    /// NULL or an object.
-    Reference(Option<usize>),
-}
 
 /// An object that a world begins with.
 pub struct Object {

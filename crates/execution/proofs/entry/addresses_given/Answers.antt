@@ -2,8 +2,8 @@ use Rattle.std.proofs.Common.{◌≡◌, ℕ, pos, suc, ◌+◌, ◌-◌, ◌<�
 use Rattle.std.specs.Prelude.{slice_get, filter_map, vec_len}
 use Rattle.std.proofs.lemmas.List.{take_all}
 use Rattle.std.proofs.lemmas.Grind.{common_steps}
-use Rattle.world.specs.declared.object.ObjectValue.{ObjectValue as Argument}
-use Rattle.world.specs.declared.object.ObjectValue.TheVariants.{Number, Reference}
+use Rattle.source.specs.declared.object_value.ObjectValue.{ObjectValue as Argument}
+use Rattle.source.specs.declared.object_value.ObjectValue.TheVariants.{Number, Reference}
 use Rattle.world.specs.CallArguments.{is_argument}
 use Rattle.world.specs.Views.{object_value_view}
 use Rattle.execution.specs.Entry.{argument_address}

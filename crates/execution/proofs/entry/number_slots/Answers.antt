@@ -1,6 +1,6 @@
 use Rattle.std.proofs.Common.{◌≡◌, ℕ, pos, List, [], ◌∷◌, ◌++◌, map, filter_map, take, sym, ap, ◌∙◌, ◌+◌, append-nil}
 use Rattle.std.specs.Int.{w32, cast_unsigned}
-use Rattle.world.specs.declared.object.ObjectValue.TheVariants.{Number, Reference}
+use Rattle.source.specs.declared.object_value.ObjectValue.TheVariants.{Number, Reference}
 use Rattle.world.specs.Views.{object_value_view}
 use Rattle.world.specs.CallArguments.{is_argument}
 use Rattle.lowered.specs.Slots.{argument_word}

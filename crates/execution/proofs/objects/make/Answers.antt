@@ -8,7 +8,7 @@ use Rattle.heap.specs.Heap.{Space, end_of, fresh_block, with_block, with_value, 
 use Rattle.source.specs.Object.{ObjectValue}
 use Rattle.world.proofs.LoadedWorlds.{passes_at}
 use Rattle.world.specs.CallArguments.{is_argument}
-use Rattle.world.specs.declared.object.ObjectValue.{ObjectValue as InMemory}
+use Rattle.source.specs.declared.object_value.ObjectValue.{ObjectValue as InMemory}
 use Rattle.world.specs.Views.{object_value_view}
 use Rattle.execution.specs.Held.{held_value}
 use Rattle.jni_calls.proofs.FilledBlocks.{filled_block, filled_fresh, filled_within, filled_more}

@@ -6,7 +6,7 @@ use Rattle.source.specs.Report.{ShownValue}
 use Rattle.report.specs.ReportText.{shown_text}
 use Rattle.report.specs.Sink.{AppendsText, StopsWithin}
 use Rattle.report.proofs.Puts.{goes_on, stops}
-use Rattle.world.specs.Views.{object_value_view}
+use Rattle.source.specs.Views.{object_value_view}
 use Rattle.reached.proofs.RowTexts.{value_at}
 use Rattle.reached.proofs.row.put_values.Goals as goal
 

@@ -2,10 +2,9 @@
 
 ghost use Rattle.std.specs.Prelude.{◌≡◌, ◌<◌, ◌^◌, Some, length, slice_get};
 ghost use Rattle.source.specs.Heap.{Heap, class_of, values_of};
-ghost use Rattle.reached.specs.Names.{IsWithin};
-ghost use Rattle.world.specs.Views.{object_value_view};
+ghost use Rattle.source.specs.Views.{object_value_view, IsWithin};
 
-use world::ObjectValue;
+use crate::object_value::ObjectValue;
 
 /// Objects that go by their names, their numbers in the order in which they were made, counted from 1.
 pub trait Objects {
