@@ -6,16 +6,14 @@ use Rattle.classes.specs.Class.{Classes}
 use Rattle.jni.specs.Table.{function_value}
 use Rattle.source.specs.Arguments.{Actual, actuals}
 use Rattle.source.specs.Effect.{Becomes, Calls, effect_of, goes_on, is_ready, reduce_first, reduce_number, is_given}
-use Rattle.source.specs.Heap.{Heap}
 use Rattle.source.specs.Object.{Reference}
-use Rattle.source.specs.Sight.{Sight, seen}
+use Rattle.source.specs.Sight.{Sight}
 use Rattle.source.specs.Task as source
 use Rattle.source.specs.Term as terms
 use Rattle.source.specs.Term.{reduce}
 use Rattle.source.specs.Thread.{Frame, Thread, Shared, sight_of}
 use Rattle.source.specs.ThreadStep.{after_effect, after_refused_effect}
 use Rattle.source.specs.Value.{Outcome as Outcomes, outcome_map}
-use Rattle.source.specs.Variable.{Statics, Variables}
 use Rattle.tasks.specs.declared.outcome.Outcome.{Outcome}
 use Rattle.tasks.specs.declared.task.Invocation.{Invocation}
 use Rattle.terms.specs.declared.operand.Operand.{Operand}
@@ -31,7 +29,7 @@ use Rattle.tasks.specs.Outcomes.{purpose_view}
 use Rattle.replay_calls.specs.Shares.{sight_in}
 use Rattle.tasks.specs.Effects.{HasEffect, reduced}
 use Rattle.steps.specs.Steps.{Scene, Sees, Does, scene_with}
-use Rattle.terms.specs.Views.{operand_view, Contents, term_view, variables_view, Reduces}
+use Rattle.terms.specs.Views.{operand_view, Contents, term_view, Reduces}
 use Rattle.tasks.specs.Tasks.{task_view}
 use Rattle.steps.proofs.TaskLemmas.{sees_so}
 
@@ -88,49 +86,49 @@ set_same [] n x at = refl
 set_same (y ∷ xs) zero x at = let same : y ≡ x = cc in ap (λ z. z ∷ xs) (sym same)
 set_same (y ∷ xs) (suc n) x at = ap (λ zs. y ∷ zs) (set_same xs n x at)
 
-module _ (vs : Variables) (ss : Statics) where
+module _ (sight : Sight) where
   -- what comes before it stays
-  pub after_given : (o : Operand) (old new : List Operand) (took : Option Reduction) → is_given (operand_view o) ≡ true → ReducesFirst vs ss old took new → ReducesFirst vs ss (o ∷ old) took (o ∷ new)
+  pub after_given : (o : Operand) (old new : List Operand) (took : Option Reduction) → is_given (operand_view o) ≡ true → ReducesFirst sight old took new → ReducesFirst sight (o ∷ old) took (o ∷ new)
   after_given o old new None given h = (rw (given, h.0) refl, ap (λ (os : List Operand). o ∷ os) h.1)
   after_given o old new (Some reduction.Reduced) given h =
-      (rw (given, h.0) refl, λ heap. first_given (seen vs ss heap) o (map operand_view old) given ∙ ap (outcome_map (λ os. operand_view o ∷ os)) (h.1 heap))
+      (rw (given, h.0) refl, first_given sight o (map operand_view old) given ∙ ap (outcome_map (λ os. operand_view o ∷ os)) h.1)
   after_given o old new (Some (reduction.Trapped trap)) given h =
-      (rw (given, h.0) refl, λ heap. first_given (seen vs ss heap) o (map operand_view old) given ∙ ap (outcome_map (λ os. operand_view o ∷ os)) (h.1 heap), ap (λ (os : List Operand). o ∷ os) h.2)
+      (rw (given, h.0) refl, first_given sight o (map operand_view old) given ∙ ap (outcome_map (λ os. operand_view o ∷ os)) h.1, ap (λ (os : List Operand). o ∷ os) h.2)
   after_given o old new (Some reduction.Stuck) given h =
-      (rw (given, h.0) refl, λ heap. first_given (seen vs ss heap) o (map operand_view old) given ∙ ap (outcome_map (λ os. operand_view o ∷ os)) (h.1 heap))
+      (rw (given, h.0) refl, first_given sight o (map operand_view old) given ∙ ap (outcome_map (λ os. operand_view o ∷ os)) h.1)
 
   -- it takes its step
-  pub takes_first : (t t' : Term) (rest : List Operand) (took : Reduction) → ((v : Value) → t ≡ term.Done v → ⊥) → Reduces vs ss t took t' → ReducesFirst vs ss (operands.Number t ∷ rest) (Some took) (operands.Number t' ∷ rest)
+  pub takes_first : (t t' : Term) (rest : List Operand) (took : Reduction) → ((v : Value) → t ≡ term.Done v → ⊥) → Reduces sight t took t' → ReducesFirst sight (operands.Number t ∷ rest) (Some took) (operands.Number t' ∷ rest)
   takes_first t t' rest reduction.Reduced none h =
       let o = is_open t none in
-      (rw o.unready refl, λ heap. o.reduces (map operand_view rest) (reduce (seen vs ss heap) (term_view t)) (reduce_first (seen vs ss heap) (map operand_view rest)) ∙ ap (outcome_map (λ (w : terms.Term). source.NumberOperand w ∷ map operand_view rest)) (h heap))
+      (rw o.unready refl, o.reduces (map operand_view rest) (reduce sight (term_view t)) (reduce_first sight (map operand_view rest)) ∙ ap (outcome_map (λ (w : terms.Term). source.NumberOperand w ∷ map operand_view rest)) h)
   takes_first t t' rest (reduction.Trapped trap) none h =
       let o = is_open t none in (
         rw o.unready refl,
-        λ heap. o.reduces (map operand_view rest) (reduce (seen vs ss heap) (term_view t)) (reduce_first (seen vs ss heap) (map operand_view rest)) ∙ ap (outcome_map (λ (w : terms.Term). source.NumberOperand w ∷ map operand_view rest)) (h.0 heap),
+        o.reduces (map operand_view rest) (reduce sight (term_view t)) (reduce_first sight (map operand_view rest)) ∙ ap (outcome_map (λ (w : terms.Term). source.NumberOperand w ∷ map operand_view rest)) h.0,
         ap (λ (u : Term). operands.Number u ∷ rest) h.1,
       )
   takes_first t t' rest reduction.Stuck none h =
       let o = is_open t none in
-      (rw o.unready refl, λ heap. o.reduces (map operand_view rest) (reduce (seen vs ss heap) (term_view t)) (reduce_first (seen vs ss heap) (map operand_view rest)) ∙ ap (outcome_map (λ (w : terms.Term). source.NumberOperand w ∷ map operand_view rest)) (h heap))
+      (rw o.unready refl, o.reduces (map operand_view rest) (reduce sight (term_view t)) (reduce_first sight (map operand_view rest)) ∙ ap (outcome_map (λ (w : terms.Term). source.NumberOperand w ∷ map operand_view rest)) h)
 
   -- the one after them takes its step
-  pub first_in : (os : List Operand) (n : ℕ) (o o' : Operand) (took : Reduction) → slice_get os n ≡ Some o → AreGiven os n → ReducesOne vs ss o (Some took) o' → ReducesFirst vs ss os (Some took) (slice_set os n o')
+  pub first_in : (os : List Operand) (n : ℕ) (o o' : Operand) (took : Reduction) → slice_get os n ≡ Some o → AreGiven os n → ReducesOne sight o (Some took) o' → ReducesFirst sight os (Some took) (slice_set os n o')
   first_in [] n o o' took at given h = absurd (cc)
-  first_in (p ∷ os) zero o o' took at given h = let same : p ≡ o = cc in subst (λ (q : Operand). ReducesFirst vs ss (q ∷ os) (Some took) (o' ∷ os)) (sym same) (h os)
+  first_in (p ∷ os) zero o o' took at given h = let same : p ≡ o = cc in subst (λ (q : Operand). ReducesFirst sight (q ∷ os) (Some took) (o' ∷ os)) (sym same) (h os)
   first_in (p ∷ os) (suc n) o o' took at given h = after_given p os (slice_set os n o') (Some took) (given 0 p (omega arith) refl) (first_in os n o o' took at (λ i q low there. given (suc i) q (omega arith) there) h)
 
-  pub first_step : (os : List Operand) (n : ℕ) (o o' : Operand) (took : Option Reduction) → is_some took ≡ true → slice_get os n ≡ Some o → AreGiven os n → ReducesOne vs ss o took o' → ReducesFirst vs ss os took (slice_set os n o')
+  pub first_step : (os : List Operand) (n : ℕ) (o o' : Operand) (took : Option Reduction) → is_some took ≡ true → slice_get os n ≡ Some o → AreGiven os n → ReducesOne sight o took o' → ReducesFirst sight os took (slice_set os n o')
   first_step os n o o' None some at given h = absurd (cc)
   first_step os n o o' (Some r) some at given h = first_in os n o o' r at given h
 
   -- or is worked out already
-  pub none_step : (os : List Operand) (n : ℕ) (o o' : Operand) (took : Option Reduction) → is_some took ≡ false → slice_get os n ≡ Some o → AreGiven os n → ReducesOne vs ss o took o' → (slice_set os n o' ≡ os) × AreGiven os (n + 1)
+  pub none_step : (os : List Operand) (n : ℕ) (o o' : Operand) (took : Option Reduction) → is_some took ≡ false → slice_get os n ≡ Some o → AreGiven os n → ReducesOne sight o took o' → (slice_set os n o' ≡ os) × AreGiven os (n + 1)
   none_step os n o o' None none at given h = (ap (slice_set os n) h.1 ∙ set_same os n o at, given_more os n o at h.0 given)
   none_step os n o o' (Some r) none at given h = absurd (cc)
 
   -- or each is worked out
-  pub none_first : (os : List Operand) → AreGiven os (length os) → ReducesFirst vs ss os None os
+  pub none_first : (os : List Operand) → AreGiven os (length os) → ReducesFirst sight os None os
   none_first [] given = (refl, refl)
   none_first (p ∷ os) given = after_given p os os None (given 0 p (omega arith) refl) (none_first os (λ i q low there. given (suc i) q (omega arith) there))
 
@@ -146,14 +144,14 @@ module _ (vs : Variables) (ss : Statics) where
     pub same_call : (os : List source.Operand) → map operand_view i'.operands.items ≡ os → task_view (task.Invoke i') ≡ whole os
     same_call os same = rw (line, purpose, function, same) refl
 
-    goes : (heap : Heap) → is_ready before ≡ false → effect_of (seen vs ss heap) (task_view (task.Invoke i)) ≡ goes_on i.line whole (reduce_first (seen vs ss heap) before)
-    goes heap unready = rw unready refl
+    goes : is_ready before ≡ false → effect_of sight (task_view (task.Invoke i)) ≡ goes_on i.line whole (reduce_first sight before)
+    goes unready = rw unready refl
 
     -- a number takes its step
-    pub number_reduces : (took : Reduction) → ReducesFirst vs ss i.operands.items (Some took) i'.operands.items → HasEffect vs ss (task.Invoke i) (reduced i.line took) (task.Invoke i')
-    number_reduces reduction.Reduced h = λ heap. goes heap h.0 ∙ ap (goes_on i.line whole) (h.1 heap) ∙ ap (λ (u : source.Task). Becomes (u ∷ [])) (sym (same_call (map operand_view i'.operands.items) refl))
-    number_reduces (reduction.Trapped trap) h = (λ heap. goes heap h.0 ∙ ap (goes_on i.line whole) (h.1 heap), same_call before (ap (map operand_view) h.2))
-    number_reduces reduction.Stuck h = λ heap. goes heap h.0 ∙ ap (goes_on i.line whole) (h.1 heap)
+    pub number_reduces : (took : Reduction) → ReducesFirst sight i.operands.items (Some took) i'.operands.items → HasEffect sight (task.Invoke i) (reduced i.line took) (task.Invoke i')
+    number_reduces reduction.Reduced h = goes h.0 ∙ ap (goes_on i.line whole) h.1 ∙ ap (λ (u : source.Task). Becomes (u ∷ [])) (sym (same_call (map operand_view i'.operands.items) refl))
+    number_reduces (reduction.Trapped trap) h = (goes h.0 ∙ ap (goes_on i.line whole) h.1, same_call before (ap (map operand_view) h.2))
+    number_reduces reduction.Stuck h = goes h.0 ∙ ap (goes_on i.line whole) h.1
 
 -- ---- with its object refused, or not
 
@@ -182,5 +180,5 @@ module _ (classes : Classes) (s : Shared) (variables : Contents) (frames : List 
       → (refused : Bool) (took : Outcome) → MakesInvocation refused scene i' took scene' → Does refused scene (task.Invoke i) took scene' (task.Invoke i')
   invocation_does i i' scene' line purpose function operands ready refused took makes =
       let before = map operand_view i.operands.items in
-      let same = same_call (variables_view variables) s.statics i i' line purpose function before (ap (map operand_view) operands) in
+      let same = same_call (sight_in s variables) i i' line purpose function before (ap (map operand_view) operands) in
       call_does i i' scene' same ready (actuals (sight_in s variables) (function_value i.function) before) refl refused took (rw (line, purpose, function, operands) at makes)

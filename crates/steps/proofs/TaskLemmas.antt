@@ -2,13 +2,11 @@
 use Rattle.std.proofs.Common.{◌≡◌, ℕ, Bool, true, false, List, ◌∷◌, Option, Some, refl, sym, ap, ◌∙◌}
 use Rattle.std.specs.Prelude.{if◌then◌else◌}
 use Rattle.source.specs.Effect.{effect_of}
-use Rattle.source.specs.Heap.{Heap}
-use Rattle.source.specs.Sight.{Sight, seen}
+use Rattle.source.specs.Sight.{Sight}
 use Rattle.source.specs.Task.{Task}
 use Rattle.source.specs.Object.{Reference}
 use Rattle.source.specs.Thread.{Frame, Thread, Shared, BuffersInUse, sight_of, Trapped, Advances, NoAdvance}
 use Rattle.source.specs.ThreadStep.{after_effect, after_refused_effect, with_tasks}
-use Rattle.source.specs.Variable.{Variables}
 use Rattle.tasks.specs.declared.outcome.Outcome.{Outcome}
 use Rattle.tasks.specs.declared.outcome.Outcome.TheVariants as outcome
 use Rattle.tasks.specs.declared.task.Task.{Task as TaskInMemory}
@@ -16,7 +14,7 @@ use Rattle.tasks.specs.Effects.{effect_by, HasEffect}
 use Rattle.steps.specs.Steps.{Scene, Sees, in_frames, left_by, Does}
 use Rattle.tasks.specs.Tasks.{task_view}
 use Rattle.replay_calls.specs.Shares.{sight_in}
-use Rattle.terms.specs.Views.{trap_view, variables_view}
+use Rattle.terms.specs.Views.{trap_view}
 
 -- what a thread can see, where it is so
 pub sees_so : (scene : Scene) (t : Thread) → Sees scene t → sight_of scene.shared t ≡ sight_in scene.shared scene.variables
@@ -36,23 +34,23 @@ module _ (scene : Scene) (old new : TaskInMemory) where
   abbrev shared : Shared
   shared = scene.shared
 
-  abbrev variables : Variables
-  variables = variables_view scene.variables
+  abbrev sight : Sight
+  sight = sight_in shared scene.variables
 
   -- where nothing of the thread changes but its tasks
   pub unframed : (k : ℕ) (t : Thread) (rest : List Task) (took : Outcome) → Sees scene t → left_by k shared t rest took new ≡ left_by k shared (in_frames t scene.frames scene.pending) rest took new
   unframed k t rest took sees = ap (λ (u : Thread). left_by k shared u rest took new) (same_frames t scene.frames scene.pending sees.frames sees.pending)
 
-  by_effect : (took : Outcome) → ((heap : Heap) → effect_of (seen variables shared.statics heap) (task_view old) ≡ effect_by took new)
+  by_effect : (took : Outcome) → effect_of sight (task_view old) ≡ effect_by took new
       → ((in_use : BuffersInUse) (k : ℕ) (t : Thread) (rest : List Task) → t.tasks ≡ Some (task_view old ∷ rest) → after_effect scene.classes in_use k shared t rest (effect_by took new) ≡ left_by k shared t rest took new) → Does false scene old took scene new
   by_effect took h left = λ unit in_use k t rest sees has.
-      ap (λ (sight : Sight). after_effect scene.classes in_use k shared t rest (effect_of sight (task_view old))) (sees_so scene t sees)
-      ∙ ap (after_effect scene.classes in_use k shared t rest) (h shared.heap)
+      ap (λ (view : Sight). after_effect scene.classes in_use k shared t rest (effect_of view (task_view old))) (sees_so scene t sees)
+      ∙ ap (after_effect scene.classes in_use k shared t rest) h
       ∙ left in_use k t rest has
       ∙ unframed k t rest took sees
 
   -- a task does what its effect does
-  pub does : (took : Outcome) → HasEffect variables shared.statics old took new → Does false scene old took scene new
+  pub does : (took : Outcome) → HasEffect sight old took new → Does false scene old took scene new
   does outcome.Stays h = by_effect outcome.Stays h (λ in_use k t rest has. refl)
   does (outcome.Printed z) h = by_effect (outcome.Printed z) h (λ in_use k t rest has. refl)
   does (outcome.Sets x v) h = by_effect (outcome.Sets x v) h (λ in_use k t rest has. refl)
@@ -69,15 +67,15 @@ module _ (scene : Scene) (old new : TaskInMemory) where
       ∙ ap (λ (u : Task). Advances shared (with_tasks t (u ∷ rest)) (Trapped (trap_view trap) line)) (sym h.1))
   does outcome.Impossible h = by_effect outcome.Impossible h (λ in_use k t rest has. refl)
 
-  by_refusal : (took : Outcome) → ((heap : Heap) → effect_of (seen variables shared.statics heap) (task_view old) ≡ effect_by took new)
+  by_refusal : (took : Outcome) → effect_of sight (task_view old) ≡ effect_by took new
       → ((in_use : BuffersInUse) (k : ℕ) (t : Thread) (rest : List Task) → after_refused_effect scene.classes in_use k shared t rest (effect_by took new) ≡ NoAdvance) → Does true scene old outcome.Impossible scene new
   by_refusal took h none = λ unit in_use k t rest sees has.
-      ap (λ (sight : Sight). after_refused_effect scene.classes in_use k shared t rest (effect_of sight (task_view old))) (sees_so scene t sees)
-      ∙ ap (after_refused_effect scene.classes in_use k shared t rest) (h shared.heap)
+      ap (λ (view : Sight). after_refused_effect scene.classes in_use k shared t rest (effect_of view (task_view old))) (sees_so scene t sees)
+      ∙ ap (after_refused_effect scene.classes in_use k shared t rest) h
       ∙ none in_use k t rest
 
   -- a task that is no call has no object that can be refused
-  pub does_without : (took : Outcome) → HasEffect variables shared.statics old took new → Does true scene old outcome.Impossible scene new
+  pub does_without : (took : Outcome) → HasEffect sight old took new → Does true scene old outcome.Impossible scene new
   does_without outcome.Stays h = by_refusal outcome.Stays h (λ in_use k t rest. refl)
   does_without (outcome.Printed z) h = by_refusal (outcome.Printed z) h (λ in_use k t rest. refl)
   does_without (outcome.Sets x v) h = by_refusal (outcome.Sets x v) h (λ in_use k t rest. refl)
@@ -93,6 +91,6 @@ module _ (scene : Scene) (old new : TaskInMemory) where
   does_without outcome.Impossible h = by_refusal outcome.Impossible h (λ in_use k t rest. refl)
 
   -- so it is, refused or not
-  pub does_unless : (refused : Bool) (took : Outcome) → HasEffect variables shared.statics old took new → Does refused scene old (if refused then outcome.Impossible else took) scene new
+  pub does_unless : (refused : Bool) (took : Outcome) → HasEffect sight old took new → Does refused scene old (if refused then outcome.Impossible else took) scene new
   does_unless true took h = does_without took h
   does_unless false took h = does took h

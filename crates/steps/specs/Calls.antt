@@ -5,12 +5,10 @@ use Rattle.jni.specs.Table.{function_value}
 use Rattle.source.specs.Arguments.{Actual, actuals}
 use Rattle.source.specs.CallStep.{call_step}
 use Rattle.source.specs.Effect.{is_given, is_ready, reduce_first}
-use Rattle.source.specs.Heap.{Heap}
-use Rattle.source.specs.Sight.{seen}
+use Rattle.source.specs.Sight.{Sight}
 use Rattle.source.specs.Task.{Task}
 use Rattle.source.specs.Thread.{Thread, BuffersInUse}
 use Rattle.source.specs.Value.{Gives, Traps, Stuck}
-use Rattle.source.specs.Variable.{Statics, Variables}
 use Rattle.tasks.specs.declared.outcome.Outcome.{Outcome}
 use Rattle.tasks.specs.declared.outcome.Purpose.{Purpose as PurposeInMemory}
 use Rattle.tasks.specs.declared.task.Invocation.{Invocation}
@@ -27,20 +25,18 @@ use Rattle.terms.specs.Views.{operand_view, trap_view, variables_view}
 use Rattle.replay_calls.specs.Shares.{sight_in}
 use Rattle.tasks.specs.Tasks.{task_view}
 
--- With these variables and statics, each number is worked out already, or what was done is the step of the first that isn't.
-abbrev pub ReducesFirst : Variables → Statics → List Operand → Option ReductionInMemory → List Operand → Type 0
-ReducesFirst vs ss old None new = (is_ready (map operand_view old) ≡ true) × (new ≡ old)
-ReducesFirst vs ss old (Some reduction.Reduced) new =
-    (is_ready (map operand_view old) ≡ false) × ((heap : Heap) → reduce_first (seen vs ss heap) (map operand_view old) ≡ Gives (map operand_view new))
-ReducesFirst vs ss old (Some (reduction.Trapped trap)) new =
-    (is_ready (map operand_view old) ≡ false) × ((heap : Heap) → reduce_first (seen vs ss heap) (map operand_view old) ≡ Traps (trap_view trap)) × (new ≡ old)
-ReducesFirst vs ss old (Some reduction.Stuck) new =
-    (is_ready (map operand_view old) ≡ false) × ((heap : Heap) → reduce_first (seen vs ss heap) (map operand_view old) ≡ Stuck)
+-- Where this can be seen, each number is worked out already, or what was done is the step of the first that isn't.
+abbrev pub ReducesFirst : Sight → List Operand → Option ReductionInMemory → List Operand → Type 0
+ReducesFirst sight old None new = (is_ready (map operand_view old) ≡ true) × (new ≡ old)
+ReducesFirst sight old (Some reduction.Reduced) new = (is_ready (map operand_view old) ≡ false) × (reduce_first sight (map operand_view old) ≡ Gives (map operand_view new))
+ReducesFirst sight old (Some (reduction.Trapped trap)) new =
+    (is_ready (map operand_view old) ≡ false) × (reduce_first sight (map operand_view old) ≡ Traps (trap_view trap)) × (new ≡ old)
+ReducesFirst sight old (Some reduction.Stuck) new = (is_ready (map operand_view old) ≡ false) × (reduce_first sight (map operand_view old) ≡ Stuck)
 
 -- the same of one of them, with others after it
-abbrev pub ReducesOne : Variables → Statics → Operand → Option ReductionInMemory → Operand → Type 0
-ReducesOne vs ss old None new = (is_given (operand_view old) ≡ true) × (new ≡ old)
-ReducesOne vs ss old (Some took) new = (rest : List Operand) → ReducesFirst vs ss (old ∷ rest) (Some took) (new ∷ rest)
+abbrev pub ReducesOne : Sight → Operand → Option ReductionInMemory → Operand → Type 0
+ReducesOne sight old None new = (is_given (operand_view old) ≡ true) × (new ≡ old)
+ReducesOne sight old (Some took) new = (rest : List Operand) → ReducesFirst sight (old ∷ rest) (Some took) (new ∷ rest)
 
 -- What was done is the call's own step, for each thread of the scene before it, or what it does with its object refused. It leaves
 -- the scene after it.

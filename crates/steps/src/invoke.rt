@@ -15,9 +15,9 @@ ghost use Rattle.replay_calls.specs.Checked.{trap_found};
 ghost use Rattle.steps.specs.Calls.{HasAnswer, MakesCall, MakesInvocation, ReducesFirst, ReducesOne};
 ghost use Rattle.tasks.specs.Outcomes.{outcome_for};
 ghost use Rattle.steps.specs.Steps.{Does, scene_with};
-ghost use Rattle.replay_calls.specs.Shares.{shared_view};
+ghost use Rattle.replay_calls.specs.Shares.{shared_view, sight_in};
 ghost use Rattle.tasks.specs.Tasks.{OperandInRange, OperandsInRange, OutcomeInRange, PurposeInRange};
-ghost use Rattle.terms.specs.Views.{Contents, trap_view, variables_view};
+ghost use Rattle.terms.specs.Views.{Contents, trap_view};
 
 use class_table::table::ClassTable;
 use object_store::Frames;
@@ -27,7 +27,7 @@ use replay_calls::check::check;
 use replay_calls::{Answer, Shared, work_out};
 use std::alloc::{AllocError, Global};
 use tasks::{Invocation, Outcome, Purpose, reduced};
-use terms::{Given, Operand, Reduction, Statics, Term, Trap, Variables, is_zero, reduce};
+use terms::{Given, Operand, Reduction, Term, Trap, Variables, is_zero, reduce};
 
 /// The step of a call: the first of its numbers that isn't worked out takes a step, or else the call is made. With its object
 /// refused it is possible only where it makes one.
@@ -53,7 +53,7 @@ pub(crate) fn invoke<'a>(
     ensures range { IfOk result OutcomeInRange }
 {
     let line = i.line;
-    if let Some(reduction) = reduce_number(&shared.statics, variables, i) {
+    if let Some(reduction) = reduce_number(shared, variables, i) {
         return Ok(unless_refused(refused, reduced(line, reduction)));
     }
     make_call(
@@ -88,32 +88,32 @@ fn make_call<'a>(
 
 /// Lets the first number of a call that isn't worked out take a step; none where each is.
 fn reduce_number(
-    statics: &Statics<'_>,
+    shared: &Shared<'_>,
     variables: &Variables<'_>,
     i: &mut Invocation<'_>,
 ) -> Option<Reduction>
     requires { OperandsInRange i.old.operands.items }
-    ensures step { ReducesFirst (variables_view variables.now) statics.now i.old.operands.items result i.new.operands.items }
+    ensures step { ReducesFirst (sight_in (shared_view shared.now) variables.now) i.old.operands.items result i.new.operands.items }
     ensures numbers { OperandsInRange i.new.operands.items }
     ensures line { i.new.line ≡ i.old.line }
     ensures purpose { i.new.purpose ≡ i.old.purpose }
     ensures function { i.new.function ≡ i.old.function }
 {
-    reduce_first(statics, variables, &mut i.operands)
+    reduce_first(shared, variables, &mut i.operands)
 }
 
 /// Lets the first of these numbers that isn't worked out take a step; none where each is.
 fn reduce_first(
-    statics: &Statics<'_>,
+    shared: &Shared<'_>,
     variables: &Variables<'_>,
     operands: &mut [Operand<'_>],
 ) -> Option<Reduction>
     requires { OperandsInRange operands.old }
-    ensures step { ReducesFirst (variables_view variables.now) statics.now operands.old result operands.new }
+    ensures step { ReducesFirst (sight_in (shared_view shared.now) variables.now) operands.old result operands.new }
     ensures numbers { OperandsInRange operands.new }
 {
     for place in 0..operands.len() {
-        let reduction = reduce_one(statics, variables, &mut operands[place]);
+        let reduction = reduce_one(shared, variables, &mut operands[place]);
         if reduction.is_some() {
             return reduction;
         }
@@ -123,19 +123,19 @@ fn reduce_first(
 
 /// Lets a number that isn't worked out take a step; none where there is nothing to work out.
 fn reduce_one(
-    statics: &Statics<'_>,
+    shared: &Shared<'_>,
     variables: &Variables<'_>,
     operand: &mut Operand<'_>,
 ) -> Option<Reduction>
     requires { OperandInRange operand.old }
-    ensures step { ReducesOne (variables_view variables.now) statics.now operand.old result operand.new }
+    ensures step { ReducesOne (sight_in (shared_view shared.now) variables.now) operand.old result operand.new }
     ensures numbers { OperandInRange operand.new }
 {
     match operand {
         Operand::Given(_) => None,
         Operand::Number(t) => match t {
             Term::Done(_) => None,
-            t => Some(reduce(statics, variables, t)),
+            t => Some(reduce(&shared.store, &shared.statics, variables, t)),
         },
     }
 }

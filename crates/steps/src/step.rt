@@ -37,6 +37,6 @@ pub(crate) fn step<'a>(
             alloc, classes, shared, variables, frames, pending, refused, i,
         );
     }
-    let outcome = plain_step(&shared.statics, variables, task);
+    let outcome = plain_step(&shared.store, &shared.statics, variables, task);
     Ok(unless_refused(refused, outcome))
 }

@@ -47,12 +47,12 @@ no_value (term.Or' p s q t) none sight line use_value whole = refl
 no_value (term.Binary' op p s q t) none sight line use_value whole = refl
 
 -- the task at a term is reduced as the term is
-pub reduces : (vs : Variables) (ss : Statics) (line : ℕ) (at : Term → TaskInMemory) (whole : tree.Term → Task) → ((t : Term) → task_view (at t) ≡ whole (term_view t))
-    → (old new : Term) (took : Reduction) → ((heap : Heap) → effect_of (seen vs ss heap) (task_view (at old)) ≡ goes_on line whole (reduce (seen vs ss heap) (term_view old)))
-    → Reduces vs ss old took new → HasEffect vs ss (at old) (reduced line took) (at new)
-reduces vs ss line at whole is old new reduction.Reduced goes step = λ heap. goes heap ∙ ap (goes_on line whole) (step heap) ∙ ap (λ (u : Task). Becomes (u ∷ [])) (sym (is new))
-reduces vs ss line at whole is old new (reduction.Trapped trap) goes step = (λ heap. goes heap ∙ ap (goes_on line whole) (step.0 heap), ap (λ (t : Term). task_view (at t)) step.1)
-reduces vs ss line at whole is old new reduction.Stuck goes step = λ heap. goes heap ∙ ap (goes_on line whole) (step heap)
+pub reduces : (sight : Sight) (line : ℕ) (at : Term → TaskInMemory) (whole : tree.Term → Task) → ((t : Term) → task_view (at t) ≡ whole (term_view t))
+    → (old new : Term) (took : Reduction) → effect_of sight (task_view (at old)) ≡ goes_on line whole (reduce sight (term_view old))
+    → Reduces sight old took new → HasEffect sight (at old) (reduced line took) (at new)
+reduces sight line at whole is old new reduction.Reduced goes step = goes ∙ ap (goes_on line whole) step ∙ ap (λ (u : Task). Becomes (u ∷ [])) (sym (is new))
+reduces sight line at whole is old new (reduction.Trapped trap) goes step = (goes ∙ ap (goes_on line whole) step.0, ap (λ (t : Term). task_view (at t)) step.1)
+reduces sight line at whole is old new reduction.Stuck goes step = goes ∙ ap (goes_on line whole) step
 
 -- ---- elements
 
@@ -115,36 +115,36 @@ no_name_returned sight line (term.And' p s q t) none no_constant no_name = refl
 no_name_returned sight line (term.Or' p s q t) none no_constant no_name = refl
 no_name_returned sight line (term.Binary' op p s q t) none no_constant no_name = refl
 
--- ---- tasks at terms
+-- ---- tasks at terms, where this can be seen
 
-module _ (vs : Variables) (ss : Statics) (line : ℕ) (old new : Term) (took : Reduction) (none : (v : ValueInMemory) → old ≡ term.Done v → ⊥) (step : Reduces vs ss old took new) where
-  pub print_reduces : HasEffect vs ss (print_task line old) (reduced line took) (print_task line new)
-  print_reduces = reduces vs ss line (print_task line) (Print line) (λ t. refl) old new took (λ heap. no_value old none (seen vs ss heap) line print_effect (Print line)) step
+module _ (sight : Sight) (line : ℕ) (old new : Term) (took : Reduction) (none : (v : ValueInMemory) → old ≡ term.Done v → ⊥) (step : Reduces sight old took new) where
+  pub print_reduces : HasEffect sight (print_task line old) (reduced line took) (print_task line new)
+  print_reduces = reduces sight line (print_task line) (Print line) (λ t. refl) old new took (no_value old none sight line print_effect (Print line)) step
 
-  pub set_reduces : (x : Bor Identifier) → HasEffect vs ss (value_task line x old) (reduced line took) (value_task line x new)
-  set_reduces x = reduces vs ss line (value_task line x) (SetScalar line x.now) (λ t. refl) old new took (λ heap. no_value old none (seen vs ss heap) line (Sets x.now) (SetScalar line x.now)) step
+  pub set_reduces : (x : Bor Identifier) → HasEffect sight (value_task line x old) (reduced line took) (value_task line x new)
+  set_reduces x = reduces sight line (value_task line x) (SetScalar line x.now) (λ t. refl) old new took (no_value old none sight line (Sets x.now) (SetScalar line x.now)) step
 
-  pub index_reduces : (x : Bor Identifier) (t : Term) → HasEffect vs ss (element_task line x old t) (reduced line took) (element_task line x new t)
+  pub index_reduces : (x : Bor Identifier) (t : Term) → HasEffect sight (element_task line x old t) (reduced line took) (element_task line x new t)
   index_reduces x t =
-      reduces vs ss line (λ u. element_task line x u t) (λ u. SetElement line x.now u (term_view t)) (λ u. refl) old new took
-      (λ heap. no_value old none (seen vs ss heap) line
-      (λ v. with_value (seen vs ss heap) line (element_effect (seen vs ss heap) line x.now v) (SetElement line x.now (tree.Done v)) (term_view t)) (λ u. SetElement line x.now u (term_view t))) step
+      reduces sight line (λ u. element_task line x u t) (λ u. SetElement line x.now u (term_view t)) (λ u. refl) old new took
+      (no_value old none sight line
+      (λ v. with_value sight line (element_effect sight line x.now v) (SetElement line x.now (tree.Done v)) (term_view t)) (λ u. SetElement line x.now u (term_view t))) step
 
-  pub element_reduces : (x : Bor Identifier) (i : ValueInMemory) → HasEffect vs ss (element_task line x (term.Done i) old) (reduced line took) (element_task line x (term.Done i) new)
+  pub element_reduces : (x : Bor Identifier) (i : ValueInMemory) → HasEffect sight (element_task line x (term.Done i) old) (reduced line took) (element_task line x (term.Done i) new)
   element_reduces x i =
-      reduces vs ss line (element_task line x (term.Done i)) (SetElement line x.now (tree.Done (value_view i))) (λ u. refl) old new took
-      (λ heap. no_value old none (seen vs ss heap) line (element_effect (seen vs ss heap) line x.now (value_view i)) (SetElement line x.now (tree.Done (value_view i)))) step
+      reduces sight line (element_task line x (term.Done i)) (SetElement line x.now (tree.Done (value_view i))) (λ u. refl) old new took
+      (no_value old none sight line (element_effect sight line x.now (value_view i)) (SetElement line x.now (tree.Done (value_view i)))) step
 
-  pub branch_reduces : (b : Bor BlockInMemory) (other : Option (Bor BlockInMemory)) → HasEffect vs ss (branch_task line old b other) (reduced line took) (branch_task line new b other)
+  pub branch_reduces : (b : Bor BlockInMemory) (other : Option (Bor BlockInMemory)) → HasEffect sight (branch_task line old b other) (reduced line took) (branch_task line new b other)
   branch_reduces b other =
-      reduces vs ss line (λ u. branch_task line u b other) (λ u. Branch line u (block_tree b.now) (else_tree line other)) (λ u. refl) old new took
-      (λ heap. no_value old none (seen vs ss heap) line (branch_effect (block_tree b.now) (else_tree line other)) (λ u. Branch line u (block_tree b.now) (else_tree line other))) step
+      reduces sight line (λ u. branch_task line u b other) (λ u. Branch line u (block_tree b.now) (else_tree line other)) (λ u. refl) old new took
+      (no_value old none sight line (branch_effect (block_tree b.now) (else_tree line other)) (λ u. Branch line u (block_tree b.now) (else_tree line other))) step
 
-  pub loop_reduces : (test : Bor ExprInMemory) (body : Bor BlockInMemory) → HasEffect vs ss (loop_task line test old body) (reduced line took) (loop_task line test new body)
+  pub loop_reduces : (test : Bor ExprInMemory) (body : Bor BlockInMemory) → HasEffect sight (loop_task line test old body) (reduced line took) (loop_task line test new body)
   loop_reduces test body =
-      reduces vs ss line (λ u. loop_task line test u body) (λ u. Loop line (expr_tree test.now) u (block_tree body.now)) (λ u. refl) old new took
-      (λ heap. no_value old none (seen vs ss heap) line (loop_effect line (expr_tree test.now) (block_tree body.now)) (λ u. Loop line (expr_tree test.now) u (block_tree body.now))) step
+      reduces sight line (λ u. loop_task line test u body) (λ u. Loop line (expr_tree test.now) u (block_tree body.now)) (λ u. refl) old new took
+      (no_value old none sight line (loop_effect line (expr_tree test.now) (block_tree body.now)) (λ u. Loop line (expr_tree test.now) u (block_tree body.now))) step
 
-  pub return_reduces : ((c : Constant) → old ≡ term.Named c → ⊥) → ((x : Bor Identifier) → old ≡ term.Read x → ⊥) → HasEffect vs ss (return_task line old) (reduced line took) (return_task line new)
+  pub return_reduces : ((c : Constant) → old ≡ term.Named c → ⊥) → ((x : Bor Identifier) → old ≡ term.Read x → ⊥) → HasEffect sight (return_task line old) (reduced line took) (return_task line new)
   return_reduces no_constant no_name =
-      reduces vs ss line (return_task line) (ReturnValue line) (λ t. refl) old new took (λ heap. no_name_returned (seen vs ss heap) line old none no_constant no_name) step
+      reduces sight line (return_task line) (ReturnValue line) (λ t. refl) old new took (no_name_returned sight line old none no_constant no_name) step

@@ -2,9 +2,7 @@
 use Rattle.std.specs.Prelude.{◌≡◌, ℕ, [], ◌∷◌, ◌++◌}
 use Rattle.syntax.specs.Views.{element_tree}
 use Rattle.source.specs.Effect.{Effect, Becomes, Sets, SetsNull, SetsElement, MakesArray, Prints, Returns, TrapsAt, NoEffect, effect_of}
-use Rattle.source.specs.Heap.{Heap}
-use Rattle.source.specs.Sight.{seen}
-use Rattle.source.specs.Variable.{Variables, Statics}
+use Rattle.source.specs.Sight.{Sight}
 use Rattle.tasks.specs.declared.outcome.Outcome.{Outcome}
 use Rattle.tasks.specs.declared.outcome.Outcome.TheVariants as outcome
 use Rattle.terms.specs.declared.reduction.Reduction.{Reduction as ReductionInMemory}
@@ -55,9 +53,9 @@ IsEvaluation (task.Print e) = Unit {0}
 IsEvaluation (task.ReturnValue e) = Unit {0}
 IsEvaluation t = ⊥
 
--- with these variables and statics, what a step in memory did is the effect of the task, which is no call
-abbrev pub HasEffect : Variables → Statics → TaskInMemory → Outcome → TaskInMemory → Type 0
-HasEffect vs ss old (outcome.Gives to g) new = ⊥
-HasEffect vs ss old (outcome.Tests line zero b other) new = ⊥
-HasEffect vs ss old (outcome.Trapped trap line) new = ((heap : Heap) → effect_of (seen vs ss heap) (task_view old) ≡ TrapsAt (trap_view trap) line) × (task_view new ≡ task_view old)
-HasEffect vs ss old took new = (heap : Heap) → effect_of (seen vs ss heap) (task_view old) ≡ effect_by took new
+-- where this can be seen, what a step in memory did is the effect of the task, which is no call
+abbrev pub HasEffect : Sight → TaskInMemory → Outcome → TaskInMemory → Type 0
+HasEffect sight old (outcome.Gives to g) new = ⊥
+HasEffect sight old (outcome.Tests line zero b other) new = ⊥
+HasEffect sight old (outcome.Trapped trap line) new = (effect_of sight (task_view old) ≡ TrapsAt (trap_view trap) line) × (task_view new ≡ task_view old)
+HasEffect sight old took new = effect_of sight (task_view old) ≡ effect_by took new

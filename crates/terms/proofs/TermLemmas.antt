@@ -5,12 +5,10 @@ use Rattle.syntax.specs.declared.expr.BinaryOp.TheVariants as binary
 use Rattle.syntax.specs.Parts.{null_tested}
 use Rattle.syntax.specs.Tree.{Expr, Binary}
 use Rattle.syntax.specs.Views.{binary_tree}
-use Rattle.source.specs.Heap.{Heap}
-use Rattle.source.specs.Sight.{seen}
+use Rattle.source.specs.Sight.{Sight}
 use Rattle.source.specs.Term as tree
 use Rattle.source.specs.Term.{Reduction, binary_term, with_part, done, reduce}
 use Rattle.source.specs.Value.{Value, Gives, outcome_map}
-use Rattle.source.specs.Variable.{Variables, Statics}
 use Rattle.terms.specs.declared.reduction.Reduction.{Reduction as ReductionInMemory}
 use Rattle.terms.specs.declared.reduction.Reduction.TheVariants as reduction
 use Rattle.terms.specs.declared.term.Term.{Term}
@@ -84,22 +82,21 @@ unfinished (term.And' p s q t) none_yet use_value whole step = refl
 unfinished (term.Or' p s q t) none_yet use_value whole step = refl
 unfinished (term.Binary' op p s q t) none_yet use_value whole step = refl
 
-module _ (vs : Variables) (ss : Statics) where
+module _ (sight : Sight) where
   -- the value takes its place
-  pub replaced : (old new : Term) (value : Evaluated) (took : ReductionInMemory) → IsReplaced old value took new
-      → ((heap : Heap) → reduce (seen vs ss heap) (term_view old) ≡ done (evaluated_view value)) → Reduces vs ss old took new
+  pub replaced : (old new : Term) (value : Evaluated) (took : ReductionInMemory) → IsReplaced old value took new → reduce sight (term_view old) ≡ done (evaluated_view value) → Reduces sight old took new
   replaced old new (evaluated.Gives v) took is value = rw (is.0, is.1) value
   replaced old new (evaluated.Traps trap) took is value = rw (is.0, is.1) (value, refl)
   replaced old new evaluated.Stuck took is value = rw is.0 value
 
   -- what a step makes of a part, it makes of the whole
   pub inside : (part in_use changed old : Term) (took : ReductionInMemory) (remade : Term → Term) (whole : tree.Term → tree.Term)
-      → ((heap : Heap) → reduce (seen vs ss heap) (term_view (remade part)) ≡ outcome_map whole (reduce (seen vs ss heap) (term_view part)))
+      → reduce sight (term_view (remade part)) ≡ outcome_map whole (reduce sight (term_view part))
       → ((t : Term) → term_view (remade t) ≡ whole (term_view t)) → old ≡ remade part → in_use ≡ part
-      → Reduces vs ss in_use took changed → Reduces vs ss old took (remade changed)
+      → Reduces sight in_use took changed → Reduces sight old took (remade changed)
   inside part in_use changed old reduction.Reduced remade whole step view is same took =
-      λ heap. ap (λ t. reduce (seen vs ss heap) (term_view t)) is ∙ step heap ∙ ap (outcome_map whole) (ap (λ t. reduce (seen vs ss heap) (term_view t)) (sym same) ∙ took heap) ∙ ap Gives (sym (view changed))
+      ap (λ t. reduce sight (term_view t)) is ∙ step ∙ ap (outcome_map whole) (ap (λ t. reduce sight (term_view t)) (sym same) ∙ took) ∙ ap Gives (sym (view changed))
   inside part in_use changed old (reduction.Trapped trap) remade whole step view is same took =
-      (λ heap. ap (λ t. reduce (seen vs ss heap) (term_view t)) is ∙ step heap ∙ ap (outcome_map whole) (ap (λ t. reduce (seen vs ss heap) (term_view t)) (sym same) ∙ took.0 heap), ap remade (took.1 ∙ same) ∙ sym is)
+      (ap (λ t. reduce sight (term_view t)) is ∙ step ∙ ap (outcome_map whole) (ap (λ t. reduce sight (term_view t)) (sym same) ∙ took.0), ap remade (took.1 ∙ same) ∙ sym is)
   inside part in_use changed old reduction.Stuck remade whole step view is same took =
-      λ heap. ap (λ t. reduce (seen vs ss heap) (term_view t)) is ∙ step heap ∙ ap (outcome_map whole) (ap (λ t. reduce (seen vs ss heap) (term_view t)) (sym same) ∙ took heap)
+      ap (λ t. reduce sight (term_view t)) is ∙ step ∙ ap (outcome_map whole) (ap (λ t. reduce sight (term_view t)) (sym same) ∙ took)

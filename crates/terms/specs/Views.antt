@@ -9,8 +9,7 @@ use Rattle.syntax.specs.Views.{argument_tree, constant_tree, element_tree, prefi
 use Rattle.syntax.specs.Limits.{number_limit}
 use Rattle.class_table.specs.FieldViews.{field_id_view}
 use Rattle.source.specs.CallEffects.{CallResult, NoResult, NullResult, ScalarResult, ReferenceResult, FieldResult}
-use Rattle.source.specs.Heap.{Heap}
-use Rattle.source.specs.Sight.{seen, in_range}
+use Rattle.source.specs.Sight.{Sight, in_range}
 use Rattle.source.specs.Task.{Operand, NumberOperand}
 use Rattle.source.specs.Task as task
 use Rattle.source.specs.Term.{Term, Done, Number, Named, Read, Element, IsNull, Prefix, And, Or, Binary, Reduction, binary_term, done, reduce}
@@ -213,11 +212,11 @@ IsReplaced old (evaluated.Gives v) took new = (took ≡ reduction.Reduced) × (n
 IsReplaced old (evaluated.Traps trap) took new = (took ≡ reduction.Trapped trap) × (new ≡ old)
 IsReplaced old evaluated.Stuck took new = (took ≡ reduction.Stuck) × (new ≡ old)
 
--- with these variables and statics, what a step in memory did is what a step of the language does
-abbrev pub Reduces : Variables → Statics → TermInMemory → ReductionInMemory → TermInMemory → Type 0
-Reduces vs ss old reduction.Reduced new = (heap : Heap) → reduce (seen vs ss heap) (term_view old) ≡ Gives (term_view new)
-Reduces vs ss old (reduction.Trapped trap) new = ((heap : Heap) → reduce (seen vs ss heap) (term_view old) ≡ Traps (trap_view trap)) × (new ≡ old)
-Reduces vs ss old reduction.Stuck new = (heap : Heap) → reduce (seen vs ss heap) (term_view old) ≡ Stuck
+-- where this can be seen, what a step in memory did is what a step of the language does
+abbrev pub Reduces : Sight → TermInMemory → ReductionInMemory → TermInMemory → Type 0
+Reduces sight old reduction.Reduced new = reduce sight (term_view old) ≡ Gives (term_view new)
+Reduces sight old (reduction.Trapped trap) new = (reduce sight (term_view old) ≡ Traps (trap_view trap)) × (new ≡ old)
+Reduces sight old reduction.Stuck new = reduce sight (term_view old) ≡ Stuck
 
 -- ---- calls
 

@@ -13,6 +13,7 @@ use crate::term::{Term, put_term};
 use crate::trap::Trap;
 use crate::value::{Evaluated, Value, binary_value, constant, literal, prefix_value};
 use crate::variable::Variables;
+use source::Objects;
 use std::mem;
 use syntax::BinaryOp;
 
@@ -99,13 +100,18 @@ fn operator_value(op: BinaryOp, left: &Term<'_>, right: &Term<'_>) -> Option<Eva
 }
 
 /// The value of a term whose parts have theirs; none where its right side decides.
-fn value_of(statics: &Statics<'_>, variables: &Variables<'_>, term: &Term<'_>) -> Option<Evaluated>
+fn value_of<O: Objects>(
+    objects: &O,
+    statics: &Statics<'_>,
+    variables: &Variables<'_>,
+    term: &Term<'_>,
+) -> Option<Evaluated>
     requires { NumbersInRange term.now }
-    ensures { HasValues term.now → (heap : Heap) → reduce (seen (variables_view variables.now) (statics.now) heap) (term_view term.now) ≡ decided result (right_side (term_view term.now)) }
+    ensures { HasValues term.now → reduce (seen (variables_view variables.now) (statics.now) (O.heap objects.now)) (term_view term.now) ≡ decided result (right_side (term_view term.now)) }
 {
     match term {
         Term::Element(name, i) => match **i {
-            Term::Done(i) => Some(element_in(variables, name, i)),
+            Term::Done(i) => Some(element_in(objects, variables, name, i)),
             _ => None,
         },
         Term::Prefix(op, a) => match **a {
@@ -145,13 +151,18 @@ fn replace_by_right(term: &mut Term<'_>)
 }
 
 /// Replaces a term whose parts have their values.
-fn settle(statics: &Statics<'_>, variables: &Variables<'_>, term: &mut Term<'_>) -> Reduction
+fn settle<O: Objects>(
+    objects: &O,
+    statics: &Statics<'_>,
+    variables: &Variables<'_>,
+    term: &mut Term<'_>,
+) -> Reduction
     requires numbers { NumbersInRange term.old }
     requires values { HasValues term.old }
-    ensures step { Reduces (variables_view variables.now) (statics.now) term.old result term.new }
+    ensures step { Reduces (seen (variables_view variables.now) (statics.now) (O.heap objects.now)) term.old result term.new }
     ensures numbers { NumbersInRange term.new }
 {
-    match value_of(statics, variables, term) {
+    match value_of(objects, statics, variables, term) {
         Some(value) => replace(term, value),
         None => {
             replace_by_right(term);
@@ -184,19 +195,24 @@ fn has_values(term: &Term<'_>) -> bool
 /// Reduces the leftmost part of a term that has no value yet.
 #[inline]
 #[cycle(reduce)]
-fn reduce_part(statics: &Statics<'_>, variables: &Variables<'_>, term: &mut Term<'_>) -> Reduction
+fn reduce_part<O: Objects>(
+    objects: &O,
+    statics: &Statics<'_>,
+    variables: &Variables<'_>,
+    term: &mut Term<'_>,
+) -> Reduction
     requires numbers { NumbersInRange term.old }
     requires part { HasValues term.old → ⊥ }
-    ensures step { Reduces (variables_view variables.now) (statics.now) term.old result term.new }
+    ensures step { Reduces (seen (variables_view variables.now) (statics.now) (O.heap objects.now)) term.old result term.new }
     ensures numbers { NumbersInRange term.new }
 {
     match term {
-        Term::Element(_, i) => reduce(statics, variables, i),
-        Term::Prefix(_, a) => reduce(statics, variables, a),
-        Term::And(a, _) => reduce(statics, variables, a),
-        Term::Or(a, _) => reduce(statics, variables, a),
-        Term::Binary(_, a, _) if !is_value(a) => reduce(statics, variables, a),
-        Term::Binary(_, _, b) => reduce(statics, variables, b),
+        Term::Element(_, i) => reduce(objects, statics, variables, i),
+        Term::Prefix(_, a) => reduce(objects, statics, variables, a),
+        Term::And(a, _) => reduce(objects, statics, variables, a),
+        Term::Or(a, _) => reduce(objects, statics, variables, a),
+        Term::Binary(_, a, _) if !is_value(a) => reduce(objects, statics, variables, a),
+        Term::Binary(_, _, b) => reduce(objects, statics, variables, b),
         _ => unreachable!(),
     }
 }
@@ -204,14 +220,19 @@ fn reduce_part(statics: &Statics<'_>, variables: &Variables<'_>, term: &mut Term
 /// Replaces the leftmost part that can be reduced by its value, or by the right side of `&&` or `||`.
 /// It walks to that part, through at most as many terms as the tree is high.
 #[cycle(reduce)]
-pub fn reduce(statics: &Statics<'_>, variables: &Variables<'_>, term: &mut Term<'_>) -> Reduction
+pub fn reduce<O: Objects>(
+    objects: &O,
+    statics: &Statics<'_>,
+    variables: &Variables<'_>,
+    term: &mut Term<'_>,
+) -> Reduction
     requires { NumbersInRange term.old }
-    ensures step { Reduces (variables_view variables.now) (statics.now) term.old result term.new }
+    ensures step { Reduces (seen (variables_view variables.now) (statics.now) (O.heap objects.now)) term.old result term.new }
     ensures numbers { NumbersInRange term.new }
 {
     if has_values(term) {
-        settle(statics, variables, term)
+        settle(objects, statics, variables, term)
     } else {
-        reduce_part(statics, variables, term)
+        reduce_part(objects, statics, variables, term)
     }
 }

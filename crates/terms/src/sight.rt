@@ -14,6 +14,7 @@ use crate::statics::{Statics, is_empty};
 use crate::trap::Trap;
 use crate::value::{Evaluated, Value, truth};
 use crate::variable::{Content, Variables};
+use source::Objects;
 use syntax::Name;
 
 /// The value of a number variable.
@@ -108,9 +109,13 @@ fn index_of(v: Value) -> Indexed
     }
 }
 
-/// The numbers of the array of this name.
-fn numbers_in<'v>(variables: &'v Variables<'_>, name: &Name) -> Option<&'v [i32]>
-    ensures { (heap : Heap) → if_there (option_map (λ n. n.now) result) ≡ elements_of heap (lookup name.now (variables_view variables.now)) }
+/// The numbers of the array of this name. No variable shows those of an object today.
+fn numbers_in<'v, O: Objects>(
+    _objects: &O,
+    variables: &'v Variables<'_>,
+    name: &Name,
+) -> Option<&'v [i32]>
+    ensures { if_there (option_map (λ n. n.now) result) ≡ elements_of (O.heap _objects.now) (lookup name.now (variables_view variables.now)) }
 {
     match variables.content_of(name) {
         None => None,
@@ -124,11 +129,16 @@ fn numbers_in<'v>(variables: &'v Variables<'_>, name: &Name) -> Option<&'v [i32]
 
 /// The place of an element of the array of this name.
 #[tactic(auto, using(crate::proofs::SightLemmas::place_rules))]
-pub fn place_in(variables: &Variables<'_>, name: &Name, v: Value) -> Indexed
-    ensures { (heap : Heap) → indexed_view result ≡ place_in (elements_of heap (lookup name.now (variables_view variables.now))) (index_of (value_view v)) }
+pub fn place_in<O: Objects>(
+    objects: &O,
+    variables: &Variables<'_>,
+    name: &Name,
+    v: Value,
+) -> Indexed
+    ensures { indexed_view result ≡ place_in (elements_of (O.heap objects.now) (lookup name.now (variables_view variables.now))) (index_of (value_view v)) }
 {
     match index_of(v) {
-        Indexed::At(i) => match numbers_in(variables, name) {
+        Indexed::At(i) => match numbers_in(objects, variables, name) {
             None => Indexed::Stuck,
             Some(numbers) => {
                 if i < numbers.len() {
@@ -144,10 +154,15 @@ pub fn place_in(variables: &Variables<'_>, name: &Name, v: Value) -> Indexed
 }
 
 /// The element at a place of the array of this name.
-fn element_at(variables: &Variables<'_>, name: &Name, i: usize) -> Evaluated
-    ensures { (heap : Heap) → evaluated_view result ≡ outcome_map Int (outcome_then (λ zs. in_range (slice_get zs i)) (elements_of heap (lookup name.now (variables_view variables.now)))) }
+fn element_at<O: Objects>(
+    objects: &O,
+    variables: &Variables<'_>,
+    name: &Name,
+    i: usize,
+) -> Evaluated
+    ensures { evaluated_view result ≡ outcome_map Int (outcome_then (λ zs. in_range (slice_get zs i)) (elements_of (O.heap objects.now) (lookup name.now (variables_view variables.now)))) }
 {
-    match numbers_in(variables, name) {
+    match numbers_in(objects, variables, name) {
         None => Evaluated::Stuck,
         Some(numbers) => match numbers.get(i) {
             Some(number) => Evaluated::Gives(Value::Int(*number)),
@@ -157,11 +172,16 @@ fn element_at(variables: &Variables<'_>, name: &Name, i: usize) -> Evaluated
 }
 
 /// An element of the array of this name.
-pub(crate) fn element_in(variables: &Variables<'_>, name: &Name, v: Value) -> Evaluated
-    ensures { (statics : Statics) (heap : Heap) → evaluated_view result ≡ element_value (seen (variables_view variables.now) statics heap) name.now (value_view v) }
+pub(crate) fn element_in<O: Objects>(
+    objects: &O,
+    variables: &Variables<'_>,
+    name: &Name,
+    v: Value,
+) -> Evaluated
+    ensures { (statics : Statics) → evaluated_view result ≡ element_value (seen (variables_view variables.now) statics (O.heap objects.now)) name.now (value_view v) }
 {
     match index_of(v) {
-        Indexed::At(i) => element_at(variables, name, i),
+        Indexed::At(i) => element_at(objects, variables, name, i),
         Indexed::Traps(trap) => Evaluated::Traps(trap),
         Indexed::Stuck => Evaluated::Stuck,
     }

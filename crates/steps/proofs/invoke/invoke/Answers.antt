@@ -1,10 +1,9 @@
 use Rattle.std.proofs.Common.{sym, subst}
-use Rattle.replay_calls.specs.Shares.{shared_view}
+use Rattle.replay_calls.specs.Shares.{shared_view, sight_in}
 use Rattle.steps.specs.Steps.{Does, Scene, scene_with}
 use Rattle.tasks.specs.Effects.{HasEffect}
 use Rattle.tasks.specs.declared.outcome.Outcome.{Outcome}
 use Rattle.tasks.specs.declared.task.Task.TheVariants as task
-use Rattle.terms.specs.Views.{variables_view}
 use Rattle.std.proofs.lemmas.Result.{IfOk-weaker}
 use Rattle.steps.proofs.Invocations.{invocation_does, number_reduces}
 use Rattle.steps.proofs.TaskLemmas.{does_unless}
@@ -19,8 +18,8 @@ returns-in-Some-clause-step c =
     let left = c.in-Some.ensures in
     subst (λ (took : Outcome). Does c.args.refused scene (task.Invoke i) took scene (task.Invoke c.reduce_number.new.i)) (sym c.unless_refused.ensures.step)
     (does_unless scene (task.Invoke i) (task.Invoke c.reduce_number.new.i) c.args.refused c.reduced.result
-    (subst (λ (took : Outcome). HasEffect (variables_view vs) s.statics (task.Invoke i) took (task.Invoke c.reduce_number.new.i)) (sym c.reduced.ensures.view)
-    (number_reduces (variables_view vs) s.statics i c.reduce_number.new.i left.line left.purpose left.function c.in-Some.reduction left.step)))
+    (subst (λ (took : Outcome). HasEffect (sight_in s vs) (task.Invoke i) took (task.Invoke c.reduce_number.new.i)) (sym c.reduced.ensures.view)
+    (number_reduces (sight_in s vs) i c.reduce_number.new.i left.line left.purpose left.function c.in-Some.reduction left.step)))
 
 pub returns-clause-step : goal.returns-clause-step
 returns-clause-step c =

@@ -2,20 +2,21 @@ use Rattle.std.proofs.Common.{◌≡◌, true, false}
 use Rattle.source.specs.Task.{EndIf}
 use Rattle.terms.specs.declared.term.Term.TheVariants as term
 use Rattle.terms.specs.declared.value.Value.TheVariants as value
+use Rattle.source.specs.Sight.{seen}
 use Rattle.terms.specs.Views.{variables_view}
 use Rattle.tasks.proofs.EffectLemmas.{block_entered, else_entered, branch_reduces}
 use Rattle.tasks.proofs.step.branch.Goals as goal
 
 pub returns-in_default-clause-step : goal.returns-in_default-clause-step
-returns-in_default-clause-step c =
-    rw c.reduced.ensures.view (branch_reduces (variables_view c.args.variables.now) c.args.statics.now c.args.choice.now.line _ _ _ c.in_default.not-Done c.reduce.ensures.step c.args.choice.now.block c.args.choice.now.otherwise)
+returns-in_default-clause-step g c =
+    rw c.reduced.ensures.view (branch_reduces (seen (variables_view c.args.variables.now) c.args.statics.now (g.O.Objects.heap c.args.objects.now)) c.args.choice.now.line _ _ _ c.in_default.not-Done c.reduce.ensures.step c.args.choice.now.block c.args.choice.now.otherwise)
 
 pub returns-in-Truth-true-clause-step : goal.returns-in-Truth-true-clause-step
-returns-in-Truth-true-clause-step c =
+returns-in-Truth-true-clause-step g c =
     let shape : c.args.choice.now.test ≡ term.Done (value.Truth true) = cc in
-    λ heap. rw shape (block_entered c.args.choice.now.block EndIf)
+    rw shape (block_entered c.args.choice.now.block EndIf)
 
 pub returns-in-Truth-false-clause-step : goal.returns-in-Truth-false-clause-step
-returns-in-Truth-false-clause-step c =
+returns-in-Truth-false-clause-step g c =
     let shape : c.args.choice.now.test ≡ term.Done (value.Truth false) = cc in
-    λ heap. rw shape (else_entered c.args.choice.now.line c.args.choice.now.otherwise EndIf)
+    rw shape (else_entered c.args.choice.now.line c.args.choice.now.otherwise EndIf)

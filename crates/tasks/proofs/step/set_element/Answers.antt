@@ -1,6 +1,7 @@
 use Rattle.std.proofs.Common.{sym, subst}
 use Rattle.terms.specs.declared.term.Term.{Term}
 use Rattle.terms.specs.declared.term.Term.TheVariants as term
+use Rattle.source.specs.Sight.{seen}
 use Rattle.terms.specs.Views.{variables_view}
 use Rattle.tasks.specs.Tasks.{element_task}
 use Rattle.tasks.specs.Effects.{HasEffect}
@@ -8,11 +9,11 @@ use Rattle.tasks.proofs.EffectLemmas.{index_reduces}
 use Rattle.tasks.proofs.step.set_element.Goals as goal
 
 pub returns-in-Done-clause-step : goal.returns-in-Done-clause-step
-returns-in-Done-clause-step c =
+returns-in-Done-clause-step g c =
     let a = c.args.a.now in
-    subst (λ (i : Term). HasEffect (variables_view c.args.variables.now) c.args.statics.now (element_task a.line a.name i a.number) c.set_at.result (element_task a.line a.name (term.Done c.in-Done.index) c.set_at.new.t)) (sym c.in-Done.is) c.set_at.ensures.step
+    subst (λ (i : Term). HasEffect (seen (variables_view c.args.variables.now) c.args.statics.now (g.O.Objects.heap c.args.objects.now)) (element_task a.line a.name i a.number) c.set_at.result (element_task a.line a.name (term.Done c.in-Done.index) c.set_at.new.t)) (sym c.in-Done.is) c.set_at.ensures.step
 
 pub returns-in_default-clause-step : goal.returns-in_default-clause-step
-returns-in_default-clause-step c =
+returns-in_default-clause-step g c =
     let a = c.args.a.now in
-    rw c.reduced.ensures.view (index_reduces (variables_view c.args.variables.now) c.args.statics.now a.line _ _ _ c.in_default.not-Done c.reduce.ensures.step a.name a.number)
+    rw c.reduced.ensures.view (index_reduces (seen (variables_view c.args.variables.now) c.args.statics.now (g.O.Objects.heap c.args.objects.now)) a.line _ _ _ c.in_default.not-Done c.reduce.ensures.step a.name a.number)

@@ -6,19 +6,23 @@ use Rattle.tasks.proofs.EffectLemmas.{written_at}
 use Rattle.tasks.proofs.step.write.Goals as goal
 
 pub returns-in-At-clause-step : goal.returns-in-At-clause-step
-returns-in-At-clause-step c =
-    λ statics heap. written_at (variables_view c.args.variables.now) statics heap c.args.line c.args.name.now c.args.index c.args.number c.in-Int.z c.place_in.result c.in-Int.is (c.place_in.ensures heap)
+returns-in-At-clause-step g c =
+    let heap = g.O.Objects.heap c.args.objects.now in
+    λ statics. written_at (variables_view c.args.variables.now) statics heap c.args.line c.args.name.now c.args.index c.args.number c.in-Int.z c.place_in.result c.in-Int.is c.place_in.ensures
     ∙ ap (λ (place : Indexed). at_line c.args.line (λ n. SetsElement c.args.name.now n c.in-Int.z) (indexed_view place)) c.in-At.is
     ∙ search rules
 
 pub returns-in-Traps-clause-step : goal.returns-in-Traps-clause-step
-returns-in-Traps-clause-step c = λ statics. (
-  λ heap. written_at (variables_view c.args.variables.now) statics heap c.args.line c.args.name.now c.args.index c.args.number c.in-Int.z c.place_in.result c.in-Int.is (c.place_in.ensures heap)
-      ∙ ap (λ (place : Indexed). at_line c.args.line (λ n. SetsElement c.args.name.now n c.in-Int.z) (indexed_view place)) c.in-Traps.is,
-  refl,
-)
+returns-in-Traps-clause-step g c =
+    let heap = g.O.Objects.heap c.args.objects.now in
+    λ statics. (
+      written_at (variables_view c.args.variables.now) statics heap c.args.line c.args.name.now c.args.index c.args.number c.in-Int.z c.place_in.result c.in-Int.is c.place_in.ensures
+          ∙ ap (λ (place : Indexed). at_line c.args.line (λ n. SetsElement c.args.name.now n c.in-Int.z) (indexed_view place)) c.in-Traps.is,
+      refl,
+    )
 
 pub returns-in-Stuck-clause-step : goal.returns-in-Stuck-clause-step
-returns-in-Stuck-clause-step c =
-    λ statics heap. written_at (variables_view c.args.variables.now) statics heap c.args.line c.args.name.now c.args.index c.args.number c.in-Int.z c.place_in.result c.in-Int.is (c.place_in.ensures heap)
+returns-in-Stuck-clause-step g c =
+    let heap = g.O.Objects.heap c.args.objects.now in
+    λ statics. written_at (variables_view c.args.variables.now) statics heap c.args.line c.args.name.now c.args.index c.args.number c.in-Int.z c.place_in.result c.in-Int.is c.place_in.ensures
     ∙ ap (λ (place : Indexed). at_line c.args.line (λ n. SetsElement c.args.name.now n c.in-Int.z) (indexed_view place)) c.in-Stuck.is

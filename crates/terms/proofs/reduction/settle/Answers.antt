@@ -1,4 +1,5 @@
 use Rattle.std.proofs.Common.{Option, ap, sym, ◌∙◌}
+use Rattle.source.specs.Sight.{seen}
 use Rattle.source.specs.Value.{Gives}
 use Rattle.terms.specs.declared.value.Evaluated.{Evaluated}
 use Rattle.terms.specs.Views.{term_view, variables_view, decided, right_side}
@@ -6,11 +7,11 @@ use Rattle.terms.proofs.TermLemmas.{replaced}
 use Rattle.terms.proofs.reduction.settle.Goals as goal
 
 pub returns-in-Some-clause-step : goal.returns-in-Some-clause-step
-returns-in-Some-clause-step c =
-    replaced (variables_view c.args.variables.now) c.args.statics.now c.args.term.now c.replace.new.term c.in-Some.value c.replace.result c.replace.ensures
-    (λ heap. c.value_of.ensures c.requires.values heap ∙ ap (λ (o : Option Evaluated). decided o (right_side (term_view c.args.term.now))) c.in-Some.is)
+returns-in-Some-clause-step g c =
+    replaced (seen (variables_view c.args.variables.now) c.args.statics.now (g.O.Objects.heap c.args.objects.now)) c.args.term.now c.replace.new.term c.in-Some.value c.replace.result c.replace.ensures
+    (c.value_of.ensures c.requires.values ∙ ap (λ (o : Option Evaluated). decided o (right_side (term_view c.args.term.now))) c.in-Some.is)
 
 pub returns-in-None-clause-step : goal.returns-in-None-clause-step
-returns-in-None-clause-step c = λ heap.
-    c.value_of.ensures c.requires.values heap ∙ ap (λ (o : Option Evaluated). decided o (right_side (term_view c.args.term.now))) c.in-None.is
+returns-in-None-clause-step g c =
+    c.value_of.ensures c.requires.values ∙ ap (λ (o : Option Evaluated). decided o (right_side (term_view c.args.term.now))) c.in-None.is
     ∙ ap Gives (sym c.replace_by_right.ensures.view)
