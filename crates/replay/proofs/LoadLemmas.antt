@@ -85,7 +85,8 @@ module _ (unit : SourceUnit) (classes : Classes) where
     calls = sym h.same;
     loads = subst (λ (cs : List Invocation). IsTrue (list_all (call_loads unit classes) cs)) (sym h.same) (all_pass (call_loads unit classes) calls none);
     tasks = ap tasks_in (sym h.idle);
-    work = subst (λ (o : Option Activation). WorkStands o (waiting_thread calls)) (sym h.idle) (refl, refl, refl);
+    work = subst (λ (o : Option Activation). WorkStands o (waiting_thread calls)) (sym h.idle) (refl, refl);
+    pending = sym h.calm;
     ending = ap ending_view (sym h.unended);
   }
 

@@ -13,7 +13,6 @@ use Rattle.source.specs.Thread.{Frame, Monitor, Shared, Thread, viewed_by}
 use Rattle.source.specs.Variable.{Variable, Variables, viewed}
 use Rattle.source.specs.World.{World}
 use Rattle.steps.specs.declared.activation.Activation.{Activation}
-use Rattle.object_store.specs.Frames.{references_in}
 use Rattle.terms.specs.declared.variable.Content.{Content}
 use Rattle.terms.specs.declared.variable.Content.TheVariants as content
 use Rattle.terms.specs.Views.{Contents, content_view, variable_view, variables_view}
@@ -21,7 +20,7 @@ use Rattle.threads.specs.declared.state.State.{State as StateInMemory}
 use Rattle.threads.specs.declared.thread.Thread.{Thread as ThreadInMemory}
 use Rattle.threads.specs.Rows.{thread_names, activation_names}
 use Rattle.threads.specs.States.{Stands, ThreadsStand}
-use Rattle.threads.specs.Threads.{WorkStands}
+use Rattle.threads.specs.Threads.{ThreadStands, WorkStands}
 
 -- ---- no variable is a view
 
@@ -44,17 +43,18 @@ variables_viewless (v ∷ vs) =
 
 viewless : (o : Option Activation) (s : Thread) → WorkStands o s → viewed_by s ≡ []
 viewless None s h = ap views_in h.0
-viewless (Some a) s h = ap views_in h.0 ∙ variables_viewless a.variables
+viewless (Some a) s h = ap views_in h.0 ∙ variables_viewless a.locals.variables
 
 -- ---- what a thread refers to
 
-names_are : (o : Option Activation) (s : Thread) → WorkStands o s → thread_roots s ≡ activation_names o
-names_are None s h =
-    ap (λ (fs : List Frame). flat_map (λ (f : Frame). f.references) fs ++ option_to_list s.pending) h.1
-    ∙ ap (λ (r : Reference). option_to_list r) h.2
-names_are (Some a) s h =
-    ap (λ (fs : List Frame). flat_map (λ (f : Frame). f.references) fs ++ option_to_list s.pending) h.1
-    ∙ ap (λ (r : Reference). references_in a.frames ++ option_to_list r) h.2
+frame_names : (o : Option Activation) (s : Thread) → WorkStands o s → flat_map (λ (f : Frame). f.references) s.frames ≡ activation_names o
+frame_names None s h = ap (λ (fs : List Frame). flat_map (λ (f : Frame). f.references) fs) h.1
+frame_names (Some a) s h = ap (λ (fs : List Frame). flat_map (λ (f : Frame). f.references) fs) h.1
+
+names_are : (unit : SourceUnit) (classes : Classes) (t : ThreadInMemory) (s : Thread) → ThreadStands unit classes t s → thread_roots s ≡ thread_names t
+names_are unit classes t s h =
+    ap (λ (l : List ℕ). l ++ option_to_list s.pending) (frame_names t.activation s h.work)
+    ∙ ap (λ (r : Reference). activation_names t.activation ++ option_to_list r) h.pending
 
 module _ (unit : SourceUnit) (classes : Classes) where
   views_none : (ts : List ThreadInMemory) (ss : List Thread) → ThreadsStand unit classes ts ss → flat_map viewed_by ss ≡ []
@@ -72,7 +72,7 @@ module _ (unit : SourceUnit) (classes : Classes) where
   all_names (t ∷ ts) [] h = absurd h
   all_names (t ∷ ts) (s ∷ ss) h =
       flat_map-cons thread_roots s ss
-      ∙ ap (λ (l : List ℕ). l ++ flat_map thread_roots ss) (names_are t.activation s (h.0).work)
+      ∙ ap (λ (l : List ℕ). l ++ flat_map thread_roots ss) (names_are unit classes t s h.0)
       ∙ ap (λ (l : List ℕ). thread_names t ++ l) (all_names ts ss h.1)
       ∙ sym (flat_map-cons thread_names t ts)
 

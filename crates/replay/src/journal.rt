@@ -14,14 +14,14 @@ use crate::fault::ReplayFault;
 use crate::load::start;
 use crate::trap_at::TrapAt;
 use functions::Functions;
-use object_store::made_before;
+use object_store::{Store, made_before};
 use reached::{ReachedRows, reached_rows};
 use region_rules::Checked;
 use report::{Sink, write_run};
 use source::Entry;
 use std::alloc::{AllocError, Global};
 use terms::trap_number;
-use threads::{NamedObjects, State, Stop, root_names, standings_of, take_entry};
+use threads::{State, Stop, root_names, standings_of, take_entry};
 use world::World;
 
 /// Takes the entries of a journal.
@@ -50,24 +50,25 @@ fn follow<'a>(
 }
 
 /// The rows of what the threads of a state refer to. These are its objects.
-fn rows_of<'r>(
-    alloc: Global,
-    state: &'r State<'_>,
-    objects: &'r NamedObjects<'r>,
-) -> Result<ReachedRows<'r, NamedObjects<'r>>, AllocError>
-    requires { objects.now.store.now ≡ state.now.shared.store }
+fn rows_of<'r>(alloc: Global, state: &'r State<'_>) -> Result<ReachedRows<'r, Store>, AllocError>
     ensures { IfOk result (ShowsRows state.now) }
 {
     let names = root_names(alloc, &state.shared.globals, &state.threads)?;
     let loaded = made_before(state.world) + state.world.objects().len();
-    reached_rows(alloc, state.world.classes(), objects, loaded, &names)
+    reached_rows(
+        alloc,
+        state.world.classes(),
+        &state.shared.store,
+        loaded,
+        &names,
+    )
 }
 
 /// Writes the report of the state that a journal led to, with these rows, and the journal.
 fn write_rows<W: Sink>(
     alloc: Global,
     state: &State<'_>,
-    rows: &ReachedRows<'_, NamedObjects<'_>>,
+    rows: &ReachedRows<'_, Store>,
     journal: &[Entry],
     out: &mut W,
 ) -> Result<(), ReplayFault>
@@ -95,10 +96,7 @@ fn write_report<W: Sink>(
     requires { CanFail (W.written out.old) }
     ensures { WritesState state.now journal.now (W.written out.old) (W.written out.new) result }
 {
-    let objects = NamedObjects {
-        store: &state.shared.store,
-    };
-    match rows_of(alloc, state, &objects) {
+    match rows_of(alloc, state) {
         Ok(rows) => write_rows(alloc, state, &rows, journal, out),
         Err(_) => Err(ReplayFault::Memory),
     }

@@ -118,6 +118,7 @@ fn waiting<'a>(calls: &'a [Call]) -> Thread<'a>
     Thread {
         calls,
         activation: None,
+        pending: None,
         ending: Ending::Unfinished,
     }
 }

@@ -39,10 +39,10 @@ use Rattle.steps.specs.Calls.{MakesCall}
 use Rattle.replay_calls.specs.Checked.{fit_together, trap_found}
 use Rattle.object_store.specs.Frames.{new_frame}
 use Rattle.tasks.specs.Outcomes.{outcome_for, purpose_view}
-use Rattle.steps.specs.Steps.{Scene, Sees, in_frames, left_by, scene_with}
+use Rattle.steps.specs.Steps.{Scene, Sees, left_by, scene_with}
 use Rattle.tasks.specs.Tasks.{task_view}
 use Rattle.replay_calls.specs.WorkedOut.{ensured, found_class, found_field, global_deleted, local_deleted, made_global, pushed, worked_out}
-use Rattle.steps.proofs.TaskLemmas.{same_frames, same_thread}
+use Rattle.steps.proofs.TaskLemmas.{same_thread}
 
 -- ---- checks
 
@@ -121,6 +121,21 @@ not_told (b ∷ x) (given.Number z) vs = refl
 not_told (b ∷ x) (given.Flag c) vs = refl
 not_told (b ∷ x) (given.Reference r) vs = refl
 not_told (b ∷ x) (given.Field f) vs = refl
+
+-- a thread with these frames and this pending exception
+abbrev in_frames : Thread → List Frame → Reference → Thread
+in_frames t frames pending = record t { frames = frames; pending = pending }
+
+-- the thread before a call
+as_it_is : (t : Thread) (frames : List Frame) (pending : Reference) → t.frames ≡ frames → t.pending ≡ pending → t ≡ in_frames t frames pending
+as_it_is t frames pending framed is =
+    ap (λ (fs : List Frame). let u : Thread = record t { frames = fs } in u) framed
+    ∙ ap (λ (r : Reference). let u : Thread = record t { frames = frames; pending = r } in u) is
+
+-- its variables are as they were
+in_variables : (k : ℕ) (s : Shared) (t : Thread) (vs : Contents) (frames : List Frame) (pending : Reference) (rest : List Task) (took : Outcome) (new : TaskInMemory) → t.variables ≡ variables_view vs
+    → left_by k s (in_frames t frames pending) rest took new ≡ left_by k s (record t { variables = variables_view vs; frames = frames; pending = pending }) rest took new
+in_variables k s t vs frames pending rest took new same = ap (λ (us : Variables). let u : Thread = record t { variables = us; frames = frames; pending = pending } in left_by k s u rest took new) same
 
 -- the result goes into the current frame
 in_received : (kind : ResultKind) (g : Given) (t : Thread) (frames : List Frame) (pending : Reference) → received kind (given_view g) (in_frames t frames pending) ≡ in_frames t (frames_with kind (given_view g) frames) pending
@@ -213,9 +228,9 @@ module _ (classes : Classes) (in_use : BuffersInUse) (k : ℕ) (s : Shared) (t :
 
 -- ---- the call of a function that is built
 
-module _ (classes : Classes) (s : Shared) (vs : Contents) (frames : List Frame) (pending : Reference) (line : ℕ) (purpose : PurposeInMemory) (f : JniFunction) (args : List Actual) (built : is_built_function f ≡ true) where
+module _ (classes : Classes) (in_use : BuffersInUse) (k : ℕ) (s : Shared) (vs : Contents) (frames : List Frame) (pending : Reference) (line : ℕ) (purpose : PurposeInMemory) (f : JniFunction) (args : List Actual) (built : is_built_function f ≡ true) where
   abbrev scene : Scene
-  scene = scene_with classes s vs frames pending
+  scene = scene_with classes in_use k s vs frames pending
 
   abbrev trap : Option Trap
   trap = trap_found classes s.heap frames (is_some pending) f args
@@ -223,7 +238,7 @@ module _ (classes : Classes) (s : Shared) (vs : Contents) (frames : List Frame) 
   abbrev told : Answer
   told = worked_out classes s.heap (variables_view vs) frames args f
 
-  module _ (in_use : BuffersInUse) (k : ℕ) (t : Thread) (rest : List Task) (sees : Sees scene t) where
+  module _ (t : Thread) (rest : List Task) (sees : Sees scene t) where
     abbrev calls : Thread
     calls = in_frames t frames pending
 
@@ -240,7 +255,7 @@ module _ (classes : Classes) (s : Shared) (vs : Contents) (frames : List Frame) 
 
     by_trap : (refused : Bool) → call_step classes in_use k s t line (purpose_view line purpose) f args rest refused ≡ by_effect refused (checks trap)
     by_trap refused =
-        ap (λ (u : Thread). call_step classes in_use k s u line (purpose_view line purpose) f args rest refused) (same_frames t frames pending sees.frames sees.pending)
+        ap (λ (u : Thread). call_step classes in_use k s u line (purpose_view line purpose) f args rest refused) (as_it_is t frames pending sees.frames sees.pending)
         ∙ steps refused
         ∙ ap (λ (o : Option Trap). by_effect refused (checks o)) (trap_is classes s.heap (target_element t.variables (purpose_view line purpose)) args f calls built)
 
@@ -252,16 +267,17 @@ module _ (classes : Classes) (s : Shared) (vs : Contents) (frames : List Frame) 
 
   -- a trap
   call_traps : (found : TrapInMemory) → trap ≡ Some (trap_view found) → MakesCall false scene line purpose f args (outcome.Trapped found line) scene
-  call_traps found some = λ in_use k t rest new sees has.
-      by_trap in_use k t rest sees false
-      ∙ ap (λ (o : Option Trap). by_effect in_use k t rest sees false (checks in_use k t rest sees o)) some
+  call_traps found some = λ t rest new sees has.
+      by_trap t rest sees false
+      ∙ ap (λ (o : Option Trap). by_effect t rest sees false (checks t rest sees o)) some
       ∙ ap (λ (u : Thread). Advances s u (Trapped (trap_view found) line)) (same_thread (in_frames t frames pending) (task_view new ∷ rest) has)
+      ∙ in_variables k s t vs frames pending rest (outcome.Trapped found line) new sees.variables
 
   -- a call that traps has no object that can be refused
   trap_refuses : (found : Trap) → trap ≡ Some found → MakesCall true scene line purpose f args outcome.Impossible scene
-  trap_refuses found some = λ in_use k t rest new sees has.
-      by_trap in_use k t rest sees true
-      ∙ ap (λ (o : Option Trap). by_effect in_use k t rest sees true (checks in_use k t rest sees o)) some
+  trap_refuses found some = λ t rest new sees has.
+      by_trap t rest sees true
+      ∙ ap (λ (o : Option Trap). by_effect t rest sees true (checks t rest sees o)) some
 
   -- so it is, refused or not
   pub call_stopped : (refused : Bool) (found : TrapInMemory) → trap ≡ Some (trap_view found)
@@ -273,38 +289,40 @@ module _ (classes : Classes) (s : Shared) (vs : Contents) (frames : List Frame) 
     -- the call is made
     pub call_made : (a : Answer) (g : Given) → a ≡ told → given_view g ≡ given_after s.heap (prototype f).result a
         → MakesCall false scene line purpose f args (outcome_for line purpose g)
-        (scene_with classes (shared_after classes s a) vs (frames_with (prototype f).result (given_view g) (frames_after frames a)) (pending_after classes s.heap pending a))
-    call_made a g same given = λ in_use k t rest new sees has.
-        passed in_use k t rest sees false none
-        ∙ ap (λ (b : Answer). by_effect in_use k t rest sees false (effect_as classes s (in_frames t frames pending) b)) (sym same)
+        (scene_with classes in_use k (shared_after classes s a) vs (frames_with (prototype f).result (given_view g) (frames_after frames a)) (pending_after classes s.heap pending a))
+    call_made a g same given = λ t rest new sees has.
+        passed t rest sees false none
+        ∙ ap (λ (b : Answer). by_effect t rest sees false (effect_as classes s (in_frames t frames pending) b)) (sym same)
         ∙ answered classes in_use k s t line purpose f args rest frames pending a g new given
+        ∙ in_variables k (shared_after classes s a) t vs (frames_with (prototype f).result (given_view g) (frames_after frames a)) (pending_after classes s.heap pending a) rest (outcome_for line purpose g) new sees.variables
 
-    by_makes : (a : Answer) (b : Bool) → makes_object a ≡ b → a ≡ told → (in_use : BuffersInUse) (k : ℕ) (t : Thread) (rest : List Task) → Sees scene t
+    by_makes : (a : Answer) (b : Bool) → makes_object a ≡ b → a ≡ told → (t : Thread) (rest : List Task) → Sees scene t
         → call_step classes in_use k s t line (purpose_view line purpose) f args rest true ≡ after_refusal classes in_use k s (in_frames t frames pending) line (purpose_view line purpose) f args rest b
-    by_makes a b makes same = λ in_use k t rest sees.
-        passed in_use k t rest sees true none
-        ∙ ap (λ (c : Answer). by_effect in_use k t rest sees true (effect_as classes s (in_frames t frames pending) c)) (sym same)
+    by_makes a b makes same = λ t rest sees.
+        passed t rest sees true none
+        ∙ ap (λ (c : Answer). by_effect t rest sees true (effect_as classes s (in_frames t frames pending) c)) (sym same)
         ∙ ap (after_refusal classes in_use k s (in_frames t frames pending) line (purpose_view line purpose) f args rest) (makes_alike classes s (in_frames t frames pending) a ∙ makes)
 
     -- it makes no object that can be refused
     pub none_refused : (a : Answer) → a ≡ told → makes_object a ≡ false → MakesCall true scene line purpose f args outcome.Impossible scene
-    none_refused a same makes = λ in_use k t rest new sees has. by_makes a false makes same in_use k t rest sees
+    none_refused a same makes = λ t rest new sees has. by_makes a false makes same t rest sees
 
     -- its object is refused
     pub object_refused : (a : Answer) (g : Given) → a ≡ told → makes_object a ≡ true → given_view g ≡ failure (prototype f).result
-        → MakesCall true scene line purpose f args (outcome_for line purpose g) (scene_with classes s vs frames (Some (out_of_memory classes)))
-    object_refused a g same makes failed = λ in_use k t rest new sees has.
-        by_makes a true makes same in_use k t rest sees
+        → MakesCall true scene line purpose f args (outcome_for line purpose g) (scene_with classes in_use k s vs frames (Some (out_of_memory classes)))
+    object_refused a g same makes failed = λ t rest new sees has.
+        by_makes a true makes same t rest sees
         ∙ refused_is classes in_use k s t line purpose f args rest frames pending g new failed
+        ∙ in_variables k s t vs frames (Some (out_of_memory classes)) rest (outcome_for line purpose g) new sees.variables
 
     -- the same, by what it leaves
     pub call_made_so : (refused : Bool) (a : Answer) (g : Given) (kind : ResultKind) (s' : Shared) (between frames' : List Frame) (pending' : Reference) (took : Outcome) → refused ≡ false → a ≡ told → kind ≡ (prototype f).result
         → given_view g ≡ given_after s.heap kind a → s' ≡ shared_after classes s a → between ≡ frames_after frames a → frames' ≡ frames_with kind (given_view g) between → pending' ≡ pending_after classes s.heap pending a → took ≡ outcome_for line purpose g
-        → MakesCall refused scene line purpose f args took (scene_with classes s' vs frames' pending')
+        → MakesCall refused scene line purpose f args took (scene_with classes in_use k s' vs frames' pending')
     call_made_so refused a g kind s' between frames' pending' took possible same is given left changed framed pended is_for =
         rw (possible, left, framed, changed, pended, is, is_for) (call_made a g same (given ∙ ap (λ (k : ResultKind). given_after s.heap k a) is))
 
     pub object_refused_so : (refused : Bool) (a : Answer) (g : Given) (kind : ResultKind) (pending' : Reference) (took : Outcome) → refused ≡ true → a ≡ told → makes_object a ≡ true → kind ≡ (prototype f).result
-        → given_view g ≡ failure kind → pending' ≡ Some (out_of_memory classes) → took ≡ outcome_for line purpose g → MakesCall refused scene line purpose f args took (scene_with classes s vs frames pending')
+        → given_view g ≡ failure kind → pending' ≡ Some (out_of_memory classes) → took ≡ outcome_for line purpose g → MakesCall refused scene line purpose f args took (scene_with classes in_use k s vs frames pending')
     object_refused_so refused a g kind pending' took marked same makes is failed pended is_for =
         rw (marked, pended, is_for) (object_refused a g same makes (failed ∙ ap failure is))

@@ -6,12 +6,11 @@ use Rattle.classes.specs.Class.{Classes}
 use Rattle.jni.specs.Table.{function_value}
 use Rattle.source.specs.Arguments.{Actual, actuals}
 use Rattle.source.specs.Effect.{Becomes, Calls, effect_of, goes_on, is_ready, reduce_first, reduce_number, is_given}
-use Rattle.source.specs.Object.{Reference}
 use Rattle.source.specs.Sight.{Sight}
 use Rattle.source.specs.Task as source
 use Rattle.source.specs.Term as terms
 use Rattle.source.specs.Term.{reduce}
-use Rattle.source.specs.Thread.{Frame, Thread, Shared, sight_of}
+use Rattle.source.specs.Thread.{Thread, Shared, sight_of}
 use Rattle.source.specs.ThreadStep.{after_effect, after_refused_effect}
 use Rattle.source.specs.Value.{Outcome as Outcomes, outcome_map}
 use Rattle.tasks.specs.declared.outcome.Outcome.{Outcome}
@@ -28,7 +27,7 @@ use Rattle.steps.specs.Calls.{MakesCall, MakesInvocation, ReducesFirst, ReducesO
 use Rattle.tasks.specs.Outcomes.{purpose_view}
 use Rattle.replay_calls.specs.Shares.{sight_in}
 use Rattle.tasks.specs.Effects.{HasEffect, reduced}
-use Rattle.steps.specs.Steps.{Scene, Sees, Does, scene_with}
+use Rattle.steps.specs.Steps.{Scene, Sees, Does}
 use Rattle.terms.specs.Views.{operand_view, Contents, term_view, Reduces}
 use Rattle.tasks.specs.Tasks.{task_view}
 use Rattle.steps.proofs.TaskLemmas.{sees_so}
@@ -155,9 +154,15 @@ module _ (sight : Sight) where
 
 -- ---- with its object refused, or not
 
-module _ (classes : Classes) (s : Shared) (variables : Contents) (frames : List Frame) (pending : Reference) where
-  abbrev scene : Scene
-  scene = scene_with classes s variables frames pending
+module _ (scene : Scene) where
+  abbrev classes : Classes
+  classes = scene.classes
+
+  abbrev s : Shared
+  s = scene.shared
+
+  abbrev variables : Contents
+  variables = scene.variables
 
   module _ (i i' : Invocation) (scene' : Scene) (same : task_view (task.Invoke i') ≡ task_view (task.Invoke i)) (ready : is_ready (map operand_view i.operands.items) ≡ true)
       (args : List Actual) (looked_up : args ≡ actuals (sight_in s variables) (function_value i.function) (map operand_view i.operands.items)) where
@@ -168,12 +173,12 @@ module _ (classes : Classes) (s : Shared) (variables : Contents) (frames : List 
 
     -- the call's own step is the step of the task
     pub call_does : (refused : Bool) (took : Outcome) → MakesCall refused scene i.line i.purpose (function_value i.function) args took scene' → Does refused scene (task.Invoke i) took scene' (task.Invoke i')
-    call_does false took makes = λ other in_use k t rest sees has.
-        ap (after_effect classes in_use k s t rest) (calls t sees)
-        ∙ makes in_use k t rest (task.Invoke i') sees (has ∙ ap (λ (u : source.Task). let o : Option (List source.Task) = Some (u ∷ rest) in o) (sym same))
-    call_does true took makes = λ other in_use k t rest sees has.
-        ap (after_refused_effect classes in_use k s t rest) (calls t sees)
-        ∙ makes in_use k t rest (task.Invoke i') sees (has ∙ ap (λ (u : source.Task). let o : Option (List source.Task) = Some (u ∷ rest) in o) (sym same))
+    call_does false took makes = λ other t rest sees has.
+        ap (after_effect classes scene.in_use scene.thread s t rest) (calls t sees)
+        ∙ makes t rest (task.Invoke i') sees (has ∙ ap (λ (u : source.Task). let o : Option (List source.Task) = Some (u ∷ rest) in o) (sym same))
+    call_does true took makes = λ other t rest sees has.
+        ap (after_refused_effect classes scene.in_use scene.thread s t rest) (calls t sees)
+        ∙ makes t rest (task.Invoke i') sees (has ∙ ap (λ (u : source.Task). let o : Option (List source.Task) = Some (u ∷ rest) in o) (sym same))
 
   -- an invocation that is made is the step of the task that its numbers were worked out of
   pub invocation_does : (i i' : Invocation) (scene' : Scene) → i'.line ≡ i.line → i'.purpose ≡ i.purpose → i'.function ≡ i.function → i'.operands.items ≡ i.operands.items → is_ready (map operand_view i.operands.items) ≡ true

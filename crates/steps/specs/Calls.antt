@@ -7,7 +7,7 @@ use Rattle.source.specs.CallStep.{call_step}
 use Rattle.source.specs.Effect.{is_given, is_ready, reduce_first}
 use Rattle.source.specs.Sight.{Sight}
 use Rattle.source.specs.Task.{Task}
-use Rattle.source.specs.Thread.{Thread, BuffersInUse}
+use Rattle.source.specs.Thread.{Thread}
 use Rattle.source.specs.Value.{Gives, Traps, Stuck}
 use Rattle.tasks.specs.declared.outcome.Outcome.{Outcome}
 use Rattle.tasks.specs.declared.outcome.Purpose.{Purpose as PurposeInMemory}
@@ -20,7 +20,7 @@ use Rattle.tasks.specs.Outcomes.{purpose_view}
 use Rattle.replay_calls.specs.Answers.{Answer}
 use Rattle.replay_calls.specs.Checked.{trap_found}
 use Rattle.replay_calls.specs.WorkedOut.{worked_out}
-use Rattle.steps.specs.Steps.{Scene, Sees, in_frames, left_by}
+use Rattle.steps.specs.Steps.{Scene, Sees, in_scene, left_by}
 use Rattle.terms.specs.Views.{operand_view, trap_view, variables_view}
 use Rattle.replay_calls.specs.Shares.{sight_in}
 use Rattle.tasks.specs.Tasks.{task_view}
@@ -42,8 +42,8 @@ ReducesOne sight old (Some took) new = (rest : List Operand) → ReducesFirst si
 -- the scene after it.
 abbrev pub MakesCall : (refused : Bool) → Scene → (line : ℕ) → PurposeInMemory → JniFunction → List Actual → Outcome → Scene → Type 0
 MakesCall refused before line purpose f args took after =
-    (in_use : BuffersInUse) (k : ℕ) (t : Thread) (rest : List Task) (new : TaskInMemory) → Sees before t → t.tasks ≡ Some (task_view new ∷ rest)
-    → call_step before.classes in_use k before.shared t line (purpose_view line purpose) f args rest refused ≡ left_by k after.shared (in_frames t after.frames after.pending) rest took new
+    (t : Thread) (rest : List Task) (new : TaskInMemory) → Sees before t → t.tasks ≡ Some (task_view new ∷ rest)
+    → call_step before.classes before.in_use before.thread before.shared t line (purpose_view line purpose) f args rest refused ≡ left_by before.thread after.shared (in_scene t after) rest took new
 
 -- the same for an invocation, whose arguments are looked up before it
 abbrev pub MakesInvocation : (refused : Bool) → Scene → Invocation → Outcome → Scene → Type 0

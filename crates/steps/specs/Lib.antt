@@ -1,3 +1,4 @@
+pub mod Turns
 pub mod Steps
 pub mod Calls
 pub mod Activations

@@ -10,6 +10,9 @@ use Rattle.source.specs.Term.{Done}
 use Rattle.source.specs.Value.{Truth}
 use Rattle.source.specs.Thread.{Frame, Thread, Shared, BuffersInUse, Quiet, PrintedNumber, Trapped, Advance, Advances, NoAdvance}
 use Rattle.source.specs.ThreadStep.{step_within, with_tasks}
+use Rattle.steps.specs.declared.activation.Locals.{Locals}
+use Rattle.steps.specs.declared.turn.Turn.{Turn}
+use Rattle.steps.specs.Turns.{in_use_view}
 use Rattle.tasks.specs.declared.outcome.Outcome.{Outcome}
 use Rattle.tasks.specs.declared.outcome.Outcome.TheVariants as outcome
 use Rattle.tasks.specs.declared.task.Task.{Task as TaskInMemory}
@@ -17,22 +20,33 @@ use Rattle.tasks.specs.Outcomes.{else_tree, variable_step}
 use Rattle.tasks.specs.Tasks.{task_view, end_view, statements_in, tasks_of_statements}
 use Rattle.terms.specs.Views.{Contents, variables_view, trap_view}
 
--- what a step of a call in progress depends on, but its tasks
+-- what a step of a call in progress depends on, but its tasks: it is this thread's, and the buffers of all threads together take what
+-- is in use
 pub record Scene : Type 0 where
   pub classes : Classes
+  pub in_use : BuffersInUse
+  pub thread : ℕ
   pub shared : Shared
   pub variables : Contents
   pub frames : List Frame
   pub pending : Reference
 
-abbrev pub scene_with : Classes → Shared → Contents → List Frame → Reference → Scene
-scene_with classes s vs frames pending = record { classes = classes; shared = s; variables = vs; frames = frames; pending = pending }
+abbrev pub scene_with : Classes → BuffersInUse → (thread : ℕ) → Shared → Contents → List Frame → Reference → Scene
+scene_with classes in_use thread s vs frames pending = record { classes = classes; in_use = in_use; thread = thread; shared = s; variables = vs; frames = frames; pending = pending }
+
+-- the same at a turn
+abbrev pub scene_of : Turn → Shared → Locals → Reference → Scene
+scene_of turn s locals pending = scene_with turn.classes.now (in_use_view turn.in_use) turn.thread s locals.variables locals.frames pending
 
 -- a thread has these variables, these frames and this pending exception
 pub record Sees (scene : Scene) (t : Thread) : Type 0 where
   pub variables : t.variables ≡ variables_view scene.variables
   pub frames : t.frames ≡ scene.frames
   pub pending : t.pending ≡ scene.pending
+
+-- a thread so that it has them
+abbrev pub in_scene : Thread → Scene → Thread
+in_scene t scene = record t { variables = variables_view scene.variables; frames = scene.frames; pending = scene.pending }
 
 -- what a step leaves of thread k that has this task and then the rest to do
 abbrev pub left_by : (k : ℕ) → Shared → Thread → List Task → Outcome → TaskInMemory → Advance
@@ -46,13 +60,9 @@ left_by k s t rest (outcome.Trapped trap line) new = Advances s (with_tasks t (t
 left_by k s t rest outcome.Impossible new = NoAdvance
 left_by k s t rest took new = variable_step took s (with_tasks t rest)
 
--- a thread with these frames and this pending exception
-abbrev pub in_frames : Thread → List Frame → Reference → Thread
-in_frames t frames pending = record t { frames = frames; pending = pending }
-
 -- What a step in memory did is what the task's step does to each thread whose first task it is, or what it does with its object
 -- refused.
 abbrev pub Does : (refused : Bool) → Scene → TaskInMemory → Outcome → Scene → TaskInMemory → Type 0
 Does refused before old took after new =
-    (unit : SourceUnit) (in_use : BuffersInUse) (k : ℕ) (t : Thread) (rest : List Task) → Sees before t → t.tasks ≡ Some (task_view old ∷ rest)
-    → step_within unit before.classes in_use k before.shared t refused (Some (task_view old ∷ rest)) ≡ left_by k after.shared (in_frames t after.frames after.pending) rest took new
+    (unit : SourceUnit) (t : Thread) (rest : List Task) → Sees before t → t.tasks ≡ Some (task_view old ∷ rest)
+    → step_within unit before.classes before.in_use before.thread before.shared t refused (Some (task_view old ∷ rest)) ≡ left_by before.thread after.shared (in_scene t after) rest took new

@@ -1,19 +1,19 @@
 //! Activations: calls in progress.
 
 ghost use Rattle.std.specs.Prelude.{◌≡◌, IfOk, IsSome, Some, None, []};
-ghost use Rattle.classes.specs.Class.{Classes};
 ghost use Rattle.classes.specs.Grown.{IsGrown};
-ghost use Rattle.source.specs.Thread.{Shared as SharedOfThreads};
-ghost use Rattle.steps.specs.Activations.{tasks_left, IsInRange, AreSet, IsApplied, HasBegun, HasTurned, StepsTask, Advances, KeepsScene};
+ghost use Rattle.source.specs.Task.{tasks_of};
+ghost use Rattle.steps.specs.Activations.{tasks_left, IsAtStatement, IsInRange, AreSet, IsApplied, HasBegun, HasTurned, StepsTask, Advances};
+ghost use Rattle.steps.specs.Steps.{Scene, scene_of};
 ghost use Rattle.replay_calls.specs.Shares.{shared_view};
 ghost use Rattle.syntax.specs.Views.{expr_tree, block_tree};
 ghost use Rattle.tasks.specs.declared.outcome.Outcome.TheVariants as outcome;
-ghost use Rattle.tasks.specs.Tasks.{branch_task, BlockInRange, ExprInRange, StatementInRange, OutcomeInRange};
+ghost use Rattle.tasks.specs.Tasks.{branch_task, statements_in, BlockInRange, ExprInRange, StatementInRange, StatementsInRange, OutcomeInRange};
 ghost use Rattle.terms.specs.declared.term.Term.TheVariants as term;
 ghost use Rattle.terms.specs.declared.value.Value.TheVariants as value;
 
 use crate::step::step;
-use class_table::table::ClassTable;
+use crate::turn::Turn;
 use object_store::Frames;
 use replay_calls::Shared;
 use std::alloc::{AllocError, Global};
@@ -29,34 +29,51 @@ pub struct Outer<'a> {
     pub rest: Statements<'a>,
 }
 
-/// A call in progress: the task that is begun, the statements after it in its block, what is to do around the block,
-/// the outermost first, the variables, in the order in which they came to be, the frames of local references, and the pending
-/// exception.
-pub struct Activation<'a> {
+/// What is still to do of a call in progress: the task that is begun, the statements after it in its block, and what is to do
+/// around the block, the outermost first. A step begins what comes next, so where no task is begun the block is done.
+pub struct Work<'a> {
     pub task: Option<Task<'a>>,
     pub rest: Statements<'a>,
     pub outer: Vec<Outer<'a>>,
-    pub variables: Variables<'a>,
-    pub frames: Frames,
-    pub pending: Option<usize>,
 }
 
 // Written out, and not derived, so that crates above needn't prove it again.
-impl Drop for Activation<'_> {
+impl Drop for Work<'_> {
     fn drop(self) {
-        let Activation {
-            task,
-            rest,
-            outer,
-            variables,
-            frames,
-            pending: _,
-        } = self;
+        let Work { task, rest, outer } = self;
         drop(task);
         drop(rest);
         drop(outer);
+    }
+}
+
+/// The variables of a call in progress, in the order in which they came to be, and its frames of local references.
+pub struct Locals<'a> {
+    pub variables: Variables<'a>,
+    pub frames: Frames,
+}
+
+// Written out, as above.
+impl Drop for Locals<'_> {
+    fn drop(self) {
+        let Locals { variables, frames } = self;
         drop(variables);
         drop(frames);
+    }
+}
+
+/// A call in progress.
+pub struct Activation<'a> {
+    pub work: Work<'a>,
+    pub locals: Locals<'a>,
+}
+
+// Written out, as above.
+impl Drop for Activation<'_> {
+    fn drop(self) {
+        let Activation { work, locals } = self;
+        drop(work);
+        drop(locals);
     }
 }
 
@@ -83,22 +100,36 @@ fn begin_statement<'a>(
 }
 
 /// Begins the block's next statement, where none is begun.
-fn begin<'a>(alloc: Global, activation: &mut Activation<'a>) -> Result<(), AllocError>
-    requires { IsInRange activation.old }
-    ensures tasks { IfOk result (λ _. tasks_left activation.new ≡ tasks_left activation.old) }
-    ensures range { IfOk result (λ _. IsInRange activation.new) }
-    ensures kept { IfOk result (λ _. KeepsScene activation.old activation.new) }
-    ensures begun { IfOk result (λ _. activation.new.task ≡ None → activation.new.rest ≡ []) }
+fn begin<'a>(alloc: Global, work: &mut Work<'a>) -> Result<(), AllocError>
+    requires { IsInRange work.old }
+    ensures tasks { IfOk result (λ _. tasks_left work.new ≡ tasks_left work.old) }
+    ensures range { IfOk result (λ _. IsInRange work.new) }
+    ensures next { IfOk result (λ _. work.new.task ≡ None → work.new.rest ≡ []) }
 {
-    if activation.task.is_some() {
+    if work.task.is_some() {
         return Ok(());
     }
-    let Some(first) = activation.rest.first() else {
+    let Some(first) = work.rest.first() else {
         return Ok(());
     };
-    begin_statement(alloc, &mut activation.task, first)?;
-    activation.rest.skip_first();
+    begin_statement(alloc, &mut work.task, first)?;
+    work.rest.skip_first();
     Ok(())
+}
+
+/// What is to do of a call of a function with this body, whose first statement is begun.
+pub fn work_of<'a>(alloc: Global, body: &'a Block) -> Result<Work<'a>, AllocError>
+    requires { StatementsInRange (statements_in (Some body)) }
+    ensures tasks { IfOk result (λ w. tasks_left w ≡ tasks_of (block_tree body.entry.now)) }
+    ensures range { IfOk result IsAtStatement }
+{
+    let mut work = Work {
+        task: None,
+        rest: Statements::of(Some(body)),
+        outer: Vec::new(alloc),
+    };
+    begin(alloc, &mut work)?;
+    Ok(work)
 }
 
 /// Begins a loop's next turn in the place of the task that is begun: its test comes first.
@@ -141,29 +172,25 @@ fn begin_branch<'a>(
 }
 
 /// Goes on after a block whose statements are all done: after an `if`, or with its loop's test.
-fn leave_block<'a>(
-    alloc: Global,
-    refused: bool,
-    activation: &mut Activation<'a>,
-) -> Result<Outcome<'a>, AllocError>
-    requires range { IsInRange activation.old }
-    requires task { activation.old.task ≡ None }
-    requires rest { activation.old.rest ≡ [] }
-    ensures step { IfOk result (λ o. (classes : Classes) (shared : SharedOfThreads) → Advances classes refused shared activation.old o shared activation.new) }
-    ensures range { IfOk result (λ _. IsInRange activation.new) }
+fn leave_block<'a>(turn: Turn<'a>, work: &mut Work<'a>) -> Result<Outcome<'a>, AllocError>
+    requires range { IsInRange work.old }
+    requires task { work.old.task ≡ None }
+    requires rest { work.old.rest ≡ [] }
+    ensures step { IfOk result (λ o. (scene : Scene) → Advances turn.entry.refused scene work.old o scene work.new) }
+    ensures range { IfOk result (λ _. IsInRange work.new) }
 {
-    if refused {
+    if turn.refused {
         return Ok(Outcome::Impossible);
     }
-    let Some(outer) = activation.outer.pop() else {
+    let Some(outer) = work.outer.pop() else {
         return Ok(Outcome::Impossible);
     };
     let Outer { end, rest } = outer;
-    activation.rest = rest;
+    work.rest = rest;
     match end {
         End::If => Ok(Outcome::Ends),
         End::Turn(line, test, body) => {
-            begin_turn(alloc, &mut activation.task, line, test, body)?;
+            begin_turn(turn.alloc, &mut work.task, line, test, body)?;
             Ok(Outcome::Stays)
         }
     }
@@ -172,35 +199,35 @@ fn leave_block<'a>(
 /// Begins a block, with what comes at its end.
 #[inline]
 fn enter_block<'a>(
-    activation: &mut Activation<'a>,
+    work: &mut Work<'a>,
     block: Option<&'a Block>,
     end: End<'a>,
 ) -> Result<(), AllocError>
-    ensures { IfOk result (λ _. AreSet activation.old (outcome.Enters block.entry end.entry) activation.new) }
+    ensures { IfOk result (λ _. AreSet work.old (outcome.Enters block.entry end.entry) work.new) }
 {
-    let rest = mem::replace(&mut activation.rest, Statements::of(block));
-    activation.outer.push(Outer { end, rest })?;
-    put_task(&mut activation.task, None);
+    let rest = mem::replace(&mut work.rest, Statements::of(block));
+    work.outer.push(Outer { end, rest })?;
+    put_task(&mut work.task, None);
     Ok(())
 }
 
 /// Does what a step did to the tasks.
-fn set_tasks<'a>(activation: &mut Activation<'a>, outcome: Outcome<'a>) -> Result<(), AllocError>
-    ensures { IfOk result (λ _. AreSet activation.old outcome.entry activation.new) }
+fn set_tasks<'a>(work: &mut Work<'a>, outcome: Outcome<'a>) -> Result<(), AllocError>
+    ensures { IfOk result (λ _. AreSet work.old outcome.entry work.new) }
 {
     match outcome {
         Outcome::Stays | Outcome::Returned | Outcome::Trapped(_, _) | Outcome::Impossible => {}
-        Outcome::Enters(block, end) => enter_block(activation, block, end)?,
+        Outcome::Enters(block, end) => enter_block(work, block, end)?,
         Outcome::Printed(_) | Outcome::Sets(_, _) | Outcome::SetsNull(_) => {
-            put_task(&mut activation.task, None);
+            put_task(&mut work.task, None);
         }
         Outcome::Gives(_, _) | Outcome::SetsElement(_, _, _) => {
-            put_task(&mut activation.task, None);
+            put_task(&mut work.task, None);
         }
         Outcome::Tests(line, zero, block, otherwise) => {
-            begin_branch(&mut activation.task, line, zero, block, otherwise);
+            begin_branch(&mut work.task, line, zero, block, otherwise);
         }
-        Outcome::Makes(_, _, _) | Outcome::Ends => put_task(&mut activation.task, None),
+        Outcome::Makes(_, _, _) | Outcome::Ends => put_task(&mut work.task, None),
     }
     Ok(())
 }
@@ -215,82 +242,88 @@ fn apply<'a>(
 ) -> Result<bool, AllocError>
     ensures { IfOk result (λ possible. IsApplied statics.old activation.old outcome.entry possible statics.new activation.new) }
 {
-    let frames = activation.frames.len();
-    if !set_variables(alloc, statics, frames, &mut activation.variables, outcome)? {
+    let locals = &mut activation.locals;
+    let frames = locals.frames.len();
+    if !set_variables(alloc, statics, frames, &mut locals.variables, outcome)? {
         return Ok(false);
     }
-    set_tasks(activation, outcome)?;
+    set_tasks(&mut activation.work, outcome)?;
     Ok(true)
 }
 
 /// Lets the task that is begun take its next step.
 #[inline(always)]
 fn step_task<'a>(
-    alloc: Global,
-    classes: &'a ClassTable,
+    turn: Turn<'a>,
     shared: &mut Shared<'a>,
-    refused: bool,
+    pending: &mut Option<usize>,
     activation: &mut Activation<'a>,
 ) -> Result<Outcome<'a>, AllocError>
-    requires range { IsInRange activation.old }
-    requires begun { IsSome activation.old.task }
-    requires grown { IsGrown classes.now }
-    ensures step { IfOk result (λ o. StepsTask classes.now refused (shared_view shared.old) activation.old o (shared_view shared.new) activation.new) }
+    requires range { IsInRange activation.old.work }
+    requires begun { IsSome activation.old.work.task }
+    requires grown { IsGrown turn.classes.now }
+    ensures step { IfOk result (λ o. StepsTask turn.entry.refused (scene_of turn.entry (shared_view shared.old) activation.old.locals pending.old) activation.old.work o (scene_of turn.entry (shared_view shared.new) activation.new.locals pending.new) activation.new.work) }
     ensures range { IfOk result OutcomeInRange }
 {
-    let Some(task) = &mut activation.task else {
+    let Some(task) = &mut activation.work.task else {
         unreachable!()
     };
-    step(
-        alloc,
-        classes,
-        shared,
-        &activation.variables,
-        &mut activation.frames,
-        &mut activation.pending,
-        refused,
-        task,
-    )
+    step(turn, shared, pending, &mut activation.locals, task)
 }
 
-/// Lets an activation whose task is begun take its next step, or the same with its object refused.
+/// Lets a call whose task is begun take its next step, or the same with its object refused.
 #[inline(always)]
 fn go_on<'a>(
-    alloc: Global,
-    classes: &'a ClassTable,
+    turn: Turn<'a>,
     shared: &mut Shared<'a>,
-    refused: bool,
+    pending: &mut Option<usize>,
     activation: &mut Activation<'a>,
 ) -> Result<Outcome<'a>, AllocError>
-    requires range { IsInRange activation.old }
-    requires begun { IsSome activation.old.task }
-    requires grown { IsGrown classes.now }
-    ensures step { IfOk result (λ o. Advances classes.now refused (shared_view shared.old) activation.old o (shared_view shared.new) activation.new) }
-    ensures range { IfOk result (λ _. IsInRange activation.new) }
+    requires range { IsInRange activation.old.work }
+    requires begun { IsSome activation.old.work.task }
+    requires grown { IsGrown turn.classes.now }
+    ensures step { IfOk result (λ o. Advances turn.entry.refused (scene_of turn.entry (shared_view shared.old) activation.old.locals pending.old) activation.old.work o (scene_of turn.entry (shared_view shared.new) activation.new.locals pending.new) activation.new.work) }
+    ensures range { IfOk result (λ _. IsInRange activation.new.work) }
 {
-    let outcome = step_task(alloc, classes, shared, refused, activation)?;
-    if !apply(alloc, &mut shared.statics, activation, outcome)? {
+    let outcome = step_task(turn, shared, pending, activation)?;
+    if !apply(turn.alloc, &mut shared.statics, activation, outcome)? {
         return Ok(Outcome::Impossible);
     }
     Ok(outcome)
 }
 
-/// Lets an activation take its next step, or the same with its object refused.
-pub fn advance<'a>(
-    alloc: Global,
-    classes: &'a ClassTable,
+/// Lets a call take its next step with its task, or with the end of the block.
+#[inline(always)]
+fn take_step<'a>(
+    turn: Turn<'a>,
     shared: &mut Shared<'a>,
-    refused: bool,
+    pending: &mut Option<usize>,
     activation: &mut Activation<'a>,
 ) -> Result<Outcome<'a>, AllocError>
-    requires range { IsInRange activation.old }
-    requires grown { IsGrown classes.now }
-    ensures step { IfOk result (λ o. Advances classes.now refused (shared_view shared.old) activation.old o (shared_view shared.new) activation.new) }
-    ensures range { IfOk result (λ _. IsInRange activation.new) }
+    requires range { IsAtStatement activation.old.work }
+    requires grown { IsGrown turn.classes.now }
+    ensures step { IfOk result (λ o. Advances turn.entry.refused (scene_of turn.entry (shared_view shared.old) activation.old.locals pending.old) activation.old.work o (scene_of turn.entry (shared_view shared.new) activation.new.locals pending.new) activation.new.work) }
+    ensures range { IfOk result (λ _. IsInRange activation.new.work) }
 {
-    begin(alloc, activation)?;
-    if activation.task.is_none() {
-        return leave_block(alloc, refused, activation);
+    if activation.work.task.is_none() {
+        return leave_block(turn, &mut activation.work);
     }
-    go_on(alloc, classes, shared, refused, activation)
+    go_on(turn, shared, pending, activation)
+}
+
+/// Lets a call take its next step, or the same with its object refused, and begins what comes next.
+pub fn advance<'a>(
+    turn: Turn<'a>,
+    shared: &mut Shared<'a>,
+    pending: &mut Option<usize>,
+    activation: &mut Activation<'a>,
+) -> Result<Outcome<'a>, AllocError>
+    requires range { IsAtStatement activation.old.work }
+    requires grown { IsGrown turn.classes.now }
+    ensures step { IfOk result (λ o. Advances turn.entry.refused (scene_of turn.entry (shared_view shared.old) activation.old.locals pending.old) activation.old.work o (scene_of turn.entry (shared_view shared.new) activation.new.locals pending.new) activation.new.work) }
+    ensures range { IfOk result (λ _. IsAtStatement activation.new.work) }
+{
+    let outcome = take_step(turn, shared, pending, activation)?;
+    begin(turn.alloc, &mut activation.work)?;
+    Ok(outcome)
 }

@@ -8,82 +8,79 @@ ghost use Rattle.jni.specs.Table.{function_value};
 ghost use Rattle.tasks.specs.declared.outcome.Outcome.TheVariants as outcome;
 ghost use Rattle.tasks.specs.declared.task.Task.TheVariants as task;
 ghost use Rattle.source.specs.Arguments.{Actual as ActualOfCall};
-ghost use Rattle.source.specs.Thread.{Frame, Shared as SharedOfThreads};
+ghost use Rattle.source.specs.Thread.{Shared as SharedOfThreads};
 ghost use Rattle.replay_calls.specs.Actuals.{actual_view};
 ghost use Rattle.replay_calls.specs.Answers.{FitsFrames, answer_view};
 ghost use Rattle.replay_calls.specs.Checked.{trap_found};
 ghost use Rattle.steps.specs.Calls.{HasAnswer, MakesCall, MakesInvocation, ReducesFirst, ReducesOne};
 ghost use Rattle.tasks.specs.Outcomes.{outcome_for};
-ghost use Rattle.steps.specs.Steps.{Does, scene_with};
+ghost use Rattle.steps.specs.declared.activation.Locals.{Locals as LocalsInMemory};
+ghost use Rattle.steps.specs.Steps.{Does, scene_of};
 ghost use Rattle.replay_calls.specs.Shares.{shared_view, sight_in};
 ghost use Rattle.tasks.specs.Tasks.{OperandInRange, OperandsInRange, OutcomeInRange, PurposeInRange};
-ghost use Rattle.terms.specs.Views.{Contents, trap_view};
+ghost use Rattle.terms.specs.Views.{trap_view};
 
+use crate::activation::Locals;
+use crate::turn::Turn;
 use class_table::table::ClassTable;
 use object_store::Frames;
 use replay_calls::actual::{Actual, actuals};
 use replay_calls::carry_out::{carry_out, makes_object, put_local, refuse};
 use replay_calls::check::check;
 use replay_calls::{Answer, Shared, work_out};
-use std::alloc::{AllocError, Global};
+use std::alloc::AllocError;
 use tasks::{Invocation, Outcome, Purpose, reduced};
 use terms::{Given, Operand, Reduction, Term, Trap, Variables, is_zero, reduce};
 
 /// The step of a call: the first of its numbers that isn't worked out takes a step, or else the call is made. With its object
 /// refused it is possible only where it makes one.
 pub(crate) fn invoke<'a>(
-    alloc: Global,
-    classes: &'a ClassTable,
+    turn: Turn<'a>,
     shared: &mut Shared<'a>,
-    variables: &Variables<'a>,
-    frames: &mut Frames,
     pending: &mut Option<usize>,
-    refused: bool,
+    locals: &mut Locals<'a>,
     i: &mut Invocation<'a>,
 ) -> Result<Outcome<'a>, AllocError>
     requires numbers { OperandsInRange i.old.operands.items }
     requires built { IsTrue (is_built_function (function_value i.old.function)) }
     requires ways { PurposeInRange i.old.purpose }
-    requires grown { IsGrown classes.now }
-    ensures step { IfOk result (λ o. Does refused (scene_with classes.now (shared_view shared.old) variables.now frames.old pending.old) (task.Invoke i.old) o
-        (scene_with classes.now (shared_view shared.new) variables.now frames.new pending.new) (task.Invoke i.new)) }
+    requires grown { IsGrown turn.classes.now }
+    ensures step { IfOk result (λ o. Does turn.entry.refused (scene_of turn.entry (shared_view shared.old) locals.old pending.old) (task.Invoke i.old) o (scene_of turn.entry (shared_view shared.new) locals.new pending.new) (task.Invoke i.new)) }
     ensures numbers { IfOk result (λ _. OperandsInRange i.new.operands.items) }
     ensures function { i.new.function ≡ i.old.function }
     ensures purpose { i.new.purpose ≡ i.old.purpose }
     ensures range { IfOk result OutcomeInRange }
 {
     let line = i.line;
-    if let Some(reduction) = reduce_number(shared, variables, i) {
-        return Ok(unless_refused(refused, reduced(line, reduction)));
+    if let Some(reduction) = reduce_number(shared, &locals.variables, i) {
+        return Ok(unless_refused(turn.refused, reduced(line, reduction)));
     }
-    make_call(
-        alloc, classes, shared, variables, frames, pending, refused, i,
-    )
+    make_call(turn, shared, pending, locals, i)
 }
 
 /// The step of a call whose numbers are worked out: its arguments are looked up, and it is made.
 #[inline]
 fn make_call<'a>(
-    alloc: Global,
-    classes: &'a ClassTable,
+    turn: Turn<'a>,
     shared: &mut Shared<'a>,
-    variables: &Variables<'a>,
-    frames: &mut Frames,
     pending: &mut Option<usize>,
-    refused: bool,
+    locals: &mut Locals<'a>,
     i: &Invocation<'a>,
 ) -> Result<Outcome<'a>, AllocError>
     requires built { IsTrue (is_built_function (function_value i.now.function)) }
     requires ways { PurposeInRange i.now.purpose }
-    requires grown { IsGrown classes.now }
-    ensures step { IfOk result (λ o. MakesInvocation refused (scene_with classes.now (shared_view shared.old) variables.now frames.old pending.old) i.entry.now o
-        (scene_with classes.now (shared_view shared.new) variables.now frames.new pending.new)) }
+    requires grown { IsGrown turn.classes.now }
+    ensures step { IfOk result (λ o. MakesInvocation turn.entry.refused (scene_of turn.entry (shared_view shared.old) locals.old pending.old) i.entry.now o (scene_of turn.entry (shared_view shared.new) locals.new pending.new)) }
     ensures range { IfOk result OutcomeInRange }
 {
-    let actuals = actuals(alloc, shared, variables, i.function, &i.operands)?;
-    call(
-        alloc, classes, shared, variables, frames, pending, refused, i, &actuals,
-    )
+    let actuals = actuals(
+        turn.alloc,
+        shared,
+        &locals.variables,
+        i.function,
+        &i.operands,
+    )?;
+    call(turn, shared, pending, locals, i, &actuals)
 }
 
 /// Lets the first number of a call that isn't worked out take a step; none where each is.
@@ -192,82 +189,87 @@ fn trap_of(
 
 /// The call's own step: what is checked, and what is done.
 fn call<'a>(
-    alloc: Global,
-    classes: &'a ClassTable,
+    turn: Turn<'a>,
     shared: &mut Shared<'a>,
-    variables: &Variables<'a>,
-    frames: &mut Frames,
     pending: &mut Option<usize>,
-    refused: bool,
+    locals: &mut Locals<'a>,
     i: &Invocation<'a>,
     actuals: &[Actual<'a>],
 ) -> Result<Outcome<'a>, AllocError>
     requires built { IsTrue (is_built_function (function_value i.now.function)) }
     requires ways { PurposeInRange i.now.purpose }
-    requires grown { IsGrown classes.now }
-    ensures step { IfOk result (λ o. MakesCall refused (scene_with classes.now (shared_view shared.old) variables.now frames.old pending.old) i.entry.now.line i.entry.now.purpose (function_value i.entry.now.function) (map actual_view actuals.entry.now) o
-        (scene_with classes.now (shared_view shared.new) variables.now frames.new pending.new)) }
+    requires grown { IsGrown turn.classes.now }
+    ensures step { IfOk result (λ o. MakesCall turn.entry.refused (scene_of turn.entry (shared_view shared.old) locals.old pending.old) i.entry.now.line i.entry.now.purpose (function_value i.entry.now.function) (map actual_view actuals.entry.now) o
+        (scene_of turn.entry (shared_view shared.new) locals.new pending.new)) }
     ensures range { IfOk result OutcomeInRange }
 {
-    if let Some(trap) = trap_of(classes, shared, frames, pending, i, actuals) {
-        return Ok(unless_refused(refused, Outcome::Trapped(trap, i.line)));
+    if let Some(trap) = trap_of(turn.classes, shared, &locals.frames, pending, i, actuals) {
+        return Ok(unless_refused(turn.refused, Outcome::Trapped(trap, i.line)));
     }
     let answer = work_out(
-        classes,
+        turn.classes,
         &shared.store,
-        variables,
-        frames,
+        &locals.variables,
+        &locals.frames,
         i.function,
         actuals,
     );
-    if refused {
-        return Ok(refuse_object(classes, pending, i, answer));
+    if turn.refused {
+        return Ok(refuse_object(turn, pending, i, answer));
     }
-    complete(alloc, classes, shared, frames, pending, i, answer)
+    complete(turn, shared, pending, locals, i, answer)
 }
 
 /// What a call does whose object is refused: it fails if its answer makes one, and else isn't possible.
 #[inline]
 fn refuse_object<'a>(
-    classes: &ClassTable,
+    turn: Turn<'a>,
     pending: &mut Option<usize>,
     i: &Invocation<'a>,
     answer: Answer<'_>,
 ) -> Outcome<'a>
     requires { PurposeInRange i.now.purpose }
-    ensures step { (s : SharedOfThreads) (vs : Contents) (frames : List Frame) (args : List ActualOfCall)
-        → HasAnswer (scene_with classes.now s vs frames pending.old) (function_value i.now.function) args (answer_view answer.entry)
-        → MakesCall true (scene_with classes.now s vs frames pending.old) i.now.line i.now.purpose (function_value i.now.function) args result (scene_with classes.now s vs frames pending.new) }
+    ensures step { (s : SharedOfThreads) (locals : LocalsInMemory) (args : List ActualOfCall)
+        → HasAnswer (scene_of turn.entry s locals pending.old) (function_value i.now.function) args (answer_view answer.entry)
+        → MakesCall true (scene_of turn.entry s locals pending.old) i.now.line i.now.purpose (function_value i.now.function) args result (scene_of turn.entry s locals pending.new) }
     ensures range { OutcomeInRange result }
 {
     if !makes_object(answer) {
         return Outcome::Impossible;
     }
-    let given = refuse(classes, pending, i.function.prototype().result);
+    let given = refuse(turn.classes, pending, i.function.prototype().result);
     outcome_for(i.line, i.purpose, given)
 }
 
 /// What a call does by its answer, with no object refused.
 #[inline]
 fn complete<'a>(
-    alloc: Global,
-    classes: &ClassTable,
+    turn: Turn<'a>,
     shared: &mut Shared<'a>,
-    frames: &mut Frames,
     pending: &mut Option<usize>,
+    locals: &mut Locals<'a>,
     i: &Invocation<'a>,
     answer: Answer<'a>,
 ) -> Result<Outcome<'a>, AllocError>
     requires ways { PurposeInRange i.now.purpose }
-    requires fits { FitsFrames frames.old (answer_view answer) }
-    ensures step { (vs : Contents) (args : List ActualOfCall)
-        → HasAnswer (scene_with classes.now (shared_view shared.old) vs frames.old pending.old) (function_value i.now.function) args (answer_view answer.entry)
-        → IfOk result (λ o. MakesCall false (scene_with classes.now (shared_view shared.old) vs frames.old pending.old) i.now.line i.now.purpose (function_value i.now.function) args o
-        (scene_with classes.now (shared_view shared.new) vs frames.new pending.new)) }
+    requires fits { FitsFrames locals.old.frames (answer_view answer) }
+    ensures step { (args : List ActualOfCall)
+        → HasAnswer (scene_of turn.entry (shared_view shared.old) locals.old pending.old) (function_value i.now.function) args (answer_view answer.entry)
+        → IfOk result (λ o. MakesCall false (scene_of turn.entry (shared_view shared.old) locals.old pending.old) i.now.line i.now.purpose (function_value i.now.function) args o
+        (scene_of turn.entry (shared_view shared.new) locals.new pending.new)) }
     ensures range { IfOk result OutcomeInRange }
 {
     let kind = i.function.prototype().result;
-    let given = carry_out(alloc, classes, shared, frames, pending, kind, answer)?;
+    let frames = &mut locals.frames;
+    let given = carry_out(
+        turn.alloc,
+        turn.classes,
+        shared,
+        frames,
+        pending,
+        kind,
+        answer,
+    )?;
     put_local(frames, kind, given)?;
     Ok(outcome_for(i.line, i.purpose, given))
 }

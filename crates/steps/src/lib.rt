@@ -4,5 +4,7 @@
 mod activation;
 mod invoke;
 mod step;
+mod turn;
 
-pub use activation::{Activation, Outer, advance};
+pub use activation::{Activation, Locals, Outer, Work, advance, work_of};
+pub use turn::{BuffersInUse, Turn};

@@ -2,41 +2,34 @@
 
 ghost use Rattle.std.specs.Prelude.{IfOk};
 ghost use Rattle.classes.specs.Grown.{IsGrown};
-ghost use Rattle.steps.specs.Steps.{Does, scene_with};
+ghost use Rattle.steps.specs.Steps.{Does, scene_of};
 ghost use Rattle.replay_calls.specs.Shares.{shared_view};
 ghost use Rattle.tasks.specs.Tasks.{TaskInRange, OutcomeInRange};
 
+use crate::activation::Locals;
 use crate::invoke::{invoke, unless_refused};
-use class_table::table::ClassTable;
-use object_store::Frames;
+use crate::turn::Turn;
 use replay_calls::Shared;
-use std::alloc::{AllocError, Global};
+use std::alloc::AllocError;
 use tasks::{Outcome, Task, plain_step};
-use terms::Variables;
 
 /// Lets a task take its next step. With its object refused only a call is possible.
 pub(crate) fn step<'a>(
-    alloc: Global,
-    classes: &'a ClassTable,
+    turn: Turn<'a>,
     shared: &mut Shared<'a>,
-    variables: &Variables<'a>,
-    frames: &mut Frames,
     pending: &mut Option<usize>,
-    refused: bool,
+    locals: &mut Locals<'a>,
     task: &mut Task<'a>,
 ) -> Result<Outcome<'a>, AllocError>
     requires range { TaskInRange task.old }
-    requires grown { IsGrown classes.now }
-    ensures step { IfOk result (λ o. Does refused (scene_with classes.now (shared_view shared.old) variables.now frames.old pending.old) task.old o
-        (scene_with classes.now (shared_view shared.new) variables.now frames.new pending.new) task.new) }
+    requires grown { IsGrown turn.classes.now }
+    ensures step { IfOk result (λ o. Does turn.entry.refused (scene_of turn.entry (shared_view shared.old) locals.old pending.old) task.old o (scene_of turn.entry (shared_view shared.new) locals.new pending.new) task.new) }
     ensures task { IfOk result (λ _. TaskInRange task.new) }
     ensures range { IfOk result OutcomeInRange }
 {
     if let Task::Invoke(i) = task {
-        return invoke(
-            alloc, classes, shared, variables, frames, pending, refused, i,
-        );
+        return invoke(turn, shared, pending, locals, i);
     }
-    let outcome = plain_step(&shared.store, &shared.statics, variables, task);
-    Ok(unless_refused(refused, outcome))
+    let outcome = plain_step(&shared.store, &shared.statics, &locals.variables, task);
+    Ok(unless_refused(turn.refused, outcome))
 }

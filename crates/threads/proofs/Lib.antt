@@ -3,3 +3,4 @@ mod PlainTasks
 mod ThreadLemmas
 pub mod StateLemmas
 mod StandingLemmas
+mod BufferLemmas

@@ -237,7 +237,7 @@ module _ (unit : SourceUnit) (classes : Classes) (shared : Shared) (k : ℕ) whe
 
   free_work : (s : Thread) (o : Option Activation) → WorkInRange o → waits_with classes k shared s (next_effect shared s (tasks_in o)) ≡ false
   free_work s None r = refl
-  free_work s (Some a) r = free_tasks s (tasks_left a) (begins-plain a.task a.rest a.outer.items r.begun r.rest)
+  free_work s (Some a) r = free_tasks s (tasks_left a.work) (begins-plain a.work.task a.work.rest a.work.outer.items r.range.begun r.range.rest)
 
   -- no thread waits for a monitor
   pub waits_none : (t : ThreadInMemory) (s : Thread) → ThreadStands unit classes t s → WorkInRange t.activation → waits classes k shared s ≡ false

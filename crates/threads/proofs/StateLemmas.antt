@@ -1,6 +1,11 @@
 -- What an entry does to the state that a state in memory stands for.
 use Rattle.std.proofs.Common.{◌≡◌, ℕ, zero, suc, ◌+◌, ◌<◌, ◌≤◌, Bool, true, false, cond, List, [], ◌∷◌, ◌++◌, length, map, Option, Some, None, refl, sym, ap, ◌∙◌, subst, arith}
-use Rattle.std.specs.Prelude.{slice_get, slice_set, ◌&&◌, not, is_none, ◌==◌}
+use Rattle.std.specs.Prelude.{slice_get, slice_set, sum_by, flat_map, ◌&&◌, not, is_none, ◌==◌}
+use Rattle.std.proofs.lemmas.List.Concat.{flat_map-cons}
+use Rattle.std.proofs.lemmas.List.Sums.{sum_by-cons}
+use Rattle.base.specs.Bytes.{Identifier}
+use Rattle.source.specs.Variable.{Variable, Variables, copied_length, viewed}
+use Rattle.steps.specs.declared.activation.Activation.{Activation}
 use Rattle.std.specs.List.{enumerate_from}
 use Rattle.std.specs.Borrow.{Bor}
 use Rattle.std.specs.Option.{option_map, is_some}
@@ -16,9 +21,9 @@ use Rattle.source.specs.Value.{trap_number}
 use Rattle.report.specs.declared.thread_status.ThreadStatus.{ThreadStatus}
 use Rattle.source.specs.ReportOf.{report, standing_by_ending, standing_of}
 use Rattle.replay_calls.specs.Shares.{shared_view}
-use Rattle.source.specs.State.{State, thread_at, set_thread, in_use, with_event, advanced}
+use Rattle.source.specs.State.{State, thread_at, set_thread, copied, in_use, with_event, advanced}
 use Rattle.source.specs.Step.{world_step, can_step, step_of, is_blocked, is_live, is_unfinished, is_waiting}
-use Rattle.source.specs.Thread.{Ending, Thread, Shared, Unfinished, Ended, Uncaught, Quiet, PrintedNumber, Trapped, Advance}
+use Rattle.source.specs.Thread.{BuffersInUse, copied_by, viewed_by, Ending, Thread, Shared, Unfinished, Ended, Uncaught, Quiet, PrintedNumber, Trapped, Advance}
 use Rattle.source.specs.ThreadStep.{thread_step}
 use Rattle.source.proofs.StepLaws.{Steps, steps, step-thread}
 use Rattle.threads.specs.declared.state.State.{State as StateInMemory}
@@ -27,8 +32,8 @@ use Rattle.threads.specs.declared.thread.Step.{Step}
 use Rattle.threads.specs.declared.thread.Step.TheVariants as step
 use Rattle.threads.specs.declared.state.Stop.{Stop as StopInMemory}
 use Rattle.terms.specs.Views.{trap_view}
-use Rattle.threads.specs.States.{ThreadsStand, AreInRange, Stands, stop_view, printed_after, stop_after, is_possible, Leads, standing_in, standings_in}
-use Rattle.threads.specs.Threads.{ThreadStands, WorkInRange, ending_view, StepIs, TakesStep}
+use Rattle.threads.specs.States.{ThreadsStand, AreInRange, Stands, variables_of, copied_in, viewed_in, in_use_by, stop_view, printed_after, stop_after, is_possible, Leads, standing_in, standings_in}
+use Rattle.threads.specs.Threads.{ThreadStands, WorkInRange, WorkStands, ending_view, StepIs, TakesStep}
 use Rattle.threads.proofs.PlainTasks.{waits_none}
 
 -- ---- one thread of several
@@ -67,6 +72,38 @@ module _ (unit : SourceUnit) (classes : Classes) where
   changed (x ∷ ts) [] i t s h a = absurd h
   changed (x ∷ ts) (y ∷ ss) zero t s h a = (a, h.1)
   changed (x ∷ ts) (y ∷ ss) (suc i) t s h a = (h.0, changed ts ss i t s h.1 a)
+
+  -- ---- buffers
+
+  variables_same : (o : Option Activation) (s : Thread) → WorkStands o s → variables_of o ≡ s.variables
+  variables_same None s h = sym h.0
+  variables_same (Some a) s h = sym h.0
+
+  copied_same : (ts : List ThreadInMemory) (ss : List Thread) → ThreadsStand unit classes ts ss → sum_by copied_in ts ≡ sum_by copied_by ss
+  copied_same [] [] h = refl
+  copied_same [] (s ∷ ss) h = absurd h
+  copied_same (t ∷ ts) [] h = absurd h
+  copied_same (t ∷ ts) (s ∷ ss) h =
+      sum_by-cons copied_in t ts
+      ∙ ap (λ (vs : Variables). sum_by (λ (v : Identifier × Variable). copied_length v.1) vs + sum_by copied_in ts) (variables_same t.activation s (h.0).work)
+      ∙ ap (λ n. copied_by s + n) (copied_same ts ss h.1)
+      ∙ sym (sum_by-cons copied_by s ss)
+
+  viewed_same : (ts : List ThreadInMemory) (ss : List Thread) → ThreadsStand unit classes ts ss → flat_map viewed_in ts ≡ flat_map viewed_by ss
+  viewed_same [] [] h = refl
+  viewed_same [] (s ∷ ss) h = absurd h
+  viewed_same (t ∷ ts) [] h = absurd h
+  viewed_same (t ∷ ts) (s ∷ ss) h =
+      flat_map-cons viewed_in t ts
+      ∙ ap (λ (vs : Variables). flat_map (λ (v : Identifier × Variable). viewed v.1) vs ++ flat_map viewed_in ts) (variables_same t.activation s (h.0).work)
+      ∙ ap (λ (l : List ℕ). viewed_by s ++ l) (viewed_same ts ss h.1)
+      ∙ sym (flat_map-cons viewed_by s ss)
+
+-- what the buffers of all threads take is what they take in memory
+pub in_use_same : (unit : SourceUnit) (w : World) (m : StateInMemory) (s : State) → Stands unit w m s → in_use_by m.threads.items ≡ in_use s
+in_use_same unit w m s h =
+    ap (λ n. let u : BuffersInUse = record { copied = n; views = length (flat_map viewed_in m.threads.items) } in u) (copied_same unit w.classes m.threads.items s.threads h.threads)
+    ∙ ap (λ (l : List ℕ). let u : BuffersInUse = record { copied = copied s; views = length l } in u) (viewed_same unit w.classes m.threads.items s.threads h.threads)
 
 -- the work of one thread is in range
 pub range_at : (ts : List ThreadInMemory) (i : ℕ) (t : ThreadInMemory) → AreInRange ts → slice_get ts i ≡ Some t → WorkInRange t.activation
@@ -205,18 +242,18 @@ module _ (unit : SourceUnit) (w : World) (m : StateInMemory) (s : State) (h : St
     )
     by_step step.Impossible l printed stop = step_is ∙ ap (advanced s (suc i)) l
 
-    takes_at : (took : Step) → TakesStep unit w.classes refused (shared_view m.shared) t took (shared_view new.shared) after → new.printed.items ≡ printed_after m.printed.items (suc i) took → new.stop ≡ stop_after m.stop (suc i) took
+    takes_at : (took : Step) → TakesStep unit w.classes (in_use s) (suc i) refused (shared_view m.shared) t took (shared_view new.shared) after → new.printed.items ≡ printed_after m.printed.items (suc i) took → new.stop ≡ stop_after m.stop (suc i) took
         → Leads unit w s (entry.Step (suc i) refused) new (is_possible took)
-    takes_at took step printed stop = by_step took (step the_thread.source (in_use s) (suc i) the_thread.stands unended) printed stop
+    takes_at took step printed stop = by_step took (step the_thread.source the_thread.stands unended) printed stop
 
   -- an entry is possible as far as its thread's step is
   pub takes : (k : ℕ) (refused : Bool) (i : ℕ) (t after : ThreadInMemory) (took : Step) (new : StateInMemory) → k ≡ suc i → slice_get m.threads.items i ≡ Some t → is_unfinished (ending_view t.ending) ≡ true
-      → is_some m.stop ≡ false → TakesStep unit w.classes refused (shared_view m.shared) t took (shared_view new.shared) after → new.world ≡ m.world → new.threads.items ≡ slice_set m.threads.items i after
+      → is_some m.stop ≡ false → TakesStep unit w.classes (in_use s) k refused (shared_view m.shared) t took (shared_view new.shared) after → new.world ≡ m.world → new.threads.items ≡ slice_set m.threads.items i after
       → new.printed.items ≡ printed_after m.printed.items k took → new.stop ≡ stop_after m.stop k took
       → Leads unit w s (entry.Step k refused) new (is_possible took)
   takes k refused i t after took new counted at live runs step world threads printed stop =
       subst (λ n. Leads unit w s (entry.Step n refused) new (is_possible took)) (sym counted)
-      (takes_at i t after at live runs new world threads refused took step (printed ∙ ap (λ k. printed_after m.printed.items k took) counted) (stop ∙ ap (λ k. stop_after m.stop k took) counted))
+      (takes_at i t after at live runs new world threads refused took (subst (λ n. TakesStep unit w.classes (in_use s) n refused (shared_view m.shared) t took (shared_view new.shared) after) counted step) (printed ∙ ap (λ k. printed_after m.printed.items k took) counted) (stop ∙ ap (λ k. stop_after m.stop k took) counted))
 
   -- ---- the report
 

@@ -1,37 +1,29 @@
 -- A thread in memory steps as the thread that it stands for.
-use Rattle.std.proofs.Common.{◌≡◌, ℕ, Bool, true, false, List, [], ◌∷◌, Option, Some, None, refl, sym, ap, ◌∙◌, IsTrue, subst, append-nil}
+use Rattle.std.proofs.Common.{◌≡◌, ℕ, Bool, true, false, List, [], ◌∷◌, Option, Some, None, refl, sym, ap, ◌∙◌, IsTrue, subst}
 use Rattle.std.specs.List.{list_all}
 use Rattle.std.specs.Option.{option_map}
 use Rattle.source.specs.World.{Invocation}
 use Rattle.source.specs.Load.{call_loads}
 use Rattle.std.proofs.lemmas.Bool.{and_parts}
 use Rattle.std.specs.Borrow.{Bor}
-use Rattle.syntax.specs.declared.stmt.Block.{Block as BlockInMemory, out-Block}
-use Rattle.syntax.specs.declared.stmt.Stmt.{Stmt}
 use Rattle.syntax.specs.Tree.{Function, SourceUnit}
-use Rattle.syntax.specs.Views.{block_tree}
-use Rattle.source.specs.Task.{tasks_of}
 use Rattle.classes.specs.Class.{Classes}
 use Rattle.source.specs.Thread.{Monitor, Thread, Shared, BuffersInUse, Event, Quiet, PrintedNumber, Trapped, Advances as AdvancesTo, NoAdvance, Ending, Unfinished, Ended, Uncaught}
 use Rattle.source.specs.Object.{Reference}
 use Rattle.source.specs.Activation.{ending_after, monitors_after, calls_after, return_step, enter, entered, entry_advance, entered_function}
 use Rattle.source.specs.ThreadStep.{thread_step, step_within}
 use Rattle.steps.specs.declared.activation.Activation.{Activation}
-use Rattle.steps.specs.declared.activation.Outer.{Outer}
-use Rattle.tasks.specs.declared.task.Task.{Task as TaskInMemory}
 use Rattle.threads.specs.declared.thread.Thread.{Thread as ThreadInMemory}
 use Rattle.tasks.specs.declared.outcome.Outcome.TheVariants as outcome
-use Rattle.steps.specs.Activations.{IsInRange, tasks_from, tasks_after, tasks_left, thread_in, scene_of, advance_by, Advances}
-use Rattle.tasks.specs.Tasks.{tasks_of_statements}
-use Rattle.tasks.proofs.EffectLemmas.{block_tasks}
+use Rattle.steps.specs.Activations.{tasks_left, thread_in, advance_by, Advances}
 use Rattle.replay_calls.specs.Shares.{shared_view}
 use Rattle.replay_calls.specs.declared.shared.Shared.{Shared as SharedInMemory}
-use Rattle.steps.specs.Steps.{Sees}
+use Rattle.steps.specs.Steps.{Scene, Sees, scene_with}
 use Rattle.terms.specs.Views.{trap_view}
 use Rattle.tasks.specs.declared.outcome.Outcome.{Outcome}
 use Rattle.threads.specs.declared.thread.Step.{Step}
 use Rattle.source.specs.Heap.{Heap}
-use Rattle.threads.specs.Threads.{IsEntered, HasNoEntry, ThreadStands, WorkInRange, WorkStands, EndsStep, Leaves, StepIs, step_of, tasks_in, ending_view}
+use Rattle.threads.specs.Threads.{IsEntered, HasNoEntry, ThreadStands, WorkInRange, WorkStands, EndsStep, HasLeft, Leaves, StepIs, step_of, tasks_in, ending_view}
 
 -- a thread that has ended owns nothing where nobody does
 no_monitors : (e : Ending) (k : ℕ) → monitors_after e k [] ≡ []
@@ -39,25 +31,15 @@ no_monitors Unfinished k = refl
 no_monitors Ended k = refl
 no_monitors (Uncaught c) k = refl
 
--- the tasks of a call in progress at its beginning
-pub begun_tasks : (body : BlockInMemory) (a : Activation) → a.task ≡ None → a.rest ≡ (out-Block body).statements.items → a.outer.items ≡ [] → tasks_left a ≡ tasks_of (block_tree body)
-begun_tasks body a none rest outer =
-    let statements = (out-Block body).statements.items in
-    ap (λ (o : Option TaskInMemory). tasks_from o (tasks_after a.rest a.outer.items)) none
-    ∙ ap (λ (left : List Stmt). tasks_after left a.outer.items) rest
-    ∙ ap (λ (os : List Outer). tasks_after statements os) outer
-    ∙ append-nil (tasks_of_statements statements)
-    ∙ block_tasks body
-
 -- a call that didn't return goes on
-pub goes_on : (store : Heap) (pending : Option ℕ) (t : ThreadInMemory) (o : Outcome) (took : Step) → (o ≡ outcome.Returned → ⊥) → took ≡ step_of o → EndsStep store pending t o took t
-goes_on store pending t outcome.Returned took none is = absurd (none refl)
-goes_on store pending t o took none is = (is, refl)
+pub goes_on : (store : Heap) (t : ThreadInMemory) (o : Outcome) (took : Step) → (o ≡ outcome.Returned → ⊥) → took ≡ step_of o → EndsStep store t o took t
+goes_on store t outcome.Returned took none is = absurd (none refl)
+goes_on store t o took none is = (is, refl)
 
 -- what is known of it stays known
-pub ended_range : (store : Heap) (t : ThreadInMemory) (new : Activation) (o : Outcome) (took : Step) (left : ThreadInMemory) → EndsStep store new.pending (record t { activation = Some new }) o took left → IsInRange new → WorkInRange left.activation
-ended_range store t new outcome.Returned took left e known = subst WorkInRange (sym e.1.activation) tt
-ended_range store t new o took left e known = subst (λ (u : ThreadInMemory). WorkInRange u.activation) (sym e.1) known
+pub ended_range : (store : Heap) (t : ThreadInMemory) (new : Activation) (o : Outcome) (took : Step) (left : ThreadInMemory) → t.activation ≡ Some new → EndsStep store t o took left → WorkInRange (Some new) → WorkInRange left.activation
+ended_range store t new outcome.Returned took left is e known = subst WorkInRange (sym e.1.activation) tt
+ended_range store t new o took left is e known = subst (λ (u : ThreadInMemory). WorkInRange u.activation) (sym e.1) (subst WorkInRange (sym is) known)
 
 module _ (unit : SourceUnit) (classes : Classes) (in_use : BuffersInUse) (k : ℕ) where
   -- a thread after its call with this ending, and with these calls to come before
@@ -77,30 +59,44 @@ module _ (unit : SourceUnit) (classes : Classes) (in_use : BuffersInUse) (k : �
   loads_after Ended calls h = refl
   loads_after (Uncaught c) calls h = refl
 
-  module _ (refused : Bool) (shared : Shared) (after : SharedInMemory) (t : ThreadInMemory) (a new : Activation) (s : Thread) (is : t.activation ≡ Some a) (h : ThreadStands unit classes t s) where
-    has_tasks : s.tasks ≡ Some (tasks_left a)
+  module _ (refused : Bool) (shared : Shared) (after : SharedInMemory) (t : ThreadInMemory) (a new : Activation) (pending : Option ℕ) (s : Thread) (is : t.activation ≡ Some a) (h : ThreadStands unit classes t s) where
+    -- the scenes before the step and after it
+    abbrev before : Scene
+    before = scene_with classes in_use k shared a.locals.variables a.locals.frames t.pending
+
+    abbrev end' : Scene
+    end' = scene_with classes in_use k (shared_view after) new.locals.variables new.locals.frames pending
+
+    -- the thread in memory after it, and the one that it stands for
+    abbrev stepped : ThreadInMemory
+    stepped = record t { activation = Some new; pending = pending }
+
+    abbrev next : Thread
+    next = thread_in s (tasks_left new.work) end'
+
+    has_tasks : s.tasks ≡ Some (tasks_left a.work)
     has_tasks = h.tasks ∙ ap tasks_in is
 
     work : WorkStands (Some a) s
     work = subst (λ (o : Option Activation). WorkStands o s) is h.work
 
-    sees : Sees (scene_of classes shared a) s
-    sees = record { variables = work.0; frames = work.1; pending = work.2 }
+    sees : Sees before s
+    sees = record { variables = work.0; frames = work.1; pending = h.pending }
 
-    advances_so : (o : Outcome) → Advances classes refused shared a o (shared_view after) new → thread_step unit classes in_use k shared s refused ≡ advance_by k (shared_view after) s new o
-    advances_so o does = ap (step_within unit classes in_use k shared s refused) has_tasks ∙ does unit in_use k s sees has_tasks
+    advances_so : (o : Outcome) → Advances refused before a.work o end' new.work → thread_step unit classes in_use k shared s refused ≡ advance_by k (shared_view after) next o
+    advances_so o does = ap (step_within unit classes in_use k shared s refused) has_tasks ∙ does unit s sees has_tasks
 
     -- the call goes on
-    on : (event : Event) → thread_step unit classes in_use k shared s refused ≡ AdvancesTo (shared_view after) (thread_in s new) event
-        → Leaves unit classes (shared_view after) (record t { activation = Some new }) event (thread_step unit classes in_use k shared s refused)
+    on : (event : Event) → thread_step unit classes in_use k shared s refused ≡ AdvancesTo (shared_view after) next event
+        → Leaves unit classes (shared_view after) stepped event (thread_step unit classes in_use k shared s refused)
     on event does = record {
-      next = thread_in s new;
+      next = next;
       advances = does;
-      stands = record { calls = h.calls; loads = h.loads; tasks = refl; work = (refl, refl, refl); ending = h.ending };
+      stands = record { calls = h.calls; loads = h.loads; tasks = refl; work = (refl, refl); pending = refl; ending = h.ending };
     }
 
-    pub goes : (o : Outcome) → (o ≡ outcome.Returned → ⊥) → Advances classes refused shared a o (shared_view after) new
-        → StepIs unit classes (shared_view after) (record t { activation = Some new }) (step_of o) (thread_step unit classes in_use k shared s refused)
+    pub goes : (o : Outcome) → (o ≡ outcome.Returned → ⊥) → Advances refused before a.work o end' new.work
+        → StepIs unit classes (shared_view after) stepped (step_of o) (thread_step unit classes in_use k shared s refused)
     goes outcome.Stays other does = on Quiet (advances_so outcome.Stays does)
     goes (outcome.Printed z) other does = on (PrintedNumber z) (advances_so (outcome.Printed z) does)
     goes (outcome.Sets x v) other does = on Quiet (advances_so (outcome.Sets x v) does)
@@ -116,26 +112,27 @@ module _ (unit : SourceUnit) (classes : Classes) (in_use : BuffersInUse) (k : �
     goes outcome.Impossible other does = advances_so outcome.Impossible does
 
     -- the call is over
-    pub returns : (left : ThreadInMemory) → Advances classes refused shared a outcome.Returned (shared_view after) new → left.activation ≡ None → ending_view left.ending ≡ ending_after after.store new.pending t.calls.now
-        → left.calls.now ≡ calls_after (ending_view left.ending) t.calls.now → Leaves unit classes (shared_view after) left Quiet (thread_step unit classes in_use k shared s refused)
-    returns left does idle ended calls =
+    pub returns : (left : ThreadInMemory) → Advances refused before a.work outcome.Returned end' new.work → HasLeft after.store stepped left
+        → Leaves unit classes (shared_view after) left Quiet (thread_step unit classes in_use k shared s refused)
+    returns left does over =
         let e : Ending = ending_view left.ending in
         record {
           next = thread_after e t.calls.now;
-          advances = advances_so outcome.Returned does ∙ left_by after (record s { pending = new.pending }) e t.calls.now new.pending h.calls refl ended;
+          advances = advances_so outcome.Returned does ∙ left_by after next e t.calls.now pending h.calls refl over.ending;
           stands = record {
-            calls = sym calls;
-            loads = subst (λ (cs : List Invocation). IsTrue (list_all (call_loads unit classes) cs)) (sym calls) (loads_after e t.calls.now h.loads);
-            tasks = ap tasks_in (sym idle);
-            work = subst (λ (o : Option Activation). WorkStands o (thread_after e t.calls.now)) (sym idle) (refl, refl, refl);
+            calls = sym over.calls;
+            loads = subst (λ (cs : List Invocation). IsTrue (list_all (call_loads unit classes) cs)) (sym over.calls) (loads_after e t.calls.now h.loads);
+            tasks = ap tasks_in (sym over.activation);
+            work = subst (λ (o : Option Activation). WorkStands o (thread_after e t.calls.now)) (sym over.activation) (refl, refl);
+            pending = sym over.pending;
             ending = refl;
           };
         }
 
     -- what a step of the call did is the thread's step
-    pub ended_step : (o : Outcome) (took : Step) (left : ThreadInMemory) → EndsStep after.store new.pending (record t { activation = Some new }) o took left → Advances classes refused shared a o (shared_view after) new
+    pub ended_step : (o : Outcome) (took : Step) (left : ThreadInMemory) → EndsStep after.store stepped o took left → Advances refused before a.work o end' new.work
         → StepIs unit classes (shared_view after) left took (thread_step unit classes in_use k shared s refused)
-    ended_step outcome.Returned took left e does = rw e.0 (returns left does e.1.activation e.1.ending e.1.calls)
+    ended_step outcome.Returned took left e does = rw e.0 (returns left does e.1)
     ended_step o took left e does =
         let taken = thread_step unit classes in_use k shared s refused in
         subst (λ (w : Step). StepIs unit classes (shared_view after) left w taken) (sym e.0) (subst (λ (u : ThreadInMemory). StepIs unit classes (shared_view after) u (step_of o) taken) (sym e.1) (goes o (λ r. absurd (cc)) does))
@@ -154,7 +151,8 @@ module _ (unit : SourceUnit) (classes : Classes) (in_use : BuffersInUse) (k : �
       calls = sym is;
       loads = subst (λ (cs : List Invocation). IsTrue (list_all (call_loads unit classes) cs)) (sym is) parts.1;
       tasks = ap Some (sym e.tasks) ∙ ap tasks_in (sym e.is);
-      work = subst (λ (p : Option Activation). WorkStands p (entered s rest e.function e.class call.arguments)) (sym e.is) (sym e.variables, sym e.frames, (subst (λ (p : Option Activation). WorkStands p s) idle h.work).2 ∙ sym e.pending);
+      work = subst (λ (p : Option Activation). WorkStands p (entered s rest e.function e.class call.arguments)) (sym e.is) (sym e.variables, sym e.frames);
+      pending = h.pending;
       ending = h.ending;
     };
   }

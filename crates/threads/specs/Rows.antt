@@ -8,13 +8,11 @@ use Rattle.threads.specs.declared.thread.Thread.{Thread}
 abbrev pub pending_names : Option ℕ → List ℕ
 pending_names pending = option_to_list pending
 
--- the names in the frames of a call in progress, and of its pending exception
-abbrev pub call_names : Activation → List ℕ
-call_names a = references_in a.frames ++ pending_names a.pending
-
+-- the names in the frames of the call in progress, if there is one
 abbrev pub activation_names : Option Activation → List ℕ
 activation_names None = []
-activation_names (Some a) = call_names a
+activation_names (Some a) = references_in a.locals.frames
 
+-- the same, and that of the pending exception
 abbrev pub thread_names : Thread → List ℕ
-thread_names t = activation_names t.activation
+thread_names t = activation_names t.activation ++ pending_names t.pending

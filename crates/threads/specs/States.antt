@@ -1,5 +1,5 @@
 -- States that lie in memory, as those of the language, and what an entry does to one.
-use Rattle.std.specs.Prelude.{◌≡◌, ℕ, ◌+◌, ◌<◌, length, slice_get, is_some, Bool, true, false, List, [], ◌∷◌, ◌++◌, map, Option, Some, None}
+use Rattle.std.specs.Prelude.{◌≡◌, ℕ, ◌+◌, ◌<◌, length, slice_get, sum_by, flat_map, is_some, Bool, true, false, List, [], ◌∷◌, ◌++◌, map, Option, Some, None}
 use Rattle.std.specs.List.{enumerate_from}
 use Rattle.std.specs.Option.{option_map}
 use Rattle.syntax.specs.Tree.{SourceUnit}
@@ -9,7 +9,10 @@ use Rattle.source.specs.declared.journal.Entry.TheVariants as entry
 use Rattle.source.specs.declared.printed.Printed.{Printed}
 use Rattle.source.specs.Report.{ThreadStanding}
 use Rattle.source.specs.World.{World}
-use Rattle.source.specs.Thread.{Thread}
+use Rattle.source.specs.Thread.{Thread, BuffersInUse}
+use Rattle.source.specs.Variable.{Variable, Variables, copied_length, viewed}
+use Rattle.base.specs.Bytes.{Identifier}
+use Rattle.steps.specs.declared.activation.Activation.{Activation}
 use Rattle.source.specs.State.{State, Stop}
 use Rattle.source.specs.Step.{world_step, is_unfinished}
 use Rattle.source.specs.ReportOf.{standing_at}
@@ -18,7 +21,7 @@ use Rattle.threads.specs.declared.thread.Step.{Step}
 use Rattle.threads.specs.declared.thread.Step.TheVariants as step
 use Rattle.threads.specs.declared.state.State.{State as StateInMemory}
 use Rattle.threads.specs.declared.state.Stop.{Stop as StopInMemory}
-use Rattle.terms.specs.Views.{trap_view}
+use Rattle.terms.specs.Views.{trap_view, variables_view}
 use Rattle.threads.specs.Threads.{ThreadStands, WorkInRange, ending_view}
 use Rattle.replay_calls.specs.Shares.{shared_view}
 
@@ -88,6 +91,28 @@ pub record IsLiveAt (m : StateInMemory) (k place : ℕ) : Type 0 where
 -- no step of thread k is possible
 abbrev pub TakesNone : StateInMemory → ℕ → Type 0
 TakesNone m k = (unit : SourceUnit) (refused : Bool) → TakesEntry unit m (entry.Step k refused) false m
+
+-- ---- buffers
+
+abbrev pub variables_of : Option Activation → Variables
+variables_of None = []
+variables_of (Some a) = variables_view a.locals.variables
+
+-- the variables of the call in progress
+abbrev pub variables_in : ThreadInMemory → Variables
+variables_in t = variables_of t.activation
+
+-- the lengths of its copied lists together
+abbrev pub copied_in : ThreadInMemory → ℕ
+copied_in t = sum_by (λ (v : Identifier × Variable). copied_length v.1) (variables_in t)
+
+-- the objects of its views
+abbrev pub viewed_in : ThreadInMemory → List ℕ
+viewed_in t = flat_map (λ (v : Identifier × Variable). viewed v.1) (variables_in t)
+
+-- what the buffers of all threads together take
+abbrev pub in_use_by : List ThreadInMemory → BuffersInUse
+in_use_by ts = record { copied = sum_by copied_in ts; views = length (flat_map viewed_in ts) }
 
 -- ---- the report
 

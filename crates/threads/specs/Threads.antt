@@ -1,7 +1,6 @@
 -- Threads that lie in memory, as those of the language, and what a step of one does.
 use Rattle.std.specs.Prelude.{◌≡◌, ℕ, Bool, true, false, List, [], ◌∷◌, map, filter_map, zip, Option, Some, None, IsTrue}
 use Rattle.std.specs.List.{list_all}
-use Rattle.syntax.specs.declared.stmt.Block.{out-Block}
 use Rattle.syntax.specs.declared.unit.Function.{Function}
 use Rattle.syntax.specs.Tree.{SourceUnit, Function as FunctionOfUnit}
 use Rattle.syntax.specs.Views.{function_tree}
@@ -24,7 +23,9 @@ use Rattle.threads.specs.declared.thread.Ending.{Ending as EndingInMemory}
 use Rattle.threads.specs.declared.thread.Ending.TheVariants as ending
 use Rattle.threads.specs.declared.thread.Step.{Step}
 use Rattle.threads.specs.declared.thread.Step.TheVariants as step
-use Rattle.steps.specs.Activations.{tasks_left, IsInRange}
+use Rattle.steps.specs.Activations.{tasks_left, IsAtStatement}
+use Rattle.steps.specs.declared.turn.Turn.{Turn}
+use Rattle.steps.specs.Turns.{in_use_view}
 use Rattle.terms.specs.Views.{assign_all, variables_view, trap_view}
 use Rattle.source.specs.declared.object_value.ObjectValue.{ObjectValue as ObjectValueInMemory}
 use Rattle.world.specs.Views.{object_value_view}
@@ -32,16 +33,16 @@ use Rattle.world.specs.Views.{object_value_view}
 -- the tasks of the call in progress, if there is one
 abbrev pub tasks_in : Option Activation → Option (List Task)
 tasks_in None = None
-tasks_in (Some a) = Some (tasks_left a)
+tasks_in (Some a) = Some (tasks_left a.work)
 
 -- what the call in progress has beside its tasks; where there is none, there is nothing
 abbrev pub WorkStands : Option Activation → Thread → Type 0
-WorkStands None s = (s.variables ≡ []) × (s.frames ≡ []) × (s.pending ≡ None)
-WorkStands (Some a) s = (s.variables ≡ variables_view a.variables) × (s.frames ≡ a.frames) × (s.pending ≡ a.pending)
+WorkStands None s = (s.variables ≡ []) × (s.frames ≡ [])
+WorkStands (Some a) s = (s.variables ≡ variables_view a.locals.variables) × (s.frames ≡ a.locals.frames)
 
 abbrev pub WorkInRange : Option Activation → Type 0
 WorkInRange None = Unit {0}
-WorkInRange (Some a) = IsInRange a
+WorkInRange (Some a) = IsAtStatement a.work
 
 abbrev pub ending_view : EndingInMemory → Ending
 ending_view ending.Unfinished = Unfinished
@@ -57,12 +58,10 @@ argument_content (Refers r) = LocalRef 1 r
 pub record IsBegun (f : Function) (class : ℕ) (arguments : List ObjectValueInMemory) (o : Option Activation) : Type 0 where
   pub activation : Activation
   pub is : o ≡ Some activation
-  pub task : activation.task ≡ None
-  pub rest : activation.rest ≡ (out-Block f.body).statements.items
-  pub outer : activation.outer.items ≡ []
-  pub variables : variables_view activation.variables ≡ assign_all ((f.class_name, LocalRef 1 (Some class)) ∷ parameter_variables (zip (function_tree f).parameters (map object_value_view arguments))) []
-  pub frames : activation.frames ≡ entry_frame (class ∷ filter_map named_object (map object_value_view arguments)) ∷ []
-  pub pending : activation.pending ≡ None
+  pub tasks : tasks_left activation.work ≡ tasks_of (function_tree f).body
+  pub range : IsAtStatement activation.work
+  pub variables : variables_view activation.locals.variables ≡ assign_all ((f.class_name, LocalRef 1 (Some class)) ∷ parameter_variables (zip (function_tree f).parameters (map object_value_view arguments))) []
+  pub frames : activation.locals.frames ≡ entry_frame (class ∷ filter_map named_object (map object_value_view arguments)) ∷ []
 
 -- a call in progress is this one at its beginning
 pub record IsEntered (unit : SourceUnit) (classes : Classes) (call : Invocation) (o : Option Activation) : Type 0 where
@@ -72,11 +71,10 @@ pub record IsEntered (unit : SourceUnit) (classes : Classes) (call : Invocation)
   pub its_class : class_of_function classes function ≡ Some class
   pub activation : Activation
   pub is : o ≡ Some activation
-  pub tasks : tasks_left activation ≡ tasks_of function.body
-  pub variables : variables_view activation.variables ≡ (function.class_name, LocalRef 1 (Some class)) ∷ parameter_variables (zip function.parameters call.arguments)
-  pub frames : activation.frames ≡ entry_frame (class ∷ filter_map named_object call.arguments) ∷ []
-  pub pending : activation.pending ≡ None
-  pub range : IsInRange activation
+  pub tasks : tasks_left activation.work ≡ tasks_of function.body
+  pub variables : variables_view activation.locals.variables ≡ (function.class_name, LocalRef 1 (Some class)) ∷ parameter_variables (zip function.parameters call.arguments)
+  pub frames : activation.locals.frames ≡ entry_frame (class ∷ filter_map named_object call.arguments) ∷ []
+  pub range : IsAtStatement activation.work
 
 -- no thread can enter this call
 abbrev pub HasNoEntry : SourceUnit → Classes → Invocation → Type 0
@@ -94,16 +92,17 @@ step_of (outcome.Trapped trap line) = step.Trapped trap line
 step_of outcome.Impossible = step.Impossible
 step_of took = step.Quiet
 
--- its call in progress was left, with this exception pending
-pub record HasLeft (store : Heap) (pending : Option ℕ) (old new : ThreadInMemory) : Type 0 where
+-- its call in progress was left
+pub record HasLeft (store : Heap) (old new : ThreadInMemory) : Type 0 where
   pub activation : new.activation ≡ None
-  pub ending : ending_view new.ending ≡ ending_after store pending old.calls.now
+  pub pending : new.pending ≡ None
+  pub ending : ending_view new.ending ≡ ending_after store old.pending old.calls.now
   pub calls : new.calls.now ≡ calls_after (ending_view new.ending) old.calls.now
 
 -- what others see of what a call in progress did, which was left if it returned
-abbrev pub EndsStep : Heap → Option ℕ → ThreadInMemory → Outcome → Step → ThreadInMemory → Type 0
-EndsStep store pending old outcome.Returned took new = (took ≡ step.Quiet) × HasLeft store pending old new
-EndsStep store pending old o took new = (took ≡ step_of o) × (new ≡ old)
+abbrev pub EndsStep : Heap → ThreadInMemory → Outcome → Step → ThreadInMemory → Type 0
+EndsStep store old outcome.Returned took new = (took ≡ step.Quiet) × HasLeft store old new
+EndsStep store old o took new = (took ≡ step_of o) × (new ≡ old)
 
 -- a thread in memory stands for one of the language
 pub record ThreadStands (unit : SourceUnit) (classes : Classes) (t : ThreadInMemory) (s : Thread) : Type 0 where
@@ -111,6 +110,7 @@ pub record ThreadStands (unit : SourceUnit) (classes : Classes) (t : ThreadInMem
   pub loads : IsTrue (list_all (call_loads unit classes) t.calls.now)
   pub tasks : s.tasks ≡ tasks_in t.activation
   pub work : WorkStands t.activation s
+  pub pending : s.pending ≡ t.pending
   pub ending : s.ending ≡ ending_view t.ending
 
 -- a step leaves the thread so, and all threads this to share
@@ -126,8 +126,12 @@ StepIs unit classes shared t (step.Printed z) advance = Leaves unit classes shar
 StepIs unit classes shared t (step.Trapped trap line) advance = Leaves unit classes shared t (Trapped (trap_view trap) line) advance
 StepIs unit classes shared t step.Impossible advance = advance ≡ NoAdvance
 
--- the same for each thread that it stands for, with this to share before and after it, or what the step does with its object refused
-abbrev pub TakesStep : SourceUnit → Classes → (refused : Bool) → Shared → ThreadInMemory → Step → Shared → ThreadInMemory → Type 0
-TakesStep unit classes refused shared old took after new =
-    (s : Thread) (in_use : BuffersInUse) (k : ℕ) → ThreadStands unit classes old s → s.ending ≡ Unfinished
-    → StepIs unit classes after new took (thread_step unit classes in_use k shared s refused)
+-- The same for each thread that it stands for, with this to share before and after it, or what the step does with its object
+-- refused. It is thread k, and the buffers of all threads together take what is in use.
+abbrev pub TakesStep : SourceUnit → Classes → BuffersInUse → (k : ℕ) → (refused : Bool) → Shared → ThreadInMemory → Step → Shared → ThreadInMemory → Type 0
+TakesStep unit classes in_use k refused shared old took after new =
+    (s : Thread) → ThreadStands unit classes old s → s.ending ≡ Unfinished → StepIs unit classes after new took (thread_step unit classes in_use k shared s refused)
+
+-- the same at a turn
+abbrev pub TakesTurn : SourceUnit → Turn → Shared → ThreadInMemory → Step → Shared → ThreadInMemory → Type 0
+TakesTurn unit turn shared old took after new = TakesStep unit turn.classes.now (in_use_view turn.in_use) turn.thread turn.refused shared old took after new

@@ -5,6 +5,6 @@ mod rows;
 mod state;
 mod thread;
 
-pub use rows::{NamedObjects, root_names};
+pub use rows::root_names;
 pub use state::{State, Stop, standings_of, take_entry};
 pub use thread::{Ending, Thread, class_of};

@@ -1,40 +1,12 @@
-//! The objects of a replay by their names, and what threads refer to, for a report.
+//! What threads refer to, for a report.
 
 ghost use Rattle.std.specs.Prelude.{◌≡◌, ◌++◌, IfOk, flat_map};
-ghost use Rattle.threads.specs.Rows.{call_names, pending_names, thread_names};
+ghost use Rattle.threads.specs.Rows.{activation_names, pending_names, thread_names};
 
 use crate::thread::Thread;
-use object_store::{Names, Store};
-use reached::Objects;
+use object_store::Names;
 use std::alloc::{AllocError, Global};
 use steps::Activation;
-use world::ObjectValue;
-
-/// The objects of a store.
-#[derive(Clone, Copy)]
-pub struct NamedObjects<'a> {
-    pub store: &'a Store,
-}
-
-impl Objects for NamedObjects<'_> {
-    ghost heap = { λ o. o.store.now };
-
-    fn len(&self) -> usize {
-        self.store.len()
-    }
-
-    fn class_of(&self, name: usize) -> usize {
-        self.store.class_of(name)
-    }
-
-    fn count(&self, name: usize) -> usize {
-        self.store.values_of(name).len()
-    }
-
-    fn value(&self, name: usize, index: usize) -> ObjectValue {
-        self.store.values_of(name)[index]
-    }
-}
 
 /// The names of the objects that global references and threads refer to, in the order of the definitions.
 pub fn root_names(
@@ -64,18 +36,18 @@ fn add_threads(names: &mut Vec<usize>, threads: &[Thread<'_>]) -> Result<(), All
 fn push_thread(names: &mut Vec<usize>, thread: &Thread<'_>) -> Result<(), AllocError>
     ensures { IfOk result (λ _. names.new.items ≡ names.old.items ++ thread_names thread.now) }
 {
-    match &thread.activation {
-        None => Ok(()),
-        Some(activation) => push_call(names, activation),
-    }
+    push_call(names, &thread.activation)?;
+    push_pending(names, thread.pending)
 }
 
-/// Adds the names of a call in progress.
-fn push_call(names: &mut Vec<usize>, activation: &Activation<'_>) -> Result<(), AllocError>
-    ensures { IfOk result (λ _. names.new.items ≡ names.old.items ++ call_names activation.now) }
+/// Adds the names of the call in progress, if there is one.
+fn push_call(names: &mut Vec<usize>, activation: &Option<Activation<'_>>) -> Result<(), AllocError>
+    ensures { IfOk result (λ _. names.new.items ≡ names.old.items ++ activation_names activation.now) }
 {
-    activation.frames.add_to(names)?;
-    push_pending(names, activation.pending)
+    match activation {
+        None => Ok(()),
+        Some(activation) => activation.locals.frames.add_to(names),
+    }
 }
 
 /// Adds the name of a pending exception.

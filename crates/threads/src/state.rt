@@ -7,7 +7,8 @@ ghost use Rattle.syntax.specs.Views.{unit_tree};
 ghost use Rattle.sorts.specs.BuiltCalls.{calls_are_built};
 ghost use Rattle.sorts.specs.SortRules.{IsSorted};
 ghost use Rattle.source.specs.declared.journal.Entry.TheVariants as journal;
-ghost use Rattle.threads.specs.States.{AreInRange, IsLiveAt, TakesEntry, TakesNone, IsNoted, is_possible, standing_in, standings_in};
+ghost use Rattle.threads.specs.States.{AreInRange, IsLiveAt, TakesEntry, TakesNone, IsNoted, in_use_by, is_possible, standing_in, standings_in};
+ghost use Rattle.steps.specs.Turns.{in_use_view};
 ghost use Rattle.threads.specs.Threads.{ending_view};
 ghost use Rattle.report.specs.ThreadStatus.{standing_view};
 ghost use Rattle.source.specs.ReportOf.{standing_by_ending};
@@ -19,6 +20,7 @@ use replay_calls::Shared;
 use report::ThreadStatus;
 use source::{Entry, Printed};
 use std::alloc::{AllocError, Global};
+use steps::{BuffersInUse, Turn};
 use terms::{Trap, trap_number};
 use world::World;
 
@@ -103,6 +105,16 @@ fn place_of(state: &State<'_>, k: u8) -> Option<usize>
     }
 }
 
+/// What the buffers of all threads take together. No variable of theirs has a copy or a view today.
+fn buffers_in_use(_threads: &[Thread<'_>]) -> BuffersInUse
+    ensures { in_use_view result ≡ in_use_by _threads.now }
+{
+    BuffersInUse {
+        copied: 0,
+        views: 0,
+    }
+}
+
 /// Takes the step of thread `k`, which is at this place and can step, its allocation refused or not; false where the step isn't
 /// possible.
 #[inline]
@@ -122,15 +134,15 @@ fn take_turn<'a>(
     ensures step { IfOk result (λ possible. TakesEntry (unit_tree functions.now) state.old (journal.Step k refused) possible state.new) }
     ensures range { IfOk result (λ _. AreInRange state.new.threads.items) }
 {
-    let thread = &mut state.threads[place];
-    match take_step(
+    let turn = Turn {
         alloc,
-        functions,
-        state.world,
-        &mut state.shared,
+        classes: state.world.classes(),
+        thread: k,
+        in_use: buffers_in_use(&state.threads),
         refused,
-        thread,
-    ) {
+    };
+    let thread = &mut state.threads[place];
+    match take_step(functions, state.world, turn, &mut state.shared, thread) {
         Ok(step) => note(state, k, step),
         Err(error) => Err(error),
     }

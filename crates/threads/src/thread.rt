@@ -6,11 +6,14 @@ ghost use Rattle.syntax.specs.Views.{function_tree, parameter_tree, unit_tree};
 ghost use Rattle.sorts.specs.BuiltCalls.{calls_are_built};
 ghost use Rattle.sorts.specs.SortRules.{IsSorted};
 ghost use Rattle.world.specs.Views.{object_value_view};
-ghost use Rattle.source.specs.Activation.{parameter_variables, class_of_function, named_object, entry_frame, ending_after, calls_after};
+ghost use Rattle.source.specs.Activation.{parameter_variables, class_of_function, named_object, entry_frame, ending_after};
 ghost use Rattle.source.specs.Step.{is_unfinished};
 ghost use Rattle.source.specs.Thread.{Shared as SharedOfThreads};
 ghost use Rattle.source.specs.Variable.{LocalRef};
-ghost use Rattle.threads.specs.Threads.{argument_content, ending_view, BeginsNext, IsBegun, EndsStep, TakesStep, WorkInRange, step_of};
+ghost use Rattle.classes.specs.Grown.{IsGrown};
+ghost use Rattle.threads.specs.Threads.{argument_content, ending_view, BeginsNext, IsBegun, EndsStep, HasLeft, TakesTurn, WorkInRange, step_of};
+ghost use Rattle.tasks.specs.Tasks.{StatementsInRange};
+ghost use Rattle.syntax.specs.declared.stmt.Block.{out-Block};
 ghost use Rattle.replay_calls.specs.Shares.{shared_view};
 ghost use Rattle.terms.specs.Views.{assign_all, content_view, variables_view};
 
@@ -19,9 +22,9 @@ use functions::Functions;
 use object_store::{Frames, Names, Store};
 use replay_calls::Shared;
 use std::alloc::{AllocError, Global};
-use steps::{Activation, advance};
+use steps::{Activation, Locals, Turn, advance, work_of};
 use syntax::{Function, Parameter};
-use tasks::{Outcome, Statements};
+use tasks::Outcome;
 use terms::{Content, Trap, Value, Variables};
 use world::{Call, ObjectValue, World};
 
@@ -44,10 +47,11 @@ pub(crate) fn is_unfinished(ending: Ending) -> bool
     }
 }
 
-/// A thread: the calls to come, the one in progress, and how it has ended.
+/// A thread: the calls to come, the one in progress, the pending exception, and how it has ended.
 pub struct Thread<'a> {
     pub calls: &'a [Call],
     pub activation: Option<Activation<'a>>,
+    pub pending: Option<usize>,
     pub ending: Ending,
 }
 
@@ -57,6 +61,7 @@ impl Drop for Thread<'_> {
         let Thread {
             calls: _,
             activation,
+            pending: _,
             ending: _,
         } = self;
         drop(activation);
@@ -183,18 +188,14 @@ fn begin_call<'a>(
     class: usize,
     arguments: &[ObjectValue],
 ) -> Result<(), AllocError>
+    requires { StatementsInRange (out-Block function.now.body).statements.items }
     ensures { IfOk result (λ _. IsBegun function.entry.now class arguments.now place.new) }
 {
+    let work = work_of(alloc, &function.body)?;
     let variables = entry_variables(alloc, function, class, arguments)?;
     let frames = entry_frames(alloc, class, arguments)?;
-    let activation = Activation {
-        task: None,
-        rest: Statements::of(Some(&function.body)),
-        outer: Vec::new(alloc),
-        variables,
-        frames,
-        pending: None,
-    };
+    let locals = Locals { variables, frames };
+    let activation = Activation { work, locals };
     put_activation(place, Some(activation));
     Ok(())
 }
@@ -228,27 +229,27 @@ fn begin_next<'a>(
 
 /// Enters the next call.
 fn enter<'a>(
-    alloc: Global,
     functions: &Functions<'a>,
     world: &World,
-    refused: bool,
+    turn: Turn<'a>,
     thread: &mut Thread<'a>,
 ) -> Result<Step, AllocError>
     requires tree { IsTree (unit_tree functions.now) }
     requires sorted { IsSorted (unit_tree functions.now) }
     requires calls { IsTrue (calls_are_built (unit_tree functions.now)) }
+    requires classes { turn.classes.now ≡ world.now.classes }
     requires idle { thread.old.activation ≡ None }
-    ensures step { IfOk result (λ took. (shared : SharedOfThreads) → TakesStep (unit_tree functions.now) world.now.classes refused shared thread.old took shared thread.new) }
+    ensures step { IfOk result (λ took. (shared : SharedOfThreads) → TakesTurn (unit_tree functions.now) turn.entry shared thread.old took shared thread.new) }
     ensures range { IfOk result (λ _. WorkInRange thread.new.activation) }
 {
     // An entry makes no object that could be refused.
-    if refused {
+    if turn.refused {
         return Ok(Step::Impossible);
     }
     let Some((call, rest)) = thread.calls.split_first() else {
         return Ok(Step::Impossible);
     };
-    match begin_next(alloc, functions, world, call, &mut thread.activation) {
+    match begin_next(turn.alloc, functions, world, call, &mut thread.activation) {
         Ok(true) => {
             thread.calls = rest;
             Ok(Step::Quiet)
@@ -288,13 +289,12 @@ fn ending_after(store: &Store, pending: Option<usize>, calls: &[Call]) -> Ending
 }
 
 /// Ends the call in progress. With an exception pending, or no call to come, the thread has ended.
-fn leave(store: &Store, thread: &mut Thread<'_>, pending: Option<usize>)
-    ensures activation { thread.new.activation ≡ None }
-    ensures ending { ending_view thread.new.ending ≡ ending_after store.now pending thread.old.calls.now }
-    ensures calls { thread.new.calls.now ≡ calls_after (ending_view thread.new.ending) thread.old.calls.now }
+fn leave(store: &Store, thread: &mut Thread<'_>)
+    ensures { HasLeft store.now thread.old thread.new }
 {
-    let ending = ending_after(store, pending, thread.calls);
+    let ending = ending_after(store, thread.pending, thread.calls);
     put_activation(&mut thread.activation, None);
+    thread.pending = None;
     thread.ending = ending;
     match ending {
         Ending::Unfinished => {}
@@ -302,19 +302,14 @@ fn leave(store: &Store, thread: &mut Thread<'_>, pending: Option<usize>)
     }
 }
 
-/// Leaves the call in progress if it returned, with this exception pending. Tells what others see of what it did.
+/// Leaves the call in progress if it returned. Tells what others see of what it did.
 #[inline]
-fn end_step(
-    store: &Store,
-    thread: &mut Thread<'_>,
-    pending: Option<usize>,
-    outcome: Outcome<'_>,
-) -> Step
-    ensures { EndsStep store.now pending thread.old outcome.entry result thread.new }
+fn end_step(store: &Store, thread: &mut Thread<'_>, outcome: Outcome<'_>) -> Step
+    ensures { EndsStep store.now thread.old outcome.entry result thread.new }
 {
     match outcome {
         Outcome::Returned => {
-            leave(store, thread, pending);
+            leave(store, thread);
             Step::Quiet
         }
         outcome => step_of(outcome),
@@ -323,28 +318,26 @@ fn end_step(
 
 /// Lets a thread that has not ended take its next step, or the same with its object refused.
 pub(crate) fn take_step<'a>(
-    alloc: Global,
     functions: &Functions<'a>,
     world: &'a World,
+    turn: Turn<'a>,
     shared: &mut Shared<'a>,
-    refused: bool,
     thread: &mut Thread<'a>,
 ) -> Result<Step, AllocError>
     requires tree { IsTree (unit_tree functions.now) }
     requires sorted { IsSorted (unit_tree functions.now) }
     requires calls { IsTrue (calls_are_built (unit_tree functions.now)) }
+    requires classes { turn.classes.now ≡ world.now.classes }
+    requires grown { IsGrown turn.classes.now }
     requires range { WorkInRange thread.old.activation }
-    ensures step { IfOk result (λ took. TakesStep (unit_tree functions.now) world.now.classes refused (shared_view shared.old) thread.old took (shared_view shared.new) thread.new) }
+    ensures step { IfOk result (λ took. TakesTurn (unit_tree functions.now) turn.entry (shared_view shared.old) thread.old took (shared_view shared.new) thread.new) }
     ensures range { IfOk result (λ _. WorkInRange thread.new.activation) }
 {
     let Some(activation) = &mut thread.activation else {
-        return enter(alloc, functions, world, refused, thread);
+        return enter(functions, world, turn, thread);
     };
-    match advance(alloc, world.classes(), shared, refused, activation) {
-        Ok(outcome) => {
-            let pending = activation.pending;
-            Ok(end_step(&shared.store, thread, pending, outcome))
-        }
+    match advance(turn, shared, &mut thread.pending, activation) {
+        Ok(outcome) => Ok(end_step(&shared.store, thread, outcome)),
         Err(error) => Err(error),
     }
 }

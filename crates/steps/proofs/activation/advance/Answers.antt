@@ -1,21 +1,14 @@
 use Rattle.replay_calls.specs.Shares.{shared_view}
-use Rattle.steps.proofs.ActivationLemmas.{begun_before}
-use Rattle.std.proofs.lemmas.Result.{IfOk-weaker}
+use Rattle.steps.specs.Steps.{scene_of}
+use Rattle.steps.proofs.ActivationLemmas.{begun_after}
 use Rattle.steps.proofs.activation.advance.Goals as goal
-
-pub returns-then-is_none-clause-step : goal.returns-then-is_none-clause-step
-returns-then-is_none-clause-step c =
-    let classes = c.args.classes.now in
-    let shared = shared_view c.args.shared.now in
-    IfOk-weaker c.leave_block.result _ _
-    (λ o does. begun_before classes c.args.refused shared c.args.activation.now c.begin.new.activation o shared c.leave_block.new.activation c.in_ok-begin.ensures.tasks c.in_ok-begin.ensures.kept
-    (does classes shared))
-    c.leave_block.ensures.step
 
 pub returns-clause-step : goal.returns-clause-step
 returns-clause-step c =
-    let classes = c.args.classes.now in
-    let shared = shared_view c.args.shared.now in
-    IfOk-weaker c.go_on.result _ _
-    (λ o does. begun_before classes c.args.refused shared c.args.activation.now c.begin.new.activation o (shared_view c.go_on.new.shared) c.go_on.new.activation c.in_ok-begin.ensures.tasks c.in_ok-begin.ensures.kept does)
-    c.go_on.ensures.step
+    let turn = c.args.turn in
+    let stepped = c.take_step.new.activation in
+    begun_after turn.refused (scene_of turn (shared_view c.args.shared.now) c.args.activation.now.locals c.args.pending.now) c.args.activation.now.work c.in_ok-outcome.outcome
+    (scene_of turn (shared_view c.take_step.new.shared) stepped.locals c.take_step.new.pending) stepped.work c.begin.new.work c.in_ok-begin.ensures.tasks c.in_ok-outcome.ensures.step
+
+pub returns-clause-range : goal.returns-clause-range
+returns-clause-range c = record { range = c.in_ok-begin.ensures.range; next = c.in_ok-begin.ensures.next }

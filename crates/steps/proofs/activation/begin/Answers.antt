@@ -1,6 +1,6 @@
 use Rattle.std.proofs.Common.{◌≡◌, false, drop, Option, Some, None, refl, sym, ◌∙◌}
 use Rattle.std.specs.Prelude.{is_some}
-use Rattle.steps.specs.declared.activation.Activation.{Activation}
+use Rattle.steps.specs.declared.activation.Work.{Work}
 use Rattle.steps.proofs.ActivationLemmas.{begun_first, begun_range}
 use Rattle.steps.proofs.activation.begin.Goals as goal
 
@@ -11,15 +11,15 @@ no_task (Some x) h = absurd (cc)
 
 pub returns-clause-tasks : goal.returns-clause-tasks
 returns-clause-tasks c =
-    let old = c.args.activation.now in
-    let new : Activation = record old { task = c.begin_statement.new.place; rest = c.skip_first.new.self } in
+    let old = c.args.work.now in
+    let new : Work = record old { task = c.begin_statement.new.place; rest = c.skip_first.new.self } in
     begun_first old new c.in-Some.first.now (drop 1 old.rest) (no_task old.task (sym c.is_some.ensures ∙ c.if-is_some.false)) c.in-Some.ensures.some c.in_ok-begin_statement.ensures c.skip_first.ensures refl
 
 pub returns-clause-range : goal.returns-clause-range
 returns-clause-range c =
-    let old = c.args.activation.now in
-    let new : Activation = record old { task = c.begin_statement.new.place; rest = c.skip_first.new.self } in
+    let old = c.args.work.now in
+    let new : Work = record old { task = c.begin_statement.new.place; rest = c.skip_first.new.self } in
     begun_range old new c.in-Some.first.now (drop 1 old.rest) c.in-Some.ensures.some c.requires c.in_ok-begin_statement.ensures c.skip_first.ensures refl
 
-pub returns-clause-begun : goal.returns-clause-begun
-returns-clause-begun c = λ none. absurd (let bad = sym c.in_ok-begin_statement.ensures.is ∙ none in cc)
+pub returns-clause-next : goal.returns-clause-next
+returns-clause-next c = λ none. absurd (let bad = sym c.in_ok-begin_statement.ensures.is ∙ none in cc)

@@ -1,5 +1,5 @@
 use Rattle.std.proofs.Common.{refl, sym, subst}
-use Rattle.steps.specs.declared.activation.Activation.{Activation}
+use Rattle.steps.specs.declared.activation.Work.{Work}
 use Rattle.tasks.specs.declared.outcome.Outcome.TheVariants as outcome
 use Rattle.steps.specs.Activations.{Advances, BegunInRange, OuterInRange}
 use Rattle.tasks.specs.Tasks.{EndInRange}
@@ -12,16 +12,16 @@ begin_turn-requires c =
     let turn = subst EndInRange c.in-Turn.is parts.1 in
     record { test = turn.0; body = turn.1 }
 
-pub returns-then-refused-clause-step : goal.returns-then-refused-clause-step
-returns-then-refused-clause-step c = λ classes shared.
-    let old = c.args.activation.now in
-    subst (λ b. Advances classes b shared old outcome.Impossible shared old) (sym c.if-refused.true) (nothing_to_refuse classes shared old old c.requires.task c.requires.rest)
+pub returns-then-turn-clause-step : goal.returns-then-turn-clause-step
+returns-then-turn-clause-step c = λ scene.
+    let old = c.args.work.now in
+    subst (λ b. Advances b scene old outcome.Impossible scene old) (sym c.if-turn.true) (nothing_to_refuse scene old old c.requires.task c.requires.rest)
 
 pub returns-in-If-clause-step : goal.returns-in-If-clause-step
-returns-in-If-clause-step c = λ classes shared.
-    let old = c.args.activation.now in
-    let new : Activation = record old { rest = c.in-Some.outer.rest; outer = c.pop.new.self } in
-    subst (λ b. Advances classes b shared old outcome.Ends shared new) (sym c.if-refused.false) (if_over classes shared old new c.requires.task c.requires.rest c.pop.new.self.items c.in-Some.outer c.in-Some.ensures.items refl refl (record { variables = refl; frames = refl; pending = refl }) c.in-If.is c.requires.task)
+returns-in-If-clause-step c = λ scene.
+    let old = c.args.work.now in
+    let new : Work = record old { rest = c.in-Some.outer.rest; outer = c.pop.new.self } in
+    subst (λ b. Advances b scene old outcome.Ends scene new) (sym c.if-turn.false) (if_over scene old new c.requires.task c.requires.rest c.pop.new.self.items c.in-Some.outer c.in-Some.ensures.items refl refl c.in-If.is c.requires.task)
 
 pub returns-in-If-clause-range : goal.returns-in-If-clause-range
 returns-in-If-clause-range c =
@@ -29,11 +29,11 @@ returns-in-If-clause-range c =
     record { begun = c.requires.range.begun; rest = parts.2; outer = parts.0 }
 
 pub returns-in_ok-begin_turn-in-Turn-clause-step : goal.returns-in_ok-begin_turn-in-Turn-clause-step
-returns-in_ok-begin_turn-in-Turn-clause-step c = λ classes shared.
-    let old = c.args.activation.now in
+returns-in_ok-begin_turn-in-Turn-clause-step c = λ scene.
+    let old = c.args.work.now in
     let turned = c.in_ok-begin_turn-in-Turn.ensures in
-    let new : Activation = record old { task = c.begin_turn.new.place; rest = c.in-Some.outer.rest; outer = c.pop.new.self } in
-    subst (λ b. Advances classes b shared old outcome.Stays shared new) (sym c.if-refused.false) (turn_over classes shared old new c.requires.task c.requires.rest c.pop.new.self.items c.in-Some.outer c.in-Some.ensures.items refl refl (record { variables = refl; frames = refl; pending = refl })
+    let new : Work = record old { task = c.begin_turn.new.place; rest = c.in-Some.outer.rest; outer = c.pop.new.self } in
+    subst (λ b. Advances b scene old outcome.Stays scene new) (sym c.if-turn.false) (turn_over scene old new c.requires.task c.requires.rest c.pop.new.self.items c.in-Some.outer c.in-Some.ensures.items refl refl
     c.in-Turn.line c.in-Turn.test c.in-Turn.body turned.task c.in-Turn.is turned.is turned.begins)
 
 pub returns-in_ok-begin_turn-in-Turn-clause-range : goal.returns-in_ok-begin_turn-in-Turn-clause-range

@@ -14,7 +14,7 @@ pub returns-clause-step : goal.returns-clause-step
 returns-clause-step c = both_ok c.step.result (λ o does range. record {
   task = c.in-Some.task;
   begun = c.in-Some.is;
-  after = c.step.new.task;
+  left = c.step.new.task;
   is = refl;
   does = does;
   range = range;

@@ -6,17 +6,17 @@ use Rattle.replay_calls.specs.Actuals.{actual_view}
 use Rattle.terms.specs.Views.{operand_view}
 use Rattle.replay_calls.specs.Shares.{shared_view, sight_in}
 use Rattle.steps.specs.Calls.{MakesCall}
-use Rattle.steps.specs.Steps.{Scene, scene_with}
+use Rattle.steps.specs.Steps.{Scene, scene_of}
 use Rattle.steps.proofs.invoke.make_call.Goals as goal
 
 pub returns-clause-step : goal.returns-clause-step
 returns-clause-step c =
-    let classes = c.args.classes.now in
+    let turn = c.args.turn in
     let s = shared_view c.args.shared.now in
-    let vs = c.args.variables.now in
+    let locals = c.args.locals.now in
     let i = c.args.i.now in
     let f = function_value i.function in
-    let before : Scene = scene_with classes s vs c.args.frames.now c.args.pending.now in
-    let after : Scene = scene_with classes (shared_view c.call.new.shared) vs c.call.new.frames c.call.new.pending in
-    let looked_up = ap (map actual_view) c.deref-2.ensures.value ∙ c.in_ok-actuals.ensures ∙ ap (λ (os : List Operand). actuals (sight_in s vs) f (map operand_view os)) c.deref.ensures.value in
-    subst (λ (args : List Actual). IfOk c.call.result (λ o. MakesCall c.args.refused before i.line i.purpose f args o after)) looked_up c.call.ensures.step
+    let before : Scene = scene_of turn s locals c.args.pending.now in
+    let after : Scene = scene_of turn (shared_view c.call.new.shared) c.call.new.locals c.call.new.pending in
+    let looked_up = ap (map actual_view) c.deref-2.ensures.value ∙ c.in_ok-actuals.ensures ∙ ap (λ (os : List Operand). actuals (sight_in s locals.variables) f (map operand_view os)) c.deref.ensures.value in
+    subst (λ (args : List Actual). IfOk c.call.result (λ o. MakesCall turn.refused before i.line i.purpose f args o after)) looked_up c.call.ensures.step

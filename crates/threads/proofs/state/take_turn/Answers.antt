@@ -1,18 +1,21 @@
-use Rattle.std.proofs.Common.{◌≡◌, Bool, length, ap, refl, sym, subst, arith}
+use Rattle.std.proofs.Common.{◌≡◌, Bool, length, ap, refl, sym, ◌∙◌, subst, arith}
 use Rattle.std.specs.Prelude.{Result, Ok, Err, IfOk}
 use Rattle.std.specs.Global.{Vec}
+use Rattle.classes.specs.Class.{Classes}
 use Rattle.replay_calls.specs.declared.shared.Shared.{Shared}
 use Rattle.replay_calls.specs.Shares.{shared_view}
+use Rattle.source.specs.Thread.{BuffersInUse}
 use Rattle.source.specs.World.{World}
+use Rattle.steps.specs.Turns.{in_use_view}
 use Rattle.threads.specs.declared.thread.Thread.{Thread}
 use Rattle.std.proofs.lemmas.Option.{slice_get_read}
 use Rattle.std.proofs.lemmas.Result.{IfOk-weaker}
 use Rattle.syntax.specs.Views.{unit_tree}
 use Rattle.source.specs.declared.journal.Entry.TheVariants as entry
 use Rattle.threads.specs.declared.thread.Step.{Step}
-use Rattle.threads.specs.States.{AreInRange, TakesEntry, is_possible}
+use Rattle.threads.specs.States.{AreInRange, TakesEntry, in_use_by, is_possible}
 use Rattle.threads.specs.Threads.{TakesStep}
-use Rattle.threads.proofs.StateLemmas.{takes, range_at, range_set}
+use Rattle.threads.proofs.StateLemmas.{in_use_same, takes, range_at, range_set}
 use Rattle.threads.proofs.state.take_turn.Goals as goal
 
 pub take_step-requires-clause-range : goal.take_step-requires-clause-range
@@ -36,8 +39,9 @@ returns-in-Ok-clause-step c =
     let at = slice_get_read m.threads.items (length m.threads.items) c.args.place t refl c.requires.live.there c.index_mut-thread.ensures.value in
     noted_so c.note.result (λ possible. TakesEntry unit m (entry.Step c.args.k c.args.refused) possible new) c.in-Ok.step _ c.note.ensures.possible c.note.ensures.noted
     (λ noted w s h.
-    let step = subst (λ (v : World). TakesStep unit v.classes c.args.refused (shared_view m.shared) t c.in-Ok.step (shared_view new.shared) after) (sym h.world)
-    (subst (λ (s' : Shared). TakesStep unit m.world.now.classes c.args.refused (shared_view m.shared) t c.in-Ok.step (shared_view s') after) (sym noted.shared) c.in-Ok.ensures.step) in
+    let seen = subst (λ (s' : Shared). TakesStep unit c.classes.result.now (in_use_view c.buffers_in_use.result) c.args.k c.args.refused (shared_view m.shared) t c.in-Ok.step (shared_view s') after) (sym noted.shared) c.in-Ok.ensures.step in
+    let known = subst (λ (T : Classes). TakesStep unit T (in_use_view c.buffers_in_use.result) c.args.k c.args.refused (shared_view m.shared) t c.in-Ok.step (shared_view new.shared) after) (c.classes.ensures.classes ∙ ap (λ (v : World). v.classes) (sym h.world)) seen in
+    let step = subst (λ (u : BuffersInUse). TakesStep unit w.classes u c.args.k c.args.refused (shared_view m.shared) t c.in-Ok.step (shared_view new.shared) after) (c.buffers_in_use.ensures ∙ ap in_use_by c.deref.ensures.value ∙ in_use_same unit w m s h) known in
     takes unit w m s h c.requires.range c.args.k c.args.refused c.args.place t after c.in-Ok.step new
     (omega arith) at (c.requires.live.live t at) c.requires.live.runs step
     noted.world (ap (λ (v : Vec Thread). v.items) noted.threads) noted.printed noted.stop)

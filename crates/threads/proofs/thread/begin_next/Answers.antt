@@ -7,9 +7,11 @@ use Rattle.source.specs.Thread.{Frame}
 use Rattle.source.specs.Variable.{LocalRef}
 use Rattle.world.specs.Views.{object_value_view}
 use Rattle.threads.proofs.NamesOnce.{entry_once}
-use Rattle.threads.proofs.ThreadLemmas.{begun_tasks}
 use Rattle.tasks.proofs.RangeLemmas.{body_in_range}
 use Rattle.threads.proofs.thread.begin_next.Goals as goal
+
+pub begin_call-requires : goal.begin_call-requires
+begin_call-requires c = body_in_range c.args.functions.now c.args.call.now.function c.in-Some.found.function.now c.requires.tree c.requires.calls (search rules)
 
 pub returns-in_ok-begin_call-in-Ok-Some : goal.returns-in_ok-begin_call-in-Ok-Some
 returns-in_ok-begin_call-in-Ok-Some c =
@@ -24,13 +26,8 @@ returns-in_ok-begin_call-in-Ok-Some c =
       its_class = sym (rw c.in-Ok-Some.field-0-is at c.in-Ok-Some.ensures);
       activation = begun.activation;
       is = begun.is;
-      tasks = begun_tasks f.body begun.activation begun.task begun.rest begun.outer;
+      tasks = begun.tasks;
       variables = begun.variables ∙ entry_once (unit_tree c.args.functions.now) c.requires.sorted c.args.call.now.function (function_tree f) (search rules) class given ∙ ap (λ (vs : List ObjectValue). (f.class_name, LocalRef 1 (Some class)) ∷ parameter_variables (zip (function_tree f).parameters vs)) c.arguments.ensures;
       frames = begun.frames ∙ ap (λ (vs : List ObjectValue). let frame : Frame = entry_frame (class ∷ filter_map named_object vs) in frame ∷ []) c.arguments.ensures;
-      pending = begun.pending;
-      range = record {
-        begun = rw begun.task tt;
-        outer = rw begun.outer tt;
-        rest = rw begun.rest (body_in_range c.args.functions.now c.args.call.now.function f c.requires.tree c.requires.calls (search rules));
-      };
+      range = begun.range;
     }
