@@ -1,3 +1,4 @@
+pub mod Crosses
 pub mod KeptThreads
 pub mod LiveBlocks
 pub mod OwnerSteps

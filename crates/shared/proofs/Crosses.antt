@@ -8,7 +8,7 @@ use denote.Param.Send.{IsSend, IsSync, struct_sync, recorded_sync, sendable, vie
 use denote.Struct.Declared.{shape}
 use denote.Struct.Tuple.{TupleAt, field_at, type_at}
 use denote.RattleType.{RattleType}
-use Rattle.two_threads.proofs.Crosses.{machine_send}
+use Rattle.machine.proofs.Crosses.{machine_send}
 use Rattle.shared.specs.contracts.desk.Desk as desk
 use Rattle.shared.specs.contracts.desk.Desk.TheInside as desk-inside
 use Rattle.shared.specs.contracts.lock.Shared as shared

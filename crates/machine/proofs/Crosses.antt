@@ -1,16 +1,11 @@
 -- A machine may be sent to another thread: each of its parts says the same to every thread. The prover finds this of types with
 -- one invariant; where they are nested it is told part by part.
-use Rattle.std.proofs.Common.{ℕ, List, [], ◌∷◌}
 use Rattle.std.proofs.Crossing.{crosses, Vec-sync, Vec-send, Box-send}
 use Rattle.std.proofs.MapsCrossing as maps
 use Rattle.std.proofs.vec.Vec.TheSendSync as vec
-use Rattle.std.proofs.sync.Mutex.TheSendSync as mutex-sent
-use Rattle.std.specs.contracts.sync.Mutex as mutex
 use Rattle.std.proofs.boxed.Box.TheSendSync as boxed
 use denote.Param.Send.{IsSend, IsSync, view_sync, struct_sync, recorded_sync, sendable, view_send, struct_send, recorded_send, shr_send}
 use denote.Struct.Declared.{shape}
-use denote.Struct.Tuple.{TupleAt, field_at, type_at}
-use denote.RattleType.{RattleType}
 use Rattle.syntax.proofs.declared_type.ElementType.TheSendSync as element
 use Rattle.syntax.proofs.declared_type.VariableType.TheSendSync as variable-type
 use Rattle.syntax.proofs.expr.BinaryOp.TheSendSync as binary
@@ -45,8 +40,6 @@ use Rattle.tables.specs.contracts.locals.Locals as locals
 use Rattle.jni_calls.specs.contracts.store.Store as store
 use Rattle.execution.specs.contracts.thread.Thread as thread
 use Rattle.machine.specs.contracts.machine.Machine as machine
-use Rattle.two_threads.specs.contracts.desk.Desk as desk
-use Rattle.two_threads.specs.contracts.desk.Desk.TheInside as desk-inside
 use Rattle.machine.specs.contracts.machine.Machine.TheInside as machine-inside
 use Rattle.lowered.specs.contracts.program.Program as program
 use Rattle.lowered.specs.contracts.program.Program.TheInside as program-inside
@@ -106,15 +99,3 @@ thread_send = search (locals_send, vec.the_send, crosses, sendable) depth 60 fit
 pub machine_send : (k : _) → IsSend (machine.the_row k)
 machine_send k = view_send (machine-inside.the_row k) _ _ _ _ (recorded_send (machine-inside.the_field k).row _ _ (machine-inside.the_type k).to_one (struct_send (shape (machine-inside.the_type k))
     (program_send k, (world_send, (store_send, (Vec-send thread.the_row thread_send, (search (crosses, sendable) depth 60 fits 20000, (search (crosses, sendable) depth 60 fits 20000, (search (crosses, sendable) depth 60 fits 20000, tt)))))))))
-
--- and what lies under the lock, which two threads may share then
-desk_send : (k : _) (J : RattleType) (g : _) → IsSend J → IsSend (desk.the_row k J g)
-desk_send k J g s = view_send (desk-inside.the_row k J g) _ _ _ _ (recorded_send (desk-inside.the_field k J g).row _ _ (desk-inside.the_type k J g).to_one (struct_send (shape (desk-inside.the_type k J g)) (machine_send k, (search (crosses, sendable) depth 60 fits 20000, tt))))
-
-pub shared_desk_sync : (k : _) (J : RattleType) (g : _) → IsSend J → IsSync (mutex.the_row (desk.the_row k J g))
-shared_desk_sync k J g s = mutex-sent.the_sync (desk.the_row k J g) (desk_send k J g s)
-
--- a closure that captures three values of which each may cross
-pub closure_send : (name : List ℕ) (a b c : RattleType) → IsSend a → IsSend b → IsSend c → IsSend (TupleAt name (a ∷ b ∷ c ∷ []))
-closure_send name a b c s t u =
-    recorded_send (field_at name (a ∷ b ∷ c ∷ [])).row _ _ (type_at name (a ∷ b ∷ c ∷ [])).to_one (struct_send (shape (type_at name (a ∷ b ∷ c ∷ []))) (s, (t, (u, tt))))
