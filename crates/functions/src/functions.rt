@@ -4,7 +4,7 @@ ghost use Rattle.std.specs.Prelude.{◌≡◌, ◌++◌, ◌∷◌, [], IfSome, 
 ghost use Rattle.std.specs.Option.{option_map};
 ghost use Rattle.syntax.specs.Parts.{functions_of};
 ghost use Rattle.syntax.specs.Views.{function_tree, unit_tree};
-ghost use Rattle.source.specs.Activation.{function_at};
+ghost use Rattle.semantics.specs.Activation.{function_at};
 ghost use Rattle.functions.specs.Numbers.{FindsAll, FindsNone};
 
 use indexmap::IndexMap;

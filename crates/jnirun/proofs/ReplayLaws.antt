@@ -2,14 +2,14 @@
 use Rattle.std.proofs.Common.{◌≡◌, ℕ, List, ◌++◌, Ok, is_some, length, sym, ap, ◌∙◌, subst}
 use Rattle.syntax.specs.Tree.{SourceUnit}
 use Rattle.parse.specs.Spelling.{SpellsUnit}
-use Rattle.source.specs.Journal.{Journal}
-use Rattle.source.specs.JournalText.{journal_line}
-use Rattle.texts.specs.ReadingJournals.{journal_of}
+use Rattle.semantics.specs.Journal.{Journal}
+use Rattle.semantics.specs.JournalText.{journal_line}
+use Rattle.world_schedules.specs.ReadingJournals.{journal_of}
 use Rattle.report.specs.ReportText.{report_text}
-use Rattle.source.specs.World.{World}
-use Rattle.source.specs.ReportOf.{report}
+use Rattle.semantics.specs.World.{World}
+use Rattle.semantics.specs.ReportOf.{report}
 use Rattle.report.specs.RunText.{Writes}
-use Rattle.source.specs.State.{State}
+use Rattle.semantics.specs.State.{State}
 use Rattle.jnirun.specs.Runs.{IsRun}
 use Rattle.jnirun.specs.Replays.{ReplayMeaning, IsReplay, IsPossible}
 use Rattle.jnirun.specs.ReplayLaws.{IsJournalOf, RunsAreReplayed}

@@ -2,31 +2,31 @@
 use Rattle.std.proofs.Common.{◌≡◌, ℕ, List, Option, None, Ok, Err, length, refl, sym, ap, ◌∙◌, subst}
 use Rattle.std.specs.Option.{option_map}
 use Rattle.syntax.specs.Tree.{SourceUnit}
-use Rattle.texts.specs.declared.fault.ReadError.{ReadError}
-use Rattle.texts.specs.declared.fault.ReadError.TheVariants as reading
-use Rattle.source.specs.Journal.{Journal}
-use Rattle.texts.specs.JournalMeaning.{IsJournalText}
-use Rattle.texts.specs.Reading.{Fails}
-use Rattle.texts.specs.ReadingJournals.{journal_of}
-use Rattle.world_text.specs.ReadingWorlds.{world_of_text}
-use Rattle.source.specs.World.{World}
+use Rattle.world_schedules.specs.declared.fault.ReadError.{ReadError}
+use Rattle.world_schedules.specs.declared.fault.ReadError.TheVariants as reading
+use Rattle.semantics.specs.Journal.{Journal}
+use Rattle.world_schedules.specs.JournalMeaning.{IsJournalText}
+use Rattle.world_schedules.specs.Reading.{Fails}
+use Rattle.world_schedules.specs.ReadingJournals.{journal_of}
+use Rattle.world.specs.ReadingWorlds.{world_of_text}
+use Rattle.semantics.specs.World.{World}
 use Rattle.report.specs.Sink.{Written}
-use Rattle.world.specs.WorldRules.{IsWorldText}
-use Rattle.source.specs.Load.{first_load_fault}
+use Rattle.world_values.specs.WorldRules.{IsWorldText}
+use Rattle.semantics.specs.Load.{first_load_fault}
 use Rattle.report.specs.RunText.{Writes}
-use Rattle.source.specs.State.{State}
+use Rattle.semantics.specs.State.{State}
 use Rattle.replay.specs.declared.fault.ReplayFault.{ReplayFault}
 use Rattle.replay.specs.declared.fault.ReplayFault.TheVariants as replaying
 use Rattle.replay.specs.Replays.{WritesRun, IsStoppedBy, IsReplayable, IsFromOutside, EndsBy}
 use Rattle.replay.specs.declared.trap_at.TrapAt.{TrapAt}
 use Rattle.replay.specs.TrapAt.{trap_at}
-use Rattle.commands.specs.declared.place.Place.TheVariants as place
-use Rattle.commands.specs.declared.place.Text.TheVariants as which
-use Rattle.program_text.specs.declared.fault.RunError.{RunError}
-use Rattle.program_text.specs.declared.fault.RunError.TheVariants.{Memory, Fault, Writer}
+use Rattle.cli_commands.specs.declared.place.Place.TheVariants as place
+use Rattle.cli_commands.specs.declared.place.Text.TheVariants as which
+use Rattle.program_check.specs.declared.fault.RunError.{RunError}
+use Rattle.program_check.specs.declared.fault.RunError.TheVariants.{Memory, Fault, Writer}
 use Rattle.jnirun.specs.Errors.{of_reading, of_replay}
-use Rattle.program_text.specs.Passes.{IsRefusal}
-use Rattle.program_text.specs.Programs.{IsProgram}
+use Rattle.program_check.specs.Passes.{IsRefusal}
+use Rattle.program_check.specs.Programs.{IsProgram}
 use Rattle.jnirun.specs.Runs.{RunsTexts}
 use Rattle.jnirun.specs.Replays.{ReplayMeaning, IsReplay, EndsReplay, AreRefusedReplays, by_program, by_world, by_journal, by_load, by_entry, IsPossible, IsReplayOrFails}
 

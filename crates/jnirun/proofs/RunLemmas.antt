@@ -5,47 +5,47 @@ use Rattle.std.specs.Option.{option_map}
 use Rattle.syntax.specs.declared.unit.Item.{Item}
 use Rattle.syntax.specs.Tree.{SourceUnit}
 use Rattle.syntax.specs.Views.{unit_tree}
-use Rattle.texts.specs.declared.fault.ReadError.{ReadError}
-use Rattle.texts.specs.declared.fault.ReadError.TheVariants as reading
-use Rattle.texts.specs.Reading.{Fails}
-use Rattle.texts.specs.ReadingSchedules.{schedule_of}
-use Rattle.world_text.specs.ReadingWorlds.{world_of_text}
-use Rattle.source.specs.Schedule.{Schedule}
-use Rattle.texts.specs.ScheduleText.{IsScheduleText}
+use Rattle.world_schedules.specs.declared.fault.ReadError.{ReadError}
+use Rattle.world_schedules.specs.declared.fault.ReadError.TheVariants as reading
+use Rattle.world_schedules.specs.Reading.{Fails}
+use Rattle.world_schedules.specs.ReadingSchedules.{schedule_of}
+use Rattle.world.specs.ReadingWorlds.{world_of_text}
+use Rattle.semantics.specs.Schedule.{Schedule}
+use Rattle.world_schedules.specs.ScheduleText.{IsScheduleText}
 use Rattle.report.specs.Sink.{Written}
-use Rattle.source.specs.Load.{first_load_fault}
-use Rattle.source.specs.declared.journal.Entry.{Entry}
-use Rattle.source.specs.Journal.{Journal}
-use Rattle.source.specs.World.{World}
-use Rattle.world.specs.WorldRules.{IsWorldText}
-use Rattle.source.specs.State.{State}
-use Rattle.source.specs.Run.{Over, Collects, Waits, Steps, Follows, JournalFollows, UnmarkedFit, replay}
+use Rattle.semantics.specs.Load.{first_load_fault}
+use Rattle.semantics.specs.declared.journal.Entry.{Entry}
+use Rattle.semantics.specs.Journal.{Journal}
+use Rattle.semantics.specs.World.{World}
+use Rattle.world_values.specs.WorldRules.{IsWorldText}
+use Rattle.semantics.specs.State.{State}
+use Rattle.semantics.specs.Run.{Over, Collects, Waits, Steps, Follows, JournalFollows, UnmarkedFit, replay}
 use Rattle.report.specs.RunText.{Writes}
-use Rattle.source.specs.Start.{start}
+use Rattle.semantics.specs.Start.{start}
 use Rattle.lower.specs.declared.fault.LowerFault.{LowerFault}
 use Rattle.lower.specs.declared.fault.LowerFault.TheVariants as lowering
-use Rattle.lowered.specs.Length.{IsTooLong}
-use Rattle.execution.specs.declared.fault.LoadFault.{LoadFault}
-use Rattle.execution.specs.declared.fault.LoadFault.TheVariants as loading
+use Rattle.code_meaning.specs.Length.{IsTooLong}
+use Rattle.machine_steps.specs.declared.fault.LoadFault.{LoadFault}
+use Rattle.machine_steps.specs.declared.fault.LoadFault.TheVariants as loading
 use Rattle.machine.specs.declared.fault.ReportFault.{ReportFault}
 use Rattle.machine.specs.declared.fault.ReportFault.TheVariants as reporting
-use Rattle.execution.specs.Loading.{IsLoadFault}
+use Rattle.machine_steps.specs.Loading.{IsLoadFault}
 use Rattle.machine.specs.Run.{Run, IsUnstarted, RunsAlong, RunsInto, ReportsRun, StoppedBy, replay_of}
 use Rattle.machine.specs.declared.stop.Stop.{Stop}
 use Rattle.machine.specs.Stops.{stop_view}
-use Rattle.commands.specs.declared.place.Text.TheVariants as which
-use Rattle.program_text.specs.declared.fault.RunError.{RunError}
-use Rattle.program_text.specs.declared.fault.RunError.TheVariants.{Memory, Fault, Writer}
-use Rattle.program_text.specs.Errors.{of_lower}
+use Rattle.cli_commands.specs.declared.place.Text.TheVariants as which
+use Rattle.program_check.specs.declared.fault.RunError.{RunError}
+use Rattle.program_check.specs.declared.fault.RunError.TheVariants.{Memory, Fault, Writer}
+use Rattle.program_check.specs.Errors.{of_lower}
 use Rattle.jnirun.specs.Errors.{of_reading, of_load, of_report}
-use Rattle.program_text.specs.Passes.{IsRefusal}
-use Rattle.program_text.specs.Programs.{IsProgram}
-use Rattle.program_text.specs.Checks.{PassesCheck, ChecksText}
+use Rattle.program_check.specs.Passes.{IsRefusal}
+use Rattle.program_check.specs.Programs.{IsProgram}
+use Rattle.program_check.specs.Checks.{PassesCheck, ChecksText}
 use Rattle.jnirun.specs.Texts.{Meaning, AreRefused, by_check, by_world, by_schedule, by_load}
 use Rattle.replay.specs.declared.trap_at.TrapAt.{TrapAt}
 use Rattle.replay.specs.TrapAt.{trap_at}
 use Rattle.jnirun.specs.Runs.{RunsTexts, IsRun, EndsRun, IsRunOrFails}
-use Rattle.program_text.proofs.CheckLemmas as checks
+use Rattle.program_check.proofs.CheckLemmas as checks
 
 -- a journal has no more entries than the words that it follows
 follows_short : {unit : SourceUnit} {w : World} {s end : State} {journal : Journal} {words : Schedule} → Follows unit w s journal words end → length journal ≤ length words

@@ -2,17 +2,17 @@
 use Rattle.std.proofs.Common.{◌≡◌, ℕ, List, Some, Result, refl, subst}
 use Rattle.std.specs.Prelude.{OnOk, codes}
 use Rattle.report.specs.Sink.{Written, Writes}
-use Rattle.commands.specs.declared.command.Command.{Command}
-use Rattle.commands.specs.declared.place.Place.{Place}
-use Rattle.commands.specs.declared.place.Place.TheVariants.{Line}
-use Rattle.commands.specs.declared.place.Text.{Text}
-use Rattle.commands.specs.declared.place.Text.TheVariants as which
+use Rattle.cli_commands.specs.declared.command.Command.{Command}
+use Rattle.cli_commands.specs.declared.place.Place.{Place}
+use Rattle.cli_commands.specs.declared.place.Place.TheVariants.{Line}
+use Rattle.cli_commands.specs.declared.place.Text.{Text}
+use Rattle.cli_commands.specs.declared.place.Text.TheVariants as which
 use Rattle.replay.specs.declared.trap_at.TrapAt.{TrapAt}
-use Rattle.commands.specs.Commands.{name_of, text_of, text_at}
-use Rattle.commands.specs.Saying.{SendsText, fault_line}
+use Rattle.cli_commands.specs.Commands.{name_of, text_of, text_at}
+use Rattle.cli_commands.specs.Saying.{SendsText, fault_line}
 use Rattle.jnirun.specs.Serve.{TextsEarn, error_text, trap_text, TellsTrap, ServesTexts, is_refused}
-use Rattle.commands.specs.Telling.{told}
-use Rattle.commands.proofs.SayingLemmas.{tells}
+use Rattle.cli_commands.specs.Telling.{told}
+use Rattle.cli_commands.proofs.SayingLemmas.{tells}
 
 -- a trap is told
 pub trap_told : (command : Command) (program : List ℕ) (err err_after : Written) (trap : TrapAt) (words name : List ℕ) {T E : Type 0} (r : Result T E) → name ≡ name_of command which.Program

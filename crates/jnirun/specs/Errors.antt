@@ -1,18 +1,18 @@
 -- The faults of other texts, of loading, of a report and of a replay, as errors of a run.
-use Rattle.texts.specs.declared.fault.ReadError.{ReadError}
-use Rattle.texts.specs.declared.fault.ReadError.TheVariants as reading
-use Rattle.texts.specs.Rule.{rule_number}
-use Rattle.execution.specs.declared.fault.LoadFault.{LoadFault}
-use Rattle.execution.specs.declared.fault.LoadFault.TheVariants as loading
+use Rattle.world_schedules.specs.declared.fault.ReadError.{ReadError}
+use Rattle.world_schedules.specs.declared.fault.ReadError.TheVariants as reading
+use Rattle.world_schedules.specs.Rule.{rule_number}
+use Rattle.machine_steps.specs.declared.fault.LoadFault.{LoadFault}
+use Rattle.machine_steps.specs.declared.fault.LoadFault.TheVariants as loading
 use Rattle.machine.specs.declared.fault.ReportFault.{ReportFault}
 use Rattle.machine.specs.declared.fault.ReportFault.TheVariants as reporting
 use Rattle.replay.specs.declared.fault.ReplayFault.{ReplayFault}
 use Rattle.replay.specs.declared.fault.ReplayFault.TheVariants as replaying
-use Rattle.commands.specs.declared.place.Place.TheVariants.{Line, Entry}
-use Rattle.program_text.specs.declared.fault.RunError.{RunError}
-use Rattle.program_text.specs.declared.fault.RunError.TheVariants.{Memory, Fault, Writer}
-use Rattle.commands.specs.declared.place.Text.{Text}
-use Rattle.commands.specs.declared.place.Text.TheVariants as which
+use Rattle.cli_commands.specs.declared.place.Place.TheVariants.{Line, Entry}
+use Rattle.program_check.specs.declared.fault.RunError.{RunError}
+use Rattle.program_check.specs.declared.fault.RunError.TheVariants.{Memory, Fault, Writer}
+use Rattle.cli_commands.specs.declared.place.Text.{Text}
+use Rattle.cli_commands.specs.declared.place.Text.TheVariants as which
 
 -- the same of the text that was read
 abbrev pub of_reading : Text → ReadError → RunError

@@ -7,9 +7,9 @@ pub mod ReplayLaws
 pub mod Serve
 -- What the clauses of its calls are about, passed on.
 
-pub use Rattle.commands.specs.Commands
-pub use Rattle.commands.specs.Files
-pub use Rattle.commands.specs.Saying
-pub use Rattle.commands.specs.Telling
-pub use Rattle.program_text.specs.Programs
-pub use Rattle.program_text.specs.Checks
+pub use Rattle.cli_commands.specs.Commands
+pub use Rattle.cli_commands.specs.Files
+pub use Rattle.cli_commands.specs.Saying
+pub use Rattle.cli_commands.specs.Telling
+pub use Rattle.program_check.specs.Programs
+pub use Rattle.program_check.specs.Checks

@@ -1,6 +1,6 @@
 -- A law: the journal that a run wrote can be replayed, and its replay writes what the run wrote.
 use Rattle.std.specs.Prelude.{◌≡◌, List, ℕ, length, Ok}
-use Rattle.texts.specs.ReadingJournals.{journal_of}
+use Rattle.world_schedules.specs.ReadingJournals.{journal_of}
 use Rattle.jnirun.specs.Runs.{IsRun}
 use Rattle.jnirun.specs.Replays.{IsReplay, IsPossible}
 

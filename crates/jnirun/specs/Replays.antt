@@ -2,26 +2,26 @@
 use Rattle.std.specs.Prelude.{◌≡◌, ℕ, List, length, Option, Some, None, IsSome, Result, Ok, Err}
 use Rattle.std.specs.Option.{option_map}
 use Rattle.syntax.specs.Tree.{SourceUnit}
-use Rattle.texts.specs.declared.fault.TextFault.{TextFault}
-use Rattle.source.specs.Journal.{Journal}
-use Rattle.texts.specs.JournalMeaning.{IsJournalText}
-use Rattle.texts.specs.ReadingJournals.{journal_of}
-use Rattle.world_text.specs.ReadingWorlds.{world_of_text}
-use Rattle.texts.specs.Rule.{rule_number}
-use Rattle.source.specs.World.{World}
-use Rattle.world.specs.WorldRules.{IsWorldText}
-use Rattle.source.specs.Load.{first_load_fault}
-use Rattle.source.specs.Run.{replay}
+use Rattle.world_schedules.specs.declared.fault.TextFault.{TextFault}
+use Rattle.semantics.specs.Journal.{Journal}
+use Rattle.world_schedules.specs.JournalMeaning.{IsJournalText}
+use Rattle.world_schedules.specs.ReadingJournals.{journal_of}
+use Rattle.world.specs.ReadingWorlds.{world_of_text}
+use Rattle.world_schedules.specs.Rule.{rule_number}
+use Rattle.semantics.specs.World.{World}
+use Rattle.world_values.specs.WorldRules.{IsWorldText}
+use Rattle.semantics.specs.Load.{first_load_fault}
+use Rattle.semantics.specs.Run.{replay}
 use Rattle.report.specs.RunText.{Writes}
 use Rattle.replay.specs.declared.trap_at.TrapAt.{TrapAt}
 use Rattle.replay.specs.Replays.{IsFirstImpossible}
 use Rattle.replay.specs.TrapAt.{trap_at}
-use Rattle.program_text.specs.Programs.{IsProgram, IsRefusedProgram}
-use Rattle.commands.specs.declared.place.Place.{Place}
-use Rattle.commands.specs.declared.place.Place.TheVariants.{Line, Entry}
-use Rattle.commands.specs.declared.place.Text.TheVariants as which
-use Rattle.program_text.specs.declared.fault.RunError.{RunError}
-use Rattle.program_text.specs.declared.fault.RunError.TheVariants.{Memory, Fault, Writer}
+use Rattle.program_check.specs.Programs.{IsProgram, IsRefusedProgram}
+use Rattle.cli_commands.specs.declared.place.Place.{Place}
+use Rattle.cli_commands.specs.declared.place.Place.TheVariants.{Line, Entry}
+use Rattle.cli_commands.specs.declared.place.Text.TheVariants as which
+use Rattle.program_check.specs.declared.fault.RunError.{RunError}
+use Rattle.program_check.specs.declared.fault.RunError.TheVariants.{Memory, Fault, Writer}
 
 -- the unit, the world and the journal of three texts, which go with each other
 pub record ReplayMeaning (program_text world_text journal_text : List ℕ) : Type 0 where

@@ -3,16 +3,16 @@ use Rattle.std.specs.Prelude.{◌≡◌, ℕ, List, length, None, Ok}
 use Rattle.syntax.specs.declared.unit.Item.{Item}
 use Rattle.syntax.specs.Tree.{SourceUnit}
 use Rattle.syntax.specs.Views.{unit_tree}
-use Rattle.lowered.specs.Length.{IsTooLong}
-use Rattle.texts.specs.ReadingSchedules.{schedule_of}
-use Rattle.texts.specs.ScheduleText.{IsScheduleText}
-use Rattle.world.specs.WorldRules.{IsWorldText}
-use Rattle.world_text.specs.ReadingWorlds.{world_of_text}
-use Rattle.source.specs.World.{World}
-use Rattle.source.specs.Schedule.{Schedule}
-use Rattle.source.specs.Load.{first_load_fault}
+use Rattle.code_meaning.specs.Length.{IsTooLong}
+use Rattle.world_schedules.specs.ReadingSchedules.{schedule_of}
+use Rattle.world_schedules.specs.ScheduleText.{IsScheduleText}
+use Rattle.world_values.specs.WorldRules.{IsWorldText}
+use Rattle.world.specs.ReadingWorlds.{world_of_text}
+use Rattle.semantics.specs.World.{World}
+use Rattle.semantics.specs.Schedule.{Schedule}
+use Rattle.semantics.specs.Load.{first_load_fault}
 use Rattle.machine.specs.Run.{Run, IsUnstarted}
-use Rattle.program_text.specs.Programs.{IsProgram}
+use Rattle.program_check.specs.Programs.{IsProgram}
 
 -- the texts of a program and a world are not refused
 pub record IsPassed (program text : List ℕ) (unit : SourceUnit) (world : World) : Type 0 where

@@ -1,21 +1,21 @@
 -- What a run of three texts writes.
 use Rattle.std.specs.Prelude.{◌≡◌, ℕ, List, length, Option, Result, Ok, Err}
 use Rattle.std.specs.Option.{option_map}
-use Rattle.lowered.specs.Length.{IsTooLong}
-use Rattle.source.specs.Journal.{Journal}
-use Rattle.texts.specs.ScheduleText.{IsScheduleText}
+use Rattle.code_meaning.specs.Length.{IsTooLong}
+use Rattle.semantics.specs.Journal.{Journal}
+use Rattle.world_schedules.specs.ScheduleText.{IsScheduleText}
 use Rattle.report.specs.Sink.{Written, AppendsText, StopsWithin}
-use Rattle.world.specs.WorldRules.{IsWorldText}
-use Rattle.source.specs.Run.{JournalFollows, UnmarkedFit}
+use Rattle.world_values.specs.WorldRules.{IsWorldText}
+use Rattle.semantics.specs.Run.{JournalFollows, UnmarkedFit}
 use Rattle.report.specs.RunText.{Writes}
 use Rattle.replay.specs.declared.trap_at.TrapAt.{TrapAt}
 use Rattle.replay.specs.TrapAt.{trap_at}
 use Rattle.jnirun.specs.Texts.{Meaning}
-use Rattle.commands.specs.declared.place.Place.{Place}
-use Rattle.commands.specs.declared.place.Place.TheVariants.{Line}
-use Rattle.commands.specs.declared.place.Text.TheVariants as which
-use Rattle.program_text.specs.declared.fault.RunError.{RunError}
-use Rattle.program_text.specs.declared.fault.RunError.TheVariants.{Memory, Fault, Writer}
+use Rattle.cli_commands.specs.declared.place.Place.{Place}
+use Rattle.cli_commands.specs.declared.place.Place.TheVariants.{Line}
+use Rattle.cli_commands.specs.declared.place.Text.TheVariants as which
+use Rattle.program_check.specs.declared.fault.RunError.{RunError}
+use Rattle.program_check.specs.declared.fault.RunError.TheVariants.{Memory, Fault, Writer}
 
 -- The text is the report of the source run that its journal names, on a heap where objects have names and never move,
 -- and then that journal. The code of no function is too long. The journal has the schedule's thread steps in order, none left out but where the

@@ -1,19 +1,19 @@
 -- What the commands do with files, standard output and standard error.
 use Rattle.std.specs.Prelude.{◌≡◌, ℕ, List, Option, Some, None, codes}
 use Rattle.report.specs.Sink.{Written, StopsWithin}
-use Rattle.commands.specs.declared.command.Command.{Command}
-use Rattle.commands.specs.declared.command.Command.TheVariants.{Check, Run, Replay}
-use Rattle.commands.specs.declared.place.Place.{Place}
-use Rattle.commands.specs.declared.place.Place.TheVariants.{Line}
-use Rattle.program_text.specs.Checks.{PassesCheck, FailsCheck}
-use Rattle.commands.specs.Commands.{name_of, text_of, text_at}
-use Rattle.commands.specs.Files.{OfFiles, LacksOne}
+use Rattle.cli_commands.specs.declared.command.Command.{Command}
+use Rattle.cli_commands.specs.declared.command.Command.TheVariants.{Check, Run, Replay}
+use Rattle.cli_commands.specs.declared.place.Place.{Place}
+use Rattle.cli_commands.specs.declared.place.Place.TheVariants.{Line}
+use Rattle.program_check.specs.Checks.{PassesCheck, FailsCheck}
+use Rattle.cli_commands.specs.Commands.{name_of, text_of, text_at}
+use Rattle.cli_commands.specs.Files.{OfFiles, LacksOne}
 use Rattle.replay.specs.declared.trap_at.TrapAt.{TrapAt}
-use Rattle.commands.specs.declared.place.Text.TheVariants as which
+use Rattle.cli_commands.specs.declared.place.Text.TheVariants as which
 use Rattle.jnirun.specs.Replays.{EndsReplay, AreRefusedReplays}
 use Rattle.jnirun.specs.Runs.{EndsRun, AppendsRun, StopsRun}
-use Rattle.commands.specs.Saying.{SendsText, Tells, fault_line}
-use Rattle.commands.specs.Telling.{told}
+use Rattle.cli_commands.specs.Saying.{SendsText, Tells, fault_line}
+use Rattle.cli_commands.specs.Telling.{told}
 use Rattle.jnirun.specs.Texts.{AreRefused}
 
 -- ---- standard output

@@ -1,18 +1,18 @@
 -- What a program, a world and a schedule mean together, and which fault others earn.
 use Rattle.std.specs.Prelude.{◌≡◌, ℕ, List, length, Some, None, Ok, Err}
 use Rattle.syntax.specs.Tree.{SourceUnit}
-use Rattle.texts.specs.declared.fault.TextFault.{TextFault}
-use Rattle.texts.specs.ReadingSchedules.{schedule_of}
-use Rattle.world_text.specs.ReadingWorlds.{world_of_text}
-use Rattle.texts.specs.Rule.{rule_number}
-use Rattle.source.specs.World.{World}
-use Rattle.source.specs.Schedule.{Schedule}
-use Rattle.source.specs.Load.{first_load_fault}
-use Rattle.commands.specs.declared.place.Place.{Place}
-use Rattle.commands.specs.declared.place.Place.TheVariants.{Line}
-use Rattle.commands.specs.declared.place.Text.TheVariants as which
-use Rattle.program_text.specs.Programs.{IsProgram}
-use Rattle.program_text.specs.Checks.{PassesCheck, FailsCheck}
+use Rattle.world_schedules.specs.declared.fault.TextFault.{TextFault}
+use Rattle.world_schedules.specs.ReadingSchedules.{schedule_of}
+use Rattle.world.specs.ReadingWorlds.{world_of_text}
+use Rattle.world_schedules.specs.Rule.{rule_number}
+use Rattle.semantics.specs.World.{World}
+use Rattle.semantics.specs.Schedule.{Schedule}
+use Rattle.semantics.specs.Load.{first_load_fault}
+use Rattle.cli_commands.specs.declared.place.Place.{Place}
+use Rattle.cli_commands.specs.declared.place.Place.TheVariants.{Line}
+use Rattle.cli_commands.specs.declared.place.Text.TheVariants as which
+use Rattle.program_check.specs.Programs.{IsProgram}
+use Rattle.program_check.specs.Checks.{PassesCheck, FailsCheck}
 
 -- the unit, the world and the schedule of three texts, which go with each other
 pub record Meaning (program_text world_text schedule_text : List ℕ) : Type 0 where

@@ -6,11 +6,11 @@ mod replaying;
 mod run;
 mod serving;
 
-pub use commands::{
+pub use cli_commands::{
     COMMAND_LINE, Command, DONE, FAILED, FileFault, FileSystem, Files, MOST_BYTES, Place, REFUSED,
     Text, fail, say,
 };
-pub use program_text::{RunError, check_text};
+pub use program_check::{RunError, check_text};
 pub use replay::TrapAt;
 pub use replaying::{replay_text, runs_are_replayed};
 pub use run::run_text;

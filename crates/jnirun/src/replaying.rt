@@ -4,24 +4,24 @@ ghost use Rattle.std.specs.Prelude.{◌≡◌, ℕ, List, Ok};
 ghost use Rattle.syntax.specs.Views.{unit_tree};
 ghost use Rattle.report.specs.Sink.{CanFail};
 ghost use Rattle.jnirun.specs.Errors.{of_replay};
-ghost use Rattle.program_text.specs.Programs.{IsProgram};
+ghost use Rattle.program_check.specs.Programs.{IsProgram};
 ghost use Rattle.jnirun.specs.Runs.{RunsTexts};
 ghost use Rattle.jnirun.specs.ReplayLaws.{RunsAreReplayed};
 ghost use Rattle.jnirun.specs.Replays.{EndsReplay, AreRefusedReplays, IsPossible, IsReplayOrFails};
-ghost use Rattle.world.specs.WorldRules.{IsWorldText};
-ghost use Rattle.world_text.specs.ReadingWorlds.{world_of_text};
+ghost use Rattle.world_values.specs.WorldRules.{IsWorldText};
+ghost use Rattle.world.specs.ReadingWorlds.{world_of_text};
 
 use crate::run::{of_reading, thread_count};
-use commands::{Place, Text};
+use cli_commands::{Place, Text};
 use parse::one_unit;
-use program_text::{RunError, read_program};
+use program_check::{RunError, read_program};
 use region_rules::Checked;
 use replay::{ReplayFault, TrapAt, replay};
 use report::Sink;
 use std::alloc::Global;
-use texts::read_journal;
-use world::World;
-use world_text::read_world;
+use world::read_world;
+use world_schedules::read_journal;
+use world_values::World;
 
 fn of_replay(fault: ReplayFault) -> RunError
     ensures { result ≡ of_replay fault }

@@ -4,28 +4,28 @@ ghost use Rattle.std.specs.Prelude.{◌≡◌, ◌≤◌, ℕ, List, [], length,
 ghost use Rattle.syntax.specs.Views.{unit_tree};
 ghost use Rattle.report.specs.Sink.{CanFail};
 ghost use Rattle.jnirun.specs.Errors.{of_reading, of_load, of_report};
-ghost use Rattle.program_text.specs.Programs.{IsProgram};
+ghost use Rattle.program_check.specs.Programs.{IsProgram};
 ghost use Rattle.jnirun.specs.Texts.{Meaning, AreRefused};
 ghost use Rattle.jnirun.specs.Running.{IsPassed, IsLoaded};
 ghost use Rattle.jnirun.specs.Runs.{RunsTexts, EndsRun, IsRunOrFails};
 ghost use Rattle.std.specs.Option.{option_map};
 ghost use Rattle.machine.specs.Stops.{stop_view};
-ghost use Rattle.texts.specs.ReadingSchedules.{schedule_of};
-ghost use Rattle.texts.specs.ScheduleText.{IsScheduleText};
-ghost use Rattle.world_text.specs.ReadingWorlds.{world_of_text};
+ghost use Rattle.world_schedules.specs.ReadingSchedules.{schedule_of};
+ghost use Rattle.world_schedules.specs.ScheduleText.{IsScheduleText};
+ghost use Rattle.world.specs.ReadingWorlds.{world_of_text};
 ghost use Rattle.replay.specs.TrapAt.{trap_at};
 
-use commands::{Place, Text};
+use cli_commands::{Place, Text};
 use lower::{Program, lower};
 use machine::{LoadFault, Machine, ReportFault, RunFault, Stop};
-use program_text::{RunError, of_lower, read_program};
+use program_check::{RunError, of_lower, read_program};
 use region_rules::Checked;
 use replay::TrapAt;
 use report::Sink;
 use std::alloc::Global;
-use texts::{ReadError, Schedule, read_schedule};
-use world::World;
-use world_text::read_world;
+use world::read_world;
+use world_schedules::{ReadError, Schedule, read_schedule};
+use world_values::World;
 
 /// The fault of a world, a schedule or a journal.
 pub(crate) fn of_reading(text: Text, error: ReadError) -> RunError

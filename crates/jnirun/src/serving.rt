@@ -2,17 +2,17 @@
 
 ghost use Rattle.std.specs.Prelude.{◌≡◌, None};
 ghost use Rattle.report.specs.Sink.{CanFail};
-ghost use Rattle.program_text.specs.Checks.{PassesCheck, FailsCheck};
+ghost use Rattle.program_check.specs.Checks.{PassesCheck, FailsCheck};
 ghost use Rattle.jnirun.specs.Runs.{RunsTexts};
 ghost use Rattle.jnirun.specs.Serve.{TextsWrite, TextsEarn, passed, TellsTrap, ServesTexts, Serves};
 
 use crate::replaying::replay_text;
 use crate::run::run_text;
-use commands::{
+use cli_commands::{
     Command, DONE, FileFault, Files, Place, REFUSED, Text, Texts, fail, read_texts, say, say_fault,
     tell,
 };
-use program_text::{RunError, check_text};
+use program_check::{RunError, check_text};
 use replay::TrapAt;
 use report::Sink;
 use std::alloc::Global;
@@ -59,7 +59,7 @@ fn run_texts<W: Sink>(
 
 /// What a trap is, in a few words.
 fn words_of_trap(number: u8) -> &'static [u8] {
-    match explanations::trap(u32::from(number)) {
+    match cli_explanations::trap(u32::from(number)) {
         Some(explanation) => explanation.title,
         None => b"the program stops",
     }
@@ -86,7 +86,7 @@ fn tell_trap<E: Sink>(command: Command<'_>, program: &[u8], trap: Option<TrapAt>
 
 /// What a fault is, in a few words.
 fn words_of(number: u32) -> &'static [u8] {
-    match explanations::fault(number) {
+    match cli_explanations::fault(number) {
         Some(explanation) => explanation.title,
         None => b"the text is refused",
     }

@@ -1,10 +1,10 @@
 -- The place of a check's fault.
 use Rattle.std.proofs.Common.{◌≡◌, ℕ, List, refl, sym, subst}
-use Rattle.commands.specs.declared.place.Place.{Place}
-use Rattle.commands.specs.declared.place.Place.TheVariants.{Line}
-use Rattle.commands.specs.declared.place.Text.{Text}
-use Rattle.commands.specs.declared.place.Text.TheVariants.{Program}
-use Rattle.program_text.specs.Checks.{by_pass, by_length, FailsCheck}
+use Rattle.cli_commands.specs.declared.place.Place.{Place}
+use Rattle.cli_commands.specs.declared.place.Place.TheVariants.{Line}
+use Rattle.cli_commands.specs.declared.place.Text.{Text}
+use Rattle.cli_commands.specs.declared.place.Text.TheVariants.{Program}
+use Rattle.program_check.specs.Checks.{by_pass, by_length, FailsCheck}
 
 -- a fault is at a line of the program
 at_line : (text : List ℕ) (number : ℕ) (place : Place) → FailsCheck text number place → (line : ℕ) × (place ≡ Line Program line)

@@ -2,11 +2,11 @@
 #![tactic(auto)]
 
 ghost use Rattle.std.specs.Prelude.{◌≢◌, pos};
-ghost use Rattle.program_text.specs.Checks.{PassesCheck};
+ghost use Rattle.program_check.specs.Checks.{PassesCheck};
 ghost use Rattle.jnirun_c.specs.Answers.{Answers};
 
-use commands::Place;
-use program_text::{RunError, check_text};
+use cli_commands::Place;
+use program_check::{RunError, check_text};
 use std::alloc::Global;
 
 const ACCEPTED: i32 = 0;
@@ -24,7 +24,7 @@ pub struct Fault {
     pub line: usize,
 }
 
-/// Whether a text is that of an accepted program, as `program_text::check_text` says: 0 it is, 1 it is refused, and `fault` tells
+/// Whether a text is that of an accepted program, as `program_check::check_text` says: 0 it is, 1 it is refused, and `fault` tells
 /// why, 3 memory was refused.
 #[unsafe(no_mangle)]
 pub extern "C" fn jnirun_check(alloc: Global, text: &[u8], fault: &mut Fault) -> i32

@@ -7,18 +7,18 @@ use Rattle.base.specs.Bytes.{Identifier, lookup}
 use Rattle.syntax.specs.Limits.{numbers_in_range, block_height, block_well_formed, IsTree}
 use Rattle.syntax.specs.Parts.{functions_of, statements_of, own_expressions, parameter_names}
 use Rattle.syntax.specs.Tree.{ParameterType, IntParameter, ReferenceParameter, Parameter, Function, Void, Item, StaticItem, FunctionItem, SourceUnit}
-use Rattle.sorts.specs.Sorts.{Sort, Jint, Ref, Global, Buffer, Scope}
-use Rattle.sorts.specs.SortRules.{IsSorted, Place, StaticForm, HeadForm, has_name, parameter_sort, places_of, function_places, item_places}
-use Rattle.sorts.specs.BuiltCalls.{calls_unbuilt, calls_are_built}
+use Rattle.type_rules.specs.Sorts.{Sort, Jint, Ref, Global, Buffer, Scope}
+use Rattle.type_rules.specs.SortRules.{IsSorted, Place, StaticForm, HeadForm, has_name, parameter_sort, places_of, function_places, item_places}
+use Rattle.type_rules.specs.BuiltCalls.{calls_unbuilt, calls_are_built}
 use Rattle.code.specs.declared.instr.Instr.TheVariants as instr
 use Rattle.region_rules.specs.RegionStates.{RegionState, state_at_entry}
 use Rattle.region_rules.specs.Regions.{Returned, AcceptedFunction, HasRegions}
-use Rattle.lowered.specs.Layout.{Slot, Known, with_static, parameter_slot, parameter_slots, numbers_after, references_after, entry_layout}
-use Rattle.lowered.specs.Coding.{block_code, function_code}
-use Rattle.lowered.specs.Fits.{AreStatics, FunctionFits}
-use Rattle.lowered.specs.Length.{function_steps}
-use Rattle.lowered.specs.Stands.{block_returns}
-use Rattle.lowered.proofs.SlotLaws.{first_or_after}
+use Rattle.code_meaning.specs.Layout.{Slot, Known, with_static, parameter_slot, parameter_slots, numbers_after, references_after, entry_layout}
+use Rattle.code_meaning.specs.Coding.{block_code, function_code}
+use Rattle.code_meaning.specs.Fits.{AreStatics, FunctionFits}
+use Rattle.code_meaning.specs.Length.{function_steps}
+use Rattle.code_meaning.specs.Stands.{block_returns}
+use Rattle.code_meaning.proofs.SlotLaws.{first_or_after}
 use Rattle.lower.proofs.EntryLayouts.{no_statics, one_static_more}
 use Rattle.lower.proofs.SortFacts.{scope_of, HasNoTruth}
 use Rattle.lower.proofs.PlaceFacts.{and_left, and_right, or_right, static_kept, AreKept, first_kept, front_kept, back_kept, rest_kept}

@@ -8,30 +8,30 @@ use Rattle.std.proofs.lemmas.Bool.{ltb-true, ltb-false, lt-ltb}
 use Rattle.base.specs.Bytes.{Identifier}
 use Rattle.syntax.specs.Tree as tree
 use Rattle.syntax.specs.Tree.{Expr, Block, BitOr}
-use Rattle.sorts.specs.Sorts.{Jint, Ref, Array}
-use Rattle.sorts.specs.Sorts as sort
+use Rattle.type_rules.specs.Sorts.{Jint, Ref, Array}
+use Rattle.type_rules.specs.Sorts as sort
 use Rattle.code.specs.declared.instr.ReferenceOperand.TheVariants.{Null, Local}
 use Rattle.code.specs.declared.instr.Instr.TheVariants as instr
 use Rattle.code.specs.declared.instr.Plain.TheVariants as plain
 use Rattle.code.specs.declared.instr.PlainTrap.TheVariants as trap
 use Rattle.code.specs.Depth.{Listing}
 use Rattle.code.specs.Effect.{element_word}
-use Rattle.source.specs.Effect.{Returns, with_value, return_effect, element_effect, effect_of}
-use Rattle.source.specs.Task.{Task, SetScalar, SetElement, SetNull, MakeArray, Invoke, Print, Branch, EndIf, Loop, EndTurn, Return, ReturnValue, Impossible, tasks_of}
-use Rattle.source.specs.Term as term
-use Rattle.source.specs.Term.{Term, Done, Read, term_of}
-use Rattle.source.specs.Value.{Value, Word, Int, Flag, Truth, Gives}
-use Rattle.lowered.specs.Layout.{Known, Layout}
-use Rattle.lowered.specs.Coding.{element_of, term_code, ways_code, turn_code, block_code}
-use Rattle.lowered.specs.Slots.{word_of, Visible, Slots, Shows}
-use Rattle.lowered.specs.Fits.{IsIndexSort, TermHasSort}
-use Rattle.lowered.specs.Stands.{held, HasAt, AreAmong, NumberStands, SetElementStands, BlockStands, LoopStands, TasksStand, StandsFor, ReferenceReturned, task_returns}
-use Rattle.lowered.specs.Does.{DoesEffect}
-use Rattle.lowered.proofs.SlotLaws.{fewer_shown, shows_element_set}
+use Rattle.semantics.specs.Effect.{Returns, with_value, return_effect, element_effect, effect_of}
+use Rattle.semantics.specs.Task.{Task, SetScalar, SetElement, SetNull, MakeArray, Invoke, Print, Branch, EndIf, Loop, EndTurn, Return, ReturnValue, Impossible, tasks_of}
+use Rattle.semantics.specs.Term as term
+use Rattle.semantics.specs.Term.{Term, Done, Read, term_of}
+use Rattle.semantics.specs.Value.{Value, Word, Int, Flag, Truth, Gives}
+use Rattle.code_meaning.specs.Layout.{Known, Layout}
+use Rattle.code_meaning.specs.Coding.{element_of, term_code, ways_code, turn_code, block_code}
+use Rattle.code_meaning.specs.Slots.{word_of, Visible, Slots, Shows}
+use Rattle.code_meaning.specs.Fits.{IsIndexSort, TermHasSort}
+use Rattle.code_meaning.specs.Stands.{held, HasAt, AreAmong, NumberStands, SetElementStands, BlockStands, LoopStands, TasksStand, StandsFor, ReferenceReturned, task_returns}
+use Rattle.code_meaning.specs.Does.{DoesEffect}
+use Rattle.code_meaning.proofs.SlotLaws.{fewer_shown, shows_element_set}
 use Rattle.lower.proofs.CodePlaces.{has_front, has_back}
 use Rattle.lower.proofs.TermSteps.{negative_past, shows_number, untouched_held, begun_left, left_first}
 use Rattle.lower.proofs.Bodies.{number_begins, begins}
-use Rattle.lowered.proofs.ElementWords.{element_words, convert_fits}
+use Rattle.code_meaning.proofs.ElementWords.{element_words, convert_fits}
 use Rattle.lower.proofs.WaysReturn.{then_returns, else_returns, any_after}
 use Rattle.lower.proofs.Steps.{step_inside, put_step, set_step, null_step, made_step}
 use Rattle.lower.proofs.CallSteps.{call_step}

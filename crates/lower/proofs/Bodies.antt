@@ -12,9 +12,9 @@ use Rattle.syntax.specs.Tree.{Expr, Argument, RightSide, FromExpr, FromCall, Tes
 use Rattle.jni.specs.Access.{Access, ElementsCopy, ArrayView, CharsCopy, CharsView}
 use Rattle.jni.specs.JniFunction.{function_named, prototype}
 use Rattle.jni.specs.Prototype.{ParameterKind, LocalVariable, StaticVariable, FieldID, IntNumber, TextBytes, ArrayVariable, BufferVariable, Mode, IsCopy, ResultKind, NewLocal, NewGlobal, GivesFlag, GivesInt, GivesField}
-use Rattle.sorts.specs.Sorts.{Sort, Jint, Ref, Global, FieldId, Buffer, Array, is_buffer_for}
-use Rattle.sorts.specs.Sorts as sort
-use Rattle.sorts.specs.SortRules.{variable_sort}
+use Rattle.type_rules.specs.Sorts.{Sort, Jint, Ref, Global, FieldId, Buffer, Array, is_buffer_for}
+use Rattle.type_rules.specs.Sorts as sort
+use Rattle.type_rules.specs.SortRules.{variable_sort}
 use Rattle.code.specs.declared.instr.Target.{Target as Destination}
 use Rattle.code.specs.declared.instr.NullableVariable.{NullableVariable}
 use Rattle.code.specs.declared.instr.NullableVariable.TheVariants as nullable
@@ -22,16 +22,16 @@ use Rattle.code.specs.declared.instr.Target.TheVariants as destination
 use Rattle.code.specs.declared.instr.Instr.TheVariants as instr
 use Rattle.code.specs.Depth.{Listing}
 use Rattle.code.specs.Effect.{truth_word}
-use Rattle.source.specs.Value.{Truth}
-use Rattle.source.specs.Term as term
-use Rattle.source.specs.Term.{Term, Done, Read, Binary, term_of}
-use Rattle.source.specs.Task.{Task, SetScalar, Branch, ReturnValue, Target, Declared, Assigned, Tested, Dropped, VariableKind, ScalarKind, ReferenceKind, FieldKind, BufferKind, kind_of, set_task, invocation, call_task, right_side_task, if_task, task_of, tasks_of, operand, Given, Operand}
-use Rattle.lowered.specs.Layout.{Slot, Known, Layout, new_slot, closed, layout_after, block_layout}
-use Rattle.lowered.specs.Coding.{nullable_of, store_of, element_of, write_code, of_slot, operand_of, address_operand, term_code, expr_code, value_code, right_code, assign_code, returned_code, return_code, ways_code, turn_code, loop_code, if_code, stmt_code, block_code, named_call_code, operand_code, argument_code, arguments_code, argument_text, arguments_texts, result_target}
-use Rattle.lowered.specs.Slots.{IsNumberSort}
-use Rattle.lowered.specs.Fits.{IsUntouched, NumberFits, IndexWithin, IsLaidOut, HaveOwnSlots, HasRoomFor, IsVariable, TakesLocal, TakesGlobal, NameFits, ArrayFits, BufferFits, ArgumentFits, ValueFits, RightFits, TestFits, ReturnFits, StmtFits, BlockFits, CallFits, ReferenceFits, FieldFits, ResultFits}
-use Rattle.lowered.specs.Stands.{held, IsBegun, IsUnderWay, HasAt, AreAmong, IsSlotOf, kind_of_sort, GoesTo, ResultStands, ResultGoes, StaticStands, TargetStands, operand_text, operands_texts, target_name, BlockStands, TasksStand, OperandStands, AreUntouched, operand_rest, operands_rest}
-use Rattle.lowered.proofs.SlotLaws.{known_among, known_again, all_among}
+use Rattle.semantics.specs.Value.{Truth}
+use Rattle.semantics.specs.Term as term
+use Rattle.semantics.specs.Term.{Term, Done, Read, Binary, term_of}
+use Rattle.semantics.specs.Task.{Task, SetScalar, Branch, ReturnValue, Target, Declared, Assigned, Tested, Dropped, VariableKind, ScalarKind, ReferenceKind, FieldKind, BufferKind, kind_of, set_task, invocation, call_task, right_side_task, if_task, task_of, tasks_of, operand, Given, Operand}
+use Rattle.code_meaning.specs.Layout.{Slot, Known, Layout, new_slot, closed, layout_after, block_layout}
+use Rattle.code_meaning.specs.Coding.{nullable_of, store_of, element_of, write_code, of_slot, operand_of, address_operand, term_code, expr_code, value_code, right_code, assign_code, returned_code, return_code, ways_code, turn_code, loop_code, if_code, stmt_code, block_code, named_call_code, operand_code, argument_code, arguments_code, argument_text, arguments_texts, result_target}
+use Rattle.code_meaning.specs.Slots.{IsNumberSort}
+use Rattle.code_meaning.specs.Fits.{IsUntouched, NumberFits, IndexWithin, IsLaidOut, HaveOwnSlots, HasRoomFor, IsVariable, TakesLocal, TakesGlobal, NameFits, ArrayFits, BufferFits, ArgumentFits, ValueFits, RightFits, TestFits, ReturnFits, StmtFits, BlockFits, CallFits, ReferenceFits, FieldFits, ResultFits}
+use Rattle.code_meaning.specs.Stands.{held, IsBegun, IsUnderWay, HasAt, AreAmong, IsSlotOf, kind_of_sort, GoesTo, ResultStands, ResultGoes, StaticStands, TargetStands, operand_text, operands_texts, target_name, BlockStands, TasksStand, OperandStands, AreUntouched, operand_rest, operands_rest}
+use Rattle.code_meaning.proofs.SlotLaws.{known_among, known_again, all_among}
 use Rattle.lower.proofs.CodePlaces.{has_front, has_back}
 use Rattle.lower.proofs.TermSteps.{untouched_held, untouched_begun}
 use Rattle.lower.proofs.Layouts.{block_grows, room_before, room_at_least, index_more, laid_more, declared_slot, variable_size, laid_after, known_after_stmt}

@@ -8,14 +8,14 @@ use Rattle.syntax.specs.Limits.{height, highest, numbers_in_range, statement_hei
 use Rattle.syntax.specs.Parts.{statements_of, statements_within, call_of_right_side, own_call, right_side_expressions, own_expressions, names_declared}
 use Rattle.syntax.specs.Tree as tree
 use Rattle.syntax.specs.Tree.{ResultType, RightSide, FromExpr, FromCall, TestExpr, TestCall, Stmt, Block, End, Next}
-use Rattle.sorts.specs.Sorts.{Truth, Buffer, Array}
-use Rattle.sorts.specs.SortRules.{variable_sort, with_declared, places_within, places_of}
+use Rattle.type_rules.specs.Sorts.{Truth, Buffer, Array}
+use Rattle.type_rules.specs.SortRules.{variable_sort, with_declared, places_within, places_of}
 use Rattle.region_rules.specs.RegionStates.{RegionState, state_of}
 use Rattle.region_rules.specs.RegionRules.{is_free}
 use Rattle.region_rules.specs.Regions.{where_true, where_false, Way, On, Returned, IsEnd, Keeps, KeepsBlock}
-use Rattle.lowered.specs.Layout.{Slot, Known, Layout, new_slot, closed, layout_after, block_layout}
-use Rattle.lowered.specs.Fits.{StmtFits, BlockFits}
-use Rattle.lowered.proofs.SlotLaws.{first_or_after}
+use Rattle.code_meaning.specs.Layout.{Slot, Known, Layout, new_slot, closed, layout_after, block_layout}
+use Rattle.code_meaning.specs.Fits.{StmtFits, BlockFits}
+use Rattle.code_meaning.proofs.SlotLaws.{first_or_after}
 use Rattle.lower.proofs.SortFacts.{scope_of, HasNoTruth}
 use Rattle.lower.proofs.PlaceFacts.{and_left, and_right, or_left, IsKept, AreKept, own_kept, inside_kept, block_kept, ways_kept}
 use Rattle.lower.proofs.NameFacts.{AreTaken, taken_more, taken_after, known_taken, stmt_others}

@@ -14,13 +14,13 @@ use Rattle.syntax.specs.Tree as tree
 use Rattle.syntax.specs.Tree.{Expr, Argument, Call, RightSide, Test, TestExpr, TestCall, Stmt, Block, End, Next}
 use Rattle.jni.specs.Access.{is_critical}
 use Rattle.jni.specs.JniFunction.{JniFunction, is_built_function}
-use Rattle.sorts.specs.BuiltCalls.{is_built_call, calls_unbuilt}
-use Rattle.sorts.specs.Sorts.{Buffer, Array}
-use Rattle.sorts.specs.SortRules.{variable_sort, has_name}
+use Rattle.type_rules.specs.BuiltCalls.{is_built_call, calls_unbuilt}
+use Rattle.type_rules.specs.Sorts.{Buffer, Array}
+use Rattle.type_rules.specs.SortRules.{variable_sort, has_name}
 use Rattle.region_rules.specs.RegionRules.{breaks_region_rule, is_free, Obeys, RegionRule, CallWhileCritical, ReturnWithBuffer, HeldBuffer, UntestedBuffer, WrongBuffer, ReturnInFrame, PopLastFrame, DeadReference, ArrayInUse, WrongLevel, is_mismatched}
 use Rattle.region_rules.specs.RegionStates.{Free, BufferState, VariableState, ReferenceAt, BufferIn, RegionState, FunctionCall, call_of, function_called, made_free, killed, killed_from, with_changed, with_some_changed, after_release, after_pop, after_call, Release, release_of, deleted_name, pops, get_of, buffer_from, buffer_set_to, set_to, with_set, state_after, state_of}
 use Rattle.region_rules.specs.Regions.{made_usable, where_true, where_false, has_variable, left, Way, On, Returned, Join, Keeps, KeepsBlock}
-use Rattle.lowered.specs.Layout.{Slot, Known, Layout, new_slot, layout_after}
+use Rattle.code_meaning.specs.Layout.{Slot, Known, Layout, new_slot, layout_after}
 use Rattle.lower.proofs.BuiltCalls.{built_call, gets_nothing}
 use Rattle.lower.proofs.PlaceFacts.{or_left, or_right, and_left, and_right, not_false, not_true}
 use Rattle.lower.proofs.SortFacts.{IsNoBuffer, ElementsFit}

@@ -4,8 +4,8 @@ use Rattle.base.specs.Options.{some_passes}
 use Rattle.syntax.specs.Tree.{Argument, Call}
 use Rattle.jni.specs.JniFunction.{JniFunction, PushLocalFrame, GetBuffer, function_named, prototype, is_built_function}
 use Rattle.jni.specs.Prototype.{ResultKind, GivesInt, GivesBuffer}
-use Rattle.sorts.specs.BuiltCalls.{is_built_call}
-use Rattle.sorts.specs.SortRules.{may_be_tested}
+use Rattle.type_rules.specs.BuiltCalls.{is_built_call}
+use Rattle.type_rules.specs.SortRules.{may_be_tested}
 use Rattle.region_rules.specs.RegionStates.{get_of}
 
 -- the function of a call, which is built

@@ -11,8 +11,8 @@ use Rattle.syntax.specs.Tree as tree
 use Rattle.syntax.specs.Tree.{Expr}
 use Rattle.jni.specs.JniFunction.{JniFunction, prototype}
 use Rattle.jni.specs.Prototype.{ParameterKind, LocalVariable, StaticVariable, FieldID, ArrayVariable, BufferVariable, Mode, IsCopy, IntNumber, ResultKind, GivesInt, GivesFlag}
-use Rattle.sorts.specs.Sorts.{Sort, Jint, Ref, Global, FieldId, Buffer, Array}
-use Rattle.sorts.specs.Sorts as sort
+use Rattle.type_rules.specs.Sorts.{Sort, Jint, Ref, Global, FieldId, Buffer, Array}
+use Rattle.type_rules.specs.Sorts as sort
 use Rattle.code.specs.declared.instr.Operand.{Operand as Where}
 use Rattle.code.specs.declared.instr.Operand.TheVariants as operand
 use Rattle.code.specs.declared.instr.Target.{Target as Destination}
@@ -20,20 +20,20 @@ use Rattle.code.specs.declared.instr.Target.TheVariants as destination
 use Rattle.code.specs.declared.instr.Instr.{Instr}
 use Rattle.code.specs.declared.instr.Instr.TheVariants as instr
 use Rattle.code.specs.Depth.{Listing}
-use Rattle.source.specs.Effect.{goes_on, is_given, is_ready, call_effect_of, Calls, reduce_first}
-use Rattle.source.specs.Arguments.{Actual, ReferenceActual, FieldActual, NumberActual, TextActual, VariableActual, ModeActual, NothingActual, mode_of, reference_argument, look_up_expression, look_up, actuals}
-use Rattle.source.specs.Sight.{Sight}
-use Rattle.source.specs.Variable.{Empty}
-use Rattle.source.specs.Task.{Task, Invoke, Target, Declared, Assigned, Dropped, VariableKind, ScalarKind, ReferenceKind, FieldKind, Operand, NumberOperand, Given, Tested}
-use Rattle.source.specs.Term.{Term, Done, reduce}
-use Rattle.source.specs.Value.{Word, Int, Flag, Truth, Gives, Outcome, Traps, Stuck, outcome_map}
-use Rattle.lowered.specs.Layout.{Slot, Known}
-use Rattle.lowered.specs.Coding.{term_code}
-use Rattle.lowered.specs.Slots.{word_of, IsNumberSort, Visible, Slots, Shows}
-use Rattle.lowered.specs.Fits.{IsReferenceKind, TakesNull, TakesLocal, TakesGlobal, TermHasSort}
-use Rattle.lowered.specs.Stands.{held, IsBegun, HasAt, operand_text, operands_texts, ResultStands, ResultGoes, StaticStands, TestStands, number_sort, OperandStands, TargetStands, InvokeStands, TasksStand, task_returns, operands_rest, operand_held, operands_held, AreUntouched, AreBegun}
-use Rattle.lowered.specs.Does.{IsOperand, TakesNumber, TakesReference, TakesField, TakesStatic, TakesTest, GoesInto, TakesResult, DoesEffect, word_given, words_given, text_given, texts_given, OperandFits, IsVariableKind, ActualFits}
-use Rattle.lowered.proofs.SlotLaws.{fewer_shown, number_below, shows_set, shows_referred, shows_field_set, static_changes}
+use Rattle.semantics.specs.Effect.{goes_on, is_given, is_ready, call_effect_of, Calls, reduce_first}
+use Rattle.semantics.specs.Arguments.{Actual, ReferenceActual, FieldActual, NumberActual, TextActual, VariableActual, ModeActual, NothingActual, mode_of, reference_argument, look_up_expression, look_up, actuals}
+use Rattle.semantics.specs.Sight.{Sight}
+use Rattle.semantics.specs.Variable.{Empty}
+use Rattle.semantics.specs.Task.{Task, Invoke, Target, Declared, Assigned, Dropped, VariableKind, ScalarKind, ReferenceKind, FieldKind, Operand, NumberOperand, Given, Tested}
+use Rattle.semantics.specs.Term.{Term, Done, reduce}
+use Rattle.semantics.specs.Value.{Word, Int, Flag, Truth, Gives, Outcome, Traps, Stuck, outcome_map}
+use Rattle.code_meaning.specs.Layout.{Slot, Known}
+use Rattle.code_meaning.specs.Coding.{term_code}
+use Rattle.code_meaning.specs.Slots.{word_of, IsNumberSort, Visible, Slots, Shows}
+use Rattle.code_meaning.specs.Fits.{IsReferenceKind, TakesNull, TakesLocal, TakesGlobal, TermHasSort}
+use Rattle.code_meaning.specs.Stands.{held, IsBegun, HasAt, operand_text, operands_texts, ResultStands, ResultGoes, StaticStands, TestStands, number_sort, OperandStands, TargetStands, InvokeStands, TasksStand, task_returns, operands_rest, operand_held, operands_held, AreUntouched, AreBegun}
+use Rattle.code_meaning.specs.Does.{IsOperand, TakesNumber, TakesReference, TakesField, TakesStatic, TakesTest, GoesInto, TakesResult, DoesEffect, word_given, words_given, text_given, texts_given, OperandFits, IsVariableKind, ActualFits}
+use Rattle.code_meaning.proofs.SlotLaws.{fewer_shown, number_below, shows_set, shows_referred, shows_field_set, static_changes}
 use Rattle.lower.proofs.TermSteps.{IsOpen, untouched_held, untouched_begun, shows_number}
 
 -- ---- the number that is worked out

@@ -2,7 +2,7 @@
 use Rattle.std.proofs.Common.{◌≡◌, ℕ, ◌+◌, List, [], ◌∷◌, ◌++◌, length, Some, refl, subst, arith, append_assoc, length-append}
 use Rattle.std.specs.Prelude.{slice_get}
 use Rattle.code.specs.declared.instr.Instr.{Instr}
-use Rattle.lowered.specs.Stands.{HasAt}
+use Rattle.code_meaning.specs.Stands.{HasAt}
 
 pub has_front : (instrs : List Instr) (place : ℕ) (a b : List Instr) → HasAt instrs place (a ++ b) → HasAt instrs place a
 has_front instrs place [] b h = tt

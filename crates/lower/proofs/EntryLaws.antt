@@ -7,20 +7,20 @@ use Rattle.std.proofs.lemmas.List.{length-replicate}
 use Rattle.std.proofs.lemmas.Option.{slice_get_within}
 use Rattle.base.specs.Bytes.{Identifier, lookup}
 use Rattle.syntax.specs.Tree.{Parameter, ParameterType, IntParameter, ReferenceParameter, Function}
-use Rattle.sorts.specs.Sorts.{Sort, Jint, Ref, Global}
-use Rattle.source.specs.Object.{ObjectValue, Number, Refers, Reference}
-use Rattle.source.specs.World.{Invocation}
-use Rattle.source.specs.Activation.{entered, parameter_variables}
-use Rattle.source.specs.Sight.{scalar, held_reference, holds_null}
-use Rattle.source.specs.Thread.{Shared, Thread}
-use Rattle.source.specs.Value.{Int}
-use Rattle.source.specs.Variable.{Variable, Scalar, LocalRef, StaticReference}
+use Rattle.type_rules.specs.Sorts.{Sort, Jint, Ref, Global}
+use Rattle.semantics.specs.Object.{ObjectValue, Number, Refers, Reference}
+use Rattle.semantics.specs.World.{Invocation}
+use Rattle.semantics.specs.Activation.{entered, parameter_variables}
+use Rattle.semantics.specs.Sight.{scalar, held_reference, holds_null}
+use Rattle.semantics.specs.Thread.{Shared, Thread}
+use Rattle.semantics.specs.Value.{Int}
+use Rattle.semantics.specs.Variable.{Variable, Scalar, LocalRef, StaticReference}
 use Rattle.code.specs.Depth.{Listing}
 use Rattle.code.proofs.Arrays.{get_replicate}
-use Rattle.lowered.specs.Layout.{Slot, Known, parameter_slot, parameter_slots, numbers_after, references_after, numbers_of, references_of, entry_names, entry_layout}
-use Rattle.lowered.specs.Slots.{visible_to, type_of_array, kind_of_variable, Slots, ShowsSlot, Shows, ArgumentFits, ArgumentsFit, argument_word, argument_reference, EntrySlots, AreShared, AreOfLowest}
-use Rattle.lowered.specs.Fits.{AreStatics}
-use Rattle.lowered.proofs.StaticLaws.{null_of}
+use Rattle.code_meaning.specs.Layout.{Slot, Known, parameter_slot, parameter_slots, numbers_after, references_after, numbers_of, references_of, entry_names, entry_layout}
+use Rattle.code_meaning.specs.Slots.{visible_to, type_of_array, kind_of_variable, Slots, ShowsSlot, Shows, ArgumentFits, ArgumentsFit, argument_word, argument_reference, EntrySlots, AreShared, AreOfLowest}
+use Rattle.code_meaning.specs.Fits.{AreStatics}
+use Rattle.code_meaning.proofs.StaticLaws.{null_of}
 use Rattle.lower.proofs.CodePlaces.{get-append_seam}
 
 -- the slots have these words and references from these places on

@@ -2,11 +2,11 @@
 use Rattle.std.proofs.Common.{◌≡◌, ◌≢◌, ℕ, ◌<◌, ◌≤◌, ◌⊎◌, inl, inr, List, [], ◌∷◌, length, Some, None, refl, sym, ap, ◌∙◌, subst, arith}
 use Rattle.base.specs.Bytes.{Identifier, lookup}
 use Rattle.syntax.specs.Tree.{ParameterType, IntParameter, ReferenceParameter, Parameter, Function, Static}
-use Rattle.sorts.specs.Sorts.{Sort, Jint, Ref, Global, FieldId}
+use Rattle.type_rules.specs.Sorts.{Sort, Jint, Ref, Global, FieldId}
 use Rattle.code.specs.declared.slots.SlotCounts.{SlotCounts}
-use Rattle.lowered.specs.Layout.{Slot, Known, with_static, parameter_slot, parameter_slots, numbers_after, references_after, numbers_of, references_of, entry_names, entry_layout}
-use Rattle.lowered.specs.Fits.{IndexWithin, AreApart, IsOwn, IsLaidOut, AreStatics}
-use Rattle.lowered.proofs.SlotLaws.{first_or_after}
+use Rattle.code_meaning.specs.Layout.{Slot, Known, with_static, parameter_slot, parameter_slots, numbers_after, references_after, numbers_of, references_of, entry_names, entry_layout}
+use Rattle.code_meaning.specs.Fits.{IndexWithin, AreApart, IsOwn, IsLaidOut, AreStatics}
+use Rattle.code_meaning.proofs.SlotLaws.{first_or_after}
 use Rattle.lower.proofs.EntryLaws.{in_both}
 
 -- ---- statics

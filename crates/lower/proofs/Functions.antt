@@ -3,18 +3,18 @@ use Rattle.std.proofs.Common.{◌≡◌, ◌+◌, ◌≤◌, List, [], ◌∷◌
 use Rattle.std.specs.Prelude.{IsTrue}
 use Rattle.std.proofs.lemmas.List.{append-nil}
 use Rattle.syntax.specs.Tree.{Function}
-use Rattle.source.specs.Object.{ObjectValue}
+use Rattle.semantics.specs.Object.{ObjectValue}
 use Rattle.code.specs.declared.instr.Instr.TheVariants as instr
 use Rattle.code.specs.Depth.{Listing, IsValid}
 use Rattle.code.proofs.Pieces.{piece_moves, piece_jumps}
-use Rattle.source.specs.Task.{tasks_of}
-use Rattle.lowered.specs.Layout.{Known, entry_layout, block_layout, function_slots}
-use Rattle.lowered.specs.Coding.{block_code, function_code}
-use Rattle.lowered.specs.Length.{function_steps, step_limit}
-use Rattle.lowered.specs.Slots.{ArgumentsFit, HasRoom}
-use Rattle.lowered.specs.Fits.{HasRoomFor, AreStatics, FunctionFits}
-use Rattle.lowered.specs.Stands.{TasksStand, StandsFor, block_returns}
-use Rattle.lowered.specs.Lowered.{IsCodeOf}
+use Rattle.semantics.specs.Task.{tasks_of}
+use Rattle.code_meaning.specs.Layout.{Known, entry_layout, block_layout, function_slots}
+use Rattle.code_meaning.specs.Coding.{block_code, function_code}
+use Rattle.code_meaning.specs.Length.{function_steps, step_limit}
+use Rattle.code_meaning.specs.Slots.{ArgumentsFit, HasRoom}
+use Rattle.code_meaning.specs.Fits.{HasRoomFor, AreStatics, FunctionFits}
+use Rattle.code_meaning.specs.Stands.{TasksStand, StandsFor, block_returns}
+use Rattle.code_meaning.specs.Lowered.{IsCodeOf}
 use Rattle.lower.proofs.CodePlaces.{has_front, has_all}
 use Rattle.lower.proofs.Layouts.{block_grows}
 use Rattle.lower.proofs.Bodies.{begins}

@@ -9,10 +9,10 @@ use Rattle.syntax.specs.declared.unit.Item.{Item as ItemInMemory}
 use Rattle.syntax.specs.Tree.{Function, Item, StaticItem, FunctionItem, Static}
 use Rattle.syntax.specs.Views.{item_tree}
 use Rattle.code.specs.Depth.{Listing}
-use Rattle.lowered.specs.Layout.{Known, with_static}
-use Rattle.lowered.specs.Length.{function_steps, step_limit, is_long}
+use Rattle.code_meaning.specs.Layout.{Known, with_static}
+use Rattle.code_meaning.specs.Length.{function_steps, step_limit, is_long}
 use Rattle.lower.specs.Items.{ItemFits, IsItemDone}
-use Rattle.lowered.specs.Lowered.{IsCodeOf, AreCodesOf}
+use Rattle.code_meaning.specs.Lowered.{IsCodeOf, AreCodesOf}
 use Rattle.lower.proofs.AcceptedFacts.{AllFit}
 
 -- these items are left after these statics, and the functions in front of them have these codes

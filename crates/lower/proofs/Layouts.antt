@@ -4,14 +4,14 @@ use Rattle.base.specs.Bytes.{Identifier, lookup}
 use Rattle.base.specs.Element.{JChar}
 use Rattle.syntax.specs.Tree as tree
 use Rattle.syntax.specs.Tree.{Stmt, Block, End, Next}
-use Rattle.sorts.specs.Sorts.{Sort, Word, Jint, Flag, Truth, Ref, Global, FieldId, Buffer, Array}
-use Rattle.sorts.specs.SortRules.{variable_sort}
+use Rattle.type_rules.specs.Sorts.{Sort, Word, Jint, Flag, Truth, Ref, Global, FieldId, Buffer, Array}
+use Rattle.type_rules.specs.SortRules.{variable_sort}
 use Rattle.code.specs.declared.slots.SlotCounts.{SlotCounts}
 use Rattle.code.specs.Depth.{Listing}
-use Rattle.lowered.specs.Layout.{Slot, Known, Layout, next_index, slots_after, new_slot, with_name, closed, layout_after, block_layout}
-use Rattle.lowered.specs.Fits.{IndexWithin, IsPlaceOf, AreApart, IsOwn, IsLaidOut, HasRoomFor, StmtFits}
-use Rattle.lowered.specs.Stands.{AreAmong, IsSlotOf}
-use Rattle.lowered.proofs.SlotLaws.{first_or_after, new_among, all_among}
+use Rattle.code_meaning.specs.Layout.{Slot, Known, Layout, next_index, slots_after, new_slot, with_name, closed, layout_after, block_layout}
+use Rattle.code_meaning.specs.Fits.{IndexWithin, IsPlaceOf, AreApart, IsOwn, IsLaidOut, HasRoomFor, StmtFits}
+use Rattle.code_meaning.specs.Stands.{AreAmong, IsSlotOf}
+use Rattle.code_meaning.proofs.SlotLaws.{first_or_after, new_among, all_among}
 
 -- ---- slots grow
 

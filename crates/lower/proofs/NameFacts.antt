@@ -9,9 +9,9 @@ use Rattle.base.specs.Element.{JChar}
 use Rattle.syntax.specs.Parts.{statements_of, statements_within, declared_name, names_declared}
 use Rattle.syntax.specs.Tree as tree
 use Rattle.syntax.specs.Tree.{ResultType, Stmt, Block, End, Next}
-use Rattle.sorts.specs.Sorts.{Scope, Buffer, Array}
-use Rattle.sorts.specs.SortRules.{variable_sort, has_name, places_within, places_of, with_declared}
-use Rattle.lowered.specs.Layout.{Slot, Known, Layout, new_slot, layout_after}
+use Rattle.type_rules.specs.Sorts.{Scope, Buffer, Array}
+use Rattle.type_rules.specs.SortRules.{variable_sort, has_name, places_within, places_of, with_declared}
+use Rattle.code_meaning.specs.Layout.{Slot, Known, Layout, new_slot, layout_after}
 use Rattle.lower.proofs.PlaceFacts.{or_left, or_right, AreKept, own_kept, block_kept, ways_kept, inside_kept}
 
 -- a name that isn't taken isn't known

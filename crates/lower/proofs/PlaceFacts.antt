@@ -7,8 +7,8 @@ use Rattle.base.specs.Options.{some_passes}
 use Rattle.syntax.specs.Parts.{statements_of, statements_within, line_of, declared_name, right_side, own_call, own_expressions, names_declared}
 use Rattle.syntax.specs.Tree.{ResultType, Static, Test, Stmt, If, IfElse, While, Block, Next}
 use Rattle.jni.specs.JniFunction.{function_named}
-use Rattle.sorts.specs.Sorts.{Scope, call_arguments_fit}
-use Rattle.sorts.specs.SortRules.{SortRule, UnknownName, DeclaredTwice, SortMisfit, UnknownFunction, ArgumentCount, ReferenceCopied, BadMode, ReadOnlyWrite, sort_rules, Place, StaticForm, StatementForm, has_name, is_formed, statement_fits, has_wrong_count, has_wrong_mode, copies_reference, set_sort, breaks, broken_at, with_declared, places_within, places_of}
+use Rattle.type_rules.specs.Sorts.{Scope, call_arguments_fit}
+use Rattle.type_rules.specs.SortRules.{SortRule, UnknownName, DeclaredTwice, SortMisfit, UnknownFunction, ArgumentCount, ReferenceCopied, BadMode, ReadOnlyWrite, sort_rules, Place, StaticForm, StatementForm, has_name, is_formed, statement_fits, has_wrong_count, has_wrong_mode, copies_reference, set_sort, breaks, broken_at, with_declared, places_within, places_of}
 
 -- ---- tests
 

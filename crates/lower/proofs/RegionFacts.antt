@@ -5,7 +5,7 @@ use Rattle.syntax.specs.Tree as tree
 use Rattle.syntax.specs.Tree.{Stmt, Block, End, Next, Function}
 use Rattle.region_rules.specs.RegionStates.{RegionState, state_at_entry}
 use Rattle.region_rules.specs.Regions.{On, Returned, Keeps, KeepsBlock, AcceptedFunction}
-use Rattle.lowered.specs.Stands.{stmt_returns, block_returns}
+use Rattle.code_meaning.specs.Stands.{stmt_returns, block_returns}
 
 both_true : (a b : Bool) → a ≡ true → b ≡ true → (a && b) ≡ true
 both_true true b h k = k

@@ -8,12 +8,12 @@ use Rattle.base.specs.Element.{ElementType}
 use Rattle.syntax.specs.Limits.{height, number_limit, numbers_in_range}
 use Rattle.syntax.specs.Parts.{null_tested}
 use Rattle.syntax.specs.Tree.{Constant, True, False, Null, PrefixOp, LogicalNot, Complement, ToWord, ToInt, BinaryOp, LogicalOr, LogicalAnd, Equal, NotEqual, Expr, Number, Named, Variable, Element, Prefix, Binary, Paren}
-use Rattle.sorts.specs.Sorts.{Sort, Word, Jint, Flag, Truth, Ref, Global, FieldId, Buffer, Array, Scope, OperatorGroup, Logic, Equality, Order, OnWords, group, binary_sort, prefix_sort, is_castable, is_index, has_elements, is_nullable, constant_sort, null_test_sort, sort_in, sort_of}
-use Rattle.source.specs.Term as term
-use Rattle.source.specs.Term.{Term, binary_term, term_of}
-use Rattle.lowered.specs.Layout.{Slot, Known}
-use Rattle.lowered.specs.Slots.{IsNumberSort}
-use Rattle.lowered.specs.Fits.{IsVariable, IsIndexSort, IsNullable, OperatorFits, TermHasSort, IsUntouched, term_height, NumberFits}
+use Rattle.type_rules.specs.Sorts.{Sort, Word, Jint, Flag, Truth, Ref, Global, FieldId, Buffer, Array, Scope, OperatorGroup, Logic, Equality, Order, OnWords, group, binary_sort, prefix_sort, is_castable, is_index, has_elements, is_nullable, constant_sort, null_test_sort, sort_in, sort_of}
+use Rattle.semantics.specs.Term as term
+use Rattle.semantics.specs.Term.{Term, binary_term, term_of}
+use Rattle.code_meaning.specs.Layout.{Slot, Known}
+use Rattle.code_meaning.specs.Slots.{IsNumberSort}
+use Rattle.code_meaning.specs.Fits.{IsVariable, IsIndexSort, IsNullable, OperatorFits, TermHasSort, IsUntouched, term_height, NumberFits}
 
 -- the sorts of the known names
 abbrev pub scope_of : Known → Scope

@@ -7,8 +7,8 @@ use Rattle.std.proofs.Math.Facts.{to_z-of_z}
 use Rattle.std.proofs.lemmas.List.{append-nil}
 use Rattle.std.proofs.lemmas.Bool.{lt-ltb, le-leb}
 use Rattle.base.specs.Bytes.{Identifier}
-use Rattle.sorts.specs.Sorts.{Sort, Jint, Ref, Global, FieldId, Buffer, Array}
-use Rattle.sorts.specs.Sorts as sort
+use Rattle.type_rules.specs.Sorts.{Sort, Jint, Ref, Global, FieldId, Buffer, Array}
+use Rattle.type_rules.specs.Sorts as sort
 use Rattle.code.specs.declared.instr.NullableVariable.{NullableVariable}
 use Rattle.code.specs.declared.instr.NullableVariable.TheVariants as nullable
 use Rattle.code.specs.declared.instr.Instr.{Instr}
@@ -18,18 +18,18 @@ use Rattle.code.specs.declared.instr.Plain.TheVariants as plain
 use Rattle.code.specs.Depth.{Listing}
 use Rattle.code.specs.Effect.{plain_of, cleared}
 use Rattle.code.proofs.Effects.{KeepsSlots, plain_keeps}
-use Rattle.source.specs.Effect.{Effect, goes_on, with_value, effect_of}
-use Rattle.source.specs.Sight.{Sight}
-use Rattle.source.specs.Task.{Task, SetScalar, SetNull, MakeArray, Print, Target, Declared, Assigned, VariableKind, ScalarKind, ReferenceKind, FieldKind, BufferKind}
-use Rattle.source.specs.Term.{Term, Done, reduce}
-use Rattle.source.specs.Value.{Value, Word, Int, Flag, Truth, Gives}
-use Rattle.lowered.specs.Layout.{Slot, Known}
-use Rattle.lowered.specs.Coding.{nullable_of, term_code}
-use Rattle.lowered.specs.Slots.{word_of, is_empty, Visible, Slots, ShowsSlot, Shows}
-use Rattle.lowered.specs.Fits.{TermHasSort}
-use Rattle.lowered.specs.Stands.{held, IsBegun, HasAt, IsUnderWay, kind_of_sort, GoesTo, target_name, TasksStand, StandsFor, task_returns}
-use Rattle.lowered.specs.Does.{AtEnd, Works, CanBeNull, kind_of_target, IsStoredIn, DoesEffect}
-use Rattle.lowered.proofs.SlotLaws.{fewer_shown, number_below, shows_set, KindFits, shows_nulled, shows_made}
+use Rattle.semantics.specs.Effect.{Effect, goes_on, with_value, effect_of}
+use Rattle.semantics.specs.Sight.{Sight}
+use Rattle.semantics.specs.Task.{Task, SetScalar, SetNull, MakeArray, Print, Target, Declared, Assigned, VariableKind, ScalarKind, ReferenceKind, FieldKind, BufferKind}
+use Rattle.semantics.specs.Term.{Term, Done, reduce}
+use Rattle.semantics.specs.Value.{Value, Word, Int, Flag, Truth, Gives}
+use Rattle.code_meaning.specs.Layout.{Slot, Known}
+use Rattle.code_meaning.specs.Coding.{nullable_of, term_code}
+use Rattle.code_meaning.specs.Slots.{word_of, is_empty, Visible, Slots, ShowsSlot, Shows}
+use Rattle.code_meaning.specs.Fits.{TermHasSort}
+use Rattle.code_meaning.specs.Stands.{held, IsBegun, HasAt, IsUnderWay, kind_of_sort, GoesTo, target_name, TasksStand, StandsFor, task_returns}
+use Rattle.code_meaning.specs.Does.{AtEnd, Works, CanBeNull, kind_of_target, IsStoredIn, DoesEffect}
+use Rattle.code_meaning.proofs.SlotLaws.{fewer_shown, number_below, shows_set, KindFits, shows_nulled, shows_made}
 use Rattle.lower.proofs.CodePlaces.{has_back}
 use Rattle.lower.proofs.TermSteps.{IsOpen, LeadsOver, TermGoes, TermTraps, steps_term}
 

@@ -13,11 +13,11 @@ use Rattle.std.proofs.lemmas.Bool.Decides.{Decides-eqb, Decides-int_eq, same_fro
 use Rattle.syntax.specs.Tree as tree
 use Rattle.syntax.specs.Tree.{PrefixOp, LogicalNot, Complement, ToWord, ToInt, BinaryOp, LogicalOr, LogicalAnd, BitOr, BitXor, BitAnd, Equal, NotEqual, Less, LessEqual, Greater, GreaterEqual, ShiftLeft, ShiftRight, Add, Subtract, Multiply, Divide, Remainder}
 use Rattle.base.specs.Bytes.{Identifier, lookup}
-use Rattle.source.specs.Variable.{StaticReference}
-use Rattle.lowered.proofs.StaticPlaces.{there_at}
+use Rattle.semantics.specs.Variable.{StaticReference}
+use Rattle.code_meaning.proofs.StaticPlaces.{there_at}
 use Rattle.base.specs.Element.{ElementType, JInt}
-use Rattle.sorts.specs.Sorts.{Sort, Jint, Ref, Global, FieldId, Buffer, Array, OperatorGroup, Logic, Equality, Order, OnWords, group, is_jint}
-use Rattle.sorts.specs.Sorts as sort
+use Rattle.type_rules.specs.Sorts.{Sort, Jint, Ref, Global, FieldId, Buffer, Array, OperatorGroup, Logic, Equality, Order, OnWords, group, is_jint}
+use Rattle.type_rules.specs.Sorts as sort
 use Rattle.code.specs.declared.instr.Operator.TheVariants as operator
 use Rattle.code.specs.declared.instr.TrappingOperator.TheVariants as trapping
 use Rattle.code.specs.declared.instr.NullableVariable.{NullableVariable}
@@ -29,15 +29,15 @@ use Rattle.code.specs.declared.instr.Plain.TheVariants as plain
 use Rattle.code.specs.declared.instr.PlainTrap.{PlainTrap}
 use Rattle.code.specs.declared.instr.PlainTrap.TheVariants as trap
 use Rattle.code.specs.Effect.{plain_of, truth_word, operate}
-use Rattle.source.specs.Value.{Value, Word, Int, Flag, Truth, Gives, Traps, outcome_map, convert}
-use Rattle.source.specs.Term as term
-use Rattle.source.specs.Term.{Term, Done, Read, IsNull, Prefix, And, Or, Binary, Reduction, done, with_part, reduce}
-use Rattle.lowered.specs.Layout.{Slot, Known}
-use Rattle.lowered.specs.Coding.{nullable_of, test_of, null_code, element_code, of_slot, load_code, prefix_code, operator_code, is_signed, skip_code, term_code}
-use Rattle.lowered.specs.Slots.{word_of, ValueHasSort, IsNumberSort, Visible, Slots, is_empty, ShowsNumber, ShowsArray, ShowsSlot, holds_null}
-use Rattle.lowered.specs.Fits.{IsIndexSort, IsNullable, OperatorFits, TermHasSort, IsUntouched}
-use Rattle.lowered.specs.Stands.{held, IsBegun}
-use Rattle.lowered.specs.Does.{trap_of, Works}
+use Rattle.semantics.specs.Value.{Value, Word, Int, Flag, Truth, Gives, Traps, outcome_map, convert}
+use Rattle.semantics.specs.Term as term
+use Rattle.semantics.specs.Term.{Term, Done, Read, IsNull, Prefix, And, Or, Binary, Reduction, done, with_part, reduce}
+use Rattle.code_meaning.specs.Layout.{Slot, Known}
+use Rattle.code_meaning.specs.Coding.{nullable_of, test_of, null_code, element_code, of_slot, load_code, prefix_code, operator_code, is_signed, skip_code, term_code}
+use Rattle.code_meaning.specs.Slots.{word_of, ValueHasSort, IsNumberSort, Visible, Slots, is_empty, ShowsNumber, ShowsArray, ShowsSlot, holds_null}
+use Rattle.code_meaning.specs.Fits.{IsIndexSort, IsNullable, OperatorFits, TermHasSort, IsUntouched}
+use Rattle.code_meaning.specs.Stands.{held, IsBegun}
+use Rattle.code_meaning.specs.Does.{trap_of, Works}
 
 -- some part has no value yet
 abbrev pub IsOpen : Term → Type 0

@@ -4,8 +4,8 @@ use Rattle.std.specs.List.{list_any}
 use Rattle.syntax.specs.Tree as tree
 use Rattle.syntax.specs.Tree.{Call, Test, TestExpr, TestCall, Stmt, Block, End, Next}
 use Rattle.jni.specs.JniFunction.{JniFunction, function_named}
-use Rattle.source.specs.Task.{Task, Tested, invocation, if_task, task_of, tasks_of}
-use Rattle.lowered.specs.Stands.{stmt_returns, block_returns, task_returns}
+use Rattle.semantics.specs.Task.{Task, Tested, invocation, if_task, task_of, tasks_of}
+use Rattle.code_meaning.specs.Stands.{stmt_returns, block_returns, task_returns}
 
 either_true : (a b : Bool) → a ≡ true → (a || b) ≡ true
 either_true true b h = refl

@@ -2,12 +2,12 @@
 use Rattle.std.specs.Prelude.{◌≡◌, ◌+◌, List, [], ◌∷◌, ◌++◌, length, IsTrue}
 use Rattle.syntax.specs.Tree.{Item, StaticItem, FunctionItem}
 use Rattle.code.specs.Depth.{Listing}
-use Rattle.lowered.specs.Layout.{Known, with_static}
-use Rattle.lowered.specs.Coding.{function_code}
-use Rattle.lowered.specs.Fits.{AreStatics, FunctionFits}
-use Rattle.lowered.specs.Stands.{block_returns}
-use Rattle.lowered.specs.Length.{function_steps}
-use Rattle.lowered.specs.Lowered.{IsCodeOf}
+use Rattle.code_meaning.specs.Layout.{Known, with_static}
+use Rattle.code_meaning.specs.Coding.{function_code}
+use Rattle.code_meaning.specs.Fits.{AreStatics, FunctionFits}
+use Rattle.code_meaning.specs.Stands.{block_returns}
+use Rattle.code_meaning.specs.Length.{function_steps}
+use Rattle.code_meaning.specs.Lowered.{IsCodeOf}
 
 -- an item that can be lowered after these statics
 abbrev pub ItemFits : (statics : Known) → Item → Type 0

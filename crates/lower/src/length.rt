@@ -7,8 +7,8 @@ ghost use Rattle.syntax.specs.Tree.{Binary};
 ghost use Rattle.syntax.specs.Views.{expr_tree, binary_tree, argument_tree, call_tree, right_side_tree, test_tree, result_tree, form_tree, block_tree, function_tree, item_tree, unit_tree};
 ghost use Rattle.jni.specs.JniFunction.{function_named};
 ghost use Rattle.jni.specs.Table.{parameter_value};
-ghost use Rattle.code_generator.specs.Plain.{is_plain};
-ghost use Rattle.lowered.specs.Length.{step_limit, expr_steps, argument_steps, call_steps, value_steps, right_steps, test_steps, return_steps, stmt_steps, block_steps, function_steps, is_long};
+ghost use Rattle.lower_statements.specs.Plain.{is_plain};
+ghost use Rattle.code_meaning.specs.Length.{step_limit, expr_steps, argument_steps, call_steps, value_steps, right_steps, test_steps, return_steps, stmt_steps, block_steps, function_steps, is_long};
 
 use crate::lowering::MOST_STEPS;
 use jni::{ParameterKind, function_named};

@@ -5,7 +5,7 @@ mod fault;
 mod length;
 mod lowering;
 
+pub use code_meaning::Program;
 pub use fault::LowerFault;
 pub use length::has_long_function;
-pub use lowered::Program;
 pub use lowering::lower;

@@ -4,18 +4,18 @@ ghost use Rattle.std.specs.Prelude.{◌≡◌, ◌<◌, Err, IfOk, OnOk, IsTrue}
 ghost use Rattle.syntax.specs.Tree.{FunctionItem};
 ghost use Rattle.syntax.specs.Views.{function_tree, item_tree, unit_tree};
 ghost use Rattle.code.specs.Depth.{IsValid};
-ghost use Rattle.lowered.specs.Layout.{entry_layout, function_slots};
-ghost use Rattle.lowered.specs.Coding.{block_code};
+ghost use Rattle.code_meaning.specs.Layout.{entry_layout, function_slots};
+ghost use Rattle.code_meaning.specs.Coding.{block_code};
 ghost use Rattle.lower.specs.Items.{ItemFits, IsItemDone};
-ghost use Rattle.lowered.specs.Length.{function_steps, step_limit, is_long, IsTooLong};
-ghost use Rattle.lowered.specs.Lowered.{IsCodeOf};
+ghost use Rattle.code_meaning.specs.Length.{function_steps, step_limit, is_long, IsTooLong};
+ghost use Rattle.code_meaning.specs.Lowered.{IsCodeOf};
 
 use crate::fault::LowerFault;
 use code::code::Code;
 use code::instr::Instr;
 use code::slots::SlotCounts;
-use code_generator::{Names, emit, emit_block};
-use lowered::Program;
+use code_meaning::Program;
+use lower_statements::{Names, emit, emit_block};
 use region_rules::Checked;
 use std::alloc::{AllocError, Global};
 use syntax::{Function, Item};

@@ -12,11 +12,11 @@ use Rattle.heap.specs.declared.value.Value.{Value}
 use Rattle.heap.specs.declared.value.Value.TheVariants.{Number as Word, Null, Block as Address}
 use Rattle.heap.specs.Heap.{Block, Space, IsAddress, block_at, class_at, name_at, values_at, addresses}
 use Rattle.heap.proofs.Names.{one_address}
-use Rattle.source.specs.Object.{Object, ObjectValue, Number, Refers, Reference}
-use Rattle.source.specs.Heap.{Heap, object_at, class_of, values_of}
-use Rattle.jni_calls.specs.HeapAgrees.{ValueAgrees, ValuesAgree, HeapAgrees}
+use Rattle.semantics.specs.Object.{Object, ObjectValue, Number, Refers, Reference}
+use Rattle.semantics.specs.Heap.{Heap, object_at, class_of, values_of}
+use Rattle.machine_calls.specs.HeapAgrees.{ValueAgrees, ValuesAgree, HeapAgrees}
 use Rattle.machine.specs.Rows.{value_in, object_in, object_of, heap_of, IsThere, AreSeen, AreThere, AreBlocks}
-use Rattle.jni_calls.proofs.BlocksOfNames.{Named, named, is_address, name_within}
+use Rattle.machine_calls.proofs.BlocksOfNames.{Named, named, is_address, name_within}
 
 -- ---- what cells hold
 

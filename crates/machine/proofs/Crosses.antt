@@ -20,7 +20,7 @@ use Rattle.syntax.proofs.stmt.Form.TheLaws.TheKnot as form
 use Rattle.syntax.specs.contracts.unit.Unit as unit
 use Rattle.syntax.specs.contracts.unit.Unit.TheInside as unit-inside
 use Rattle.syntax.specs.contracts.unit.Item as item
-use Rattle.sorts.specs.contracts.typed.Typed as typed
+use Rattle.type_rules.specs.contracts.typed.Typed as typed
 use Rattle.region_rules.specs.contracts.checked.Checked as checked
 use Rattle.region_rules.specs.contracts.checked.Checked.TheInside as checked-inside
 use Rattle.code.specs.contracts.code.Code as code
@@ -34,16 +34,16 @@ use Rattle.code.proofs.instr.Target.TheSendSync as target
 use Rattle.code.specs.contracts.instr.Call as call
 use Rattle.code.specs.contracts.instr.BoxedCall as boxed-call
 use Rattle.code.specs.contracts.instr.BoxedCall.TheInside as boxed-call-inside
-use Rattle.world.specs.contracts.world.World as world
+use Rattle.world_values.specs.contracts.world.World as world
 use Rattle.heap.specs.contracts.heap.Heap as heap
 use Rattle.tables.specs.contracts.locals.Locals as locals
-use Rattle.jni_calls.specs.contracts.store.Store as store
-use Rattle.execution.specs.contracts.thread.Thread as thread
+use Rattle.machine_calls.specs.contracts.store.Store as store
+use Rattle.machine_steps.specs.contracts.thread.Thread as thread
 use Rattle.machine.specs.contracts.machine.Machine as machine
 use Rattle.machine.specs.contracts.machine.Machine.TheInside as machine-inside
-use Rattle.lowered.specs.contracts.program.Program as program
-use Rattle.lowered.specs.contracts.program.Program.TheInside as program-inside
-use Rattle.sorts.specs.contracts.typed.Typed.TheInside as inside
+use Rattle.code_meaning.specs.contracts.program.Program as program
+use Rattle.code_meaning.specs.contracts.program.Program.TheInside as program-inside
+use Rattle.type_rules.specs.contracts.typed.Typed.TheInside as inside
 
 -- ---- what a machine borrows
 

@@ -1,20 +1,20 @@
 -- What a step of one thread leaves as it was for the others.
 use Rattle.std.proofs.Common.{ℕ, suc, List, [], ◌∷◌, Option, Some, None}
-use Rattle.classes.specs.Class.{Classes}
+use Rattle.class_rules.specs.Class.{Classes}
 use Rattle.heap.specs.Heap.{Space}
-use Rattle.source.specs.Task.{Task}
-use Rattle.source.specs.Thread as source
-use Rattle.source.specs.Thread.{Shared}
-use Rattle.lowered.specs.Lowered.{Lowered}
-use Rattle.lowered.specs.Slots.{visible_to}
-use Rattle.jni_calls.specs.declared.activation.Activation.{Activation}
-use Rattle.safety.specs.Owners.{Owners, AllOwners}
-use Rattle.execution.specs.declared.thread.Thread.{Thread}
-use Rattle.jni_calls.specs.StoreAgrees.{Keeps}
-use Rattle.execution.specs.Executes.{CallStands, WorkAgrees}
-use Rattle.execution.specs.ThreadAgrees.{ThreadAgrees, ThreadsAgree}
-use Rattle.jni_calls.proofs.Keeping.{reference_stays, keys_stay, frames_stay}
-use Rattle.execution.proofs.StillShown.{shows_stay}
+use Rattle.semantics.specs.Task.{Task}
+use Rattle.semantics.specs.Thread as source
+use Rattle.semantics.specs.Thread.{Shared}
+use Rattle.code_meaning.specs.Lowered.{Lowered}
+use Rattle.code_meaning.specs.Slots.{visible_to}
+use Rattle.machine_calls.specs.declared.activation.Activation.{Activation}
+use Rattle.semantics_safety.specs.Owners.{Owners, AllOwners}
+use Rattle.machine_steps.specs.declared.thread.Thread.{Thread}
+use Rattle.machine_calls.specs.StoreAgrees.{Keeps}
+use Rattle.machine_steps.specs.Executes.{CallStands, WorkAgrees}
+use Rattle.machine_steps.specs.ThreadAgrees.{ThreadAgrees, ThreadsAgree}
+use Rattle.machine_calls.proofs.Keeping.{reference_stays, keys_stay, frames_stay}
+use Rattle.machine_steps.proofs.StillShown.{shows_stay}
 
 module _ (p : Lowered) (classes : Classes) (made : ℕ) (space space' : Space) (shared shared' : Shared) (keeps : Keeps space shared space' shared') where
   call_stays : (own : Owners) (call : Activation) (s : source.Thread) (frames : List source.Frame) (tasks : List Task) → CallStands p classes space call (visible_to own shared s) frames tasks → CallStands p classes space' call (visible_to own shared' s) frames tasks

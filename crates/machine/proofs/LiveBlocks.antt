@@ -6,15 +6,15 @@ use Rattle.std.proofs.lemmas.Bool.{cond_both, eq-eqb, false≢true}
 use Rattle.std.proofs.lemmas.Bool.Decides.{eqb_tells}
 use Rattle.std.proofs.lemmas.List.Sums.{sum_by-cons}
 use Rattle.heap.specs.Heap.{Block, Space, IsLaidOut, LieFrom, block_end, block_size, end_from, end_of}
-use Rattle.source.specs.Heap.{Heap, values_of}
-use Rattle.source.specs.Object.{Object, ObjectValue}
-use Rattle.source.specs.Reachable.{Reachable, from_one, is_in, live_size, reachable, size_at}
-use Rattle.source.specs.State.{State}
-use Rattle.source.specs.World.{World}
-use Rattle.source.proofs.ReachableLemmas.{In, in_append_cases, in_cases, in_head, in_tail, reachable_lists, to_contains}
-use Rattle.jni_calls.specs.HeapAgrees.{BlockAgrees, BlocksAgree, IsNamed}
-use Rattle.jni_calls.proofs.HeapLaws.{from_one-bounds}
-use Rattle.jni_calls.proofs.Loaded.{agree_length}
+use Rattle.semantics.specs.Heap.{Heap, values_of}
+use Rattle.semantics.specs.Object.{Object, ObjectValue}
+use Rattle.semantics.specs.Reachable.{Reachable, from_one, is_in, live_size, reachable, size_at}
+use Rattle.semantics.specs.State.{State}
+use Rattle.semantics.specs.World.{World}
+use Rattle.semantics.proofs.ReachableLemmas.{In, in_append_cases, in_cases, in_head, in_tail, reachable_lists, to_contains}
+use Rattle.machine_calls.specs.HeapAgrees.{BlockAgrees, BlocksAgree, IsNamed}
+use Rattle.machine_calls.proofs.HeapLaws.{from_one-bounds}
+use Rattle.machine_calls.proofs.Loaded.{agree_length}
 
 -- ---- lists without repetition
 

@@ -4,23 +4,23 @@ use Rattle.std.specs.Prelude.{◌==◌, slice_get, slice_set}
 use Rattle.std.specs.Option.{option_and_then}
 use Rattle.std.proofs.lemmas.Bool.Decides.{Decides-eqb}
 use Rattle.syntax.specs.Tree.{SourceUnit}
-use Rattle.classes.specs.Class.{Classes}
+use Rattle.class_rules.specs.Class.{Classes}
 use Rattle.heap.specs.Heap.{Space}
-use Rattle.lowered.specs.Lowered.{Lowered}
-use Rattle.safety.specs.Owners.{AllOwners, Owners, after_advance, after_entry, after_turn, no_owner, owners_after, owners_from, with_owners}
-use Rattle.source.specs.declared.journal.Entry.{Entry}
-use Rattle.source.specs.declared.journal.Entry.TheVariants.{Step}
-use Rattle.source.specs.Journal.{Journal}
-use Rattle.source.specs.Run.{replay, replay_from}
-use Rattle.source.specs.Start.{start}
-use Rattle.source.specs.State.{State, thread_at, in_use}
-use Rattle.source.specs.Step.{world_step}
-use Rattle.source.specs.Thread as source
-use Rattle.source.specs.Thread.{Advance, Shared}
-use Rattle.source.specs.ThreadStep.{thread_step}
-use Rattle.source.specs.World.{World}
-use Rattle.execution.specs.declared.thread.Thread.{Thread}
-use Rattle.execution.specs.ThreadAgrees.{ThreadAgrees, ThreadsAgree}
+use Rattle.code_meaning.specs.Lowered.{Lowered}
+use Rattle.semantics_safety.specs.Owners.{AllOwners, Owners, after_advance, after_entry, after_turn, no_owner, owners_after, owners_from, with_owners}
+use Rattle.semantics.specs.declared.journal.Entry.{Entry}
+use Rattle.semantics.specs.declared.journal.Entry.TheVariants.{Step}
+use Rattle.semantics.specs.Journal.{Journal}
+use Rattle.semantics.specs.Run.{replay, replay_from}
+use Rattle.semantics.specs.Start.{start}
+use Rattle.semantics.specs.State.{State, thread_at, in_use}
+use Rattle.semantics.specs.Step.{world_step}
+use Rattle.semantics.specs.Thread as source
+use Rattle.semantics.specs.Thread.{Advance, Shared}
+use Rattle.semantics.specs.ThreadStep.{thread_step}
+use Rattle.semantics.specs.World.{World}
+use Rattle.machine_steps.specs.declared.thread.Thread.{Thread}
+use Rattle.machine_steps.specs.ThreadAgrees.{ThreadAgrees, ThreadsAgree}
 
 -- ---- one more entry
 

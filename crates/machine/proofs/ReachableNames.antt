@@ -8,21 +8,21 @@ use Rattle.std.proofs.lemmas.Bool.Decides.{eqb_tells}
 use Rattle.heap.specs.declared.value.Value.{Value}
 use Rattle.heap.specs.declared.value.Value.TheVariants.{Number as Word, Null, Block as Address}
 use Rattle.heap.specs.Heap.{Space}
-use Rattle.source.specs.Heap.{Heap, object_at, reference_in, values_of}
-use Rattle.source.specs.Object.{Object, ObjectValue, Number, Refers, Reference}
-use Rattle.source.specs.Reachable.{from_one, references_of, roots, thread_roots, Reachable, FromRoot, FromObject}
-use Rattle.source.specs.State.{State}
-use Rattle.source.specs.Thread as source
-use Rattle.source.specs.World.{World}
-use Rattle.source.proofs.ReachableLemmas.{In, contains_in, in_append_cases, in_cases, in_head, in_tail, to_contains}
+use Rattle.semantics.specs.Heap.{Heap, object_at, reference_in, values_of}
+use Rattle.semantics.specs.Object.{Object, ObjectValue, Number, Refers, Reference}
+use Rattle.semantics.specs.Reachable.{from_one, references_of, roots, thread_roots, Reachable, FromRoot, FromObject}
+use Rattle.semantics.specs.State.{State}
+use Rattle.semantics.specs.Thread as source
+use Rattle.semantics.specs.World.{World}
+use Rattle.semantics.proofs.ReachableLemmas.{In, contains_in, in_append_cases, in_cases, in_head, in_tail, to_contains}
 use Rattle.tables.specs.Locals.{FrameSlots, by_frame}
 use Rattle.tables.specs.References.{references_in}
-use Rattle.jni_calls.specs.declared.activation.Activation.{Activation}
-use Rattle.execution.specs.declared.thread.Thread.{Thread}
-use Rattle.jni_calls.specs.HeapAgrees.{HeapAgrees, IsNamed, IsTable, NamesAgree, ReferenceAgrees, SlotsAgree, ValuesAgree, times}
-use Rattle.jni_calls.specs.Locals.{FrameAgrees}
-use Rattle.jni_calls.proofs.BlocksOfNames.{named}
-use Rattle.jni_calls.proofs.HeapLaws.{from_one-bounds}
+use Rattle.machine_calls.specs.declared.activation.Activation.{Activation}
+use Rattle.machine_steps.specs.declared.thread.Thread.{Thread}
+use Rattle.machine_calls.specs.HeapAgrees.{HeapAgrees, IsNamed, IsTable, NamesAgree, ReferenceAgrees, SlotsAgree, ValuesAgree, times}
+use Rattle.machine_calls.specs.Locals.{FrameAgrees}
+use Rattle.machine_calls.proofs.BlocksOfNames.{named}
+use Rattle.machine_calls.proofs.HeapLaws.{from_one-bounds}
 use Rattle.machine.proofs.RootNames.{CallFrames, HasRootsOf}
 
 -- ---- among as often

@@ -5,58 +5,58 @@ use Rattle.std.specs.List.{list_all, enumerate_from, AllZip}
 use Rattle.std.specs.Option.{option_map}
 use Rattle.std.proofs.lemmas.List.Concat.{flat_map-cons}
 use Rattle.syntax.specs.Views.{unit_tree}
-use Rattle.classes.specs.Class.{Classes}
-use Rattle.source.specs.declared.journal.Entry.{Entry}
-use Rattle.source.specs.declared.printed.Printed.{Printed}
+use Rattle.class_rules.specs.Class.{Classes}
+use Rattle.semantics.specs.declared.journal.Entry.{Entry}
+use Rattle.semantics.specs.declared.printed.Printed.{Printed}
 use Rattle.report.specs.declared.thread_status.ThreadStatus.{ThreadStatus}
-use Rattle.source.specs.JournalText.{journal_line}
-use Rattle.source.specs.Report.{ThreadStanding, HasTrapped, ShownRow, Report}
+use Rattle.semantics.specs.JournalText.{journal_line}
+use Rattle.semantics.specs.Report.{ThreadStanding, HasTrapped, ShownRow, Report}
 use Rattle.report.specs.ReportText.{report_text}
 use Rattle.report.specs.Sink as sink
 use Rattle.report.specs.Sink.{Written}
-use Rattle.source.specs.World.{World, loaded_objects}
+use Rattle.semantics.specs.World.{World, loaded_objects}
 use Rattle.report.specs.Shown.{report_with}
 use Rattle.report.specs.ThreadStatus.{standing_view}
-use Rattle.source.specs.ReportOf.{standing_by_ending, standing_of, shown, shown_row, report}
+use Rattle.semantics.specs.ReportOf.{standing_by_ending, standing_of, shown, shown_row, report}
 use Rattle.report.specs.RunText as run_text
-use Rattle.source.specs.State as state
-use Rattle.source.specs.State.{State, views}
-use Rattle.source.specs.Heap.{Heap}
-use Rattle.source.specs.Reachable.{from_one, loaded_count, thread_roots, roots, Reachable}
-use Rattle.source.specs.Task.{Task}
-use Rattle.source.proofs.ShownRows.{length-loaded}
-use Rattle.source.specs.Value.{trap_number}
-use Rattle.source.specs.Step.{is_waiting, is_blocked, is_unfinished}
-use Rattle.source.specs.Thread as source
-use Rattle.source.specs.Thread.{Shared, Monitor, viewed_by}
+use Rattle.semantics.specs.State as state
+use Rattle.semantics.specs.State.{State, views}
+use Rattle.semantics.specs.Heap.{Heap}
+use Rattle.semantics.specs.Reachable.{from_one, loaded_count, thread_roots, roots, Reachable}
+use Rattle.semantics.specs.Task.{Task}
+use Rattle.semantics.proofs.ShownRows.{length-loaded}
+use Rattle.semantics.specs.Value.{trap_number}
+use Rattle.semantics.specs.Step.{is_waiting, is_blocked, is_unfinished}
+use Rattle.semantics.specs.Thread as source
+use Rattle.semantics.specs.Thread.{Shared, Monitor, viewed_by}
 use Rattle.heap.specs.Heap.{Space, left_of}
-use Rattle.lowered.specs.Lowered.{Lowered, IsLowered}
-use Rattle.lowered.specs.Slots.{Visible, visible_to}
-use Rattle.reached.specs.Rows.{AreReported}
-use Rattle.execution.specs.declared.thread.Ending.{Ending}
-use Rattle.execution.specs.declared.thread.Ending.TheVariants as ending
-use Rattle.jni_calls.specs.declared.activation.Activation.{Activation}
-use Rattle.execution.specs.declared.thread.Thread.{Thread}
+use Rattle.code_meaning.specs.Lowered.{Lowered, IsLowered}
+use Rattle.code_meaning.specs.Slots.{Visible, visible_to}
+use Rattle.report_objects.specs.Rows.{AreReported}
+use Rattle.machine_steps.specs.declared.thread.Ending.{Ending}
+use Rattle.machine_steps.specs.declared.thread.Ending.TheVariants as ending
+use Rattle.machine_calls.specs.declared.activation.Activation.{Activation}
+use Rattle.machine_steps.specs.declared.thread.Thread.{Thread}
 use Rattle.machine.specs.declared.stop.Stop.{Stop}
-use Rattle.execution.specs.ThreadAgrees.{ThreadsAgree, ending_view}
-use Rattle.execution.specs.Executes.{WorkAgrees}
-use Rattle.jni_calls.specs.HeapAgrees.{IsNamed, times}
+use Rattle.machine_steps.specs.ThreadAgrees.{ThreadsAgree, ending_view}
+use Rattle.machine_steps.specs.Executes.{WorkAgrees}
+use Rattle.machine_calls.specs.HeapAgrees.{IsNamed, times}
 use Rattle.machine.specs.Rows.{AreSeen}
 use Rattle.machine.proofs.ReachableNames.{loaded_named, reachable_named, slots_named, threads_named}
-use Rattle.source.proofs.ReachableLemmas.{In, contains_in, in_append_cases}
-use Rattle.safety.specs.Owners.{AllOwners, owners_after}
+use Rattle.semantics.proofs.ReachableLemmas.{In, contains_in, in_append_cases}
+use Rattle.semantics_safety.specs.Owners.{AllOwners, owners_after}
 use Rattle.machine.specs.Stops as machine
 use Rattle.machine.specs.Stops.{stop_view}
-use Rattle.jni_calls.specs.Traps.{trap_view}
+use Rattle.machine_calls.specs.Traps.{trap_view}
 use Rattle.machine.specs.Run as run
-use Rattle.source.specs.Run.{UnmarkedFit}
-use Rattle.jni_calls.specs.declared.store.Store.{Store}
+use Rattle.semantics.specs.Run.{UnmarkedFit}
+use Rattle.machine_calls.specs.declared.store.Store.{Store}
 use Rattle.machine.specs.Run.{Run, Corresponds, WritesRun, AreShown, ShowsObjects, IsFinished}
 use Rattle.machine.proofs.Standings.{standings}
-use Rattle.execution.proofs.Threads.{unblocked}
+use Rattle.machine_steps.proofs.Threads.{unblocked}
 use Rattle.machine.specs.Roots.{AreAddresses, name_of, thread_names, ThreadsAreStacked, ThreadsAreThere}
 use Rattle.std.specs.Prelude.{Contains}
-use Rattle.jni_calls.proofs.GlobalLaws.{among_both}
+use Rattle.machine_calls.proofs.GlobalLaws.{among_both}
 use Rattle.tables.specs.References.{references_in}
 use Rattle.machine.proofs.RootNames.{CallFrames, HasRootsOf, names_are, names_there, threads_same, threads_there, times_both}
 

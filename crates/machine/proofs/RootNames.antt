@@ -9,16 +9,16 @@ use Rattle.tables.specs.Locals as tables
 use Rattle.tables.specs.Locals.{AreStacked, LocalTable, slots_by_frame}
 use Rattle.tables.specs.References.{references_in}
 use Rattle.heap.specs.Heap.{Space, name_at}
-use Rattle.source.specs.Object.{Reference}
-use Rattle.source.specs.Reachable.{thread_roots}
-use Rattle.source.specs.Thread as source
-use Rattle.jni_calls.specs.declared.activation.Activation.{Activation}
-use Rattle.execution.specs.declared.thread.Thread.{Thread}
-use Rattle.jni_calls.specs.HeapAgrees.{NamesAgree, ReferenceAgrees, times}
-use Rattle.jni_calls.specs.Locals.{FrameAgrees, FramesAgree}
+use Rattle.semantics.specs.Object.{Reference}
+use Rattle.semantics.specs.Reachable.{thread_roots}
+use Rattle.semantics.specs.Thread as source
+use Rattle.machine_calls.specs.declared.activation.Activation.{Activation}
+use Rattle.machine_steps.specs.declared.thread.Thread.{Thread}
+use Rattle.machine_calls.specs.HeapAgrees.{NamesAgree, ReferenceAgrees, times}
+use Rattle.machine_calls.specs.Locals.{FrameAgrees, FramesAgree}
 use Rattle.machine.specs.Roots.{name_of, call_names, reference_names, thread_names, AreAddresses, CallIsStacked, CallIsThere, ReferenceIsThere, ThreadsAreStacked, ThreadsAreThere}
-use Rattle.jni_calls.proofs.BlocksOfNames.{is_address}
-use Rattle.execution.proofs.EntryTables.{references_after}
+use Rattle.machine_calls.proofs.BlocksOfNames.{is_address}
+use Rattle.machine_steps.proofs.EntryTables.{references_after}
 
 -- ---- names
 

@@ -7,25 +7,25 @@ use Rattle.std.proofs.lemmas.List.{replicate-append-replicate, take-append-drop,
 use Rattle.std.proofs.lemmas.Option.{slice_get_past, slice_get-get_or}
 use Rattle.std.proofs.lemmas.List.Concat.{flat_map-cons}
 use Rattle.std.proofs.lemmas.Grind.{flat_map-append}
-use Rattle.texts.specs.declared.schedule.Repetition.{Repetition}
-use Rattle.texts.specs.ReadingSchedules.{repeated_words}
+use Rattle.world_schedules.specs.declared.schedule.Repetition.{Repetition}
+use Rattle.world_schedules.specs.ReadingSchedules.{repeated_words}
 use Rattle.syntax.specs.Views.{unit_tree}
 use Rattle.syntax.specs.declared.unit.Item.{Item}
-use Rattle.classes.specs.Class.{Classes}
-use Rattle.source.specs.declared.journal.Entry.{Entry}
-use Rattle.source.specs.declared.journal.Entry.TheVariants.{Step}
-use Rattle.source.specs.declared.schedule.ScheduleWord.{ScheduleWord}
-use Rattle.source.specs.declared.schedule.ScheduleWord.TheVariants.{Turn, Collect}
-use Rattle.source.specs.World.{World}
-use Rattle.source.specs.Schedule.{Schedule}
-use Rattle.source.specs.Run.{replay, replay_from, Follows, Over, Collects, Waits, Steps}
-use Rattle.source.specs.Start.{start}
-use Rattle.source.specs.State.{State, Stop, thread_at}
-use Rattle.source.specs.Step.{can_step, is_live, is_waiting, world_step}
-use Rattle.source.proofs.RunLaws.{replay_from-append, follows-replay, follows-append}
+use Rattle.class_rules.specs.Class.{Classes}
+use Rattle.semantics.specs.declared.journal.Entry.{Entry}
+use Rattle.semantics.specs.declared.journal.Entry.TheVariants.{Step}
+use Rattle.semantics.specs.declared.schedule.ScheduleWord.{ScheduleWord}
+use Rattle.semantics.specs.declared.schedule.ScheduleWord.TheVariants.{Turn, Collect}
+use Rattle.semantics.specs.World.{World}
+use Rattle.semantics.specs.Schedule.{Schedule}
+use Rattle.semantics.specs.Run.{replay, replay_from, Follows, Over, Collects, Waits, Steps}
+use Rattle.semantics.specs.Start.{start}
+use Rattle.semantics.specs.State.{State, Stop, thread_at}
+use Rattle.semantics.specs.Step.{can_step, is_live, is_waiting, world_step}
+use Rattle.semantics.proofs.RunLaws.{replay_from-append, follows-replay, follows-append}
 use Rattle.machine.specs.declared.turn.Turn.{Turn as Answer}
 use Rattle.machine.specs.declared.turn.Turn.TheVariants as turn
-use Rattle.execution.proofs.Lists.{take_next}
+use Rattle.machine_steps.proofs.Lists.{take_next}
 use Rattle.machine.specs.Run.{Run, replay_of, can_turn, HasEnded, TurnHolds, GivesNoStep, GivesStep, RunsAlong, RunsInto}
 
 -- the walk from a state of a run along these words

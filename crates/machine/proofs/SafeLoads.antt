@@ -2,11 +2,11 @@
 use Rattle.std.proofs.Common.{◌≡◌, Bool, true, false, not, List, [], ◌∷◌, ◌++◌, flat_map, refl, ◌&&◌, if◌then◌else◌}
 use Rattle.std.specs.List.{list_all}
 use Rattle.syntax.specs.Tree.{SourceUnit}
-use Rattle.classes.specs.Class.{Classes}
-use Rattle.safety.specs.StepSafe.{has_calls}
-use Rattle.source.specs.Load.{call_loads, refused_calls}
-use Rattle.source.specs.World.{Invocation}
-use Rattle.world.specs.SoundWorlds.{has_call}
+use Rattle.class_rules.specs.Class.{Classes}
+use Rattle.semantics_safety.specs.StepSafe.{has_calls}
+use Rattle.semantics.specs.Load.{call_loads, refused_calls}
+use Rattle.semantics.specs.World.{Invocation}
+use Rattle.world_values.specs.SoundWorlds.{has_call}
 
 -- where none is refused, each loads
 calls_load : (unit : SourceUnit) (classes : Classes) (calls : List Invocation) → refused_calls unit classes calls ≡ [] → list_all (call_loads unit classes) calls ≡ true

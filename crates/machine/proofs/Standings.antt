@@ -2,10 +2,10 @@
 use Rattle.std.proofs.Common.{◌≡◌, ℕ, zero, suc, ◌+◌, List, [], ◌∷◌, ◌++◌, length, map, take, Option, Some, refl, ap, ◌∙◌, arith}
 use Rattle.std.specs.Prelude.{slice_get}
 use Rattle.std.specs.List.{enumerate_from}
-use Rattle.classes.specs.Class.{Classes}
-use Rattle.source.specs.Report.{ThreadStanding}
+use Rattle.class_rules.specs.Class.{Classes}
+use Rattle.semantics.specs.Report.{ThreadStanding}
 use Rattle.machine.specs.declared.stop.Stop.{Stop}
-use Rattle.execution.specs.declared.thread.Thread.{Thread}
+use Rattle.machine_steps.specs.declared.thread.Thread.{Thread}
 use Rattle.machine.specs.Stops.{standing_of}
 
 -- those of the threads from number n on

@@ -5,48 +5,48 @@ use Rattle.std.specs.Option.{option_map}
 use Rattle.std.proofs.Math.ListN.{length-set}
 use Rattle.syntax.specs.declared.unit.Item.{Item}
 use Rattle.syntax.specs.Views.{unit_tree}
-use Rattle.classes.specs.Class.{Classes}
-use Rattle.source.specs.declared.journal.Entry.{Entry}
-use Rattle.source.specs.declared.journal.Entry.TheVariants.{Step}
-use Rattle.source.specs.declared.printed.Printed.{Printed}
-use Rattle.source.specs.World.{World, loaded_objects}
-use Rattle.source.specs.State.{State, thread_at, set_thread, in_use, with_event}
-use Rattle.source.specs.State.{advanced as advanced_to}
-use Rattle.source.specs.Step.{can_step, is_unfinished, world_step}
-use Rattle.source.specs.ThreadStep.{thread_step}
-use Rattle.source.specs.Thread as source
-use Rattle.source.specs.Thread.{BuffersInUse, Shared}
-use Rattle.source.proofs.RunLaws.{replay_more, each-more}
-use Rattle.source.specs.Run.{Fits, FitsUnmarked, made, made_between}
-use Rattle.source.specs.Object.{sizes}
-use Rattle.source.specs.Reachable.{Reachable}
-use Rattle.jni_calls.specs.HeapAgrees.{IsNamed}
+use Rattle.class_rules.specs.Class.{Classes}
+use Rattle.semantics.specs.declared.journal.Entry.{Entry}
+use Rattle.semantics.specs.declared.journal.Entry.TheVariants.{Step}
+use Rattle.semantics.specs.declared.printed.Printed.{Printed}
+use Rattle.semantics.specs.World.{World, loaded_objects}
+use Rattle.semantics.specs.State.{State, thread_at, set_thread, in_use, with_event}
+use Rattle.semantics.specs.State.{advanced as advanced_to}
+use Rattle.semantics.specs.Step.{can_step, is_unfinished, world_step}
+use Rattle.semantics.specs.ThreadStep.{thread_step}
+use Rattle.semantics.specs.Thread as source
+use Rattle.semantics.specs.Thread.{BuffersInUse, Shared}
+use Rattle.semantics.proofs.RunLaws.{replay_more, each-more}
+use Rattle.semantics.specs.Run.{Fits, FitsUnmarked, made, made_between}
+use Rattle.semantics.specs.Object.{sizes}
+use Rattle.semantics.specs.Reachable.{Reachable}
+use Rattle.machine_calls.specs.HeapAgrees.{IsNamed}
 use Rattle.machine.proofs.Reports.{reachable_there}
-use Rattle.source.specs.Start.{start}
-use Rattle.source.proofs.StepLaws.{Steps, steps, step-thread}
+use Rattle.semantics.specs.Start.{start}
+use Rattle.semantics.proofs.StepLaws.{Steps, steps, step-thread}
 use Rattle.heap.specs.Heap.{left_of}
 use Rattle.heap.proofs.Layouts.{ends_within}
 use Rattle.machine.proofs.LiveBlocks.{live_below}
-use Rattle.lowered.specs.Lowered.{Lowered}
-use Rattle.execution.specs.declared.thread.Ending.{Ending}
-use Rattle.execution.specs.declared.thread.Ending.TheVariants.{Unfinished, Ended, Uncaught}
-use Rattle.execution.specs.declared.execute.Event.{Event}
-use Rattle.execution.specs.declared.execute.Event.TheVariants as event
-use Rattle.execution.specs.declared.thread.Thread.{Thread}
+use Rattle.code_meaning.specs.Lowered.{Lowered}
+use Rattle.machine_steps.specs.declared.thread.Ending.{Ending}
+use Rattle.machine_steps.specs.declared.thread.Ending.TheVariants.{Unfinished, Ended, Uncaught}
+use Rattle.machine_steps.specs.declared.execute.Event.{Event}
+use Rattle.machine_steps.specs.declared.execute.Event.TheVariants as event
+use Rattle.machine_steps.specs.declared.thread.Thread.{Thread}
 use Rattle.machine.specs.declared.stop.Stop.{Stop}
 use Rattle.machine.specs.Stops.{stop_view, stop_after}
-use Rattle.jni_calls.specs.declared.store.Store.{Store}
-use Rattle.execution.specs.Executes.{IsSteady, cells_made, event_view}
-use Rattle.jni_calls.specs.StoreAgrees.{StoreAgrees}
-use Rattle.execution.specs.ThreadAgrees.{ThreadAgrees, ThreadsAgree, ending_view}
-use Rattle.execution.specs.Advances.{Advances}
-use Rattle.execution.specs.declared.advance.Advanced.{Advanced}
-use Rattle.execution.specs.declared.advance.Advanced.TheVariants as advanced
+use Rattle.machine_calls.specs.declared.store.Store.{Store}
+use Rattle.machine_steps.specs.Executes.{IsSteady, cells_made, event_view}
+use Rattle.machine_calls.specs.StoreAgrees.{StoreAgrees}
+use Rattle.machine_steps.specs.ThreadAgrees.{ThreadAgrees, ThreadsAgree, ending_view}
+use Rattle.machine_steps.specs.Advances.{Advances}
+use Rattle.machine_steps.specs.declared.advance.Advanced.{Advanced}
+use Rattle.machine_steps.specs.declared.advance.Advanced.TheVariants as advanced
 use Rattle.machine.specs.Run.{Run, AdvancesAlways, Corresponds, CouldStep, HadNoRoom, TurnHolds, entry_of, event_of, is_refused, printed_after, turn_after, HasEnded}
 use Rattle.machine.proofs.KeptThreads.{threads_stay}
 use Rattle.machine.proofs.OwnerSteps.{Found, changed, found, owner_elsewhere, owner_here, owners_stepped}
-use Rattle.execution.proofs.Threads.{unblocked}
-use Rattle.safety.specs.Owners.{AllOwners, Owners, after_advance, owners_after, with_owners}
+use Rattle.machine_steps.proofs.Threads.{unblocked}
+use Rattle.semantics_safety.specs.Owners.{AllOwners, Owners, after_advance, owners_after, with_owners}
 
 -- ---- what a step changes
 

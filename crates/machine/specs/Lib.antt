@@ -3,6 +3,6 @@ pub mod Rows
 pub mod Roots
 pub mod Run
 -- why the machine stops
-pub use Rattle.jni_calls.specs.Traps
+pub use Rattle.machine_calls.specs.Traps
 -- what loading answers
-pub use Rattle.execution.specs.Loading
+pub use Rattle.machine_steps.specs.Loading

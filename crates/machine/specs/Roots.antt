@@ -2,10 +2,10 @@
 use Rattle.std.specs.Prelude.{◌≡◌, ℕ, List, [], ◌++◌, map, Option, Some, None, slice_get}
 use Rattle.std.specs.Option.{option_map, option_map_or, option_to_list}
 use Rattle.heap.specs.Heap.{Space, IsAddress, name_at}
-use Rattle.execution.specs.declared.thread.Thread.{Thread}
+use Rattle.machine_steps.specs.declared.thread.Thread.{Thread}
 use Rattle.tables.specs.Locals.{AreStacked}
 use Rattle.tables.specs.References.{references_in}
-use Rattle.jni_calls.specs.declared.activation.Activation.{Activation}
+use Rattle.machine_calls.specs.declared.activation.Activation.{Activation}
 
 -- the name of the object at an address
 abbrev pub name_of : Space → ℕ → ℕ

@@ -5,9 +5,9 @@ use Rattle.std.specs.Int.{w32, cast_signed}
 use Rattle.heap.specs.declared.value.Value.{Value}
 use Rattle.heap.specs.declared.value.Value.TheVariants.{Number as Word, Null, Block as Address}
 use Rattle.heap.specs.Heap.{Space, IsAddress, class_at, name_at, values_at}
-use Rattle.jni_calls.specs.HeapAgrees.{IsNamed}
-use Rattle.source.specs.Heap.{Heap, object_at}
-use Rattle.source.specs.Object.{Object, ObjectValue, Number, Refers}
+use Rattle.machine_calls.specs.HeapAgrees.{IsNamed}
+use Rattle.semantics.specs.Heap.{Heap, object_at}
+use Rattle.semantics.specs.Object.{Object, ObjectValue, Number, Refers}
 
 -- what a cell holds: an address refers to the object of its block
 abbrev pub value_in : Space → Value → ObjectValue

@@ -3,47 +3,47 @@ use Rattle.std.specs.Prelude.{◌≡◌, ℕ, ◌+◌, ◌*◌, ◌<◌, ◌≤�
 use Rattle.std.specs.Option.{option_map}
 use Rattle.std.specs.List.{list_all, enumerate_from}
 use Rattle.syntax.specs.declared.unit.Item.{Item}
-use Rattle.classes.specs.Class.{Classes}
+use Rattle.class_rules.specs.Class.{Classes}
 use Rattle.syntax.specs.Views.{unit_tree}
-use Rattle.source.specs.declared.journal.Entry.{Entry}
-use Rattle.source.specs.declared.journal.Entry.TheVariants.{Step}
-use Rattle.source.specs.declared.printed.Printed.{Printed}
-use Rattle.source.specs.declared.schedule.ScheduleWord.{ScheduleWord}
-use Rattle.source.specs.declared.schedule.ScheduleWord.TheVariants.{Turn, Collect}
-use Rattle.source.specs.Schedule.{Schedule}
+use Rattle.semantics.specs.declared.journal.Entry.{Entry}
+use Rattle.semantics.specs.declared.journal.Entry.TheVariants.{Step}
+use Rattle.semantics.specs.declared.printed.Printed.{Printed}
+use Rattle.semantics.specs.declared.schedule.ScheduleWord.{ScheduleWord}
+use Rattle.semantics.specs.declared.schedule.ScheduleWord.TheVariants.{Turn, Collect}
+use Rattle.semantics.specs.Schedule.{Schedule}
 use Rattle.report.specs.Sink as sink
 use Rattle.report.specs.Sink.{Written}
-use Rattle.source.specs.World.{World, loaded_objects}
+use Rattle.semantics.specs.World.{World, loaded_objects}
 use Rattle.report.specs.RunText as run_text
-use Rattle.source.specs.Report.{ShownRow}
-use Rattle.source.specs.ReportOf.{shown, shown_row}
-use Rattle.source.specs.Heap.{Heap}
-use Rattle.reached.specs.Rows.{AreReported}
-use Rattle.source.specs.Object.{sizes}
-use Rattle.source.specs.Run.{replay, made, Follows, UnmarkedFit}
-use Rattle.source.specs.State.{State, thread_at}
-use Rattle.source.specs.Step.{can_step, is_blocked, is_unfinished}
-use Rattle.source.specs.Thread.{BuffersInUse, Shared, Thread as SourceThread}
-use Rattle.safety.specs.Owners.{Owners, owners_after}
-use Rattle.safety.specs.StepSafe.{IsSafe}
-use Rattle.lowered.specs.Lowered.{Lowered, IsLowered}
-use Rattle.execution.specs.declared.thread.Thread.{Thread}
-use Rattle.execution.specs.declared.thread.Ending.{Ending}
-use Rattle.execution.specs.declared.thread.Ending.TheVariants.{Unfinished, Ended, Uncaught}
-use Rattle.execution.specs.declared.advance.Advanced.{Advanced}
-use Rattle.execution.specs.declared.advance.Advanced.TheVariants as advanced
-use Rattle.execution.specs.declared.execute.Event.{Event}
-use Rattle.execution.specs.declared.execute.Event.TheVariants as event
+use Rattle.semantics.specs.Report.{ShownRow}
+use Rattle.semantics.specs.ReportOf.{shown, shown_row}
+use Rattle.semantics.specs.Heap.{Heap}
+use Rattle.report_objects.specs.Rows.{AreReported}
+use Rattle.semantics.specs.Object.{sizes}
+use Rattle.semantics.specs.Run.{replay, made, Follows, UnmarkedFit}
+use Rattle.semantics.specs.State.{State, thread_at}
+use Rattle.semantics.specs.Step.{can_step, is_blocked, is_unfinished}
+use Rattle.semantics.specs.Thread.{BuffersInUse, Shared, Thread as SourceThread}
+use Rattle.semantics_safety.specs.Owners.{Owners, owners_after}
+use Rattle.semantics_safety.specs.StepSafe.{IsSafe}
+use Rattle.code_meaning.specs.Lowered.{Lowered, IsLowered}
+use Rattle.machine_steps.specs.declared.thread.Thread.{Thread}
+use Rattle.machine_steps.specs.declared.thread.Ending.{Ending}
+use Rattle.machine_steps.specs.declared.thread.Ending.TheVariants.{Unfinished, Ended, Uncaught}
+use Rattle.machine_steps.specs.declared.advance.Advanced.{Advanced}
+use Rattle.machine_steps.specs.declared.advance.Advanced.TheVariants as advanced
+use Rattle.machine_steps.specs.declared.execute.Event.{Event}
+use Rattle.machine_steps.specs.declared.execute.Event.TheVariants as event
 use Rattle.machine.specs.declared.fault.ReportFault.{ReportFault}
 use Rattle.machine.specs.declared.fault.ReportFault.TheVariants as reporting
 use Rattle.machine.specs.declared.turn.Turn.{Turn as Answer}
 use Rattle.machine.specs.declared.turn.Turn.TheVariants as turn
 use Rattle.machine.specs.declared.stop.Stop.{Stop}
-use Rattle.jni_calls.specs.declared.store.Store.{Store}
-use Rattle.jni_calls.specs.StoreAgrees.{StoreAgrees}
-use Rattle.execution.specs.Advances.{AdvancesBy}
-use Rattle.execution.specs.Executes.{IsSteady}
-use Rattle.execution.specs.ThreadAgrees.{ThreadAgrees, ThreadsAgree}
+use Rattle.machine_calls.specs.declared.store.Store.{Store}
+use Rattle.machine_calls.specs.StoreAgrees.{StoreAgrees}
+use Rattle.machine_steps.specs.Advances.{AdvancesBy}
+use Rattle.machine_steps.specs.Executes.{IsSteady}
+use Rattle.machine_steps.specs.ThreadAgrees.{ThreadAgrees, ThreadsAgree}
 use Rattle.machine.specs.Stops.{stop_view}
 
 -- a program's items, the world, the steps taken, and the cells after the heap's highest block

@@ -1,16 +1,16 @@
 -- Where the machine has stopped, as it is held in memory.
 use Rattle.std.specs.Prelude.{ℕ, false, Option, Some}
 use Rattle.std.specs.Option.{option_map}
-use Rattle.classes.specs.Class.{Classes}
-use Rattle.source.specs.Report.{ThreadStanding}
-use Rattle.source.specs.ReportOf as source
-use Rattle.source.specs.State as state
-use Rattle.jni_calls.specs.Traps.{trap_view}
+use Rattle.class_rules.specs.Class.{Classes}
+use Rattle.semantics.specs.Report.{ThreadStanding}
+use Rattle.semantics.specs.ReportOf as source
+use Rattle.semantics.specs.State as state
+use Rattle.machine_calls.specs.Traps.{trap_view}
 use Rattle.machine.specs.declared.stop.Stop.{Stop}
-use Rattle.execution.specs.declared.thread.Ending.{Ending}
-use Rattle.execution.specs.ThreadAgrees.{ending_view}
-use Rattle.execution.specs.declared.execute.Event.{Event}
-use Rattle.execution.specs.declared.execute.Event.TheVariants.{Quiet, Printed, Trapped}
+use Rattle.machine_steps.specs.declared.thread.Ending.{Ending}
+use Rattle.machine_steps.specs.ThreadAgrees.{ending_view}
+use Rattle.machine_steps.specs.declared.execute.Event.{Event}
+use Rattle.machine_steps.specs.declared.execute.Event.TheVariants.{Quiet, Printed, Trapped}
 
 -- the trap that stopped the machine
 abbrev pub stop_view : Stop → state.Stop

@@ -8,9 +8,9 @@ mod rows;
 mod stop;
 mod turn;
 
-pub use execution::fault::LoadFault;
 pub use fault::{ReportFault, RunFault};
-pub use jni_calls::trap::Trap;
 pub use machine::{MOST_ENTRIES, Machine};
+pub use machine_calls::trap::Trap;
+pub use machine_steps::fault::LoadFault;
 pub use stop::Stop;
 pub use turn::Turn;

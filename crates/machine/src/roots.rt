@@ -5,9 +5,9 @@ ghost use Rattle.machine.specs.Roots.{AreAddresses, CallIsStacked, CallIsThere, 
 ghost use Rattle.tables.specs.Locals.{AreStacked};
 ghost use Rattle.tables.specs.References.{references_in};
 
-use execution::thread::Thread;
 use heap::{Addr, Heap};
-use jni_calls::activation::Activation;
+use machine_calls::activation::Activation;
+use machine_steps::thread::Thread;
 use std::alloc::{AllocError, Global};
 use tables::{Globals, Locals};
 

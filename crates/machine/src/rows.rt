@@ -2,15 +2,15 @@
 
 ghost use Rattle.std.specs.Prelude.{◌≡◌, length, IfOk};
 ghost use Rattle.heap.specs.Heap.{IsLaidOut};
-ghost use Rattle.source.specs.Heap.{Heap as SourceHeap};
-ghost use Rattle.jni_calls.specs.HeapAgrees.{HeapAgrees};
+ghost use Rattle.semantics.specs.Heap.{Heap as SourceHeap};
+ghost use Rattle.machine_calls.specs.HeapAgrees.{HeapAgrees};
 ghost use Rattle.machine.specs.Rows.{AreSeen};
 
 use heap::{Addr, Heap, Value};
-use reached::Objects;
+use report_objects::Objects;
 use std::alloc::{AllocError, Global};
 use std::marker::Model;
-use world::ObjectValue;
+use world_values::ObjectValue;
 
 /// The objects of a heap by their names, seen as a heap of the definitions. An object whose block is gone has no class and no
 /// values there.
@@ -22,7 +22,7 @@ pub struct NamedBlocks<'a> {
 }
 
 impl<'a> Model for NamedBlocks<'a> {
-    ghost use Rattle.source.specs.Heap.{Heap as HeapOfNames};
+    ghost use Rattle.semantics.specs.Heap.{Heap as HeapOfNames};
     ghost use Rattle.machine.specs.Rows.{heap_of, AreBlocks};
 
     ghost Value = { HeapOfNames };

@@ -1,6 +1,6 @@
 //! Where a trap stopped the machine.
 
-use jni_calls::trap::Trap;
+use machine_calls::trap::Trap;
 
 /// The trap that stopped the machine, with its thread, counted from 1, and the line of its statement.
 #[derive(Clone, Copy)]

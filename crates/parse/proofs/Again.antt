@@ -5,30 +5,30 @@ use Rattle.std.proofs.lemmas.Bool.{ne_eqb}
 use Rattle.scan.specs.declared.token.Mark.TheVariants as marks
 use Rattle.syntax.specs.Tree.{Expr, Test, Stmt, Declare, DeclareBuffer, DeclareChars, DeclareArray, Assign, AssignElement, Perform, PutJint, If, IfElse, While, Return, ReturnValue, Block, End, Next, Parameter, Function, Static, Item, StaticItem, FunctionItem}
 use Rattle.syntax.specs.Parts.{statements_within, statements_of, line_of}
-use Rattle.lexemes.specs.declared.fault.ParseFault.{ParseFault}
+use Rattle.parse_lexemes.specs.declared.fault.ParseFault.{ParseFault}
 use Rattle.scan.specs.declared.reserved.Word.TheVariants as words
-use Rattle.lexemes.specs.declared.first.Fixed.{Fixed}
-use Rattle.lexemes.specs.declared.first.Fixed.TheVariants as fixed
-use Rattle.lexemes.specs.Meaning.{Meaning, Fixed', Name'}
-use Rattle.lexemes.specs.Lexemes.{Lexed, same_fixed, is_fixed_meaning, expect}
-use Rattle.lexemes.specs.Spelling.{Spelled, Anywhere, OnLine, mark, word, reference_word, element_word, variable_word, result_word, parameter_word}
-use Rattle.expressions.specs.Spelling.{expression, setting, test_tokens}
-use Rattle.statements.specs.Spelling.{statement, inside}
+use Rattle.parse_lexemes.specs.declared.first.Fixed.{Fixed}
+use Rattle.parse_lexemes.specs.declared.first.Fixed.TheVariants as fixed
+use Rattle.parse_lexemes.specs.Meaning.{Meaning, Fixed', Name'}
+use Rattle.parse_lexemes.specs.Lexemes.{Lexed, same_fixed, is_fixed_meaning, expect}
+use Rattle.parse_lexemes.specs.Spelling.{Spelled, Anywhere, OnLine, mark, word, reference_word, element_word, variable_word, result_word, parameter_word}
+use Rattle.parse_expressions.specs.Spelling.{expression, setting, test_tokens}
+use Rattle.parse_statements.specs.Spelling.{statement, inside}
 use Rattle.parse.specs.Spelling.{parameter, function, item}
-use Rattle.lexemes.specs.Reading.{starts_with, rest_of}
-use Rattle.statements.specs.Reading.{ReadStmt, simple_at, ReadBlock, BlockReader, else_by, if_test_at, if_by, while_test_at, while_by, statement_by, is_return, block_by, inner, block_at}
+use Rattle.parse_lexemes.specs.Reading.{starts_with, rest_of}
+use Rattle.parse_statements.specs.Reading.{ReadStmt, simple_at, ReadBlock, BlockReader, else_by, if_test_at, if_by, while_test_at, while_by, statement_by, is_return, block_by, inner, block_at}
 use Rattle.parse.specs.Reading.{parameter_at, parameters_at, head_at, body_at, signature_at, function_at, static_at, item_at, items_at}
-use Rattle.statements.proofs.Forms.{names_of, names_in, IsForm, MayFollow, IsBlock}
+use Rattle.parse_statements.proofs.Forms.{names_of, names_in, IsForm, MayFollow, IsBlock}
 use Rattle.parse.proofs.Forms.{IsFunction, AreItems}
-use Rattle.expressions.proofs.Forms.{IsTest, IsExpr}
-use Rattle.lexemes.proofs.Singles.{Begins, same_itself, begins_split, begins_length, shortens, first_rest, first_is, expect_again, name_again, on_is, on_line_is}
-use Rattle.expressions.proofs.Table.{Closes, closes_mark}
-use Rattle.lexemes.proofs.TypeWords.{reference_type_again, result_type_again, parameter_type_again}
-use Rattle.expressions.proofs.Levels.{expr_reads_again}
-use Rattle.expressions.proofs.JniCalls.{test_again}
-use Rattle.statements.proofs.Sentences.{call_tail, element_tail, setting_tail, IsPlain, plain_again}
-use Rattle.statements.proofs.Declared.{array_tail, declares, declares_first, declares_no, element_declares, variable_declares, IsDeclared, declared_again}
-use Rattle.statements.proofs.Nested.{tested_tail, names_split}
+use Rattle.parse_expressions.proofs.Forms.{IsTest, IsExpr}
+use Rattle.parse_lexemes.proofs.Singles.{Begins, same_itself, begins_split, begins_length, shortens, first_rest, first_is, expect_again, name_again, on_is, on_line_is}
+use Rattle.parse_expressions.proofs.Table.{Closes, closes_mark}
+use Rattle.parse_lexemes.proofs.TypeWords.{reference_type_again, result_type_again, parameter_type_again}
+use Rattle.parse_expressions.proofs.Levels.{expr_reads_again}
+use Rattle.parse_expressions.proofs.JniCalls.{test_again}
+use Rattle.parse_statements.proofs.Sentences.{call_tail, element_tail, setting_tail, IsPlain, plain_again}
+use Rattle.parse_statements.proofs.Declared.{array_tail, declares, declares_first, declares_no, element_declares, variable_declares, IsDeclared, declared_again}
+use Rattle.parse_statements.proofs.Nested.{tested_tail, names_split}
 use Rattle.parse.proofs.Programs.{parameters_head, functions_in, statics_in}
 
 -- ---- the first token of a statement

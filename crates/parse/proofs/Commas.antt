@@ -3,15 +3,15 @@ use Rattle.std.proofs.Common.{◌≡◌, ℕ, zero, suc, ◌+◌, ◌-◌, ◌�
 use Rattle.std.proofs.lemmas.List.{append-nil, length-append}
 use Rattle.scan.specs.declared.token.Mark.TheVariants as marks
 use Rattle.syntax.specs.Tree.{Parameter}
-use Rattle.lexemes.specs.declared.fault.Fault.TheVariants.{TooMany}
-use Rattle.lexemes.specs.declared.fault.ParseFault.{ParseFault}
-use Rattle.lexemes.specs.declared.fault.ParseFault.TheVariants.{Memory, Found}
-use Rattle.lexemes.specs.declared.first.Fixed.TheVariants as fixed
-use Rattle.lexemes.specs.Results.{◌>>=◌, Fails}
-use Rattle.lexemes.specs.Lexemes.{Lexed, fault_at}
-use Rattle.lexemes.specs.Reading.{starts_with, rest_of}
+use Rattle.parse_lexemes.specs.declared.fault.Fault.TheVariants.{TooMany}
+use Rattle.parse_lexemes.specs.declared.fault.ParseFault.{ParseFault}
+use Rattle.parse_lexemes.specs.declared.fault.ParseFault.TheVariants.{Memory, Found}
+use Rattle.parse_lexemes.specs.declared.first.Fixed.TheVariants as fixed
+use Rattle.parse_lexemes.specs.Results.{◌>>=◌, Fails}
+use Rattle.parse_lexemes.specs.Lexemes.{Lexed, fault_at}
+use Rattle.parse_lexemes.specs.Reading.{starts_with, rest_of}
 use Rattle.parse.specs.Reading.{parameter_at, parameters_at}
-use Rattle.expressions.proofs.Commas.{with_more, given, no_more, regroup}
+use Rattle.parse_expressions.proofs.Commas.{with_more, given, no_more, regroup}
 
 -- ---- parameters
 

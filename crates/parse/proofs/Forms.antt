@@ -1,7 +1,7 @@
 -- Which functions are read: those whose blocks have room, and whose names are few enough.
 use Rattle.std.proofs.Common.{◌+◌, ◌≤◌, List, [], ◌∷◌, length}
 use Rattle.syntax.specs.Tree.{Function, Item, StaticItem, FunctionItem}
-use Rattle.statements.proofs.Forms.{IsBlock, names_in}
+use Rattle.parse_statements.proofs.Forms.{IsBlock, names_in}
 
 pub record IsFunction (f : Function) : Type 0 where
   pub body : IsBlock 31 f.body

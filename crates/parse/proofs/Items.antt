@@ -2,12 +2,12 @@
 use Rattle.std.proofs.Common.{◌≡◌, ℕ, zero, suc, ◌+◌, ◌<◌, ◌≤◌, true, false, List, [], ◌∷◌, ◌++◌, length, Result, Ok, Err, refl, sym, ap, ◌∙◌, arith, append_assoc, add-one}
 use Rattle.std.proofs.lemmas.List.{append-nil}
 use Rattle.syntax.specs.Tree.{Item}
-use Rattle.lexemes.specs.declared.fault.ParseFault.{ParseFault}
-use Rattle.lexemes.specs.declared.fault.ParseFault.TheVariants.{Memory, Found}
-use Rattle.lexemes.specs.declared.first.Fixed.TheVariants as fixed
-use Rattle.lexemes.specs.Results.{◌>>=◌, Fails}
-use Rattle.lexemes.specs.Lexemes.{Lexed}
-use Rattle.lexemes.specs.Reading.{starts_with}
+use Rattle.parse_lexemes.specs.declared.fault.ParseFault.{ParseFault}
+use Rattle.parse_lexemes.specs.declared.fault.ParseFault.TheVariants.{Memory, Found}
+use Rattle.parse_lexemes.specs.declared.first.Fixed.TheVariants as fixed
+use Rattle.parse_lexemes.specs.Results.{◌>>=◌, Fails}
+use Rattle.parse_lexemes.specs.Lexemes.{Lexed}
+use Rattle.parse_lexemes.specs.Reading.{starts_with}
 use Rattle.parse.specs.Reading.{item_at, items_at}
 use Rattle.parse.proofs.Programs.{item_takes}
 

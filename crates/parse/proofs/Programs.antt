@@ -5,24 +5,24 @@ use Rattle.std.proofs.lemmas.Bool.{eqb-false}
 use Rattle.scan.specs.declared.token.Mark.TheVariants as marks
 use Rattle.syntax.specs.Tree.{ReferenceType, ResultType, ParameterType, Parameter, Block, Function, Static, Item, StaticItem, FunctionItem}
 use Rattle.syntax.specs.Parts.{functions_of, statics_of}
-use Rattle.lexemes.specs.declared.fault.ParseFault.{ParseFault}
+use Rattle.parse_lexemes.specs.declared.fault.ParseFault.{ParseFault}
 use Rattle.scan.specs.declared.reserved.Word.TheVariants as words
-use Rattle.lexemes.specs.declared.first.Fixed.{Fixed}
-use Rattle.lexemes.specs.declared.first.Fixed.TheVariants as fixed
-use Rattle.lexemes.specs.Results.{◌>>=◌}
-use Rattle.lexemes.specs.Meaning.{Fixed', Name'}
-use Rattle.lexemes.specs.Lexemes.{Lexed, line_at, expect, name_at}
-use Rattle.lexemes.specs.Spelling.{Spelled, Anywhere, OnLine, mark, word, reference_word, result_word, parameter_word}
-use Rattle.statements.specs.Spelling.{inside}
+use Rattle.parse_lexemes.specs.declared.first.Fixed.{Fixed}
+use Rattle.parse_lexemes.specs.declared.first.Fixed.TheVariants as fixed
+use Rattle.parse_lexemes.specs.Results.{◌>>=◌}
+use Rattle.parse_lexemes.specs.Meaning.{Fixed', Name'}
+use Rattle.parse_lexemes.specs.Lexemes.{Lexed, line_at, expect, name_at}
+use Rattle.parse_lexemes.specs.Spelling.{Spelled, Anywhere, OnLine, mark, word, reference_word, result_word, parameter_word}
+use Rattle.parse_statements.specs.Spelling.{inside}
 use Rattle.parse.specs.Spelling.{parameter, function, item}
-use Rattle.lexemes.specs.Reading.{starts_with, rest_of, found, reference_type_at, result_type_at, parameter_type_at}
-use Rattle.statements.specs.Reading.{block_at}
+use Rattle.parse_lexemes.specs.Reading.{starts_with, rest_of, found, reference_type_at, result_type_at, parameter_type_at}
+use Rattle.parse_statements.specs.Reading.{block_at}
 use Rattle.parse.specs.Reading.{parameter_at, parameters_at, head_at, body_at, signature_at, function_at, static_at, ReadItem, item_at, items_at}
-use Rattle.statements.proofs.Forms.{names_in, IsBlock}
+use Rattle.parse_statements.proofs.Forms.{names_in, IsBlock}
 use Rattle.parse.proofs.Forms.{IsFunction, AreItems}
-use Rattle.lexemes.proofs.Singles.{Begins, bind_ok, ok_is, chosen, begins_append, first_takes, starts_takes, expect_takes, then_takes, name_takes, shortens}
-use Rattle.lexemes.proofs.TypeWords.{reference_type_takes, result_type_takes, parameter_type_takes}
-use Rattle.statements.proofs.Nested.{block_takes}
+use Rattle.parse_lexemes.proofs.Singles.{Begins, bind_ok, ok_is, chosen, begins_append, first_takes, starts_takes, expect_takes, then_takes, name_takes, shortens}
+use Rattle.parse_lexemes.proofs.TypeWords.{reference_type_takes, result_type_takes, parameter_type_takes}
+use Rattle.parse_statements.proofs.Nested.{block_takes}
 
 -- the parameters that each function has, up to the name of its class
 abbrev pub parameters_head : List Spelled

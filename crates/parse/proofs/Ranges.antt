@@ -9,9 +9,9 @@ use Rattle.scan.specs.declared.token.Mark.TheVariants as marks
 use Rattle.scan.specs.Spelling.{SpellsFrom, ends, passes, takes, IsLexeme}
 use Rattle.syntax.specs.Tree.{Expr, Number, Named, Variable, Element, Prefix, Binary, Paren}
 use Rattle.syntax.specs.Limits.{number_limit, numbers_in_range}
-use Rattle.lexemes.specs.Meaning.{Meaning, Fixed', Name', Number', Text', meaning_of, token_meaning}
-use Rattle.lexemes.specs.Spelling.{Spelled, Anywhere, OnLine, meaning_in, mark}
-use Rattle.expressions.specs.Spelling.{operator_mark, prefix_tokens, expression}
+use Rattle.parse_lexemes.specs.Meaning.{Meaning, Fixed', Name', Number', Text', meaning_of, token_meaning}
+use Rattle.parse_lexemes.specs.Spelling.{Spelled, Anywhere, OnLine, meaning_in, mark}
+use Rattle.parse_expressions.specs.Spelling.{operator_mark, prefix_tokens, expression}
 use Rattle.parse.specs.Spelling.{Stands}
 
 abbrev pub IsInRange : Meaning → Type 0

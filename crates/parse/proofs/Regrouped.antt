@@ -4,17 +4,17 @@ use Rattle.base.specs.Bytes.{Identifier}
 use Rattle.scan.specs.declared.token.Mark.TheVariants as marks
 use Rattle.scan.specs.declared.reserved.Word.TheVariants as words
 use Rattle.syntax.specs.Tree.{ReferenceType, ResultType, Static}
-use Rattle.lexemes.specs.declared.first.Fixed.TheVariants as fixed
-use Rattle.lexemes.specs.declared.fault.ParseFault.{ParseFault}
-use Rattle.lexemes.specs.Results.{◌>>=◌}
-use Rattle.lexemes.specs.Lexemes.{Lexed, line_at, expect, name_at}
-use Rattle.lexemes.specs.Reading.{reference_type_at, result_type_at, found}
-use Rattle.expressions.specs.Steps.{two}
-use Rattle.expressions.proofs.Called.{after_step, two_is}
-use Rattle.statements.specs.Reading.{block_at}
+use Rattle.parse_lexemes.specs.declared.first.Fixed.TheVariants as fixed
+use Rattle.parse_lexemes.specs.declared.fault.ParseFault.{ParseFault}
+use Rattle.parse_lexemes.specs.Results.{◌>>=◌}
+use Rattle.parse_lexemes.specs.Lexemes.{Lexed, line_at, expect, name_at}
+use Rattle.parse_lexemes.specs.Reading.{reference_type_at, result_type_at, found}
+use Rattle.parse_expressions.specs.Steps.{two}
+use Rattle.parse_expressions.proofs.Called.{after_step, two_is}
+use Rattle.parse_statements.specs.Reading.{block_at}
 use Rattle.parse.specs.Reading.{head_at, body_at, signature_at, static_at}
 use Rattle.parse.specs.Steps.{exported_at, static_head_at}
-use Rattle.statements.proofs.Steps.{three, four}
+use Rattle.parse_statements.proofs.Steps.{three, four}
 
 pub signature_is : (ls : List Lexed) → signature_at ls ≡ (exported_at ls >>= λ h. name_at h.1 >>= λ name. head_at name.1 >>= λ c. name_at c >>= λ class_name. Ok (h.0, name.0, class_name.0, class_name.1))
 unfolding signature_at exported_at

@@ -10,20 +10,20 @@ use Rattle.syntax.specs.Tree.{Expr, Number, Named, Variable, Element, Prefix, Bi
 use Rattle.syntax.specs.Parts.{functions_of, statements_within, statements_of, argument_expressions, right_side_expressions, test_expressions, own_expressions, names_declared, parameter_names}
 use Rattle.syntax.specs.Limits.{operator_level, prefix_level, level, levelled, numbers_in_range, height, highest, own_height, statement_height, block_height, well_formed, block_well_formed, IsTree}
 use Rattle.scan.specs.declared.reserved.Word.TheVariants as words
-use Rattle.lexemes.specs.declared.first.Fixed.TheVariants as fixed
-use Rattle.lexemes.specs.Meaning.{Fixed', Number'}
-use Rattle.lexemes.specs.Spelling.{Spelled, Anywhere, OnLine, mark, word}
-use Rattle.expressions.specs.Spelling.{expression, call, right, test_tokens}
-use Rattle.statements.specs.Spelling.{statement, inside}
+use Rattle.parse_lexemes.specs.declared.first.Fixed.TheVariants as fixed
+use Rattle.parse_lexemes.specs.Meaning.{Fixed', Number'}
+use Rattle.parse_lexemes.specs.Spelling.{Spelled, Anywhere, OnLine, mark, word}
+use Rattle.parse_expressions.specs.Spelling.{expression, call, right, test_tokens}
+use Rattle.parse_statements.specs.Spelling.{statement, inside}
 use Rattle.parse.specs.Spelling.{parameters, function, item, spell}
-use Rattle.statements.specs.Reading.{is_return}
-use Rattle.expressions.proofs.Forms.{IsLevelled, IsExpr, AreArguments, IsRight, IsTest}
-use Rattle.statements.proofs.Forms.{IsForm, MayFollow, IsBlock, names_in}
+use Rattle.parse_statements.specs.Reading.{is_return}
+use Rattle.parse_expressions.proofs.Forms.{IsLevelled, IsExpr, AreArguments, IsRight, IsTest}
+use Rattle.parse_statements.proofs.Forms.{IsForm, MayFollow, IsBlock, names_in}
 use Rattle.parse.proofs.Forms.{IsFunction, AreItems}
-use Rattle.expressions.proofs.Table.{level_small}
+use Rattle.parse_expressions.proofs.Table.{level_small}
 use Rattle.parse.proofs.Ranges.{AreInRange, range_left, range_right, numbers_of}
-use Rattle.expressions.proofs.JniCalls.{argument_tokens}
-use Rattle.statements.proofs.Nested.{tested_tail}
+use Rattle.parse_expressions.proofs.JniCalls.{argument_tokens}
+use Rattle.parse_statements.proofs.Nested.{tested_tail}
 use Rattle.parse.proofs.Programs.{functions_in, statics_in}
 
 false_true : false ≡ true → ⊥

@@ -8,18 +8,18 @@ use Rattle.scan.specs.declared.token.Kind.TheVariants as kinds
 use Rattle.scan.specs.Spelling.{SpellsFrom, ends, passes, takes, Spells}
 use Rattle.syntax.specs.Tree.{Item, SourceUnit}
 use Rattle.syntax.specs.Limits.{IsTree}
-use Rattle.lexemes.specs.declared.fault.ParseFault.{ParseFault}
-use Rattle.lexemes.specs.declared.fault.ParseFault.TheVariants.{Memory, Found}
-use Rattle.lexemes.specs.declared.first.Fixed.TheVariants as fixed
-use Rattle.lexemes.specs.Meaning.{Fixed', meaning_of, token_meaning}
-use Rattle.lexemes.specs.Lexemes.{Lexed, is_fixed_meaning, lexemes}
-use Rattle.lexemes.specs.Order.{AreInside}
-use Rattle.lexemes.specs.Results.{Fails}
-use Rattle.lexemes.specs.Spelling.{Spelled, Anywhere, OnLine}
+use Rattle.parse_lexemes.specs.declared.fault.ParseFault.{ParseFault}
+use Rattle.parse_lexemes.specs.declared.fault.ParseFault.TheVariants.{Memory, Found}
+use Rattle.parse_lexemes.specs.declared.first.Fixed.TheVariants as fixed
+use Rattle.parse_lexemes.specs.Meaning.{Fixed', meaning_of, token_meaning}
+use Rattle.parse_lexemes.specs.Lexemes.{Lexed, is_fixed_meaning, lexemes}
+use Rattle.parse_lexemes.specs.Order.{AreInside}
+use Rattle.parse_lexemes.specs.Results.{Fails}
+use Rattle.parse_lexemes.specs.Spelling.{Spelled, Anywhere, OnLine}
 use Rattle.parse.specs.Spelling.{item, spell, Stands, SpellsUnit}
-use Rattle.lexemes.specs.Reading.{starts_with}
+use Rattle.parse_lexemes.specs.Reading.{starts_with}
 use Rattle.parse.specs.Reading.{items_at, unit_at}
-use Rattle.lexemes.proofs.Singles.{Begins}
+use Rattle.parse_lexemes.proofs.Singles.{Begins}
 use Rattle.parse.proofs.Ranges.{tokens_in_range, spelled_in_range}
 use Rattle.parse.proofs.Trees.{is_tree, tree_items}
 use Rattle.parse.proofs.Programs.{items_take}

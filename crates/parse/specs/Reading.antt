@@ -3,14 +3,14 @@ use Rattle.std.specs.Prelude.{ℕ, zero, suc, ◌+◌, ◌-◌, ◌==◌, List, 
 use Rattle.scan.specs.declared.token.Mark.TheVariants as marks
 use Rattle.base.specs.Bytes.{Identifier}
 use Rattle.syntax.specs.Tree.{Block, ResultType, Parameter, Function, Static, Item, StaticItem, FunctionItem, SourceUnit}
-use Rattle.lexemes.specs.declared.fault.Fault.TheVariants.{NoForm, TooMany}
-use Rattle.lexemes.specs.declared.fault.ParseFault.{ParseFault}
+use Rattle.parse_lexemes.specs.declared.fault.Fault.TheVariants.{NoForm, TooMany}
+use Rattle.parse_lexemes.specs.declared.fault.ParseFault.{ParseFault}
 use Rattle.scan.specs.declared.reserved.Word.TheVariants as words
-use Rattle.lexemes.specs.declared.first.Fixed.TheVariants as fixed
-use Rattle.lexemes.specs.Results.{◌>>=◌}
-use Rattle.lexemes.specs.Lexemes.{Lexed, fault_at, line_at, expect, name_at}
-use Rattle.statements.specs.Reading.{block_at}
-use Rattle.lexemes.specs.Reading.{starts_with, rest_of, reference_type_at, result_type_at, parameter_type_at, found}
+use Rattle.parse_lexemes.specs.declared.first.Fixed.TheVariants as fixed
+use Rattle.parse_lexemes.specs.Results.{◌>>=◌}
+use Rattle.parse_lexemes.specs.Lexemes.{Lexed, fault_at, line_at, expect, name_at}
+use Rattle.parse_statements.specs.Reading.{block_at}
+use Rattle.parse_lexemes.specs.Reading.{starts_with, rest_of, reference_type_at, result_type_at, parameter_type_at, found}
 
 -- the parameters that each function has, up to the name of its class
 unfoldable pub head_at : List Lexed → Result (List Lexed) ParseFault

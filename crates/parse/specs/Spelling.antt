@@ -7,9 +7,9 @@ use Rattle.scan.specs.Spelling.{Spells}
 use Rattle.syntax.specs.Tree.{Null, Parameter, Function, Item, StaticItem, FunctionItem, SourceUnit}
 use Rattle.syntax.specs.Limits.{IsTree}
 use Rattle.scan.specs.declared.reserved.Word.TheVariants as words
-use Rattle.lexemes.specs.Meaning.{token_meaning}
-use Rattle.statements.specs.Spelling.{inside}
-use Rattle.lexemes.specs.Spelling.{Spelled, mark, word, name, on_line, reference_word, constant_word, result_word, parameter_word, Anywhere, OnLine}
+use Rattle.parse_lexemes.specs.Meaning.{token_meaning}
+use Rattle.parse_statements.specs.Spelling.{inside}
+use Rattle.parse_lexemes.specs.Spelling.{Spelled, mark, word, name, on_line, reference_word, constant_word, result_word, parameter_word, Anywhere, OnLine}
 
 -- ---- functions and statics
 

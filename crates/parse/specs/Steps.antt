@@ -4,12 +4,12 @@ use Rattle.base.specs.Bytes.{Identifier}
 use Rattle.scan.specs.declared.token.Mark.TheVariants as marks
 use Rattle.scan.specs.declared.reserved.Word.TheVariants as words
 use Rattle.syntax.specs.Tree.{ReferenceType, ResultType, StaticItem, FunctionItem}
-use Rattle.lexemes.specs.declared.fault.Fault.TheVariants.{TooMany}
-use Rattle.lexemes.specs.declared.fault.ParseFault.{ParseFault}
-use Rattle.lexemes.specs.Results.{◌>>=◌}
-use Rattle.lexemes.specs.declared.first.Fixed.TheVariants as fixed
-use Rattle.lexemes.specs.Lexemes.{Lexed, expect, name_at, fault_at}
-use Rattle.lexemes.specs.Reading.{reference_type_at, result_type_at, found}
+use Rattle.parse_lexemes.specs.declared.fault.Fault.TheVariants.{TooMany}
+use Rattle.parse_lexemes.specs.declared.fault.ParseFault.{ParseFault}
+use Rattle.parse_lexemes.specs.Results.{◌>>=◌}
+use Rattle.parse_lexemes.specs.declared.first.Fixed.TheVariants as fixed
+use Rattle.parse_lexemes.specs.Lexemes.{Lexed, expect, name_at, fault_at}
+use Rattle.parse_lexemes.specs.Reading.{reference_type_at, result_type_at, found}
 use Rattle.parse.specs.Reading.{ReadItem, function_at, static_at}
 
 -- the result of a function

@@ -4,20 +4,20 @@ ghost use Rattle.std.specs.Prelude.{◌≡◌, ℕ, ◌+◌, List, length, map, 
 ghost use Rattle.scan.specs.Spelling.{Spells};
 ghost use Rattle.syntax.specs.Tree.{SourceUnit};
 ghost use Rattle.syntax.specs.Views.{parameter_tree, reference_tree, result_tree, block_tree, function_tree, static_tree, item_tree, unit_tree};
-ghost use Rattle.lexemes.specs.Results.{Gives};
-ghost use Rattle.lexemes.specs.Lexemes.{views, lexemes};
+ghost use Rattle.parse_lexemes.specs.Results.{Gives};
+ghost use Rattle.parse_lexemes.specs.Lexemes.{views, lexemes};
 ghost use Rattle.parse.specs.Spelling.{SpellsUnit};
 ghost use Rattle.parse.specs.Steps.{exported_at, function_item_at, static_head_at, static_item_at};
 ghost use Rattle.parse.specs.Reading.{head_at, body_at, signature_at, function_at, static_at, item_at, items_at, unit_at};
 
 use crate::parameters::{NAMES, parameters};
-use expressions::expect_two;
-use lexemes::{
+use parse_expressions::expect_two;
+use parse_lexemes::{
     Cursor, Fault, Fixed, ParseFault, Source, expect, fault_at, line_at, name_at, reference_type,
     rest_of, result_type, start, starts_with, unexpected,
 };
+use parse_statements::block;
 use scan::{Mark, Token, Word, one_spelling};
-use statements::block;
 use std::alloc::{AllocError, Global};
 use syntax::{Block, Function, Item, Name, Parameter, ReferenceType, ResultType, Static, Unit};
 

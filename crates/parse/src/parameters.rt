@@ -2,12 +2,12 @@
 
 ghost use Rattle.std.specs.Prelude.{◌≤◌, length, map, IfOk};
 ghost use Rattle.syntax.specs.Views.{parameter_tree};
-ghost use Rattle.lexemes.specs.Results.{Gives};
-ghost use Rattle.lexemes.specs.Lexemes.{views};
+ghost use Rattle.parse_lexemes.specs.Results.{Gives};
+ghost use Rattle.parse_lexemes.specs.Lexemes.{views};
 ghost use Rattle.parse.specs.Reading.{parameter_at, parameters_at};
 
-use expressions::owned_name;
-use lexemes::{
+use parse_expressions::owned_name;
+use parse_lexemes::{
     Cursor, Fault, Fixed, ParseFault, fault_at, parameter_type, rest_of, starts_with, unexpected,
 };
 use scan::Mark;

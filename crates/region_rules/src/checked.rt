@@ -3,14 +3,14 @@
 ghost use Rattle.std.specs.Prelude.{◌≡◌, IsTrue};
 ghost use Rattle.syntax.specs.Limits.{IsTree};
 ghost use Rattle.syntax.specs.Views.{unit_tree};
-ghost use Rattle.sorts.specs.SortRules.{IsSorted};
-ghost use Rattle.sorts.specs.BuiltCalls.{calls_are_built};
+ghost use Rattle.type_rules.specs.SortRules.{IsSorted};
+ghost use Rattle.type_rules.specs.BuiltCalls.{calls_are_built};
 ghost use Rattle.region_rules.specs.Regions.{HasRegions};
 ghost use Rattle.region_rules.specs.Endings.{AreEnded};
 
-use sorts::Typed;
 use std::marker::Model;
 use syntax::Item;
+use type_rules::Typed;
 
 /// A unit that keeps the rules of sorts and regions.
 #[derive(Drop)]

@@ -10,7 +10,7 @@ use lib.Pointwise.{bytes_decides}
 use Rattle.base.specs.Bytes.{Identifier, ByName, lookup}
 use Rattle.base.specs.Options.{some_passes}
 use Rattle.jni.specs.Access.{Access}
-use Rattle.source.specs.Variable.{assign}
+use Rattle.semantics.specs.Variable.{assign}
 use Rattle.indexmap.specs.IndexMap.{insert_entry}
 use Rattle.region_states.specs.declared.states.VariableState.{VariableState as VariableStateInMemory}
 use Rattle.region_states.specs.declared.variables.Change.{Change}

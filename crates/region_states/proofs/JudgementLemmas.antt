@@ -16,7 +16,7 @@ use Rattle.region_rules.specs.RegionStates.{RegionState, VariableState, Referenc
 use Rattle.region_states.specs.StatesInMemory.{asks, holds_of}
 use Rattle.region_states.proofs.EffectLemmas.{get_is, release_is, deleted_is, pops_is, forbidden_is}
 use Rattle.region_states.proofs.StateLemmas.{holder_is}
-use Rattle.sorts.proofs.UseLemmas.{uses_is}
+use Rattle.type_rules.proofs.UseLemmas.{uses_is}
 use Rattle.region_states.proofs.ReadLemmas.{reads_is}
 
 in_use : (state : RegionState) (o : Option Identifier) → some_passes (is_array_in_use state) o ≡ some_passes (λ x. holds_of x state) o

@@ -5,7 +5,7 @@ use Rattle.std.specs.Str.{bytes_eq}
 use Rattle.base.specs.Bytes.{Identifier, lookup}
 use Rattle.syntax.specs.Parts.{names_in, elements_in}
 use Rattle.syntax.specs.Tree.{Expr, Argument, Value, Text, AddressOf, RightSide, FromExpr, FromCall, Test, TestExpr, TestCall, Stmt, Declare, DeclareBuffer, DeclareChars, DeclareArray, Assign, AssignElement, Perform, PutJint, If, IfElse, While, Return, ReturnValue}
-use Rattle.sorts.specs.Uses.{expr_uses, argument_uses, right_uses, test_uses, uses}
+use Rattle.type_rules.specs.Uses.{expr_uses, argument_uses, right_uses, test_uses, uses}
 use Rattle.region_states.specs.Reads.{expr_reads, argument_reads, right_reads, test_reads, reads}
 use Rattle.region_rules.specs.RegionStates.{RegionState, VariableState}
 use Rattle.region_states.specs.StatesInMemory.{asks, any_asked, condition_holds}

@@ -2,7 +2,7 @@
 use Rattle.std.specs.Prelude.{Bool, true, Option, Some, None}
 use Rattle.base.specs.Bytes.{Identifier}
 use Rattle.syntax.specs.Tree.{BinaryOp, Equal, NotEqual, Variable, Binary, Expr}
-use Rattle.sorts.specs.Sorts.{is_null}
+use Rattle.type_rules.specs.Sorts.{is_null}
 use Rattle.region_states.specs.declared.changes.NullTest.{NullTest}
 use Rattle.region_states.specs.declared.changes.NullTest.TheVariants as tested
 use Rattle.region_rules.specs.RegionStates.{RegionState, with_changed, made_free}

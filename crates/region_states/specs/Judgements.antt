@@ -11,7 +11,7 @@ use Rattle.region_rules.specs.RegionRules.{RegionRule, CallWhileCritical, Return
 use Rattle.region_rules.specs.RegionStates.{RegionState, VariableState, ReferenceAt, BufferIn, Release, state_of, with_new, with_changed, with_some_changed, after_pop, after_release, killed, buffer_from}
 use Rattle.region_states.specs.StatesInMemory.{asks, holds_critical, holds_of, has_young_array}
 use Rattle.region_states.specs.VariableChanges.{set_from}
-use Rattle.sorts.specs.Uses.{uses}
+use Rattle.type_rules.specs.Uses.{uses}
 use Rattle.region_states.specs.Reads.{reads}
 
 -- a release of a held buffer that is not the one it wants, or that commits a view

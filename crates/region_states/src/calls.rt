@@ -9,8 +9,8 @@ ghost use Rattle.jni.specs.Table.{access_value, function_value};
 ghost use Rattle.region_states.specs.StateEffects.{call_state_effect, made_value, release_value, got, released, deleted, popped, is_forbidden};
 
 use jni::{Access, JniFunction, StateEffect, function_named};
-use sorts::own_call;
 use syntax::{Argument, Constant, Expr, Form};
+use type_rules::own_call;
 
 /// A call: what it does, and its arguments.
 #[derive(Clone, Copy)]

@@ -4,7 +4,7 @@ ghost use Rattle.std.specs.Prelude.{◌≡◌, ℕ, true, false, bytes_eq, OnOk}
 ghost use Rattle.std.specs.List.{list_any};
 ghost use Rattle.std.specs.Option.{option_map};
 ghost use Rattle.syntax.specs.Views.{expr_tree, binary_tree, test_tree, form_tree};
-ghost use Rattle.sorts.specs.Sorts.{is_null};
+ghost use Rattle.type_rules.specs.Sorts.{is_null};
 ghost use Rattle.region_rules.specs.Regions.{where_true, where_false};
 ghost use Rattle.region_rules.specs.RegionStates.{ReferenceAt, BufferIn, buffer_from, with_new, with_changed, with_some_changed, after_release, killed, state_after};
 ghost use Rattle.region_states.specs.StatesInMemory.{names_of};

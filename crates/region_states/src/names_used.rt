@@ -3,7 +3,7 @@
 ghost use Rattle.std.specs.Prelude.{◌≡◌, ℕ};
 ghost use Rattle.syntax.specs.Views.{expr_tree, argument_tree, call_tree, right_side_tree, test_tree, form_tree};
 ghost use Rattle.region_states.specs.StatesInMemory.{asks};
-ghost use Rattle.sorts.specs.Uses.{expr_uses, argument_uses, call_uses, right_uses, test_uses, uses};
+ghost use Rattle.type_rules.specs.Uses.{expr_uses, argument_uses, call_uses, right_uses, test_uses, uses};
 ghost use Rattle.region_states.specs.Reads.{expr_reads, argument_reads, call_reads, right_reads, test_reads, reads};
 
 use crate::states::{Condition, StaticState, is_any, meets};

@@ -8,13 +8,13 @@ use Rattle.base.specs.Bytes.{Identifier}
 use Rattle.base.specs.Options.{some_passes}
 use Rattle.syntax.specs.Parts.{line_of, statements_of, statements_within, declared_name, names_declared, parameter_names}
 use Rattle.syntax.specs.Tree.{ResultType, Void, ParameterType, IntParameter, ReferenceParameter, Parameter, ReferenceVariable, Stmt, Declare, DeclareBuffer, DeclareChars, If, IfElse, While, Block, End, Next, Function, Item, StaticItem, FunctionItem, SourceUnit}
-use Rattle.sorts.specs.Sorts.{Scope, Ref, Global}
-use Rattle.sorts.specs.SortRules.{Place, StaticForm, HeadForm, StatementForm, has_name, has_repeated, broken_at, places_within, places_of, function_places, item_places, with_declared, parameter_sort, IsSorted}
+use Rattle.type_rules.specs.Sorts.{Scope, Ref, Global}
+use Rattle.type_rules.specs.SortRules.{Place, StaticForm, HeadForm, StatementForm, has_name, has_repeated, broken_at, places_within, places_of, function_places, item_places, with_declared, parameter_sort, IsSorted}
 use Rattle.region_states.specs.NewNames.{own_names, AreNew, DeclaresNew, DeclareNew, DeclaresOnce, ItemOnce}
 use Rattle.region_rules.specs.RegionStates.{ReferenceAt, parameter_state, state_at_entry}
 use Rattle.region_states.specs.SameStates.{NamedState}
 use Rattle.region_states.specs.StatesInMemory.{names_of}
-use Rattle.sorts.proofs.PlaceLists.{AreUnbroken, first_empty, second_empty, front_unbroken, back_unbroken, first_false, second_false, not_twice}
+use Rattle.type_rules.proofs.PlaceLists.{AreUnbroken, first_empty, second_empty, front_unbroken, back_unbroken, first_false, second_false, not_twice}
 use Rattle.region_states.proofs.ScopeLemmas.{any_reverse}
 use Rattle.region_states.proofs.StateLemmas.{none_alike}
 

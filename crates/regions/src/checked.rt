@@ -9,8 +9,8 @@ ghost use Rattle.regions.specs.Findings.{rule_of, IfBroken};
 use crate::fault::CheckFault;
 use crate::walk::check_items;
 use region_rules::Checked;
-use sorts::Typed;
 use std::alloc::Global;
+use type_rules::Typed;
 
 /// The unit, where each way through its functions keeps the rules. Each statement is read once, with the references and
 /// buffers in scope, among which a name is found in constant time; what is known of these is copied once for each `if`

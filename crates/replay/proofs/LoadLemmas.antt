@@ -4,15 +4,15 @@ use Rattle.std.specs.Prelude.{slice_get, not, filter}
 use Rattle.std.specs.List.{flat_map, list_all}
 use Rattle.std.specs.Global.{Vec}
 use Rattle.syntax.specs.Tree.{SourceUnit}
-use Rattle.classes.specs.Class.{Classes}
-use Rattle.source.specs.World.{Invocation}
-use Rattle.source.specs.Load.{call_loads, refused_calls}
-use Rattle.source.specs.Start.{waiting_thread}
-use Rattle.threads.specs.declared.thread.Thread.{Thread as ThreadInMemory}
+use Rattle.class_rules.specs.Class.{Classes}
+use Rattle.semantics.specs.World.{Invocation}
+use Rattle.semantics.specs.Load.{call_loads, refused_calls}
+use Rattle.semantics.specs.Start.{waiting_thread}
+use Rattle.replay_threads.specs.declared.thread.Thread.{Thread as ThreadInMemory}
 use Rattle.replay.specs.Loading.{first_line, IsWaiting, AddsWaiting, AreWaiting}
-use Rattle.threads.specs.States.{AreInRange, ThreadsStand}
-use Rattle.threads.specs.Threads.{ThreadStands, WorkInRange, WorkStands, tasks_in, ending_view}
-use Rattle.steps.specs.declared.activation.Activation.{Activation}
+use Rattle.replay_threads.specs.States.{AreInRange, ThreadsStand}
+use Rattle.replay_threads.specs.Threads.{ThreadStands, WorkInRange, WorkStands, tasks_in, ending_view}
+use Rattle.replay_steps.specs.declared.activation.Activation.{Activation}
 
 -- the calls of each thread
 abbrev pub calls_of : List (Vec Invocation) → List (List Invocation)

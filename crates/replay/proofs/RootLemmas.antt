@@ -5,22 +5,22 @@ use Rattle.std.specs.Option.{option_to_list}
 use Rattle.std.proofs.lemmas.List.Concat.{flat_map-cons}
 use Rattle.base.specs.Bytes.{Identifier}
 use Rattle.syntax.specs.Tree.{SourceUnit}
-use Rattle.classes.specs.Class.{Classes}
-use Rattle.source.specs.Object.{Reference}
-use Rattle.source.specs.Reachable.{from_one, loaded_count, roots, thread_roots}
-use Rattle.source.specs.State.{State, views}
-use Rattle.source.specs.Thread.{Frame, Monitor, Shared, Thread, viewed_by}
-use Rattle.source.specs.Variable.{Variable, Variables, viewed}
-use Rattle.source.specs.World.{World}
-use Rattle.steps.specs.declared.activation.Activation.{Activation}
-use Rattle.terms.specs.declared.variable.Content.{Content}
-use Rattle.terms.specs.declared.variable.Content.TheVariants as content
-use Rattle.terms.specs.Views.{Contents, content_view, variable_view, variables_view}
-use Rattle.threads.specs.declared.state.State.{State as StateInMemory}
-use Rattle.threads.specs.declared.thread.Thread.{Thread as ThreadInMemory}
-use Rattle.threads.specs.Rows.{thread_names, activation_names}
-use Rattle.threads.specs.States.{Stands, ThreadsStand}
-use Rattle.threads.specs.Threads.{ThreadStands, WorkStands}
+use Rattle.class_rules.specs.Class.{Classes}
+use Rattle.semantics.specs.Object.{Reference}
+use Rattle.semantics.specs.Reachable.{from_one, loaded_count, roots, thread_roots}
+use Rattle.semantics.specs.State.{State, views}
+use Rattle.semantics.specs.Thread.{Frame, Monitor, Shared, Thread, viewed_by}
+use Rattle.semantics.specs.Variable.{Variable, Variables, viewed}
+use Rattle.semantics.specs.World.{World}
+use Rattle.replay_steps.specs.declared.activation.Activation.{Activation}
+use Rattle.replay_terms.specs.declared.variable.Content.{Content}
+use Rattle.replay_terms.specs.declared.variable.Content.TheVariants as content
+use Rattle.replay_terms.specs.Views.{Contents, content_view, variable_view, variables_view}
+use Rattle.replay_threads.specs.declared.state.State.{State as StateInMemory}
+use Rattle.replay_threads.specs.declared.thread.Thread.{Thread as ThreadInMemory}
+use Rattle.replay_threads.specs.Rows.{thread_names, activation_names}
+use Rattle.replay_threads.specs.States.{Stands, ThreadsStand}
+use Rattle.replay_threads.specs.Threads.{ThreadStands, WorkStands}
 
 -- ---- no variable is a view
 

@@ -5,40 +5,40 @@ use Rattle.std.specs.List.{flat_map}
 use Rattle.std.specs.Option.{option_and_then, option_map}
 use Rattle.std.proofs.lemmas.List.{take-append-drop, length-take-le, take_all}
 use Rattle.syntax.specs.Tree.{SourceUnit}
-use Rattle.source.specs.declared.journal.Entry.{Entry}
-use Rattle.source.specs.Journal.{Journal}
-use Rattle.source.specs.JournalText.{journal_line}
-use Rattle.classes.specs.Class.{Classes}
-use Rattle.reached.specs.Rows.{AreReported}
-use Rattle.source.specs.Heap.{Heap, object_at}
-use Rattle.source.specs.Reachable.{roots, from_one, loaded_count}
-use Rattle.source.specs.Report.{Report, ShownRow}
-use Rattle.source.specs.ReportOf.{report}
-use Rattle.source.specs.Thread.{Shared}
+use Rattle.semantics.specs.declared.journal.Entry.{Entry}
+use Rattle.semantics.specs.Journal.{Journal}
+use Rattle.semantics.specs.JournalText.{journal_line}
+use Rattle.class_rules.specs.Class.{Classes}
+use Rattle.report_objects.specs.Rows.{AreReported}
+use Rattle.semantics.specs.Heap.{Heap, object_at}
+use Rattle.semantics.specs.Reachable.{roots, from_one, loaded_count}
+use Rattle.semantics.specs.Report.{Report, ShownRow}
+use Rattle.semantics.specs.ReportOf.{report}
+use Rattle.semantics.specs.Thread.{Shared}
 use Rattle.report.specs.ReportText.{report_text}
 use Rattle.report.specs.Sink.{Written}
 use Rattle.report.specs.Shown.{report_with}
-use Rattle.source.specs.World.{World}
-use Rattle.source.specs.Load.{first_load_fault}
-use Rattle.source.specs.Run.{replay, replay_from}
+use Rattle.semantics.specs.World.{World}
+use Rattle.semantics.specs.Load.{first_load_fault}
+use Rattle.semantics.specs.Run.{replay, replay_from}
 use Rattle.report.specs.RunText.{Writes}
-use Rattle.source.specs.Start.{start}
-use Rattle.source.specs.State.{State}
-use Rattle.source.proofs.RunLaws.{replay_from-append, replay_more}
+use Rattle.semantics.specs.Start.{start}
+use Rattle.semantics.specs.State.{State}
+use Rattle.semantics.proofs.RunLaws.{replay_from-append, replay_more}
 use Rattle.replay.specs.declared.fault.ReplayFault.{ReplayFault}
 use Rattle.replay.specs.declared.fault.ReplayFault.TheVariants.{DoesNotFit, Impossible, Memory, Writer}
-use Rattle.threads.specs.declared.state.State.{State as StateInMemory}
-use Rattle.threads.specs.States.{Stands, TakesEntry, AreInRange, standings_in, stop_view}
+use Rattle.replay_threads.specs.declared.state.State.{State as StateInMemory}
+use Rattle.replay_threads.specs.States.{Stands, TakesEntry, AreInRange, standings_in, stop_view}
 use Rattle.replay.specs.declared.trap_at.TrapAt.{TrapAt}
 use Rattle.replay.specs.TrapAt.{trap_at}
-use Rattle.threads.specs.declared.state.Stop.{Stop as StopInMemory}
+use Rattle.replay_threads.specs.declared.state.Stop.{Stop as StopInMemory}
 use Rattle.report.specs.declared.thread_status.ThreadStatus.{ThreadStatus}
 use Rattle.report.specs.ThreadStatus.{standing_view}
-use Rattle.threads.specs.Rows.{thread_names}
+use Rattle.replay_threads.specs.Rows.{thread_names}
 use Rattle.replay.specs.Replays.{Answers, IsFirstImpossible, Replayed, IsRefused, IsLoadFault, IsStoppedBy, IsReplayable, IsFromOutside, EndsBy, ShowsRows, WritesRun, shown_stop}
 use Rattle.replay.proofs.LoadLemmas.{drop_more, take_more}
 use Rattle.replay.proofs.RootLemmas.{roots_are}
-use Rattle.threads.proofs.StateLemmas.{report_same}
+use Rattle.replay_threads.proofs.StateLemmas.{report_same}
 
 module _ (unit : SourceUnit) (w : World) (journal : Journal) (i : ℕ) (e : Entry) (old new : StateInMemory) (at : slice_get journal i ≡ Some e) (h : Replayed unit w (take i journal) old) where
   -- the entry isn't possible

@@ -1,8 +1,8 @@
 -- Threads before their first calls, and calls that don't fit.
 use Rattle.std.specs.Prelude.{◌≡◌, ℕ, List, [], ◌∷◌, ◌++◌, map, slice_get, Option, None}
-use Rattle.source.specs.World.{Invocation}
-use Rattle.threads.specs.declared.thread.Ending.TheVariants.{Unfinished}
-use Rattle.threads.specs.declared.thread.Thread.{Thread as ThreadInMemory}
+use Rattle.semantics.specs.World.{Invocation}
+use Rattle.replay_threads.specs.declared.thread.Ending.TheVariants.{Unfinished}
+use Rattle.replay_threads.specs.declared.thread.Thread.{Thread as ThreadInMemory}
 
 -- the line of the first of these
 abbrev pub first_line : List Invocation → Option ℕ

@@ -2,24 +2,24 @@
 use Rattle.std.specs.Prelude.{◌≡◌, ℕ, ◌+◌, List, [], ◌∷◌, ◌++◌, length, Option, Some, None, Result, Ok, Err, IsSome}
 use Rattle.std.specs.Option.{option_map}
 use Rattle.syntax.specs.Tree.{SourceUnit}
-use Rattle.source.specs.declared.journal.Entry.{Entry}
-use Rattle.source.specs.Journal.{Journal}
+use Rattle.semantics.specs.declared.journal.Entry.{Entry}
+use Rattle.semantics.specs.Journal.{Journal}
 use Rattle.report.specs.Sink.{Written, AppendsText, StopsWithin}
-use Rattle.source.specs.World.{World}
-use Rattle.source.specs.Load.{first_load_fault}
-use Rattle.source.specs.Run.{replay}
+use Rattle.semantics.specs.World.{World}
+use Rattle.semantics.specs.Load.{first_load_fault}
+use Rattle.semantics.specs.Run.{replay}
 use Rattle.report.specs.RunText.{Writes}
-use Rattle.source.specs.Report.{ShownRow}
-use Rattle.source.specs.ReportOf.{report}
-use Rattle.source.specs.State.{State}
-use Rattle.source.specs.Step.{world_step}
+use Rattle.semantics.specs.Report.{ShownRow}
+use Rattle.semantics.specs.ReportOf.{report}
+use Rattle.semantics.specs.State.{State}
+use Rattle.semantics.specs.Step.{world_step}
 use Rattle.replay.specs.declared.fault.ReplayFault.{ReplayFault}
 use Rattle.replay.specs.declared.fault.ReplayFault.TheVariants.{DoesNotFit, Impossible, Memory, Writer}
-use Rattle.threads.specs.declared.state.State.{State as StateInMemory}
-use Rattle.threads.specs.declared.state.Stop.{Stop as StopInMemory}
+use Rattle.replay_threads.specs.declared.state.State.{State as StateInMemory}
+use Rattle.replay_threads.specs.declared.state.Stop.{Stop as StopInMemory}
 use Rattle.replay.specs.declared.trap_at.TrapAt.{TrapAt}
 use Rattle.replay.specs.TrapAt.{trap_at}
-use Rattle.threads.specs.States.{Stands, AreInRange, stop_view}
+use Rattle.replay_threads.specs.States.{Stands, AreInRange, stop_view}
 
 -- entry i, counted from 1, is the first that isn't possible
 pub record IsFirstImpossible (unit : SourceUnit) (w : World) (journal : Journal) (i : ℕ) : Type 0 where

@@ -1,6 +1,6 @@
 -- Where a trap stopped a run, as it is told.
-use Rattle.source.specs.State.{Stop}
-use Rattle.source.specs.Value.{trap_number}
+use Rattle.semantics.specs.State.{Stop}
+use Rattle.semantics.specs.Value.{trap_number}
 use Rattle.replay.specs.declared.trap_at.TrapAt.{TrapAt}
 
 -- the number and the line of a trap

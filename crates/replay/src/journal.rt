@@ -3,26 +3,26 @@
 ghost use Rattle.std.specs.Prelude.{◌≡◌, [], IfOk, IfErr, OnOk, IsTrue};
 ghost use Rattle.syntax.specs.Limits.{IsTree};
 ghost use Rattle.syntax.specs.Views.{unit_tree};
-ghost use Rattle.sorts.specs.BuiltCalls.{calls_are_built};
-ghost use Rattle.sorts.specs.SortRules.{IsSorted};
+ghost use Rattle.type_rules.specs.BuiltCalls.{calls_are_built};
+ghost use Rattle.type_rules.specs.SortRules.{IsSorted};
 ghost use Rattle.report.specs.Sink.{CanFail};
-ghost use Rattle.source.specs.World.{World};
-ghost use Rattle.threads.specs.States.{AreInRange};
+ghost use Rattle.semantics.specs.World.{World};
+ghost use Rattle.replay_threads.specs.States.{AreInRange};
 ghost use Rattle.replay.specs.Replays.{Answers, Replayed, LeadsTo, IsRefusedFrom, ShowsRows, WritesRun, WritesState, IsStoppedBy, IsReplayable, IsFromOutside, EndsBy, shown_stop};
 
 use crate::fault::ReplayFault;
 use crate::load::start;
 use crate::trap_at::TrapAt;
 use functions::Functions;
-use object_store::{Store, made_before};
-use reached::{ReachedRows, reached_rows};
 use region_rules::Checked;
+use replay_objects::{Store, made_before};
+use replay_terms::trap_number;
+use replay_threads::{State, Stop, root_names, standings_of, take_entry};
 use report::{Sink, write_run};
-use source::Entry;
+use report_objects::{ReachedRows, reached_rows};
+use semantics::Entry;
 use std::alloc::{AllocError, Global};
-use terms::trap_number;
-use threads::{State, Stop, root_names, standings_of, take_entry};
-use world::World;
+use world_values::World;
 
 /// Takes the entries of a journal.
 #[inline]

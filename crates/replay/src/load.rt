@@ -2,24 +2,24 @@
 
 ghost use Rattle.std.specs.Prelude.{◌≡◌, IfOk, IfErr, map, [], None};
 ghost use Rattle.syntax.specs.Views.{unit_tree, function_tree, parameter_tree};
-ghost use Rattle.sorts.specs.SortRules.{IsSorted};
-ghost use Rattle.world.specs.Views.{object_value_view};
-ghost use Rattle.source.specs.Load.{call_loads, fits_parameter, fit_parameters, is_callable, first_load_fault, refused_calls};
-ghost use Rattle.source.specs.Start.{start};
+ghost use Rattle.type_rules.specs.SortRules.{IsSorted};
+ghost use Rattle.world_values.specs.Views.{object_value_view};
+ghost use Rattle.semantics.specs.Load.{call_loads, fits_parameter, fit_parameters, is_callable, first_load_fault, refused_calls};
+ghost use Rattle.semantics.specs.Start.{start};
 ghost use Rattle.replay_calls.specs.Shares.{shared_view};
-ghost use Rattle.threads.specs.States.{AreInRange, Stands};
+ghost use Rattle.replay_threads.specs.States.{AreInRange, Stands};
 ghost use Rattle.replay.specs.Loading.{first_line, AddsWaiting, AreWaiting, IsWaiting};
 ghost use Rattle.replay.specs.Replays.{IsLoadFault};
 
 use crate::fault::ReplayFault;
 use functions::Functions;
-use object_store::{Names, loaded_store};
 use replay_calls::Shared;
+use replay_objects::{Names, loaded_store};
+use replay_terms::null_statics;
+use replay_threads::{Ending, State, Thread, class_of};
 use std::alloc::{AllocError, Global};
 use syntax::{Function, Item, Parameter, ParameterType};
-use terms::null_statics;
-use threads::{Ending, State, Thread, class_of};
-use world::{Call, ObjectValue, World};
+use world_values::{Call, ObjectValue, World};
 
 /// Whether a parameter can have this argument.
 fn fits_parameter(parameter: &Parameter, argument: &ObjectValue) -> bool

@@ -2,17 +2,17 @@
 use Rattle.std.proofs.Common.{◌≡◌, ℕ, Bool, true, false, List, ◌∷◌, Option, Some, None, refl}
 use Rattle.std.specs.Prelude.{ℤ, pos, negsuc, nat_le, if◌then◌else◌}
 use Rattle.base.specs.Bytes.{Identifier}
-use Rattle.classes.specs.Class.{Classes}
-use Rattle.classes.specs.Fields.{FieldId}
+use Rattle.class_rules.specs.Class.{Classes}
+use Rattle.class_rules.specs.Fields.{FieldId}
 use Rattle.jni.specs.JniFunction.{JniFunction, FindClass, NewGlobalRef, DeleteLocalRef, DeleteGlobalRef, EnsureLocalCapacity, PushLocalFrame, GetFieldID, GetStaticFieldID}
-use Rattle.source.specs.Arguments.{Actual, variable_given, reference_given, number_given}
-use Rattle.source.specs.CallEffects.{with_capacity}
-use Rattle.source.specs.Heap.{Heap}
-use Rattle.source.specs.Object.{Reference}
-use Rattle.source.specs.Thread.{Frame, capacities}
-use Rattle.source.specs.Variable.{Variables}
+use Rattle.semantics.specs.Arguments.{Actual, variable_given, reference_given, number_given}
+use Rattle.semantics.specs.CallEffects.{with_capacity}
+use Rattle.semantics.specs.Heap.{Heap}
+use Rattle.semantics.specs.Object.{Reference}
+use Rattle.semantics.specs.Thread.{Frame, capacities}
+use Rattle.semantics.specs.Variable.{Variables}
 use Rattle.replay_calls.specs.Answers.{Ensures, Pushes, RefusesFrames, FitsFrames}
-use Rattle.object_store.specs.Frames.{new_frame}
+use Rattle.replay_objects.specs.Frames.{new_frame}
 use Rattle.replay_calls.specs.WorkedOut.{ensured, found_class, found_field, global_deleted, local_deleted, made_global, pushed, worked_out}
 
 module _ (frames : List Frame) where

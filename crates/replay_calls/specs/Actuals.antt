@@ -4,16 +4,16 @@ use Rattle.std.specs.Option.{option_map}
 use Rattle.std.specs.Borrow.{Bor}
 use Rattle.base.specs.Bytes.{Identifier}
 use Rattle.base.specs.Element.{JInt}
-use Rattle.class_table.specs.FieldViews.{field_id_view}
-use Rattle.class_table.specs.declared.fields.FieldId.{FieldId as IdInMemory}
-use Rattle.classes.specs.Class.{NumberField}
-use Rattle.classes.specs.Fields.{FieldId}
-use Rattle.source.specs.Arguments.{Actual, ReferenceActual, FieldActual, NumberActual, TextActual, VariableActual, ModeActual, NothingActual, ReleaseMode, CopyBackAndFree, CopyBack, FreeUncopied}
+use Rattle.classes.specs.FieldViews.{field_id_view}
+use Rattle.classes.specs.declared.fields.FieldId.{FieldId as IdInMemory}
+use Rattle.class_rules.specs.Class.{NumberField}
+use Rattle.class_rules.specs.Fields.{FieldId}
+use Rattle.semantics.specs.Arguments.{Actual, ReferenceActual, FieldActual, NumberActual, TextActual, VariableActual, ModeActual, NothingActual, ReleaseMode, CopyBackAndFree, CopyBack, FreeUncopied}
 use Rattle.replay_calls.specs.declared.actual.Actual.{Actual as InMemory}
 use Rattle.replay_calls.specs.declared.actual.Actual.TheVariants as actual
 use Rattle.replay_calls.specs.declared.actual.ReleaseMode.{ReleaseMode as ModeInMemory}
 use Rattle.replay_calls.specs.declared.actual.ReleaseMode.TheVariants as mode
-use Rattle.terms.specs.Views.{held_view}
+use Rattle.replay_terms.specs.Views.{held_view}
 
 -- a name, which is empty where there is none
 abbrev pub name_view : Option (Bor Identifier) → Identifier

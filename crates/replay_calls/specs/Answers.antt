@@ -1,21 +1,21 @@
 -- What calls do, as data, and what that leaves.
 use Rattle.std.specs.Prelude.{ℕ, pos, negsuc, Bool, true, false, List, [], ◌∷◌, ◌++◌, drop, nat_le, IsTrue, Some}
 use Rattle.base.specs.Bytes.{Identifier}
-use Rattle.classes.specs.Class.{Classes}
+use Rattle.class_rules.specs.Class.{Classes}
 use Rattle.jni.specs.Prototype.{ResultKind, NewLocal}
-use Rattle.source.specs.CallEffects.{CallResult, NoResult, ScalarResult, ReferenceResult, CallEffect, Throws, Leaves, heap_effect, new_effect, out_of_memory, refuses_frames, with_capacity, with_local, without_local, without_one}
-use Rattle.source.specs.CallStep.{failure}
-use Rattle.source.specs.Heap.{Heap, next_name, with_value_at}
-use Rattle.source.specs.Object.{ObjectValue, Reference}
-use Rattle.source.specs.Thread.{Frame, Shared, Thread, capacities}
-use Rattle.source.specs.Value.{Int}
-use Rattle.source.specs.Variable.{Deleted, assign}
-use Rattle.source.specs.World.{fresh_object}
+use Rattle.semantics.specs.CallEffects.{CallResult, NoResult, ScalarResult, ReferenceResult, CallEffect, Throws, Leaves, heap_effect, new_effect, out_of_memory, refuses_frames, with_capacity, with_local, without_local, without_one}
+use Rattle.semantics.specs.CallStep.{failure}
+use Rattle.semantics.specs.Heap.{Heap, next_name, with_value_at}
+use Rattle.semantics.specs.Object.{ObjectValue, Reference}
+use Rattle.semantics.specs.Thread.{Frame, Shared, Thread, capacities}
+use Rattle.semantics.specs.Value.{Int}
+use Rattle.semantics.specs.Variable.{Deleted, assign}
+use Rattle.semantics.specs.World.{fresh_object}
 use Rattle.replay_calls.specs.declared.answer.Answer.{Answer as InMemory}
 use Rattle.replay_calls.specs.declared.answer.Answer.TheVariants as answer
-use Rattle.object_store.specs.Frames.{new_frame}
-use Rattle.terms.specs.Views.{given_view}
-use Rattle.world.specs.Views.{object_value_view}
+use Rattle.replay_objects.specs.Frames.{new_frame}
+use Rattle.replay_terms.specs.Views.{given_view}
+use Rattle.world_values.specs.Views.{object_value_view}
 
 -- What a call does: nothing changes and this is given, a value of an object is written, an object of a class is made and given,
 -- an exception of a class is made, the current frame gets room for this many more and 0 is given, a frame of this capacity is made

@@ -1,16 +1,16 @@
 -- What is checked of a call before it does anything.
 use Rattle.std.specs.Prelude.{ℕ, Bool, true, false, not, ◌&&◌, ◌||◌, ◌==◌, List, [], ◌∷◌, zip, slice_get, Option}
 use Rattle.std.specs.List.{list_any}
-use Rattle.classes.specs.BuiltIns.{class_class, has_own_making, string_class, number_array}
-use Rattle.classes.specs.Class.{Classes, class_kind, is_plain, is_object_array, assignable}
-use Rattle.classes.specs.Fields.{FieldId}
+use Rattle.class_rules.specs.BuiltIns.{class_class, has_own_making, string_class, number_array}
+use Rattle.class_rules.specs.Class.{Classes, class_kind, is_plain, is_object_array, assignable}
+use Rattle.class_rules.specs.Fields.{FieldId}
 use Rattle.jni.specs.JniFunction.{is_allowed_pending, JniFunction, AllocObject, GetField, SetField, GetStaticField, SetStaticField, GetObjectField, SetObjectField, GetStaticObjectField, SetStaticObjectField, prototype}
 use Rattle.jni.specs.Prototype.{ParameterKind, ClassObject, AnyArray, ObjectArray, StringObject, NumberArray}
-use Rattle.source.specs.Arguments.{Actual, reference_given, object_given, field_given}
-use Rattle.source.specs.Checks.{first_trap, frames_after, is_deleted, is_misfit, is_missing, lacks_room}
-use Rattle.source.specs.Heap.{fits_type, holds_number, holds_reference, Heap, is_instance}
-use Rattle.source.specs.Thread.{Frame}
-use Rattle.source.specs.Value.{Trap, NullReference, ExceptionPending, WrongObject, DeletedReference, NoCapacity}
+use Rattle.semantics.specs.Arguments.{Actual, reference_given, object_given, field_given}
+use Rattle.semantics.specs.Checks.{first_trap, frames_after, is_deleted, is_misfit, is_missing, lacks_room}
+use Rattle.semantics.specs.Heap.{fits_type, holds_number, holds_reference, Heap, is_instance}
+use Rattle.semantics.specs.Thread.{Frame}
+use Rattle.semantics.specs.Value.{Trap, NullReference, ExceptionPending, WrongObject, DeletedReference, NoCapacity}
 
 -- an object of this class is of another kind than the parameter
 abbrev pub misfits : Classes → ParameterKind → (class : ℕ) → Bool

@@ -1,9 +1,9 @@
 -- What all threads share, in memory, and what one of them can see.
 use Rattle.std.specs.Prelude.{[]}
-use Rattle.source.specs.Sight.{Sight, seen}
-use Rattle.source.specs.Thread.{Shared}
+use Rattle.semantics.specs.Sight.{Sight, seen}
+use Rattle.semantics.specs.Thread.{Shared}
 use Rattle.replay_calls.specs.declared.shared.Shared.{Shared as SharedInMemory}
-use Rattle.terms.specs.Views.{Contents, variables_view}
+use Rattle.replay_terms.specs.Views.{Contents, variables_view}
 
 -- what all threads share: no function that can be called enters a monitor
 abbrev pub shared_view : SharedInMemory → Shared

@@ -1,21 +1,21 @@
 -- What is worked out of a call, its arguments being looked up and its checks passed.
 use Rattle.std.specs.Prelude.{ℕ, nat_le, if◌then◌else◌, ℤ, pos, negsuc, List, ◌∷◌, length, Option, Some, None}
 use Rattle.base.specs.Bytes.{Identifier, lookup}
-use Rattle.classes.specs.BuiltIns.{no_class_def_found_error, no_such_field_error}
-use Rattle.classes.specs.Class.{Classes, class_named, superclass, assignable}
-use Rattle.classes.specs.Fields.{FieldId, find_field, find_static}
+use Rattle.class_rules.specs.BuiltIns.{no_class_def_found_error, no_such_field_error}
+use Rattle.class_rules.specs.Class.{Classes, class_named, superclass, assignable}
+use Rattle.class_rules.specs.Fields.{FieldId, find_field, find_static}
 use Rattle.jni.specs.JniFunction.{JniFunction, FindClass, GetSuperclass, GetObjectClass, IsInstanceOf, IsAssignableFrom, AllocObject, NewLocalRef, NewGlobalRef, DeleteLocalRef, DeleteGlobalRef, IsSameObject, EnsureLocalCapacity, PushLocalFrame, PopLocalFrame, GetFieldID, GetStaticFieldID, GetField, SetField, GetStaticField, SetStaticField, GetObjectField, SetObjectField, GetStaticObjectField, SetStaticObjectField, GetArrayLength}
-use Rattle.source.specs.Arguments.{Actual, reference_given, object_given, number_given, text_given, field_given, variable_given}
-use Rattle.source.specs.CallEffects.{NoResult, ScalarResult, ReferenceResult, FieldResult, level_of, same_reference, with_capacity}
-use Rattle.source.specs.Heap.{Heap, class_of, values_of, value_at, number_in, reference_in, field_place, static_place, fits_class}
-use Rattle.source.specs.Object.{Number, Refers, Reference}
-use Rattle.source.specs.Thread.{Frame, capacities}
-use Rattle.source.specs.Value.{Int, Flag, convert}
-use Rattle.source.specs.Variable.{Variables}
+use Rattle.semantics.specs.Arguments.{Actual, reference_given, object_given, number_given, text_given, field_given, variable_given}
+use Rattle.semantics.specs.CallEffects.{NoResult, ScalarResult, ReferenceResult, FieldResult, level_of, same_reference, with_capacity}
+use Rattle.semantics.specs.Heap.{Heap, class_of, values_of, value_at, number_in, reference_in, field_place, static_place, fits_class}
+use Rattle.semantics.specs.Object.{Number, Refers, Reference}
+use Rattle.semantics.specs.Thread.{Frame, capacities}
+use Rattle.semantics.specs.Value.{Int, Flag, convert}
+use Rattle.semantics.specs.Variable.{Variables}
 use Rattle.replay_calls.specs.Answers.{Answer, Gives, Writes, Makes, Raises, Ensures, Pushes, RefusesFrames, Pops, DeletesLocal, MakesGlobal, DeletesGlobal}
 use Rattle.replay_calls.specs.declared.answer.Subject.{Subject}
 use Rattle.replay_calls.specs.declared.answer.Subject.TheVariants as subject
-use Rattle.object_store.specs.Frames.{new_frame}
+use Rattle.replay_objects.specs.Frames.{new_frame}
 
 -- what a function works on
 abbrev pub subject_of : JniFunction → Subject

@@ -4,24 +4,24 @@ ghost use Rattle.std.specs.Prelude.{◌≡◌, ◌++◌, IfOk, map, slice_get, z
 ghost use Rattle.std.specs.Option.{option_map};
 ghost use Rattle.base.specs.Bytes.{lookup};
 ghost use Rattle.syntax.specs.Views.{argument_tree, expr_tree};
-ghost use Rattle.class_table.specs.FieldViews.{field_id_view};
+ghost use Rattle.classes.specs.FieldViews.{field_id_view};
 ghost use Rattle.jni.specs.Prototype.{ParameterKind as Kind};
 ghost use Rattle.jni.specs.Table.{function_value, parameter_value};
-ghost use Rattle.source.specs.Arguments.{actuals, field_argument, field_given, look_up, look_up_expression, mode_of, named_variable, number_given, object_given, reference_argument, reference_given, text_given, variable_given};
-ghost use Rattle.source.specs.CallEffects.{level_of};
-ghost use Rattle.source.specs.Sight.{Sight, held_field, held_reference};
-ghost use Rattle.source.specs.Task.{Given, NumberOperand};
-ghost use Rattle.source.specs.Thread.{Shared as SharedOfThreads};
+ghost use Rattle.semantics.specs.Arguments.{actuals, field_argument, field_given, look_up, look_up_expression, mode_of, named_variable, number_given, object_given, reference_argument, reference_given, text_given, variable_given};
+ghost use Rattle.semantics.specs.CallEffects.{level_of};
+ghost use Rattle.semantics.specs.Sight.{Sight, held_field, held_reference};
+ghost use Rattle.semantics.specs.Task.{Given, NumberOperand};
+ghost use Rattle.semantics.specs.Thread.{Shared as SharedOfThreads};
 ghost use Rattle.replay_calls.specs.Actuals.{actual_view, mode_view, name_view, given_field};
-ghost use Rattle.terms.specs.Views.{operand_view, held_view, term_view, variables_view};
+ghost use Rattle.replay_terms.specs.Views.{operand_view, held_view, term_view, variables_view};
 ghost use Rattle.replay_calls.specs.Shares.{shared_view, sight_in};
 
 use crate::shared::Shared;
-use class_table::fields::FieldId;
+use classes::fields::FieldId;
 use jni::{JniFunction, ParameterKind};
+use replay_terms::{Content, Operand, StaticReference, Term, Value, Variables};
 use std::alloc::{AllocError, Global};
 use syntax::{Argument, Constant, Expr, Name};
-use terms::{Content, Operand, StaticReference, Term, Value, Variables};
 
 /// How a buffer of copied elements is released (JNI Specification, chapter 4, "Release<PrimitiveType>ArrayElements
 /// Routines").

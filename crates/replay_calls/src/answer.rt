@@ -3,23 +3,23 @@
 ghost use Rattle.std.specs.Prelude.{◌≡◌, IsTrue, List, if◌then◌else◌, map};
 ghost use Rattle.std.specs.Option.{option_map};
 ghost use Rattle.base.specs.Bytes.{lookup};
-ghost use Rattle.class_table.specs.FieldViews.{field_id_view};
-ghost use Rattle.classes.specs.Class.{Classes};
-ghost use Rattle.classes.specs.Fields.{find_field, find_static};
-ghost use Rattle.classes.specs.Grown.{IsGrown};
+ghost use Rattle.classes.specs.FieldViews.{field_id_view};
+ghost use Rattle.class_rules.specs.Class.{Classes};
+ghost use Rattle.class_rules.specs.Fields.{find_field, find_static};
+ghost use Rattle.class_rules.specs.Grown.{IsGrown};
 ghost use Rattle.jni.specs.JniFunction.{is_built_function};
 ghost use Rattle.jni.specs.Table.{function_value};
-ghost use Rattle.source.specs.CallEffects.{level_of, same_reference};
-ghost use Rattle.source.specs.Heap.{Heap, field_place, fits_class, number_in, reference_in, static_place};
-ghost use Rattle.source.specs.Arguments.{field_given, object_given, reference_given, text_given, variable_given};
-ghost use Rattle.source.specs.Thread.{Frame};
-ghost use Rattle.source.specs.Variable.{Variables as VariablesOfCall};
+ghost use Rattle.semantics.specs.CallEffects.{level_of, same_reference};
+ghost use Rattle.semantics.specs.Heap.{Heap, field_place, fits_class, number_in, reference_in, static_place};
+ghost use Rattle.semantics.specs.Arguments.{field_given, object_given, reference_given, text_given, variable_given};
+ghost use Rattle.semantics.specs.Thread.{Frame};
+ghost use Rattle.semantics.specs.Variable.{Variables as VariablesOfCall};
 ghost use Rattle.replay_calls.specs.Actuals.{actual_view};
 ghost use Rattle.replay_calls.specs.Answers.{answer_view};
 ghost use Rattle.replay_calls.specs.WorkedOut.{ensured, found_class, found_field, global_deleted, local_deleted, made_global, pushed, subject_of, worked_out};
 ghost use Rattle.replay_calls.specs.declared.answer.Subject.TheVariants as subject;
-ghost use Rattle.terms.specs.Views.{variables_view};
-ghost use Rattle.world.specs.Views.{object_value_view};
+ghost use Rattle.replay_terms.specs.Views.{variables_view};
+ghost use Rattle.world_values.specs.Views.{object_value_view};
 
 use crate::actual::{
     Actual, field_given, level_of, number_given, object_given, reference_given, text_given,
@@ -27,13 +27,13 @@ use crate::actual::{
 };
 use crate::check::fits_class;
 use crate::field;
-use class_table::built_ins::{NO_CLASS_DEF_FOUND_ERROR, NO_SUCH_FIELD_ERROR};
-use class_table::fields::FieldId;
-use class_table::table::ClassTable;
+use classes::built_ins::{NO_CLASS_DEF_FOUND_ERROR, NO_SUCH_FIELD_ERROR};
+use classes::fields::FieldId;
+use classes::table::ClassTable;
 use jni::JniFunction;
-use object_store::{Frames, Store};
-use terms::{Given, Variables, convert};
-use world::ObjectValue;
+use replay_objects::{Frames, Store};
+use replay_terms::{Given, Variables, convert};
+use world_values::ObjectValue;
 
 /// What a call does.
 #[derive(Clone, Copy)]

@@ -3,21 +3,21 @@
 ghost use Rattle.std.specs.Prelude.{◌≡◌, ◌++◌, ◌∷◌, [], IfOk, Some, true};
 ghost use Rattle.jni.specs.Prototype.{ResultKind as SourceKind};
 ghost use Rattle.jni.specs.Table.{result_value};
-ghost use Rattle.source.specs.CallEffects.{out_of_memory};
-ghost use Rattle.source.specs.CallStep.{failure};
-ghost use Rattle.source.specs.Heap.{Heap, next_name};
-ghost use Rattle.source.specs.World.{fresh_object};
+ghost use Rattle.semantics.specs.CallEffects.{out_of_memory};
+ghost use Rattle.semantics.specs.CallStep.{failure};
+ghost use Rattle.semantics.specs.Heap.{Heap, next_name};
+ghost use Rattle.semantics.specs.World.{fresh_object};
 ghost use Rattle.replay_calls.specs.Answers.{FitsFrames, answer_view, frames_after, frames_with, given_after, is_of_frames, is_of_references, makes_object, pending_after, shared_after};
-ghost use Rattle.terms.specs.Views.{given_view};
+ghost use Rattle.replay_terms.specs.Views.{given_view};
 ghost use Rattle.replay_calls.specs.Shares.{shared_view};
 
 use crate::Shared;
 use crate::answer::Answer;
-use class_table::table::ClassTable;
+use classes::table::ClassTable;
 use jni::ResultKind;
-use object_store::{Frames, Store, fresh_values};
+use replay_objects::{Frames, Store, fresh_values};
+use replay_terms::{Given, StaticReference};
 use std::alloc::{AllocError, Global};
-use terms::{Given, StaticReference};
 
 /// Does what a function of this kind of result answers, and tells what it gives.
 pub fn carry_out<'a>(

@@ -3,23 +3,23 @@
 ghost use Rattle.std.specs.Prelude.{◌≡◌, ◌||◌, map, slice_get, zip};
 ghost use Rattle.std.specs.List.{list_any};
 ghost use Rattle.std.specs.Option.{option_map};
-ghost use Rattle.class_table.specs.Views.{element_view, field_type_view};
+ghost use Rattle.classes.specs.Views.{element_view, field_type_view};
 ghost use Rattle.jni.specs.Table.{function_value, parameter_value, result_value};
-ghost use Rattle.source.specs.Checks.{frames_after, is_deleted, is_full, is_misfit, is_missing, lacks_room};
-ghost use Rattle.source.specs.Heap.{fits_class, fits_type, holds_number, holds_reference};
+ghost use Rattle.semantics.specs.Checks.{frames_after, is_deleted, is_full, is_misfit, is_missing, lacks_room};
+ghost use Rattle.semantics.specs.Heap.{fits_class, fits_type, holds_number, holds_reference};
 ghost use Rattle.syntax.specs.Views.{element_tree};
 ghost use Rattle.replay_calls.specs.Actuals.{actual_view};
 ghost use Rattle.replay_calls.specs.Checked.{fit_together, has_field, has_static, misfits, trap_found};
-ghost use Rattle.terms.specs.Views.{trap_view};
+ghost use Rattle.replay_terms.specs.Views.{trap_view};
 
 use crate::actual::{Actual, field_given, object_given, reference_given};
 use crate::field::{declaring, is_static, type_of};
-use class_table::built_ins::{CLASS, STRING, number_array};
-use class_table::class::{ClassKind, ElementType, FieldType};
-use class_table::table::ClassTable;
+use classes::built_ins::{CLASS, STRING, number_array};
+use classes::class::{ClassKind, ElementType, FieldType};
+use classes::table::ClassTable;
 use jni::{JniFunction, ParameterKind, ResultKind};
-use object_store::{Frames, Store};
-use terms::{StaticReference, Trap};
+use replay_objects::{Frames, Store};
+use replay_terms::{StaticReference, Trap};
 
 /// The trap of a call before it does anything.
 pub fn check(

@@ -1,16 +1,16 @@
 //! Fields by field IDs, which may be NULL, and where they are.
 
 ghost use Rattle.std.specs.Prelude.{◌≡◌, IfSome};
-ghost use Rattle.class_table.specs.FieldViews.{field_id_view};
-ghost use Rattle.class_table.specs.Views.{field_type_view};
-ghost use Rattle.classes.specs.Fields.{layout, own_statics, same_field};
-ghost use Rattle.classes.specs.Grown.{IsGrown};
-ghost use Rattle.source.specs.Heap.{place_in};
+ghost use Rattle.classes.specs.FieldViews.{field_id_view};
+ghost use Rattle.classes.specs.Views.{field_type_view};
+ghost use Rattle.class_rules.specs.Fields.{layout, own_statics, same_field};
+ghost use Rattle.class_rules.specs.Grown.{IsGrown};
+ghost use Rattle.semantics.specs.Heap.{place_in};
 ghost use Rattle.replay_calls.specs.Actuals.{given_field};
 
-use class_table::class::{ElementType, FieldHandle, FieldType};
-use class_table::fields::FieldId;
-use class_table::table::ClassTable;
+use classes::class::{ElementType, FieldHandle, FieldType};
+use classes::fields::FieldId;
+use classes::table::ClassTable;
 
 /// Whether the field is a static; NULL is none.
 pub fn is_static(field: Option<FieldId<'_>>) -> bool

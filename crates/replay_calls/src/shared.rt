@@ -1,7 +1,7 @@
 //! What all threads share.
 
-use object_store::{Names, Store};
-use terms::Statics;
+use replay_objects::{Names, Store};
+use replay_terms::Statics;
 
 /// The objects, the statics, and the global references.
 pub struct Shared<'a> {

@@ -6,9 +6,9 @@ use Rattle.std.specs.Io.KnownBytes.{Keeps}
 use Rattle.std.proofs.KnownBytes.{Appends-kept}
 use Rattle.std.proofs.lemmas.List.{get_or-map, length-map}
 use Rattle.std.proofs.lemmas.List.FromFn.{length-enumerate_from, get_or-enumerate_from}
-use Rattle.source.specs.declared.printed.Printed.{Printed}
+use Rattle.semantics.specs.declared.printed.Printed.{Printed}
 use Rattle.report.specs.declared.thread_status.ThreadStatus.{ThreadStatus}
-use Rattle.source.specs.Report.{ShownRow}
+use Rattle.semantics.specs.Report.{ShownRow}
 use Rattle.report.specs.ReportText.{thread_line, printed_line, report_text}
 use Rattle.report.specs.Shown.{row_lines, report_with}
 use Rattle.report.specs.ThreadStatus.{standing_view}
@@ -16,7 +16,7 @@ use Rattle.report.specs.Sink.{Written, AppendsText, Writes}
 use Rattle.report.proofs.Puts.{flat_map-at, flat_map-past}
 
 -- threads with their numbers
-abbrev pub numbered : List ThreadStatus → List (ℕ × Rattle.source.specs.Report.ThreadStanding)
+abbrev pub numbered : List ThreadStatus → List (ℕ × Rattle.semantics.specs.Report.ThreadStanding)
 numbered xs = enumerate_from 1 (map standing_view xs)
 
 pub length-numbered : (xs : List ThreadStatus) → length (numbered xs) ≡ length xs

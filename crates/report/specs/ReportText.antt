@@ -2,8 +2,8 @@
 use Rattle.std.specs.Prelude.{ℕ, List, ◌∷◌, ◌++◌, [], flat_map, decimal, codes}
 use Rattle.std.specs.Fmt.{signed_decimal}
 use Rattle.std.specs.List.{enumerate_from}
-use Rattle.source.specs.declared.printed.Printed.{Printed}
-use Rattle.source.specs.Report.{ThreadStanding, HasTrapped, HasEnded, IsUncaught, IsBlocked, IsRunning, ShownValue, ShownNumber, ShownNull, ShownClass, ShownObject, ShownRow, Report}
+use Rattle.semantics.specs.declared.printed.Printed.{Printed}
+use Rattle.semantics.specs.Report.{ThreadStanding, HasTrapped, HasEnded, IsUncaught, IsBlocked, IsRunning, ShownValue, ShownNumber, ShownNull, ShownClass, ShownObject, ShownRow, Report}
 
 -- a line of text, with its line feed
 abbrev pub text_line : List ℕ → List ℕ

@@ -1,12 +1,12 @@
 -- What a run writes in all.
 use Rattle.std.specs.Prelude.{◌≡◌, ℕ, List, ◌++◌, Some}
 use Rattle.syntax.specs.Tree.{SourceUnit}
-use Rattle.source.specs.Journal.{Journal}
-use Rattle.source.specs.ReportOf.{report}
-use Rattle.source.specs.Run.{replay}
-use Rattle.source.specs.State.{State}
-use Rattle.source.specs.World.{World}
-use Rattle.source.specs.JournalText.{journal_line}
+use Rattle.semantics.specs.Journal.{Journal}
+use Rattle.semantics.specs.ReportOf.{report}
+use Rattle.semantics.specs.Run.{replay}
+use Rattle.semantics.specs.State.{State}
+use Rattle.semantics.specs.World.{World}
+use Rattle.semantics.specs.JournalText.{journal_line}
 use Rattle.report.specs.ReportText.{report_text}
 
 -- the report of its journal's replay, and the journal

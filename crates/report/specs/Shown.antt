@@ -3,9 +3,9 @@ use Rattle.std.specs.Prelude.{ℕ, List, ◌++◌, map, codes, decimal, flat_map
 use Rattle.base.specs.Bytes.{Identifier}
 use Rattle.report.specs.declared.rows.Shown.{Shown}
 use Rattle.report.specs.declared.rows.Shown.TheVariants as held
-use Rattle.source.specs.declared.printed.Printed.{Printed}
+use Rattle.semantics.specs.declared.printed.Printed.{Printed}
 use Rattle.report.specs.declared.thread_status.ThreadStatus.{ThreadStatus}
-use Rattle.source.specs.Report.{ShownValue, ShownNumber, ShownNull, ShownClass, ShownObject, ShownRow, Report}
+use Rattle.semantics.specs.Report.{ShownValue, ShownNumber, ShownNull, ShownClass, ShownObject, ShownRow, Report}
 use Rattle.report.specs.ReportText.{object_line}
 use Rattle.report.specs.ThreadStatus.{standing_view}
 

@@ -1,9 +1,9 @@
 -- The statuses of threads, as they are held in memory.
 use Rattle.std.specs.Prelude.{List, [], map}
-use Rattle.source.specs.declared.printed.Printed.{Printed}
+use Rattle.semantics.specs.declared.printed.Printed.{Printed}
 use Rattle.report.specs.declared.thread_status.ThreadStatus.{ThreadStatus}
 use Rattle.report.specs.declared.thread_status.ThreadStatus.TheVariants.{Trapped, Ended, Uncaught, Blocked, Running}
-use Rattle.source.specs.Report.{ThreadStanding, HasTrapped, HasEnded, IsUncaught, IsBlocked, IsRunning, Report}
+use Rattle.semantics.specs.Report.{ThreadStanding, HasTrapped, HasEnded, IsUncaught, IsBlocked, IsRunning, Report}
 
 -- what a status in memory says
 abbrev pub standing_view : ThreadStatus → ThreadStanding

@@ -1,7 +1,7 @@
 //! The rows of a report: the objects that can still be reached.
 
 ghost use Rattle.std.specs.Prelude.{List, ◌++◌, [], codes};
-ghost use Rattle.source.specs.Report.{ShownRow};
+ghost use Rattle.semantics.specs.Report.{ShownRow};
 ghost use Rattle.report.specs.ReportText.{shown_text, text_line};
 ghost use Rattle.report.specs.Shown.{shown_view, row_head, row_lines};
 ghost use Rattle.report.specs.Sink.{CanFail, Writes};

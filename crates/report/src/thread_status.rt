@@ -9,7 +9,7 @@ ghost use Rattle.report.specs.ThreadStatus.{standing_view};
 use crate::sink::{Sink, SinkFailed, put_pieces};
 use crate::text::Text;
 use itoa::Buffer;
-use source::Printed;
+use semantics::Printed;
 
 /// The status of a thread when the run is over.
 #[derive(Clone, Copy)]

@@ -5,8 +5,8 @@ ghost use Rattle.arrayvec.specs.ArrayVec.{array_vec_len};
 ghost use Rattle.report.specs.Sink.{CanFail, Writes};
 ghost use Rattle.report.specs.ReportText.{report_text};
 ghost use Rattle.report.specs.Shown.{report_with};
-ghost use Rattle.source.specs.JournalText.{entry_text, journal_line};
-ghost use Rattle.source.specs.JournalText.{spelled_entries};
+ghost use Rattle.semantics.specs.JournalText.{entry_text, journal_line};
+ghost use Rattle.semantics.specs.JournalText.{spelled_entries};
 
 use crate::rows::Rows;
 use crate::sink::{Sink, SinkFailed, put_all};
@@ -14,7 +14,7 @@ use crate::text::put_each;
 use crate::thread_status::{ThreadStatus, put_standings};
 use arrayvec::ArrayVec;
 use itoa::Buffer;
-use source::{Entry, Printed};
+use semantics::{Entry, Printed};
 
 /// Appends a number in decimal.
 #[tactic(auto, using(std::proofs::lemmas::Fmt::decimal_digit))]

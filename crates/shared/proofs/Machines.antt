@@ -10,19 +10,19 @@ use Rattle.std.proofs.lemmas.Option.{slice_get_past}
 use Rattle.std.proofs.Common.{take, cond, if◌then◌else◌, get_or}
 use Rattle.syntax.specs.Tree.{SourceUnit}
 use Rattle.syntax.specs.Views.{unit_tree}
-use Rattle.classes.specs.Class.{Classes}
-use Rattle.source.specs.declared.journal.Entry.{Entry}
-use Rattle.source.specs.declared.journal.Entry.TheVariants.{Step}
-use Rattle.source.specs.declared.printed.Printed.{Printed}
-use Rattle.source.specs.Journal.{is_step_of}
-use Rattle.source.specs.Start.{start}
-use Rattle.source.specs.State.{State, Stop, thread_at, set_thread, in_use, advanced, with_event}
-use Rattle.source.specs.Step.{can_step, step_of, is_unfinished, is_live, is_blocked, world_step}
-use Rattle.source.specs.Thread.{Thread, Event, Quiet, PrintedNumber, Trapped, Advance, Advances, NoAdvance, Ending, Unfinished, Ended as Over, Uncaught}
-use Rattle.source.specs.ThreadStep.{thread_step}
-use Rattle.source.specs.Run.{replay_from, account_at, entries_of, ending_of}
-use Rattle.source.proofs.RunLaws.{replay_from-append}
-use Rattle.source.proofs.AccountLaws.{others_stay}
+use Rattle.class_rules.specs.Class.{Classes}
+use Rattle.semantics.specs.declared.journal.Entry.{Entry}
+use Rattle.semantics.specs.declared.journal.Entry.TheVariants.{Step}
+use Rattle.semantics.specs.declared.printed.Printed.{Printed}
+use Rattle.semantics.specs.Journal.{is_step_of}
+use Rattle.semantics.specs.Start.{start}
+use Rattle.semantics.specs.State.{State, Stop, thread_at, set_thread, in_use, advanced, with_event}
+use Rattle.semantics.specs.Step.{can_step, step_of, is_unfinished, is_live, is_blocked, world_step}
+use Rattle.semantics.specs.Thread.{Thread, Event, Quiet, PrintedNumber, Trapped, Advance, Advances, NoAdvance, Ending, Unfinished, Ended as Over, Uncaught}
+use Rattle.semantics.specs.ThreadStep.{thread_step}
+use Rattle.semantics.specs.Run.{replay_from, account_at, entries_of, ending_of}
+use Rattle.semantics.proofs.RunLaws.{replay_from-append}
+use Rattle.semantics.proofs.AccountLaws.{others_stay}
 use Rattle.machine.specs.declared.turn.Turn.{Turn}
 use Rattle.machine.specs.declared.turn.Turn.TheVariants.{Stopped, Ended, Blocked, Full, Short, Stepped}
 use Rattle.machine.specs.Run.{Run, TurnHolds, CouldStep, replay_of, PrintedBy}

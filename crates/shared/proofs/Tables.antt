@@ -4,7 +4,7 @@ use Rattle.std.specs.List.{list_any}
 use Rattle.std.specs.Option.{unwrap_or}
 use Rattle.std.proofs.lemmas.Bool.{false≢true, and_left, and_right, and_from}
 use Rattle.std.specs.Prelude.{slice_get, Bool, ◌||◌, ◌&&◌}
-use Rattle.source.specs.World.{World}
+use Rattle.semantics.specs.World.{World}
 use Rattle.machine.specs.Run.{Run}
 use Rattle.shared.specs.declared.view.Account.{Account}
 use Rattle.shared.specs.Tokens.{nothing, none}

@@ -4,15 +4,15 @@ use Rattle.std.specs.List.{list_any, list_all, enumerate_from, filter}
 use Rattle.std.specs.Option.{unwrap_or, option_map, option_map_or}
 use Rattle.syntax.specs.declared.unit.Item.{Item}
 use Rattle.syntax.specs.Views.{unit_tree}
-use Rattle.classes.specs.Class.{Classes}
-use Rattle.source.specs.declared.printed.Printed.{Printed}
-use Rattle.source.specs.World.{World}
-use Rattle.source.specs.Thread as thread
-use Rattle.source.specs.Thread.{Thread}
-use Rattle.source.specs.State.{State}
-use Rattle.source.specs.Step.{is_unfinished, is_blocked}
-use Rattle.source.specs.Run as source
-use Rattle.source.specs.Run.{account}
+use Rattle.class_rules.specs.Class.{Classes}
+use Rattle.semantics.specs.declared.printed.Printed.{Printed}
+use Rattle.semantics.specs.World.{World}
+use Rattle.semantics.specs.Thread as thread
+use Rattle.semantics.specs.Thread.{Thread}
+use Rattle.semantics.specs.State.{State}
+use Rattle.semantics.specs.Step.{is_unfinished, is_blocked}
+use Rattle.semantics.specs.Run as source
+use Rattle.semantics.specs.Run.{account}
 use Rattle.machine.specs.declared.turn.Turn.{Turn}
 use Rattle.machine.specs.declared.turn.Turn.TheVariants.{Stopped, Ended, Blocked, Full, Short, Stepped}
 use Rattle.machine.specs.Run.{Run, TurnHolds, replay_of}

@@ -6,7 +6,7 @@ ghost use Rattle.shared.specs.Accounts.{account_of, kept_after, Agrees, more_of,
 use crate::seat::{Seat, kept_after};
 use crate::tokens::{Cell, Naming, Pass, settle};
 use machine::{Machine, Turn};
-use source::Printed;
+use semantics::Printed;
 use std::alloc::AllocError;
 use std::marker::{Brand, Model, PhantomData};
 use std::sync::Wait;

@@ -9,7 +9,7 @@ ghost use Rattle.shared.specs.Accounts.{kept_after, is_one_each, seat_in, seats_
 use crate::tokens::{Cell, Gives, Naming, Pass, check};
 use crate::view::Fate;
 use machine::Turn;
-use source::Printed;
+use semantics::Printed;
 use std::alloc::{AllocError, Global};
 use std::marker::{Model, PhantomData};
 use std::sync::Wait;

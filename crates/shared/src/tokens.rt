@@ -18,7 +18,7 @@ pub trait Naming {
     ghost use Rattle.atomic_table.specs.Seated.{TableId};
     ghost use Rattle.std.specs.Prelude.{List};
     ghost use Rattle.syntax.specs.declared.unit.Item.{Item};
-    ghost use Rattle.source.specs.World.{World};
+    ghost use Rattle.semantics.specs.World.{World};
 
     ghost cell: { TableId };
 

@@ -3,8 +3,8 @@ use Rattle.std.proofs.Common.{◌≡◌, true, List, [], ◌∷◌, refl, sym, m
 use Rattle.syntax.specs.declared.call.Argument.{Argument}
 use Rattle.syntax.specs.Views.{argument_tree}
 use Rattle.jni.specs.Prototype.{ParameterKind}
-use Rattle.sorts.specs.Sorts.{Scope, arguments_fit}
-use Rattle.sorts.specs.SortRules.{modes_fit}
+use Rattle.type_rules.specs.Sorts.{Scope, arguments_fit}
+use Rattle.type_rules.specs.SortRules.{modes_fit}
 
 -- no arguments fit all parameters
 none_fit : (scope : Scope) (parameters : List ParameterKind) → arguments_fit scope parameters [] ≡ true

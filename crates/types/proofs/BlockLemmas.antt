@@ -13,9 +13,9 @@ use Rattle.syntax.specs.Parts.{statements_of, statements_within, names_declared,
 use Rattle.syntax.specs.Tree.{ResultType}
 use Rattle.syntax.specs.Views.{form_tree, stmt_tree, statements_tree}
 use Rattle.types.specs.declared.sort.Sort.{Sort as SortInMemory}
-use Rattle.sorts.specs.Sorts.{Scope}
-use Rattle.sorts.specs.SortRules.{places_of, with_declared}
-use Rattle.sorts.specs.BuiltCalls.{refused_at}
+use Rattle.type_rules.specs.Sorts.{Scope}
+use Rattle.type_rules.specs.SortRules.{places_of, with_declared}
+use Rattle.type_rules.specs.BuiltCalls.{refused_at}
 use Rattle.types.specs.Faults.{IsAbove, found, statement_place, places_inside}
 use Rattle.types.proofs.PlaceLemmas.{found-none, found-statement}
 

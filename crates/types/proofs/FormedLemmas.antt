@@ -7,8 +7,8 @@ use Rattle.base.specs.Options.{some_passes}
 use Rattle.syntax.specs.Parts.{own_call, own_expressions, call_expressions}
 use Rattle.syntax.specs.Tree.{Expr, Number, Named, Variable, Element, Prefix, Binary, Paren, Call, FromExpr, FromCall, TestExpr, TestCall, ResultType, Void, IntResult, ReferenceResult, Stmt, Declare, DeclareBuffer, DeclareChars, DeclareArray, Assign, AssignElement, Perform, PutJint, If, IfElse, While, Return, ReturnValue}
 use Rattle.jni.specs.JniFunction.{function_named}
-use Rattle.sorts.specs.Sorts.{Sort, Word, Jint, Flag, Truth, Ref, Global, FieldId, Buffer, Array, Scope, sort_in, sort_of, has_elements, is_index, is_word, is_jint, is_flag, is_truth, is_ref, is_null, name_sort, call_arguments_fit}
-use Rattle.sorts.specs.SortRules.{SortMisfit, is_formed, variable_sort, value_sets, return_fits, statement_fits, breaks_sort_rule}
+use Rattle.type_rules.specs.Sorts.{Sort, Word, Jint, Flag, Truth, Ref, Global, FieldId, Buffer, Array, Scope, sort_in, sort_of, has_elements, is_index, is_word, is_jint, is_flag, is_truth, is_ref, is_null, name_sort, call_arguments_fit}
+use Rattle.type_rules.specs.SortRules.{SortMisfit, is_formed, variable_sort, value_sets, return_fits, statement_fits, breaks_sort_rule}
 
 -- ---- one expression
 

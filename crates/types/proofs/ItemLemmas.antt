@@ -2,7 +2,7 @@
 use Rattle.std.proofs.Common.{◌≡◌, ℕ, suc, ◌+◌, ◌<◌, not, ◌||◌, List, [], ◌∷◌, ◌++◌, Option, Some, None, map, drop, length, get_or, refl, sym, ap, ap₂, ◌∙◌, add-one, append-nil, drop-cons}
 use Rattle.std.specs.Option.{is_some, is_none}
 use Rattle.base.specs.Bytes.{Identifier, ByName}
-use Rattle.classes.specs.Mangling.{unmangle}
+use Rattle.class_rules.specs.Mangling.{unmangle}
 use Rattle.syntax.specs.declared.unit.Parameter.{Parameter as ParameterInMemory}
 use Rattle.syntax.specs.declared.unit.Function.{Function as FunctionInMemory}
 use Rattle.syntax.specs.declared.unit.Static.{Static as StaticInMemory}
@@ -11,9 +11,9 @@ use Rattle.syntax.specs.Parts.{parameter_names, item_name}
 use Rattle.syntax.specs.Tree.{Void, Item, StaticItem, FunctionItem}
 use Rattle.syntax.specs.Views.{parameter_type_tree, parameter_tree, function_tree, static_tree, item_tree, result_tree, block_tree}
 use Rattle.types.specs.declared.sort.Sort.{Sort as SortInMemory}
-use Rattle.sorts.specs.Sorts.{Sort, Ref, Scope}
-use Rattle.sorts.specs.SortRules.{Place, StaticForm, HeadForm, UnknownName, DeclaredTwice, has_name, has_repeated, parameter_sort, places_of, function_places, item_places}
-use Rattle.sorts.specs.BuiltCalls.{refuses, refused_at}
+use Rattle.type_rules.specs.Sorts.{Sort, Ref, Scope}
+use Rattle.type_rules.specs.SortRules.{Place, StaticForm, HeadForm, UnknownName, DeclaredTwice, has_name, has_repeated, parameter_sort, places_of, function_places, item_places}
+use Rattle.type_rules.specs.BuiltCalls.{refuses, refused_at}
 use Rattle.types.specs.Faults.{broken_if, found, scope_of, entry_scope, head_faults, own_places, with_static}
 use Rattle.types.proofs.RuleLemmas.{listed}
 use Rattle.types.proofs.PlaceLemmas.{found-none, found-append, found-next}

@@ -4,9 +4,9 @@ use Rattle.std.proofs.lemmas.Grind.{flat_map-append}
 use Rattle.base.specs.Bytes.{Identifier}
 use Rattle.syntax.specs.Parts.{statements_within, names_declared}
 use Rattle.syntax.specs.Tree.{ResultType, Stmt, If, IfElse, While, Block, Next}
-use Rattle.sorts.specs.Sorts.{Scope}
-use Rattle.sorts.specs.SortRules.{Place, places_of, places_within, with_declared}
-use Rattle.sorts.specs.BuiltCalls.{refused_at}
+use Rattle.type_rules.specs.Sorts.{Scope}
+use Rattle.type_rules.specs.SortRules.{Place, places_of, places_within, with_declared}
+use Rattle.type_rules.specs.BuiltCalls.{refused_at}
 use Rattle.types.specs.Faults.{found, statement_place, places_inside}
 
 pub found-none : found [] ≡ []

@@ -1,6 +1,6 @@
 -- The rules that are broken at one place, one after the other.
 use Rattle.std.proofs.Common.{◌≡◌, ℕ, Bool, true, false, List, [], ◌∷◌, ◌++◌, refl, sym, ap, ap₂, ◌∙◌, map, filter, flat_map, if◌then◌else◌}
-use Rattle.sorts.specs.SortRules.{SortRule, sort_rules}
+use Rattle.type_rules.specs.SortRules.{SortRule, sort_rules}
 use Rattle.types.specs.Faults.{broken_if}
 
 one : (line : ℕ) (rule : SortRule) (b : Bool) (rest : List SortRule) → map (λ r. (line, r)) (if b then rule ∷ rest else rest) ≡ broken_if b rule line ++ map (λ r. (line, r)) rest

@@ -3,7 +3,7 @@ use Rattle.std.proofs.Common.{◌≡◌, false, Option, Some, None, refl}
 use Rattle.std.specs.Option.{is_some, option_or}
 use Rattle.syntax.specs.Parts.{null_tested}
 use Rattle.syntax.specs.Tree.{Expr, BinaryOp, Binary}
-use Rattle.sorts.specs.Sorts.{Sort, Scope, sort_of, binary_sort, group, null_test_sort}
+use Rattle.type_rules.specs.Sorts.{Sort, Scope, sort_of, binary_sort, group, null_test_sort}
 
 without : (o d : Option Sort) → is_some o ≡ false → option_or o d ≡ d
 without None d e = refl

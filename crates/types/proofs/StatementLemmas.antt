@@ -11,13 +11,13 @@ use Rattle.syntax.specs.Parts.{line_of, own_call, used_names, assigned_name}
 use Rattle.syntax.specs.Tree.{Call, ResultType, Void, Stmt}
 use Rattle.syntax.specs.Views.{form_tree}
 use Rattle.jni.specs.JniFunction.{JniFunction, function_named, is_built_function}
-use Rattle.sorts.specs.Sorts.{Scope, is_unknown}
-use Rattle.sorts.specs.SortRules.{UnknownName, UnknownFunction, sort_rules, breaks_sort_rule}
-use Rattle.sorts.specs.BuiltCalls.{is_built_call, calls_unbuilt, refuses, refused_at}
+use Rattle.type_rules.specs.Sorts.{Scope, is_unknown}
+use Rattle.type_rules.specs.SortRules.{UnknownName, UnknownFunction, sort_rules, breaks_sort_rule}
+use Rattle.type_rules.specs.BuiltCalls.{is_built_call, calls_unbuilt, refuses, refused_at}
 use Rattle.types.specs.Faults.{statement_place, refused_of}
-use Rattle.sorts.specs.Uses.{uses}
+use Rattle.type_rules.specs.Uses.{uses}
 use Rattle.types.proofs.RuleLemmas.{listed}
-use Rattle.sorts.proofs.UseLemmas.{uses_is}
+use Rattle.type_rules.proofs.UseLemmas.{uses_is}
 
 any_of : (p : Identifier → Bool) (o : Option Identifier) → list_any p (option_to_list o) ≡ some_passes p o
 any_of p None = refl

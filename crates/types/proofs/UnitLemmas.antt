@@ -8,9 +8,9 @@ use Rattle.syntax.specs.Parts.{statements_of, statements_within, names_declared,
 use Rattle.syntax.specs.Tree.{ResultType, Stmt, If, IfElse, While, Block, End, Next, Item, StaticItem, FunctionItem, SourceUnit}
 use Rattle.types.specs.declared.fault.TypeFault.{TypeFault}
 use Rattle.types.specs.declared.fault.TypeFault.TheVariants.{Memory, Broken}
-use Rattle.sorts.specs.Sorts.{Sort, Ref, Global, Scope}
-use Rattle.sorts.specs.SortRules.{SortRule, UnknownName, DeclaredTwice, SortMisfit, UnknownFunction, ArgumentCount, ReferenceCopied, BadMode, ReadOnlyWrite, sort_rules, Place, IsSorted, breaks, broken_at, broken, places, places_within, places_of, function_places, item_places, with_declared, parameter_sort}
-use Rattle.sorts.specs.BuiltCalls.{has_unbuilt_call, calls_unbuilt, calls_are_built, refuses, refused_at, refused, first_refused, EarnsSortFault}
+use Rattle.type_rules.specs.Sorts.{Sort, Ref, Global, Scope}
+use Rattle.type_rules.specs.SortRules.{SortRule, UnknownName, DeclaredTwice, SortMisfit, UnknownFunction, ArgumentCount, ReferenceCopied, BadMode, ReadOnlyWrite, sort_rules, Place, IsSorted, breaks, broken_at, broken, places, places_within, places_of, function_places, item_places, with_declared, parameter_sort}
+use Rattle.type_rules.specs.BuiltCalls.{has_unbuilt_call, calls_unbuilt, calls_are_built, refuses, refused_at, refused, first_refused, EarnsSortFault}
 use Rattle.types.specs.Faults.{Faults, Refuses, IfBroken, first, fault_of, rule_of}
 use Rattle.types.proofs.RuleLemmas.{same_refused}
 

@@ -5,8 +5,8 @@ use Rattle.base.specs.Bytes.{Identifier}
 use Rattle.base.specs.Element.{JChar}
 use Rattle.syntax.specs.Tree.{Call, Test, TestExpr, TestCall, Stmt, Declare, DeclareBuffer, DeclareChars, DeclareArray}
 use Rattle.jni.specs.JniFunction.{JniFunction, function_named}
-use Rattle.sorts.specs.Sorts.{Sort, Buffer, Array}
-use Rattle.sorts.specs.SortRules.{variable_sort}
+use Rattle.type_rules.specs.Sorts.{Sort, Buffer, Array}
+use Rattle.type_rules.specs.SortRules.{variable_sort}
 
 -- the function of a call, where there is a call and the table has its name
 abbrev pub function_in : Option Call → Option JniFunction

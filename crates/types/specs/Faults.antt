@@ -2,7 +2,7 @@
 use Rattle.std.specs.Prelude.{◌≡◌, ℕ, Bool, true, false, not, ◌||◌, List, [], ◌∷◌, ◌++◌, map, flat_map, Option, Some, None, Result, Ok, Err}
 use Rattle.std.specs.Option.{is_some}
 use Rattle.base.specs.Bytes.{Identifier, ByName}
-use Rattle.classes.specs.Mangling.{unmangle}
+use Rattle.class_rules.specs.Mangling.{unmangle}
 use Rattle.syntax.specs.declared.unit.Function.{Function as FunctionInMemory}
 use Rattle.syntax.specs.Parts.{line_of, statements_of, names_declared}
 use Rattle.syntax.specs.Tree.{ResultType, Void, Stmt, If, IfElse, While, Item, StaticItem, FunctionItem}
@@ -14,9 +14,9 @@ use Rattle.types.specs.declared.fault.TypeFault.{TypeFault}
 use Rattle.types.specs.declared.fault.TypeFault.TheVariants.{Memory, Broken}
 use Rattle.types.specs.declared.sort.Sort.{Sort as SortInMemory}
 use Rattle.types.specs.declared.sort.Sort.TheVariants as sorts
-use Rattle.sorts.specs.Sorts.{Sort, Word, Jint, Flag, Truth, Ref, Global, FieldId, Buffer, Array, Scope}
-use Rattle.sorts.specs.SortRules.{SortRule, UnknownName, DeclaredTwice, SortMisfit, UnknownFunction, ArgumentCount, ReferenceCopied, BadMode, ReadOnlyWrite, Place, StaticForm, StatementForm, places_of, function_places, has_name, has_repeated, parameter_sort}
-use Rattle.sorts.specs.BuiltCalls.{refuses, refused_at}
+use Rattle.type_rules.specs.Sorts.{Sort, Word, Jint, Flag, Truth, Ref, Global, FieldId, Buffer, Array, Scope}
+use Rattle.type_rules.specs.SortRules.{SortRule, UnknownName, DeclaredTwice, SortMisfit, UnknownFunction, ArgumentCount, ReferenceCopied, BadMode, ReadOnlyWrite, Place, StaticForm, StatementForm, places_of, function_places, has_name, has_repeated, parameter_sort}
+use Rattle.type_rules.specs.BuiltCalls.{refuses, refused_at}
 
 -- the rule of the definitions
 abbrev pub rule_of : RuleInMemory → SortRule

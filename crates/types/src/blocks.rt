@@ -3,15 +3,15 @@
 ghost use Rattle.std.specs.Prelude.{◌≡◌, ℕ, [], ◌∷◌, ◌++◌, OnOk};
 ghost use Rattle.syntax.specs.Parts.{statements_of, statements_within, names_declared};
 ghost use Rattle.syntax.specs.Views.{form_tree, block_tree, result_tree};
-ghost use Rattle.sorts.specs.SortRules.{places_of, with_declared};
+ghost use Rattle.type_rules.specs.SortRules.{places_of, with_declared};
 ghost use Rattle.types.specs.Faults.{Finds, IsAbove, scope_of, found, places_inside};
 
 use crate::fault::TypeFault;
 use crate::scope::take;
 use crate::sort::Sort;
 use crate::statements::{check_statement, declared};
-use sorts::Known;
 use syntax::{Block, Form, Name, ResultType};
+use type_rules::Known;
 
 /// The name that a statement declares is known and taken.
 fn declare<'a>(

@@ -2,7 +2,7 @@
 
 ghost use Rattle.std.specs.Prelude.{◌≡◌};
 ghost use Rattle.types.specs.declared.fault.TypeFault.TheVariants.{Memory};
-ghost use Rattle.sorts.specs.SortRules.{sort_rule_number};
+ghost use Rattle.type_rules.specs.SortRules.{sort_rule_number};
 ghost use Rattle.types.specs.Faults.{rule_of, Finds, broken_if};
 
 use std::alloc::{AllocError, AllocFailed};

@@ -12,5 +12,5 @@ mod statements;
 mod typed;
 
 pub use fault::{Fault, SortRule, TypeFault};
-pub use sorts::Typed;
+pub use type_rules::Typed;
 pub use typed::type_unit;

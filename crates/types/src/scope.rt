@@ -2,15 +2,15 @@
 
 ghost use Rattle.std.specs.Prelude.{◌≡◌, [], ◌∷◌, ◌++◌, OnOk, map, bytes_eq};
 ghost use Rattle.std.specs.Option.{option_map};
-ghost use Rattle.sorts.specs.Sorts.{sort_in, is_unknown};
-ghost use Rattle.sorts.specs.SortRules.{has_name, has_repeated, parameter_sort};
+ghost use Rattle.type_rules.specs.Sorts.{sort_in, is_unknown};
+ghost use Rattle.type_rules.specs.SortRules.{has_name, has_repeated, parameter_sort};
 ghost use Rattle.syntax.specs.Views.{parameter_type_tree};
 ghost use Rattle.types.specs.Faults.{IsAbove, scope_of, sort_value, entry_scope};
 
 use crate::sort::{Sort, parameter_sort};
-use sorts::Known;
 use std::alloc::AllocError;
 use syntax::{Function, Name, Parameter};
+use type_rules::Known;
 
 /// Whether two names are spelled alike.
 fn is_same(a: &Name, b: &Name) -> bool

@@ -3,8 +3,8 @@
 ghost use Rattle.std.specs.Prelude.{◌≡◌};
 ghost use Rattle.std.specs.Option.{option_map};
 ghost use Rattle.syntax.specs.Views.{element_tree, variable_type_tree, parameter_type_tree};
-ghost use Rattle.sorts.specs.Sorts.{is_word, is_jint, is_flag, is_truth, is_ref, is_global, is_field, is_index, is_castable, has_elements, is_nullable, is_array_of, is_buffer_for, is_read_only};
-ghost use Rattle.sorts.specs.SortRules.{variable_sort, parameter_sort};
+ghost use Rattle.type_rules.specs.Sorts.{is_word, is_jint, is_flag, is_truth, is_ref, is_global, is_field, is_index, is_castable, has_elements, is_nullable, is_array_of, is_buffer_for, is_read_only};
+ghost use Rattle.type_rules.specs.SortRules.{variable_sort, parameter_sort};
 ghost use Rattle.jni.specs.Table.{access_value};
 ghost use Rattle.types.specs.Faults.{sort_value};
 

@@ -9,12 +9,12 @@ ghost use Rattle.syntax.specs.Tree.{Void};
 ghost use Rattle.syntax.specs.Views.{expr_tree, right_side_tree, test_tree, form_tree, stmt_tree, result_tree};
 ghost use Rattle.jni.specs.JniFunction.{function_named};
 ghost use Rattle.jni.specs.Table.{function_value};
-ghost use Rattle.sorts.specs.Sorts.{sort_in, is_unknown, sort_of, has_elements, is_index, is_jint, call_arguments_fit};
-ghost use Rattle.sorts.specs.SortRules.{is_formed, value_sets, right_side_sets, buffer_begins, test_fits, return_fits, statement_fits, copies_reference, sort_rules, UnknownName, DeclaredTwice, SortMisfit, UnknownFunction, ArgumentCount, ReferenceCopied, BadMode, ReadOnlyWrite, breaks_sort_rule};
-ghost use Rattle.sorts.specs.BuiltCalls.{calls_unbuilt, refused_at};
+ghost use Rattle.type_rules.specs.Sorts.{sort_in, is_unknown, sort_of, has_elements, is_index, is_jint, call_arguments_fit};
+ghost use Rattle.type_rules.specs.SortRules.{is_formed, value_sets, right_side_sets, buffer_begins, test_fits, return_fits, statement_fits, copies_reference, sort_rules, UnknownName, DeclaredTwice, SortMisfit, UnknownFunction, ArgumentCount, ReferenceCopied, BadMode, ReadOnlyWrite, breaks_sort_rule};
+ghost use Rattle.type_rules.specs.BuiltCalls.{calls_unbuilt, refused_at};
 ghost use Rattle.types.specs.Called.{function_in, call_of_test, declared};
 ghost use Rattle.types.specs.Faults.{scope_of, sort_value, Finds, statement_place, refused_of};
-ghost use Rattle.sorts.specs.Uses.{right_uses, test_uses, uses};
+ghost use Rattle.type_rules.specs.Uses.{right_uses, test_uses, uses};
 
 use crate::calls::{
     call_arguments_fit, call_fits, call_formed, call_unknown, has_wrong_count, has_wrong_mode,
@@ -28,8 +28,8 @@ use crate::sort::{
     variable_sort,
 };
 use jni::{JniFunction, function_named};
-use sorts::{Known, own_call};
 use syntax::{Call, ElementType, Expr, Form, Name, ResultType, RightSide, Stmt, Test};
+use type_rules::{Known, own_call};
 
 /// The function that a statement calls, if it is known.
 fn function_called(form: &Form) -> Option<JniFunction>

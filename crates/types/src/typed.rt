@@ -2,15 +2,15 @@
 
 ghost use Rattle.std.specs.Prelude.{◌≡◌, IfOk, IfErr, IsOkUnless, IsTrue, Some};
 ghost use Rattle.syntax.specs.Views.{unit_tree};
-ghost use Rattle.sorts.specs.SortRules.{IsSorted};
-ghost use Rattle.sorts.specs.BuiltCalls.{calls_are_built, refused, first_refused, EarnsSortFault};
+ghost use Rattle.type_rules.specs.SortRules.{IsSorted};
+ghost use Rattle.type_rules.specs.BuiltCalls.{calls_are_built, refused, first_refused, EarnsSortFault};
 ghost use Rattle.types.specs.Faults.{Finds, IfBroken, fault_of, rule_of};
 
 use crate::fault::TypeFault;
 use crate::items::check_items;
-use sorts::{Known, Typed};
 use std::alloc::Global;
 use syntax::Unit;
+use type_rules::{Known, Typed};
 
 fn check_unit(alloc: Global, unit: &Unit) -> Result<(), TypeFault>
     ensures { Finds result (refused (unit_tree unit.now)) }

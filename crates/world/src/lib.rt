@@ -1,9 +1,13 @@
-//! Worlds in memory: the heap's size, the classes, the objects, and what each thread calls.
+//! Reading the texts of worlds.
 #![tactic(auto)]
 
-mod object;
-mod world;
+mod additions;
+mod builder;
+mod laws;
+mod names;
+mod next_line;
+mod rules;
+mod text;
 
-pub use object::Object;
-pub use source::ObjectValue;
-pub use world::{Call, World};
+pub use laws::{texts_mean_one_world, worlds_are_read};
+pub use text::read_world;

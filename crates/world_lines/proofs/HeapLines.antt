@@ -4,13 +4,13 @@ use Rattle.std.specs.Prelude.{codes, decimal, ◌==◌, bytes_eq}
 use Rattle.std.specs.Option.{option_map}
 use Rattle.std.proofs.lemmas.Bool.{and_from}
 use Rattle.std.proofs.lemmas.Fmt.{first_decimal}
-use Rattle.texts.specs.Numbers.{natural_of}
-use Rattle.texts.specs.Split.{parts_of}
+use Rattle.world_schedules.specs.Numbers.{natural_of}
+use Rattle.world_schedules.specs.Split.{parts_of}
 use Rattle.world_lines.specs.ReadingLines.{below_zero, cells_named, heap_by_words, heap_of_line}
-use Rattle.world.specs.WorldLines.{has_no_space, spaced}
+use Rattle.world_values.specs.WorldLines.{has_no_space, spaced}
 use Rattle.base.specs.Bytes.{is_some_byte}
-use Rattle.texts.proofs.MeantSchedules.{natural_of-decimal}
-use Rattle.texts.proofs.ScheduleLaws.{decimal-natural_of}
+use Rattle.world_schedules.proofs.MeantSchedules.{natural_of-decimal}
+use Rattle.world_schedules.proofs.ScheduleLaws.{decimal-natural_of}
 use Rattle.world_lines.proofs.LineWords.{spaced_parts, parts_spaced}
 use Rattle.world_lines.proofs.ReadValues.{decimal_word}
 use Rattle.world_lines.proofs.Tests.{both, mapped, same_bytes, later_number}

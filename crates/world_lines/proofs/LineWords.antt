@@ -5,8 +5,8 @@ use Rattle.std.specs.List.{list_all, onto_first}
 use Rattle.std.proofs.lemmas.Bool.{and_from}
 use Rattle.std.proofs.lemmas.List.Splits.{join_with_byte-slice_split}
 use Rattle.base.specs.Bytes.{is_some_byte}
-use Rattle.texts.specs.Split.{parts_of}
-use Rattle.world.specs.WorldLines.{has_no_space, is_line_word, spaced}
+use Rattle.world_schedules.specs.Split.{parts_of}
+use Rattle.world_values.specs.WorldLines.{has_no_space, is_line_word, spaced}
 use Rattle.world_lines.proofs.Tests.{both, not_true}
 
 -- a word is one part

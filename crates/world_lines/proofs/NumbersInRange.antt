@@ -6,10 +6,10 @@ use Rattle.std.proofs.Math.ListN.{drop_of_length-le}
 use Rattle.std.proofs.lemmas.List.{drop_more}
 use Rattle.std.proofs.lemmas.List.Folds.{list_all-map}
 use Rattle.base.specs.Element.{JInt}
-use Rattle.classes.specs.Class.{FieldType, NumberField, ReferenceField}
+use Rattle.class_rules.specs.Class.{FieldType, NumberField, ReferenceField}
 use Rattle.world_lines.specs.ClassRules.{is_place_in_range}
-use Rattle.world.specs.WorldLines.{WorldValue}
-use Rattle.world.specs.WorldRules.{value_in_range, each_in_range}
+use Rattle.world_values.specs.WorldLines.{WorldValue}
+use Rattle.world_values.specs.WorldRules.{value_in_range, each_in_range}
 
 no_numbers : (types : List FieldType) → each_in_range types [] ≡ true
 no_numbers [] = refl

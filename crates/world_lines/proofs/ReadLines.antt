@@ -6,11 +6,11 @@ use Rattle.std.specs.List.{list_all}
 use Rattle.std.proofs.lemmas.Bool.{and_from}
 use Rattle.base.specs.Bytes.{is_some_byte}
 use Rattle.base.specs.Element.{JInt}
-use Rattle.texts.specs.Split.{parts_of}
+use Rattle.world_schedules.specs.Split.{parts_of}
 use Rattle.world_lines.specs.LineContents.{written_values}
 use Rattle.world_lines.specs.ReadingLines.{string_by_words, object_line, array_line, words_by_kind, line_by_words, line_of}
-use Rattle.world.specs.WorldLines.{WorldValue, WorldLine, ClassLine, FieldLine, StaticLine, ObjectLine, ObjectsLine, ArrayLine, StringLine, ThreadLine, CallLine, has_no_space, is_line_word, is_value_word, has_words, spaced, at_name, value_text, element_letter, line_text, IsLineText}
-use Rattle.world.specs.WorldRules.{value_in_range}
+use Rattle.world_values.specs.WorldLines.{WorldValue, WorldLine, ClassLine, FieldLine, StaticLine, ObjectLine, ObjectsLine, ArrayLine, StringLine, ThreadLine, CallLine, has_no_space, is_line_word, is_value_word, has_words, spaced, at_name, value_text, element_letter, line_text, IsLineText}
+use Rattle.world_values.specs.WorldRules.{value_in_range}
 use Rattle.world_lines.proofs.LineWords.{first_part, spaced_parts, parts_spaced, words_some, words_free}
 use Rattle.world_lines.proofs.ReadValues.{value_words, values_read, element_read, element_word}
 use Rattle.world_lines.proofs.Tests.{both}

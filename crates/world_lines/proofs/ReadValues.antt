@@ -11,13 +11,13 @@ use Rattle.std.proofs.lemmas.Fmt.{decimal_nonempty, digits_decimal}
 use Rattle.std.proofs.lemmas.Str.Parse.{numerals_by_value, tells_all_ascii_digits}
 use Rattle.base.specs.Bytes.{is_some_byte}
 use Rattle.base.specs.Element.{ElementType, JInt, JShort, JByte, JChar}
-use Rattle.texts.specs.Numbers.{natural_of}
-use Rattle.texts.specs.ReadingWords.{with_word}
+use Rattle.world_schedules.specs.Numbers.{natural_of}
+use Rattle.world_schedules.specs.ReadingWords.{with_word}
 use Rattle.world_lines.specs.ReadingValues.{value_named, values_named, element_named}
-use Rattle.world.specs.WorldLines.{WorldValue, NumberValue, NullValue, NamedObject, NamedClass, has_no_space, is_line_word, is_value_word, value_text, element_letter}
-use Rattle.world.specs.WorldRules.{is_in_range, value_in_range}
-use Rattle.texts.proofs.MeantSchedules.{natural_of-decimal}
-use Rattle.texts.proofs.ScheduleLaws.{decimal-natural_of}
+use Rattle.world_values.specs.WorldLines.{WorldValue, NumberValue, NullValue, NamedObject, NamedClass, has_no_space, is_line_word, is_value_word, value_text, element_letter}
+use Rattle.world_values.specs.WorldRules.{is_in_range, value_in_range}
+use Rattle.world_schedules.proofs.MeantSchedules.{natural_of-decimal}
+use Rattle.world_schedules.proofs.ScheduleLaws.{decimal-natural_of}
 use Rattle.world_lines.proofs.Tests.{both, at_most, less}
 
 -- ---- numbers

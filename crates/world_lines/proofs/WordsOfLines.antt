@@ -8,10 +8,10 @@ use Rattle.std.proofs.lemmas.List.{take_all}
 use Rattle.std.proofs.lemmas.List.Folds.{list_all-map}
 use Rattle.std.proofs.lemmas.List.Splits.{join_with_byte-slice_split}
 use Rattle.base.specs.Bytes.{is_some_byte}
-use Rattle.texts.specs.Split.{parts_of}
+use Rattle.world_schedules.specs.Split.{parts_of}
 use Rattle.world_lines.specs.ReadingValues.{object_named}
 use Rattle.world_lines.specs.ReadingLines.{heap_by_words, string_by_words, words_by_kind, line_by_words, line_of}
-use Rattle.world.specs.WorldLines.{StringLine, spaced}
+use Rattle.world_values.specs.WorldLines.{StringLine, spaced}
 
 -- ---- the text of a string
 

@@ -5,11 +5,11 @@ use Rattle.std.specs.List.{list_all}
 use Rattle.std.proofs.lemmas.Bool.{and_from}
 use Rattle.base.specs.Bytes.{Identifier, is_some_byte}
 use Rattle.base.specs.Element.{ElementType, JInt}
-use Rattle.texts.specs.Split.{parts_of}
+use Rattle.world_schedules.specs.Split.{parts_of}
 use Rattle.world_lines.specs.ReadingLines.{class_by_words, field_by_words, object_line, object_by_words, array_line, array_by_words, string_by_words, call_by_words, words_by_kind, line_by_words, line_of}
 use Rattle.world_lines.specs.ReadingValues.{object_named, values_named, element_named}
-use Rattle.world.specs.WorldLines.{WorldValue, WorldLine, ClassLine, FieldLine, StaticLine, ObjectLine, ObjectsLine, ArrayLine, StringLine, ThreadLine, CallLine, has_no_space, is_line_word, is_value_word, spaced, at_name, value_text, line_text, IsBareString, IsLineText}
-use Rattle.world.specs.WorldRules.{value_in_range}
+use Rattle.world_values.specs.WorldLines.{WorldValue, WorldLine, ClassLine, FieldLine, StaticLine, ObjectLine, ObjectsLine, ArrayLine, StringLine, ThreadLine, CallLine, has_no_space, is_line_word, is_value_word, spaced, at_name, value_text, line_text, IsBareString, IsLineText}
+use Rattle.world_values.specs.WorldRules.{value_in_range}
 use Rattle.world_lines.proofs.LineWords.{parts_spaced, parts_free, are_words}
 use Rattle.world_lines.specs.LineContents.{written_values}
 use Rattle.world_lines.proofs.Tests.{both, mapped, same_bytes}

@@ -10,11 +10,11 @@ use Rattle.std.proofs.lemmas.Bool.Decides.{nat_tests}
 use Rattle.std.proofs.lemmas.List.{take-append-drop}
 use Rattle.base.specs.Bytes.{Identifier}
 use Rattle.base.specs.Element.{ElementType, JInt, JShort, JByte, JChar}
-use Rattle.texts.specs.Numbers.{natural_of, negated, number_named}
+use Rattle.world_schedules.specs.Numbers.{natural_of, negated, number_named}
 use Rattle.world_lines.specs.ReadingValues.{object_named, plain_value, value_named, values_named, element_named}
-use Rattle.world.specs.WorldLines.{WorldValue, NumberValue, NullValue, NamedObject, NamedClass, has_no_space, is_value_word, at_name, value_text, element_letter}
-use Rattle.world.specs.WorldRules.{is_in_range, value_in_range}
-use Rattle.texts.proofs.ScheduleLaws.{guarded, some_with, decimal-natural_of}
+use Rattle.world_values.specs.WorldLines.{WorldValue, NumberValue, NullValue, NamedObject, NamedClass, has_no_space, is_value_word, at_name, value_text, element_letter}
+use Rattle.world_values.specs.WorldRules.{is_in_range, value_in_range}
+use Rattle.world_schedules.proofs.ScheduleLaws.{guarded, some_with, decimal-natural_of}
 use Rattle.world_lines.proofs.Tests.{both, mapped, same_number, same_bytes}
 
 -- ---- numbers

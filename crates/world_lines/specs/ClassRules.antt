@@ -2,11 +2,11 @@
 use Rattle.std.specs.Prelude.{Bool, true, ◌&&◌, Option, Some, None}
 use Rattle.std.specs.List.{list_all}
 use Rattle.base.specs.Element.{JInt}
-use Rattle.classes.specs.Additions.{ClassRule}
-use Rattle.classes.specs.Class.{FieldType, NumberField, ReferenceField, Classes}
-use Rattle.class_table.specs.Refusals.{first_broken}
-use Rattle.world.specs.WorldLines.{WorldValue, WorldLine}
-use Rattle.world.specs.WorldRules.{is_formed_value, is_well_formed, value_in_range, breaks_class_rule}
+use Rattle.class_rules.specs.Additions.{ClassRule}
+use Rattle.class_rules.specs.Class.{FieldType, NumberField, ReferenceField, Classes}
+use Rattle.classes.specs.Refusals.{first_broken}
+use Rattle.world_values.specs.WorldLines.{WorldValue, WorldLine}
+use Rattle.world_values.specs.WorldRules.{is_formed_value, is_well_formed, value_in_range, breaks_class_rule}
 use Rattle.world_lines.specs.LineContents.{written_values}
 
 -- the least rule on classes and fields that it breaks

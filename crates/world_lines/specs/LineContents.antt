@@ -1,8 +1,8 @@
 -- What a line says by itself, as the rules on it ask for it.
 use Rattle.std.specs.Prelude.{ℕ, Bool, true, false, List, [], length, Option, Some, None}
 use Rattle.base.specs.Bytes.{Identifier}
-use Rattle.source.specs.Object.{object_size}
-use Rattle.world.specs.WorldLines.{WorldValue, NumberValue, WorldLine, ClassLine, StaticLine, ObjectLine, ObjectsLine, ArrayLine, StringLine, ThreadLine, CallLine}
+use Rattle.semantics.specs.Object.{object_size}
+use Rattle.world_values.specs.WorldLines.{WorldValue, NumberValue, WorldLine, ClassLine, StaticLine, ObjectLine, ObjectsLine, ArrayLine, StringLine, ThreadLine, CallLine}
 
 -- the values that it writes; a string writes none
 abbrev pub written_values : WorldLine → List WorldValue

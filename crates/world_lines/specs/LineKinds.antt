@@ -1,6 +1,6 @@
 -- The lines of objects and of calls by their first word, as the reader asks for one kind after another.
 use Rattle.std.specs.Prelude.{ℕ, List, Option, None, codes, bytes_eq, if◌then◌else◌}
-use Rattle.world.specs.WorldLines.{WorldLine, ObjectLine, ObjectsLine, ThreadLine, CallLine}
+use Rattle.world_values.specs.WorldLines.{WorldLine, ObjectLine, ObjectsLine, ThreadLine, CallLine}
 use Rattle.world_lines.specs.ReadingLines.{object_by_words, array_by_words, call_by_words}
 
 -- a call's line of this first word

@@ -1,12 +1,12 @@
 -- The lines of a world, as they are held in memory.
 use Rattle.std.specs.Prelude.{map}
 use Rattle.std.specs.Option.{option_map}
-use Rattle.class_table.specs.Views.{element_view}
+use Rattle.classes.specs.Views.{element_view}
 use Rattle.world_lines.specs.declared.value.Value.{Value}
 use Rattle.world_lines.specs.declared.value.Value.TheVariants as values
 use Rattle.world_lines.specs.declared.line.Line.{Line}
 use Rattle.world_lines.specs.declared.line.Line.TheVariants as lines
-use Rattle.world.specs.WorldLines.{WorldValue, NumberValue, NullValue, NamedObject, NamedClass, WorldLine, ClassLine, FieldLine, StaticLine, ObjectLine, ObjectsLine, ArrayLine, StringLine, ThreadLine, CallLine}
+use Rattle.world_values.specs.WorldLines.{WorldValue, NumberValue, NullValue, NamedObject, NamedClass, WorldLine, ClassLine, FieldLine, StaticLine, ObjectLine, ObjectsLine, ArrayLine, StringLine, ThreadLine, CallLine}
 
 -- a value
 abbrev pub value_view : Value → WorldValue

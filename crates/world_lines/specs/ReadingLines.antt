@@ -4,10 +4,10 @@ use Rattle.std.specs.Option.{option_map}
 use Rattle.std.specs.List.{list_all}
 use Rattle.base.specs.Bytes.{Identifier, is_some_byte}
 use Rattle.base.specs.Element.{ElementType}
-use Rattle.texts.specs.Numbers.{natural_of}
-use Rattle.texts.specs.Split.{parts_of}
+use Rattle.world_schedules.specs.Numbers.{natural_of}
+use Rattle.world_schedules.specs.Split.{parts_of}
 use Rattle.world_lines.specs.ReadingValues.{object_named, values_named, element_named}
-use Rattle.world.specs.WorldLines.{WorldValue, WorldLine, ClassLine, FieldLine, StaticLine, ObjectLine, ObjectsLine, ArrayLine, StringLine, ThreadLine, CallLine, spaced}
+use Rattle.world_values.specs.WorldLines.{WorldValue, WorldLine, ClassLine, FieldLine, StaticLine, ObjectLine, ObjectsLine, ArrayLine, StringLine, ThreadLine, CallLine, spaced}
 
 -- ---- the heap
 

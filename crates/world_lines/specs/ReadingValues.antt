@@ -3,9 +3,9 @@ use Rattle.std.specs.Prelude.{ℕ, List, [], ◌∷◌, take, drop, codes, ◌==
 use Rattle.std.specs.Option.{option_map}
 use Rattle.base.specs.Bytes.{Identifier}
 use Rattle.base.specs.Element.{ElementType, JInt, JShort, JByte, JChar}
-use Rattle.texts.specs.Numbers.{number_named}
-use Rattle.texts.specs.ReadingWords.{with_word}
-use Rattle.world.specs.WorldLines.{WorldValue, NumberValue, NullValue, NamedObject, NamedClass}
+use Rattle.world_schedules.specs.Numbers.{number_named}
+use Rattle.world_schedules.specs.ReadingWords.{with_word}
+use Rattle.world_values.specs.WorldLines.{WorldValue, NumberValue, NullValue, NamedObject, NamedClass}
 
 -- what is after the `@` of the name of an object
 abbrev pub object_named : List ℕ → Option Identifier

@@ -4,7 +4,7 @@ ghost use Rattle.std.specs.Prelude.{◌≡◌, map};
 ghost use Rattle.std.specs.Option.{option_map};
 ghost use Rattle.world_lines.specs.LineContents.{written_values, name_given, cells_added};
 ghost use Rattle.world_lines.specs.LineViews.{value_view, line_view};
-ghost use Rattle.world.specs.WorldRules.{part_of, is_call_line};
+ghost use Rattle.world_values.specs.WorldRules.{part_of, is_call_line};
 
 use crate::line::Line;
 use crate::value::Value;

@@ -3,10 +3,10 @@
 ghost use Rattle.std.specs.Prelude.{◌≡◌, ◌&&◌};
 ghost use Rattle.std.specs.List.{list_all};
 ghost use Rattle.base.specs.Bytes.{is_from_to};
-ghost use Rattle.classes.specs.Mangling.{is_simple_name};
+ghost use Rattle.class_rules.specs.Mangling.{is_simple_name};
 ghost use Rattle.world_lines.specs.LineContents.{written_values};
 ghost use Rattle.world_lines.specs.LineViews.{value_view, line_view};
-ghost use Rattle.world.specs.WorldRules.{is_formed_value};
+ghost use Rattle.world_values.specs.WorldRules.{is_formed_value};
 
 use crate::contents::values_of;
 use crate::line::Line;

@@ -1,12 +1,12 @@
 //! The line of the heap, by its words.
 
 ghost use Rattle.std.specs.Prelude.{◌≡◌, IfOk, map};
-ghost use Rattle.texts.specs.Numbers.{natural_of};
+ghost use Rattle.world_schedules.specs.Numbers.{natural_of};
 ghost use Rattle.world_lines.specs.ReadingLines.{below_zero, cells_named, heap_by_words, heap_of_line};
 
 use crate::line::split_words;
 use std::alloc::{AllocError, Global};
-use texts::natural;
+use world_schedules::natural;
 
 /// The number below 0 that the digits spell, as a number of cells; none where it isn't below 0.
 fn below_zero(digits: &[u8]) -> Option<u64>

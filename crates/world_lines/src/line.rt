@@ -4,16 +4,16 @@ ghost use Rattle.std.specs.Prelude.{◌≡◌, ◌∷◌, IfOk, map, drop, if◌
 ghost use Rattle.std.specs.Option.{option_map};
 ghost use Rattle.std.specs.List.{list_all};
 ghost use Rattle.base.specs.Bytes.{is_some_byte};
-ghost use Rattle.texts.specs.Split.{parts_of};
+ghost use Rattle.world_schedules.specs.Split.{parts_of};
 ghost use Rattle.world_lines.specs.LineViews.{line_view};
 ghost use Rattle.world_lines.specs.LineKinds.{calls_by_kind, objects_by_kind};
 ghost use Rattle.world_lines.specs.ReadingLines.{class_by_words, field_by_words, object_by_words, array_by_words, call_by_words, string_by_words, words_by_kind, line_by_words, line_of};
-ghost use Rattle.world.specs.WorldLines.{FieldLine as DeclaredField, StaticLine, ObjectLine as WrittenObject, ObjectsLine, ThreadLine, CallLine as FurtherCall};
+ghost use Rattle.world_values.specs.WorldLines.{FieldLine as DeclaredField, StaticLine, ObjectLine as WrittenObject, ObjectsLine, ThreadLine, CallLine as FurtherCall};
 
 use crate::value::{Value, object_name, read_element, read_values};
-use class_table::class::ElementType;
+use classes::class::ElementType;
 use std::alloc::{AllocError, Global};
-use texts::Split;
+use world_schedules::Split;
 
 /// A field or static of a class.
 #[derive(Clone, Copy)]

@@ -2,13 +2,13 @@
 
 ghost use Rattle.std.specs.Prelude.{◌≡◌};
 ghost use Rattle.std.specs.List.{list_all};
-ghost use Rattle.class_table.specs.Views.{element_view};
+ghost use Rattle.classes.specs.Views.{element_view};
 ghost use Rattle.world_lines.specs.LineContents.{is_number};
 ghost use Rattle.world_lines.specs.LineViews.{value_view};
-ghost use Rattle.world.specs.WorldRules.{is_in_range, value_in_range};
+ghost use Rattle.world_values.specs.WorldRules.{is_in_range, value_in_range};
 
 use crate::value::Value;
-use class_table::class::ElementType;
+use classes::class::ElementType;
 
 /// Whether a value is a number.
 pub fn is_number(value: Value) -> bool

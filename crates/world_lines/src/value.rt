@@ -2,13 +2,13 @@
 
 ghost use Rattle.std.specs.Prelude.{◌≡◌, IfOk, map};
 ghost use Rattle.std.specs.Option.{option_map};
-ghost use Rattle.class_table.specs.Views.{element_view};
+ghost use Rattle.classes.specs.Views.{element_view};
 ghost use Rattle.world_lines.specs.ReadingValues.{object_named, plain_value, value_named, values_named, element_named};
 ghost use Rattle.world_lines.specs.LineViews.{value_view};
 
-use class_table::class::ElementType;
+use classes::class::ElementType;
 use std::alloc::{AllocError, Global};
-use texts::integer;
+use world_schedules::integer;
 
 /// A value.
 #[derive(Clone, Copy)]

@@ -3,10 +3,10 @@
 ghost use Rattle.std.specs.Prelude.{◌≡◌};
 ghost use Rattle.std.specs.List.{list_all};
 ghost use Rattle.base.specs.Bytes.{is_letter, is_name_part};
-ghost use Rattle.classes.specs.Mangling.{is_simple_name, is_class_name};
-ghost use Rattle.texts.specs.Split.{parts_left};
+ghost use Rattle.class_rules.specs.Mangling.{is_simple_name, is_class_name};
+ghost use Rattle.world_schedules.specs.Split.{parts_left};
 
-use texts::Split;
+use world_schedules::Split;
 
 fn is_letter(byte: u8) -> bool
     ensures { result ≡ is_letter byte }

@@ -5,7 +5,7 @@ use Rattle.syntax.specs.Views.{stmt_tree, statements_tree, result_tree}
 use Rattle.syntax.specs.declared.stmt.Stmt.{Stmt as StmtInMemory}
 use Rattle.syntax.specs.declared.stmt.Block.{out-Block}
 use Rattle.syntax.proofs.Blocks.{block_is}
-use Rattle.lowered.specs.Length.{block_steps, stmt_steps}
+use Rattle.code_meaning.specs.Length.{block_steps, stmt_steps}
 use Rattle.lower.proofs.Left.{some_by, none_by}
 use Rattle.lower.proofs.length.+statements.Goals as goal
 

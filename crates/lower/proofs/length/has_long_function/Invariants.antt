@@ -1,7 +1,7 @@
 use Rattle.std.proofs.Common.{◌≡◌, drop, map}
 use Rattle.std.specs.List.{list_any}
 use Rattle.syntax.specs.Views.{item_tree}
-use Rattle.lowered.specs.Length.{is_long}
+use Rattle.code_meaning.specs.Length.{is_long}
 use Rattle.lower.proofs.length.has_long_function.Given as goal
 
 abbrev pub invariant-loop-item : goal.invariant-loop-item

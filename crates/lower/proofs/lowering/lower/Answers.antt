@@ -1,8 +1,8 @@
 use Rattle.std.proofs.Common.{◌≡◌, ◌+◌, List, [], Result, Err, map, drop, sym, ap, subst}
 use Rattle.syntax.specs.declared.unit.Item.{Item as ItemInMemory}
 use Rattle.syntax.specs.Views.{item_tree, unit_tree}
-use Rattle.lowered.specs.Length.{IsTooLong}
-use Rattle.lowered.specs.Lowered.{AreCodesOf}
+use Rattle.code_meaning.specs.Length.{IsTooLong}
+use Rattle.code_meaning.specs.Lowered.{AreCodesOf}
 use Rattle.lower.proofs.AcceptedFacts.{accepted_fits}
 use Rattle.lower.proofs.ItemSteps.{AreLeft, none_done, item_fits, item_done, item_long, none_long, all_done, next_item, last_item}
 use Rattle.lower.proofs.lowering.lower.Goals as goal

@@ -5,10 +5,10 @@ use Rattle.code.specs.declared.instr.Instr.{Instr}
 use Rattle.code.specs.declared.instr.Instr.TheVariants as instr
 use Rattle.code.specs.declared.slots.SlotCounts.{SlotCounts}
 use Rattle.code.specs.Depth.{IsValid}
-use Rattle.lowered.specs.Layout.{Known, entry_layout, function_slots}
-use Rattle.lowered.specs.Coding.{block_code, function_code}
-use Rattle.lowered.specs.Length.{function_steps, step_limit}
-use Rattle.lowered.specs.Lowered.{IsCodeOf}
+use Rattle.code_meaning.specs.Layout.{Known, entry_layout, function_slots}
+use Rattle.code_meaning.specs.Coding.{block_code, function_code}
+use Rattle.code_meaning.specs.Length.{function_steps, step_limit}
+use Rattle.code_meaning.specs.Lowered.{IsCodeOf}
 use Rattle.lower.proofs.Functions.{listing_of, function_valid, is_code_of}
 use Rattle.lower.proofs.lowering.lower_function.Goals as goal
 

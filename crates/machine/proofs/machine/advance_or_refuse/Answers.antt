@@ -1,15 +1,15 @@
 use Rattle.std.proofs.Common.{◌≡◌, ℕ, true, false, length, sym, subst, arith}
-use Rattle.source.specs.Thread.{BuffersInUse}
-use Rattle.source.specs.World.{World, loaded_objects}
-use Rattle.lowered.specs.Lowered.{Lowered}
-use Rattle.execution.specs.declared.advance.Advanced.{Advanced}
-use Rattle.execution.specs.declared.fault.StepFault.{StepFault}
-use Rattle.execution.specs.declared.fault.StepFault.TheVariants.{Memory, NoRoom}
-use Rattle.execution.specs.declared.thread.Thread.{Thread}
-use Rattle.execution.specs.Executes.{IsHindered}
-use Rattle.execution.specs.ThreadAgrees.{ThreadAgrees}
-use Rattle.jni_calls.specs.declared.store.Store.{Store}
-use Rattle.jni_calls.specs.StoreAgrees.{StoreAgrees}
+use Rattle.semantics.specs.Thread.{BuffersInUse}
+use Rattle.semantics.specs.World.{World, loaded_objects}
+use Rattle.code_meaning.specs.Lowered.{Lowered}
+use Rattle.machine_steps.specs.declared.advance.Advanced.{Advanced}
+use Rattle.machine_steps.specs.declared.fault.StepFault.{StepFault}
+use Rattle.machine_steps.specs.declared.fault.StepFault.TheVariants.{Memory, NoRoom}
+use Rattle.machine_steps.specs.declared.thread.Thread.{Thread}
+use Rattle.machine_steps.specs.Executes.{IsHindered}
+use Rattle.machine_steps.specs.ThreadAgrees.{ThreadAgrees}
+use Rattle.machine_calls.specs.declared.store.Store.{Store}
+use Rattle.machine_calls.specs.StoreAgrees.{StoreAgrees}
 use Rattle.machine.specs.Run.{AdvancesAlways}
 use Rattle.machine.proofs.machine.advance_or_refuse.Goals as goal
 

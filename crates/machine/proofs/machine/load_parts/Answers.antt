@@ -1,23 +1,23 @@
-use Rattle.sorts.specs.SortRules.{IsSorted}
+use Rattle.type_rules.specs.SortRules.{IsSorted}
 use Rattle.region_rules.specs.Regions.{HasRegions}
 use Rattle.machine.proofs.SafeLoads.{all_load, all_have_calls}
 use Rattle.std.proofs.Common.{◌≡◌, ℕ, List, [], Option, length, replicate, refl, sym, ap, ◌∙◌, subst, arith}
 use Rattle.syntax.specs.Views.{unit_tree}
-use Rattle.source.specs.Start.{start, waiting_thread}
-use Rattle.source.specs.World.{loaded_objects}
-use Rattle.world.proofs.LoadedWorlds.{few_loaded}
+use Rattle.semantics.specs.Start.{start, waiting_thread}
+use Rattle.semantics.specs.World.{loaded_objects}
+use Rattle.world_values.proofs.LoadedWorlds.{few_loaded}
 use Rattle.std.proofs.lemmas.List.{length-map}
-use Rattle.jni_calls.proofs.Classed.{classed_loaded}
-use Rattle.execution.proofs.ThreadLoads.{agree_length}
+use Rattle.machine_calls.proofs.Classed.{classed_loaded}
+use Rattle.machine_steps.proofs.ThreadLoads.{agree_length}
 use Rattle.syntax.specs.Parts.{statics_of}
 use Rattle.syntax.specs.declared.unit.Item.{Item}
-use Rattle.jni_calls.specs.StoreAgrees.{StaticsAgree}
-use Rattle.jni_calls.specs.HeapAgrees.{SlotsAgree}
-use Rattle.safety.specs.Owners.{AllOwners, owners_after}
-use Rattle.jni_calls.specs.Statics.{HaveKeys, all_held}
-use Rattle.jni_calls.specs.declared.statics.StaticReference.{StaticReference}
-use Rattle.jni_calls.specs.declared.statics.StaticReference.TheVariants.{Empty}
-use Rattle.jni_calls.proofs.HeldStatics.{names_begin, no_keys, statics_begin}
+use Rattle.machine_calls.specs.StoreAgrees.{StaticsAgree}
+use Rattle.machine_calls.specs.HeapAgrees.{SlotsAgree}
+use Rattle.semantics_safety.specs.Owners.{AllOwners, owners_after}
+use Rattle.machine_calls.specs.Statics.{HaveKeys, all_held}
+use Rattle.machine_calls.specs.declared.statics.StaticReference.{StaticReference}
+use Rattle.machine_calls.specs.declared.statics.StaticReference.TheVariants.{Empty}
+use Rattle.machine_calls.proofs.HeldStatics.{names_begin, no_keys, statics_begin}
 use Rattle.machine.proofs.machine.load_parts.Goals as goal
 
 pub returns-in-Ok-clause-begins : goal.returns-in-Ok-clause-begins

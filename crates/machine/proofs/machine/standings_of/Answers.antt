@@ -3,7 +3,7 @@ use Rattle.std.proofs.lemmas.List.{length-map, map-append}
 use Rattle.std.proofs.lemmas.Option.{slice_get_read}
 use Rattle.report.specs.declared.thread_status.ThreadStatus.{ThreadStatus}
 use Rattle.report.specs.ThreadStatus.{standing_view}
-use Rattle.source.specs.Report.{ThreadStanding}
+use Rattle.semantics.specs.Report.{ThreadStanding}
 use Rattle.machine.specs.Stops.{standing_of}
 use Rattle.machine.proofs.Standings.{standings, length-standings, standings-more}
 use Rattle.machine.proofs.machine.standings_of.Goals as goal

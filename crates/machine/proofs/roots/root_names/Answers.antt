@@ -3,7 +3,7 @@ use Rattle.std.specs.Prelude.{flat_map}
 use Rattle.std.proofs.lemmas.List.Concat.{flat_map-cons}
 use Rattle.std.proofs.lemmas.Option.{slice_get_read}
 use Rattle.machine.specs.Roots.{call_names, reference_names, thread_names}
-use Rattle.execution.proofs.Lists.{drop_next}
+use Rattle.machine_steps.proofs.Lists.{drop_next}
 use Rattle.machine.proofs.RootNames.{stacked_more, there_within}
 use Rattle.machine.proofs.roots.root_names.Goals as goal
 

@@ -1,7 +1,7 @@
 use Rattle.std.proofs.Common.{◌≡◌, ℕ, ◌<◌, ◌++◌, Some, drop, map}
 use Rattle.std.specs.Prelude.{flat_map, slice_get}
 use Rattle.tables.specs.References.{references_in}
-use Rattle.execution.specs.declared.thread.Thread.{Thread}
+use Rattle.machine_steps.specs.declared.thread.Thread.{Thread}
 use Rattle.machine.specs.Roots.{name_of, thread_names, CallIsStacked}
 use Rattle.machine.proofs.roots.root_names.Given as goal
 

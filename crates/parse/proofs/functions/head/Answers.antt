@@ -1,5 +1,5 @@
 use Rattle.std.proofs.Common.{rules}
-use Rattle.lexemes.specs.Lexemes.{views}
+use Rattle.parse_lexemes.specs.Lexemes.{views}
 use Rattle.parse.proofs.Regrouped.{head_is}
 use Rattle.parse.proofs.functions.head.Goals as goal
 

@@ -1,7 +1,7 @@
 use Rattle.std.proofs.Common.{◌+◌, length, map, sym, ◌∙◌}
 use Rattle.std.proofs.lemmas.Result.{err_from_is_err_and}
 use Rattle.std.proofs.lemmas.List.{map_push}
-use Rattle.lexemes.specs.Lexemes.{views}
+use Rattle.parse_lexemes.specs.Lexemes.{views}
 use Rattle.syntax.specs.Views.{item_tree}
 use Rattle.parse.specs.Reading.{items_at}
 use Rattle.parse.proofs.Items.{unit_start, unit_done, unit_fails, unit_on}

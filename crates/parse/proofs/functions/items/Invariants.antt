@@ -1,5 +1,5 @@
 use Rattle.std.proofs.Common.{◌+◌, length, map}
-use Rattle.lexemes.specs.Lexemes.{views}
+use Rattle.parse_lexemes.specs.Lexemes.{views}
 use Rattle.syntax.specs.Views.{item_tree}
 use Rattle.parse.specs.Reading.{items_at}
 use Rattle.parse.proofs.Items.{FillsUnit}

@@ -1,7 +1,7 @@
 use Rattle.std.proofs.Common.{map}
 use Rattle.std.proofs.lemmas.Result.{err_from_is_err_and}
 use Rattle.syntax.specs.Views.{item_tree}
-use Rattle.lexemes.specs.Lexemes.{views}
+use Rattle.parse_lexemes.specs.Lexemes.{views}
 use Rattle.parse.proofs.Whole.{inside_of, found_by, unit_by, fault_by, only_by, no_fault_by}
 use Rattle.parse.proofs.functions.parse.Goals as goal
 

@@ -1,10 +1,10 @@
 use Rattle.std.proofs.Common.{◌≡◌, map, Ok, sym, ◌∙◌, arith}
 use Rattle.std.proofs.lemmas.Result.{err_from_is_err_and}
 use Rattle.std.proofs.lemmas.List.{map_push, length-map}
-use Rattle.lexemes.specs.Results.{Fails}
-use Rattle.lexemes.specs.Lexemes.{views}
+use Rattle.parse_lexemes.specs.Results.{Fails}
+use Rattle.parse_lexemes.specs.Lexemes.{views}
 use Rattle.syntax.specs.Views.{parameter_tree}
-use Rattle.lexemes.specs.Reading.{rest_of}
+use Rattle.parse_lexemes.specs.Reading.{rest_of}
 use Rattle.parse.specs.Reading.{parameter_at, parameters_at}
 use Rattle.parse.proofs.Commas.{parameters_start, parameters_done, parameters_many, parameters_fail, parameters_on}
 use Rattle.parse.proofs.parameters.parameters.Goals as goal

@@ -1,5 +1,5 @@
 use Rattle.std.proofs.Common.{◌-◌, length, map}
-use Rattle.lexemes.specs.Lexemes.{views}
+use Rattle.parse_lexemes.specs.Lexemes.{views}
 use Rattle.syntax.specs.Views.{parameter_tree}
 use Rattle.parse.specs.Reading.{parameters_at}
 use Rattle.parse.proofs.Commas.{FillsParameters}

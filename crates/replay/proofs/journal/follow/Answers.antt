@@ -1,9 +1,9 @@
 use Rattle.std.proofs.Common.{get_or, false, subst}
 use Rattle.std.proofs.lemmas.Option.{slice_get-get_or}
 use Rattle.syntax.specs.Views.{unit_tree}
-use Rattle.source.specs.declared.journal.Entry.{Entry}
-use Rattle.source.specs.declared.journal.Entry.TheVariants.{Step}
-use Rattle.threads.specs.States.{TakesEntry}
+use Rattle.semantics.specs.declared.journal.Entry.{Entry}
+use Rattle.semantics.specs.declared.journal.Entry.TheVariants.{Step}
+use Rattle.replay_threads.specs.States.{TakesEntry}
 use Rattle.replay.proofs.RunLemmas.{stops, goes_on, at_end}
 use Rattle.replay.proofs.journal.follow.Goals as goal
 

@@ -1,7 +1,7 @@
 use Rattle.std.proofs.Common.{take}
 use Rattle.syntax.specs.Views.{unit_tree}
 use Rattle.replay.specs.Replays.{LeadsTo}
-use Rattle.threads.specs.States.{AreInRange}
+use Rattle.replay_threads.specs.States.{AreInRange}
 use Rattle.replay.proofs.journal.follow.Given as goal
 
 abbrev pub invariant-loop-done : goal.invariant-loop-done

@@ -1,6 +1,6 @@
 use Rattle.std.proofs.Common.{refl}
 use Rattle.syntax.specs.Views.{unit_tree}
-use Rattle.source.specs.Start.{start}
+use Rattle.semantics.specs.Start.{start}
 use Rattle.replay.proofs.RunLemmas.{not_begun, refused_answer}
 use Rattle.replay.proofs.journal.replay_with.Goals as goal
 

@@ -1,6 +1,6 @@
 use Rattle.std.proofs.Common.{length, refl, ap, ◌∙◌, arith}
 use Rattle.std.proofs.lemmas.Result.{IfOk-weaker}
-use Rattle.source.specs.World.{World}
+use Rattle.semantics.specs.World.{World}
 use Rattle.replay.specs.Replays.{ShowsRows}
 use Rattle.replay.proofs.RunLemmas.{rows_are}
 use Rattle.replay.proofs.journal.rows_of.Goals as goal

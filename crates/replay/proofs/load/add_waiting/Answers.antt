@@ -3,8 +3,8 @@ use Rattle.std.specs.Global.{Vec}
 use Rattle.std.proofs.lemmas.List.{append-nil}
 use Rattle.std.proofs.lemmas.Option.{slice_get_read}
 use Rattle.std.proofs.Math.ListN.{drop_of_length-le}
-use Rattle.source.specs.World.{Invocation}
-use Rattle.threads.specs.declared.thread.Thread.{Thread}
+use Rattle.semantics.specs.World.{Invocation}
+use Rattle.replay_threads.specs.declared.thread.Thread.{Thread}
 use Rattle.replay.specs.Loading.{AddsWaiting, AreWaiting}
 use Rattle.replay.proofs.LoadLemmas.{calls_of, more_waiting}
 use Rattle.replay.proofs.load.add_waiting.Goals as goal

@@ -1,5 +1,5 @@
 use Rattle.std.proofs.Common.{◌++◌, drop, List}
-use Rattle.threads.specs.declared.thread.Thread.{Thread}
+use Rattle.replay_threads.specs.declared.thread.Thread.{Thread}
 use Rattle.replay.specs.Loading.{AreWaiting}
 use Rattle.replay.proofs.LoadLemmas.{calls_of}
 use Rattle.replay.proofs.load.add_waiting.Given as goal

@@ -1,7 +1,7 @@
 use Rattle.std.proofs.Common.{List, None, refl, sym, ap, ◌∙◌}
 use Rattle.syntax.specs.declared.unit.Item.{Item}
 use Rattle.syntax.specs.Views.{unit_tree}
-use Rattle.source.specs.Start.{start}
+use Rattle.semantics.specs.Start.{start}
 use Rattle.replay.proofs.LoadLemmas.{refused, no_call, stand_waiting, waiting_range}
 use Rattle.replay.proofs.load.begun.Goals as goal
 

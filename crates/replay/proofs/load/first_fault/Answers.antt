@@ -1,8 +1,8 @@
 use Rattle.std.proofs.Common.{◌≡◌, List, length, refl, sym, ap, ◌∙◌, subst}
 use Rattle.std.proofs.lemmas.Option.{slice_get_read}
 use Rattle.syntax.specs.Views.{unit_tree}
-use Rattle.source.specs.World.{Invocation}
-use Rattle.source.specs.Load.{refused_calls}
+use Rattle.semantics.specs.World.{Invocation}
+use Rattle.semantics.specs.Load.{refused_calls}
 use Rattle.replay.specs.Loading.{first_line}
 use Rattle.replay.proofs.LoadLemmas.{refused, line_here, line_later}
 use Rattle.replay.proofs.load.first_fault.Goals as goal

@@ -1,7 +1,7 @@
 use Rattle.std.proofs.Common.{◌≡◌, drop}
 use Rattle.std.specs.List.{flat_map}
 use Rattle.syntax.specs.Views.{unit_tree}
-use Rattle.source.specs.Load.{refused_calls}
+use Rattle.semantics.specs.Load.{refused_calls}
 use Rattle.replay.proofs.LoadLemmas.{calls_of}
 use Rattle.replay.proofs.load.first_fault.Given as goal
 

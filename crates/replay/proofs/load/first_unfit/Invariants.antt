@@ -1,6 +1,6 @@
 use Rattle.std.proofs.Common.{◌≡◌, drop}
 use Rattle.syntax.specs.Views.{unit_tree}
-use Rattle.source.specs.Load.{refused_calls}
+use Rattle.semantics.specs.Load.{refused_calls}
 use Rattle.replay.proofs.load.first_unfit.Given as goal
 
 abbrev pub invariant-loop-call : goal.invariant-loop-call

@@ -1,7 +1,7 @@
 use Rattle.std.proofs.Common.{◌≡◌, [], ◌∙◌}
 use Rattle.syntax.specs.Views.{unit_tree}
-use Rattle.source.specs.Start.{null_statics}
-use Rattle.threads.proofs.NamesOnce.{statics_once}
+use Rattle.semantics.specs.Start.{null_statics}
+use Rattle.replay_threads.proofs.NamesOnce.{statics_once}
 use Rattle.replay.proofs.load.loaded.Goals as goal
 
 pub returns : goal.returns

@@ -6,8 +6,8 @@ use Rattle.jni.specs.declared.access.Access.{Access}
 use Rattle.jni.specs.declared.kinds.ParameterKind.{ParameterKind}
 use Rattle.jni.specs.declared.kinds.ParameterKind.TheVariants as parameter
 use Rattle.jni.specs.Table.{parameter_value}
-use Rattle.source.specs.Arguments.{look_up_expression, reference_argument}
-use Rattle.source.specs.Sight.{Sight}
+use Rattle.semantics.specs.Arguments.{look_up_expression, reference_argument}
+use Rattle.semantics.specs.Sight.{Sight}
 use Rattle.replay_calls.specs.Shares.{shared_view, sight_in}
 use Rattle.replay_calls.proofs.actual.look_up_expression.Goals as goal
 

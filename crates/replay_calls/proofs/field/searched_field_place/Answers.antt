@@ -1,8 +1,8 @@
 use Rattle.std.proofs.Common.{◌≡◌, Some, sym, ap, ◌∙◌, arith}
 use Rattle.std.specs.Prelude.{slice_get}
 use Rattle.std.specs.Option.{option_map}
-use Rattle.classes.specs.Fields.{layout, same_field}
-use Rattle.class_table.specs.FieldViews.{field_id_view}
+use Rattle.class_rules.specs.Fields.{layout, same_field}
+use Rattle.classes.specs.FieldViews.{field_id_view}
 use Rattle.replay_calls.specs.Actuals.{given_field}
 use Rattle.replay_calls.proofs.FieldLemmas.{none_more, place_found, place_missing}
 use Rattle.replay_calls.proofs.field.searched_field_place.Goals as goal

@@ -2,10 +2,10 @@ use Rattle.std.proofs.Common.{◌≡◌, ℕ, zero, suc, ◌<◌, true, List, []
 use Rattle.std.specs.Prelude.{slice_get}
 use Rattle.std.specs.Option.{IsSome, option_map}
 use Rattle.std.proofs.lemmas.List.{length-map}
-use Rattle.class_table.specs.FieldViews.{field_id_view}
-use Rattle.class_table.specs.declared.fields.FieldId.{FieldId as IdInMemory}
-use Rattle.classes.specs.Class.{Field, Classes}
-use Rattle.classes.specs.Fields.{FieldId, own_statics, same_field}
+use Rattle.classes.specs.FieldViews.{field_id_view}
+use Rattle.classes.specs.declared.fields.FieldId.{FieldId as IdInMemory}
+use Rattle.class_rules.specs.Class.{Field, Classes}
+use Rattle.class_rules.specs.Fields.{FieldId, own_statics, same_field}
 use Rattle.replay_calls.specs.Actuals.{given_field}
 use Rattle.replay_calls.proofs.FieldLemmas.{none_more, place_found, place_missing}
 use Rattle.replay_calls.proofs.field.searched_static_place.Goals as goal

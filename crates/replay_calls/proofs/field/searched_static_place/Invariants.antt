@@ -1,4 +1,4 @@
-use Rattle.classes.specs.Fields.{own_statics, same_field}
+use Rattle.class_rules.specs.Fields.{own_statics, same_field}
 use Rattle.replay_calls.specs.Actuals.{given_field}
 use Rattle.replay_calls.proofs.FieldLemmas.{NonePasses}
 use Rattle.replay_calls.proofs.field.searched_static_place.Given as goal

@@ -1,9 +1,9 @@
 use Rattle.std.proofs.Common.{◌≡◌, ℕ, ◌+◌, ◌<◌, ◌≤◌, List, [], ◌++◌, length, get_or, drop, Result, Ok, Err, refl, sym, ap, subst, ◌∙◌, append_assoc}
 use Rattle.std.specs.Prelude.{codes}
 use Rattle.std.proofs.lemmas.Result.{err_from_is_err_and}
-use Rattle.source.specs.declared.journal.Entry.{Entry}
-use Rattle.source.specs.JournalText.{entry_text}
-use Rattle.source.specs.JournalText.{spelled_entries}
+use Rattle.semantics.specs.declared.journal.Entry.{Entry}
+use Rattle.semantics.specs.JournalText.{entry_text}
+use Rattle.semantics.specs.JournalText.{spelled_entries}
 use Rattle.report.specs.Sink.{Written, AppendsText, Writes}
 use Rattle.report.proofs.Puts.{PutSoFar, goes_on, is_all, stops, flat_map-at, flat_map-past}
 use Rattle.report.proofs.writing.put_entries.Goals as goal

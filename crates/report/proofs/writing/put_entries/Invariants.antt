@@ -1,5 +1,5 @@
 use Rattle.std.proofs.Common.{◌++◌, drop}
-use Rattle.source.specs.JournalText.{spelled_entries}
+use Rattle.semantics.specs.JournalText.{spelled_entries}
 use Rattle.report.proofs.Puts.{PutSoFar}
 use Rattle.report.proofs.writing.put_entries.Given as goal
 

@@ -8,8 +8,8 @@ use Rattle.syntax.specs.Tree.{Test, Block, IfElse}
 use Rattle.syntax.specs.Views.{form_tree, stmt_tree, block_tree, statements_tree, result_tree, test_tree}
 use Rattle.syntax.proofs.Blocks.{block_is}
 use Rattle.types.specs.declared.fault.TypeFault.{TypeFault}
-use Rattle.sorts.specs.SortRules.{places_of, with_declared}
-use Rattle.sorts.specs.BuiltCalls.{refused_at}
+use Rattle.type_rules.specs.SortRules.{places_of, with_declared}
+use Rattle.type_rules.specs.BuiltCalls.{refused_at}
 use Rattle.types.specs.Faults.{Faults, Finds, Refuses, IsAbove, scope_of, found, statement_place, places_inside}
 use Rattle.types.proofs.FindsLemmas.{Refuses-first}
 use Rattle.types.proofs.PlaceLemmas.{found-none, past}

@@ -4,7 +4,7 @@ use Rattle.syntax.specs.declared.expr.Expr.{Expr as ExprInMemory}
 use Rattle.syntax.specs.Parts.{null_tested}
 use Rattle.syntax.specs.Tree.{Binary}
 use Rattle.syntax.specs.Views.{expr_tree, binary_tree}
-use Rattle.sorts.specs.Sorts.{sort_of, binary_sort, group, null_test_sort}
+use Rattle.type_rules.specs.Sorts.{sort_of, binary_sort, group, null_test_sort}
 use Rattle.types.specs.Faults.{scope_of}
 use Rattle.types.proofs.SortLemmas.{not-null}
 use Rattle.types.proofs.expressions.+sort_of.Goals as goal

@@ -2,7 +2,7 @@ use Rattle.std.proofs.Common.{◌-◌, ◌++◌, Result, Ok, Err, OnOk, drop, le
 use Rattle.syntax.specs.Views.{block_tree, result_tree}
 use Rattle.types.specs.declared.sort.Sort.{Sort as SortInMemory}
 use Rattle.base.specs.Bytes.{ByName}
-use Rattle.sorts.specs.SortRules.{places_of}
+use Rattle.type_rules.specs.SortRules.{places_of}
 use Rattle.types.specs.Faults.{Finds, scope_of, found, head_faults}
 use Rattle.types.proofs.BlockLemmas.{forgotten}
 use Rattle.types.proofs.ItemLemmas.{found-function}

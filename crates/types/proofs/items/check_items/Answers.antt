@@ -3,7 +3,7 @@ use Rattle.std.proofs.lemmas.Result.{err_from_is_err_and}
 use Rattle.syntax.specs.Parts.{item_name}
 use Rattle.syntax.specs.Views.{item_tree}
 use Rattle.types.specs.declared.fault.TypeFault.{TypeFault}
-use Rattle.sorts.specs.SortRules.{item_places}
+use Rattle.type_rules.specs.SortRules.{item_places}
 use Rattle.types.specs.Faults.{Faults, Finds, Refuses, found, scope_of, with_static}
 use Rattle.types.proofs.FindsLemmas.{Refuses-first}
 use Rattle.types.proofs.PlaceLemmas.{found-none, past}

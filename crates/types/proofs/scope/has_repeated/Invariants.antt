@@ -1,5 +1,5 @@
 use Rattle.std.proofs.Common.{◌≡◌, drop}
-use Rattle.sorts.specs.SortRules.{has_repeated}
+use Rattle.type_rules.specs.SortRules.{has_repeated}
 use Rattle.types.proofs.scope.has_repeated.Given as goal
 
 abbrev pub invariant-loop-i : goal.invariant-loop-i

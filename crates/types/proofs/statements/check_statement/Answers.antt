@@ -1,6 +1,6 @@
 use Rattle.std.proofs.Common.{subst, sym, ap, ◌∙◌}
 use Rattle.syntax.specs.Views.{result_tree, stmt_tree}
-use Rattle.sorts.specs.SortRules.{sort_rules}
+use Rattle.type_rules.specs.SortRules.{sort_rules}
 use Rattle.types.specs.Faults.{Finds, scope_of, refused_of}
 use Rattle.types.proofs.StatementLemmas.{statement-faults, line-of}
 use Rattle.types.proofs.statements.check_statement.Goals as goal

@@ -2,7 +2,7 @@ use Rattle.std.proofs.Common.{sym, ap, ◌∙◌}
 use Rattle.std.specs.List.{list_all}
 use Rattle.std.proofs.lemmas.List.Folds.{list_all-map}
 use Rattle.world_lines.specs.LineViews.{value_view}
-use Rattle.world.specs.WorldRules.{is_formed_value}
+use Rattle.world_values.specs.WorldRules.{is_formed_value}
 use Rattle.world_lines.proofs.form.has_formed_values.Goals as goal
 
 pub returns : goal.returns

@@ -1,5 +1,5 @@
 use Rattle.std.proofs.Common.{◌≡◌, ◌++◌, map}
-use Rattle.texts.specs.Split.{parts_of, parts_left}
+use Rattle.world_schedules.specs.Split.{parts_of, parts_left}
 use Rattle.world_lines.proofs.line.split_words.Given as goal
 
 -- the words so far and those that are left are all of them

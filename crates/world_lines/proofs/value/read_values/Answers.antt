@@ -1,8 +1,8 @@
 use Rattle.std.proofs.Common.{◌≡◌, ℕ, ◌+◌, ◌<◌, ◌≤◌, List, [], length, map, drop, get_or, Option, Some, None, sym, ap, ◌∙◌, append-nil, Bor}
 use Rattle.std.proofs.lemmas.List.{map-append, at_drop_more, at_drop_all}
-use Rattle.texts.specs.ReadingWords.{with_word}
-use Rattle.texts.proofs.WordLemmas.{after, after-nil, after_one}
-use Rattle.world.specs.WorldLines.{WorldValue}
+use Rattle.world_schedules.specs.ReadingWords.{with_word}
+use Rattle.world_schedules.proofs.WordLemmas.{after, after-nil, after_one}
+use Rattle.world_values.specs.WorldLines.{WorldValue}
 use Rattle.world_lines.specs.LineViews.{value_view}
 use Rattle.world_lines.specs.ReadingValues.{value_named, values_named}
 use Rattle.world_lines.proofs.value.read_values.Goals as goal

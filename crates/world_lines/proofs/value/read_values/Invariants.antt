@@ -1,5 +1,5 @@
 use Rattle.std.proofs.Common.{◌≡◌, map, drop}
-use Rattle.texts.proofs.WordLemmas.{after}
+use Rattle.world_schedules.proofs.WordLemmas.{after}
 use Rattle.world_lines.specs.LineViews.{value_view}
 use Rattle.world_lines.specs.ReadingValues.{values_named}
 use Rattle.world_lines.proofs.value.read_values.Given as goal

@@ -1,7 +1,7 @@
 use Rattle.std.proofs.Common.{◌≡◌}
 use Rattle.std.specs.List.{list_all}
-use Rattle.classes.specs.Mangling.{is_simple_name}
-use Rattle.texts.specs.Split.{parts_left}
+use Rattle.class_rules.specs.Mangling.{is_simple_name}
+use Rattle.world_schedules.specs.Split.{parts_left}
 use Rattle.world_lines.proofs.words.are_simple_names.Given as goal
 
 abbrev pub invariant-loop-part : goal.invariant-loop-part

@@ -1,8 +1,8 @@
 use Rattle.std.proofs.Common.{◌∙◌, ap}
 use Rattle.std.specs.Prelude.{◌==◌}
 use Rattle.std.specs.List.{list_all}
-use Rattle.classes.specs.Mangling.{is_simple_name}
-use Rattle.texts.proofs.PartLemmas.{slice_split-split_at}
+use Rattle.class_rules.specs.Mangling.{is_simple_name}
+use Rattle.world_schedules.proofs.PartLemmas.{slice_split-split_at}
 use Rattle.world_lines.proofs.words.is_class_name.Goals as goal
 
 pub returns : goal.returns

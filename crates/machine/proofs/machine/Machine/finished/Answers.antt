@@ -1,7 +1,7 @@
 use Rattle.std.proofs.Common.{Bool, List, sym, ap, ◌∙◌}
 use Rattle.std.specs.Prelude.{◌||◌}
 use Rattle.std.specs.List.{list_all}
-use Rattle.execution.specs.declared.thread.Thread.{Thread}
+use Rattle.machine_steps.specs.declared.thread.Thread.{Thread}
 use Rattle.machine.specs.Run.{has_ended}
 use Rattle.machine.proofs.Reports.{is_finished}
 use Rattle.machine.proofs.machine.Machine.finished.Goals as goal

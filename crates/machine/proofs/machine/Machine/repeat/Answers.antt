@@ -1,8 +1,8 @@
 use Rattle.std.proofs.Common.{◌≡◌, ◌≤◌, ◌-◌, ◌∷◌, [], length, sym, subst, replicate, arith, IsSome, refl}
-use Rattle.source.specs.Schedule.{Schedule}
-use Rattle.source.specs.World.{World}
-use Rattle.source.specs.declared.schedule.ScheduleWord.{ScheduleWord}
-use Rattle.source.specs.declared.schedule.ScheduleWord.TheVariants.{Turn}
+use Rattle.semantics.specs.Schedule.{Schedule}
+use Rattle.semantics.specs.World.{World}
+use Rattle.semantics.specs.declared.schedule.ScheduleWord.{ScheduleWord}
+use Rattle.semantics.specs.declared.schedule.ScheduleWord.TheVariants.{Turn}
 use Rattle.machine.specs.Run.{Run, RunsAlong, RunsInto, GivesStep, replay_of}
 use Rattle.machine.proofs.Runs.{none_yet, along_both, begun, replicate_more, replicate_rest, words_without_step}
 use Rattle.machine.proofs.machine.Machine.repeat.Goals as goal

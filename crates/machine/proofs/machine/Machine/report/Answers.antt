@@ -1,5 +1,5 @@
 use Rattle.std.proofs.Common.{◌≡◌, ℕ, List, length, subst, arith}
-use Rattle.reached.specs.Rows.{AreReported}
+use Rattle.report_objects.specs.Rows.{AreReported}
 use Rattle.machine.proofs.Reports.{shows_objects}
 use Rattle.machine.proofs.machine.Machine.report.Goals as goal
 

@@ -1,5 +1,5 @@
 use Rattle.std.proofs.Common.{◌++◌, List, map, flat_map, subst, sym, ap, ◌∙◌}
-use Rattle.execution.specs.declared.thread.Thread.{Thread}
+use Rattle.machine_steps.specs.declared.thread.Thread.{Thread}
 use Rattle.tables.specs.References.{references_in}
 use Rattle.machine.specs.Roots.{name_of, thread_names, ThreadsAreStacked, ThreadsAreThere}
 use Rattle.machine.proofs.Reports.{are_shown, globals_there, roots_there}

@@ -4,22 +4,22 @@ use Rattle.std.specs.Option.{option_map}
 use Rattle.std.proofs.lemmas.Bool.{leb-false, leb-true}
 use Rattle.std.proofs.lemmas.Option.{slice_get_read}
 use Rattle.syntax.specs.declared.unit.Item.{Item}
-use Rattle.source.specs.declared.journal.Entry.{Entry}
-use Rattle.source.specs.declared.journal.Entry.TheVariants.{Step}
-use Rattle.source.specs.State as state
-use Rattle.source.specs.World.{World}
+use Rattle.semantics.specs.declared.journal.Entry.{Entry}
+use Rattle.semantics.specs.declared.journal.Entry.TheVariants.{Step}
+use Rattle.semantics.specs.State as state
+use Rattle.semantics.specs.World.{World}
 use Rattle.heap.specs.Heap.{left_of}
-use Rattle.execution.specs.declared.thread.Ending.{Ending}
-use Rattle.execution.specs.declared.thread.Ending.TheVariants.{Unfinished, Ended, Uncaught}
+use Rattle.machine_steps.specs.declared.thread.Ending.{Ending}
+use Rattle.machine_steps.specs.declared.thread.Ending.TheVariants.{Unfinished, Ended, Uncaught}
 use Rattle.machine.specs.declared.stop.Stop.{Stop}
 use Rattle.machine.specs.declared.turn.Turn.{Turn}
 use Rattle.machine.specs.declared.turn.Turn.TheVariants as turn
 use Rattle.machine.specs.Stops.{stop_view}
-use Rattle.execution.specs.declared.thread.Thread.{Thread}
+use Rattle.machine_steps.specs.declared.thread.Thread.{Thread}
 use Rattle.machine.specs.Run.{has_ended as ended, Run, InState, CouldStep, TurnHolds, turn_without_step, replay_of, printed_after, can_turn, event_of, is_refused}
-use Rattle.jni_calls.specs.declared.store.Store.{Store}
-use Rattle.source.specs.Object.{sizes}
-use Rattle.source.specs.Run.{made}
+use Rattle.machine_calls.specs.declared.store.Store.{Store}
+use Rattle.semantics.specs.Object.{sizes}
+use Rattle.semantics.specs.Run.{made}
 use Rattle.syntax.specs.Views.{unit_tree}
 use Rattle.machine.proofs.Steps.{steady, the_thread, can_turn_here, has_ended, short_by, steps_by, turn_holds}
 use Rattle.machine.proofs.machine.Machine.step.Goals as goal

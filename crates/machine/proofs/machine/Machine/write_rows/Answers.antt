@@ -1,7 +1,7 @@
 use Rattle.std.proofs.Common.{List, map, ap, ◌∙◌}
-use Rattle.classes.specs.Class.{Classes}
+use Rattle.class_rules.specs.Class.{Classes}
 use Rattle.report.specs.ThreadStatus.{standing_view}
-use Rattle.execution.specs.declared.thread.Thread.{Thread}
+use Rattle.machine_steps.specs.declared.thread.Thread.{Thread}
 use Rattle.machine.proofs.Reports.{writes_run}
 use Rattle.machine.proofs.Standings.{standings}
 use Rattle.machine.proofs.machine.Machine.write_rows.Goals as goal

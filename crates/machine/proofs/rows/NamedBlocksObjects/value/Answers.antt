@@ -4,7 +4,7 @@ use Rattle.std.specs.Prelude.{FitsSigned}
 use Rattle.std.proofs.Math.Facts.{to_z-of_z}
 use Rattle.heap.specs.declared.value.Value.TheVariants.{Number as Word, Null, Block as Address}
 use Rattle.heap.specs.Heap.{values_at}
-use Rattle.source.specs.Object.{Number, Refers}
+use Rattle.semantics.specs.Object.{Number, Refers}
 use Rattle.machine.proofs.BlockObjects.{is_at, count_here, no_values, value_here, there_at}
 use Rattle.machine.proofs.rows.NamedBlocksObjects.value.Goals as goal
 

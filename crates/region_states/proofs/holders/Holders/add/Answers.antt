@@ -1,6 +1,6 @@
 use Rattle.std.proofs.Common.{ℕ, ◌+◌, ap, ap₂, ◌∙◌}
 use Rattle.base.specs.Bytes.{ByName}
-use Rattle.source.specs.Variable.{assign}
+use Rattle.semantics.specs.Variable.{assign}
 use Rattle.region_states.specs.StatesInMemory.{count_of}
 use Rattle.region_states.proofs.HolderLemmas.{by_name, inserted, one_more}
 use Rattle.region_states.proofs.holders.Holders.add.Goals as goal

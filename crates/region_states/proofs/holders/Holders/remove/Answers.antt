@@ -1,6 +1,6 @@
 use Rattle.std.proofs.Common.{ℕ, ◌+◌, ◌-◌, ◌<◌, if◌then◌else◌, bytes_eq, arith, sym, ap, subst, ◌∙◌}
 use Rattle.base.specs.Bytes.{ByName}
-use Rattle.source.specs.Variable.{assign}
+use Rattle.semantics.specs.Variable.{assign}
 use Rattle.region_states.specs.StatesInMemory.{count_of}
 use Rattle.region_states.proofs.HolderLemmas.{by_name, inserted, one_less, is_key}
 use Rattle.region_states.proofs.holders.Holders.remove.Goals as goal

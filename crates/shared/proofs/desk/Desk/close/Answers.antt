@@ -1,7 +1,7 @@
 use Rattle.std.proofs.Common.{length, refl, append-nil, arith, ◌≤◌, slice_get, [], ◌∷◌, ◌++◌, sym, ap, ◌∙◌, subst}
 use Rattle.std.proofs.lemmas.List.{append_assoc}
 use Rattle.std.proofs.lemmas.List.Elements.{All-cons}
-use Rattle.source.specs.World.{World}
+use Rattle.semantics.specs.World.{World}
 use Rattle.shared.specs.declared.view.View.{View}
 use Rattle.shared.specs.Tokens.{IsWithin}
 use Rattle.shared.specs.Accounts.{Agrees}

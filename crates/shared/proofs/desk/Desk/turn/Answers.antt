@@ -1,6 +1,6 @@
 use Rattle.std.proofs.Common.{length, ◌≡◌, ◌≤◌, ◌+◌, IfOk, slice_get, sym, ap, ◌∙◌, subst}
 use Rattle.crossbeam_utils.specs.Seq.{cell_view}
-use Rattle.source.specs.World.{World}
+use Rattle.semantics.specs.World.{World}
 use Rattle.shared.specs.declared.view.View.{View}
 use Rattle.shared.specs.declared.view.Fate.{Fate}
 use Rattle.shared.specs.declared.view.Known.{Known}

@@ -1,7 +1,7 @@
 use Rattle.std.proofs.Common.{◌≤◌, ◌+◌, length, sym, ap, ◌∙◌, arith}
 use Rattle.std.specs.Prelude.{slice_get, Option}
 use Rattle.std.specs.Option.{unwrap_or}
-use Rattle.source.specs.World.{World}
+use Rattle.semantics.specs.World.{World}
 use Rattle.shared.specs.declared.view.View.{View}
 use Rattle.shared.specs.declared.view.Account.{Account}
 use Rattle.shared.specs.Tokens.{nothing}

@@ -1,0 +1,5 @@
+pub mod GrownTables
+mod Assignable
+mod Mangled
+pub mod MangledNames
+mod Unescaping

@@ -1,6 +1,0 @@
-use Rattle.std.proofs.Common.{◌≡◌, map, take}
-use Rattle.class_table.specs.BuiltInList.{listed_field}
-use Rattle.class_table.proofs.built_ins.copied_fields.Given as goal
-
-abbrev pub invariant-loop-field : goal.invariant-loop-field
-invariant-loop-field l = l.copies ≡ map listed_field (take l.field-index l.fields)

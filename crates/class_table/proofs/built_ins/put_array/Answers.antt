@@ -1,6 +1,0 @@
-use Rattle.std.proofs.Common.{◌≡◌, ◌++◌, ◌∷◌, [], subst, OnOk}
-use Rattle.classes.specs.Class.{Class}
-use Rattle.class_table.proofs.built_ins.put_array.Goals as goal
-
-pub returns : goal.returns
-returns c = subst (λ (d : Class). OnOk c.put.result (c.put.new.self ≡ c.args.classes.now ++ d ∷ [])) (c.of_arrays.ensures c.args.name) c.put.ensures.ok

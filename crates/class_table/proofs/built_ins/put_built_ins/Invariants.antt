@@ -1,6 +1,0 @@
-use Rattle.std.proofs.Common.{◌≡◌, ◌++◌, map, take}
-use Rattle.class_table.specs.BuiltInList.{listed_class}
-use Rattle.class_table.proofs.built_ins.put_built_ins.Given as goal
-
-abbrev pub invariant-loop-built_in : goal.invariant-loop-built_in
-invariant-loop-built_in l = l.classes ≡ l.initial.classes ++ take l.built_in-index (map listed_class l.built_ins)

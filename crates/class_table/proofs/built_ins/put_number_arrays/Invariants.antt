@@ -1,6 +1,0 @@
-use Rattle.std.proofs.Common.{◌≡◌, ◌++◌, map, take}
-use Rattle.class_table.specs.BuiltInList.{listed_number_array}
-use Rattle.class_table.proofs.built_ins.put_number_arrays.Given as goal
-
-abbrev pub invariant-loop-array : goal.invariant-loop-array
-invariant-loop-array l = l.classes ≡ l.initial.classes ++ take l.array-index (map listed_number_array l.arrays)

@@ -1,7 +1,0 @@
-use Rattle.std.proofs.Common.{◌≡◌, ◌-◌}
-use Rattle.classes.specs.Class.{is_subclass}
-use Rattle.class_table.proofs.Ancestry.{is_among}
-use Rattle.class_table.proofs.table.ClassTable.is_subclass.Given as goal
-
-abbrev pub invariant-loop : goal.invariant-loop
-invariant-loop l = is_among (l.end - l.counter) l.self l.ancestor l.other ≡ is_subclass l.self l.class l.other

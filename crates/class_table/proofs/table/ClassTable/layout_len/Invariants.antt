@@ -1,7 +1,0 @@
-use Rattle.std.proofs.Common.{◌≡◌, ◌+◌, ◌-◌, length}
-use Rattle.classes.specs.Fields.{layout}
-use Rattle.class_table.proofs.Layouts.{layout_within}
-use Rattle.class_table.proofs.table.ClassTable.layout_len.Given as goal
-
-abbrev pub invariant-loop : goal.invariant-loop
-invariant-loop l = l.count + length (layout_within (l.end - l.counter) l.self l.ancestor) ≡ length (layout l.self l.class)

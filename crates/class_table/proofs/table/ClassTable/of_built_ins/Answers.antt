@@ -1,6 +1,0 @@
-use Rattle.classes.specs.BuiltIns.{built_ins}
-use Rattle.class_table.proofs.table.ClassTable.of_built_ins.Goals as goal
-
-pub returns : goal.returns
-unfolding built_ins
-returns c = c.new.ensures

@@ -1,6 +1,0 @@
-use Rattle.std.proofs.Common.{◌∙◌}
-use Rattle.classes.proofs.MangledNames.{reads-some}
-use Rattle.classes.proofs.mangling.is_mangled.Goals as goal
-
-pub returns : goal.returns
-returns c = c.reads_mangled.ensures ∙ reads-some c.args.name.now

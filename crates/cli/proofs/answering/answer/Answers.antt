@@ -1,0 +1,20 @@
+use Rattle.std.proofs.Common.{refl}
+use Rattle.cli.proofs.answering.answer.Goals as goal
+
+pub returns-in-Serve : goal.returns-in-Serve
+returns-in-Serve g c = rw c.in-Serve.is c.serve.ensures
+
+pub returns-in-Explain : goal.returns-in-Explain
+returns-in-Explain g c = rw c.in-Explain.is c.explain.ensures
+
+pub returns-in-Show : goal.returns-in-Show
+returns-in-Show g c = rw c.in-Show.is (rw c.as_bytes.ensures.value at c.show.ensures)
+
+pub returns-in-Misuse : goal.returns-in-Misuse
+returns-in-Misuse g c = rw c.in-Misuse.is (refl, rw c.as_bytes-in-Misuse.ensures.value at c.decline.ensures)
+
+pub returns-in-LacksSchedule : goal.returns-in-LacksSchedule
+returns-in-LacksSchedule g c = rw c.in-LacksSchedule.is (refl, c.decline-in-LacksSchedule.ensures)
+
+pub returns-in-LacksMemory : goal.returns-in-LacksMemory
+returns-in-LacksMemory g c = rw c.in-LacksMemory.is (refl, c.fail.ensures.status, c.fail.ensures.tells)

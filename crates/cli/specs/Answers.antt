@@ -1,0 +1,37 @@
+-- What the program answers, by what its words ask for.
+use Rattle.std.specs.Prelude.{◌≡◌, ℕ, List, Option, Some, None, codes, string_bytes}
+use Rattle.report.specs.Sink.{Written}
+use Rattle.jnirun.specs.Runs.{AppendsRun, StopsRun}
+use Rattle.cli_commands.specs.Saying.{Tells}
+use Rattle.jnirun.specs.Serve.{Serves}
+use Rattle.cli_explanations.specs.declared.Explanation.{Explanation}
+use Rattle.cli_words.specs.declared.request.Request.{Request}
+use Rattle.cli_words.specs.declared.request.Request.TheVariants.{Serve, Explain, Show, Misuse, LacksSchedule, LacksMemory}
+
+-- ---- texts for a reader
+
+-- What is done where a text is for the reader, and the status: such a text is said; there is none; or standard output failed.
+pub data Shows (IsText : List ℕ → Type 0) (out out_after err err_after : Written) : (status : ℕ) → Type 0 where
+  is_said : AppendsRun out out_after IsText → err_after ≡ err → Shows IsText out out_after err err_after 0
+  is_none : (words : List ℕ) → ((text : List ℕ) → IsText text → ⊥) → out_after ≡ out → Tells err err_after words → Shows IsText out out_after err err_after 2
+  loses_text : StopsRun out out_after IsText → Tells err err_after (codes "writer\n") → Shows IsText out out_after err err_after 3
+
+-- the text of an explanation, where there is one
+abbrev pub IsTextOf : Option Explanation → List ℕ → Type 0
+IsTextOf None text = ⊥
+IsTextOf (Some explanation) text = text ≡ explanation.text.now
+
+-- nothing is done, which is told on standard error
+abbrev pub Declines : (words : List ℕ) → (err err_after : Written) → (status : ℕ) → Type 0
+Declines words err err_after status = (status ≡ 2) × Tells err err_after words
+
+-- ---- the program
+
+-- what the program answers
+abbrev pub Answers : (gives : List ℕ → List ℕ → Type 0) → (lacks : List ℕ → Type 0) → Request → (out out_after err err_after : Written) → (status : ℕ) → Type 0
+Answers gives lacks (Serve command) out out_after err err_after status = Serves gives lacks command out out_after err err_after status
+Answers gives lacks (Explain explanation) out out_after err err_after status = Shows (IsTextOf explanation) out out_after err err_after status
+Answers gives lacks (Show text) out out_after err err_after status = Shows (λ t. t ≡ string_bytes text) out out_after err err_after status
+Answers gives lacks (Misuse text) out out_after err err_after status = (out_after ≡ out) × Declines (string_bytes text) err err_after status
+Answers gives lacks LacksSchedule out out_after err err_after status = (out_after ≡ out) × Declines (codes "error: run needs --schedule FILE\n") err err_after status
+Answers gives lacks LacksMemory out out_after err err_after status = (out_after ≡ out) × (status ≡ 3) × Tells err err_after (codes "memory\n")

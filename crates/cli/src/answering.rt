@@ -1,0 +1,88 @@
+//! The program over any files and sinks, once the words are read.
+
+ghost use Rattle.std.specs.Prelude.{◌≡◌, ◌≢◌, codes};
+ghost use Rattle.report.specs.Sink.{CanFail};
+ghost use Rattle.cli_commands.specs.Saying.{Tells};
+ghost use Rattle.cli.specs.Answers.{IsTextOf, Shows, Declines, Answers};
+
+use cli_explanations::Explanation;
+use cli_words::Request;
+use jnirun::{COMMAND_LINE, DONE, Files, fail, say, serve};
+use report::Sink;
+use std::alloc::Global;
+use std::io::ErrorKind;
+
+const NO_EXPLANATION: &[u8] =
+    b"error: there is no fault or trap of this number: explain N, or explain trap N\n";
+
+const NO_SCHEDULE: &[u8] = b"error: run needs --schedule FILE\n";
+
+const NOT_UTF_8: &[u8] = b"error: a word of the command line isn't UTF-8\n";
+
+/// Says a text for the reader on `out`.
+fn show<O: Sink, E: Sink>(text: &[u8], out: &mut O, err: &mut E) -> u8
+    requires out { CanFail (O.written out.old) }
+    requires err { CanFail (E.written err.old) }
+    ensures { Shows (λ t. t ≡ text.now) (O.written out.old) (O.written out.new) (E.written err.old) (E.written err.new) result }
+{
+    match say(out, text) {
+        Ok(()) => DONE,
+        Err(_) => fail(err, b"writer\n"),
+    }
+}
+
+/// Says on `err` why nothing is done.
+fn decline<E: Sink>(text: &[u8], err: &mut E) -> u8
+    requires { CanFail (E.written err.old) }
+    ensures { Declines text.now (E.written err.old) (E.written err.new) result }
+{
+    let _ = say(err, text);
+    COMMAND_LINE
+}
+
+/// Says on `err` why there are no words, by the kind of the error: memory was refused, or a word isn't UTF-8.
+pub fn lacks_words<E: Sink>(kind: ErrorKind, err: &mut E) -> u8
+    requires { CanFail (E.written err.old) }
+    ensures memory { kind ≡ ErrorKind.OutOfMemory → (result ≡ 3) × Tells (E.written err.old) (E.written err.new) (codes "memory\n") }
+    ensures not_text { kind ≢ ErrorKind.OutOfMemory → Declines (codes "error: a word of the command line isn't UTF-8\n") (E.written err.old) (E.written err.new) result }
+{
+    match kind {
+        ErrorKind::OutOfMemory => fail(err, b"memory\n"),
+        _ => decline(NOT_UTF_8, err),
+    }
+}
+
+/// Says what a fault or a trap means, or that there is none of this number.
+fn explain<O: Sink, E: Sink>(explanation: Option<Explanation>, out: &mut O, err: &mut E) -> u8
+    requires out { CanFail (O.written out.old) }
+    requires err { CanFail (E.written err.old) }
+    ensures { Shows (IsTextOf explanation) (O.written out.old) (O.written out.new) (E.written err.old) (E.written err.new) result }
+{
+    match explanation {
+        Some(explanation) => show(explanation.text, out, err),
+        None => decline(NO_EXPLANATION, err),
+    }
+}
+
+/// Does what was asked for, and answers the program's status: 0 done, 1 a text is refused, 2 the words are no command
+/// line, 3 memory, a file or a writer failed.
+pub fn answer<F: Files, O: Sink, E: Sink>(
+    alloc: Global,
+    request: &Request<'_>,
+    files: &mut F,
+    out: &mut O,
+    err: &mut E,
+) -> u8
+    requires out { CanFail (O.written out.old) }
+    requires err { CanFail (E.written err.old) }
+    ensures { Answers (F.gives files.old) (F.lacks files.old) request.now (O.written out.old) (O.written out.new) (E.written err.old) (E.written err.new) result }
+{
+    match request {
+        Request::Serve(command) => serve(alloc, *command, files, out, err),
+        Request::Explain(explanation) => explain(*explanation, out, err),
+        Request::Show(text) => show(text.as_bytes(), out, err),
+        Request::Misuse(text) => decline(text.as_bytes(), err),
+        Request::LacksSchedule => decline(NO_SCHEDULE, err),
+        Request::LacksMemory => fail(err, b"memory\n"),
+    }
+}

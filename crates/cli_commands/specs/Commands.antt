@@ -1,0 +1,30 @@
+-- The files of a command, and the text of each.
+use Rattle.std.specs.Prelude.{ℕ, List}
+use Rattle.cli_commands.specs.declared.command.Command.{Command}
+use Rattle.cli_commands.specs.declared.command.Command.TheVariants.{Check, Run, Replay}
+use Rattle.cli_commands.specs.declared.place.Place.{Place}
+use Rattle.cli_commands.specs.declared.place.Place.TheVariants.{Line, Entry}
+use Rattle.cli_commands.specs.declared.place.Text.{Text}
+use Rattle.cli_commands.specs.declared.place.Text.TheVariants as which
+
+-- the name of the file of a text
+abbrev pub name_of : Command → Text → List ℕ
+name_of (Check program) text = program.now
+name_of (Run program world schedule) which.Program = program.now
+name_of (Run program world schedule) which.World = world.now
+name_of (Run program world schedule) text = schedule.now
+name_of (Replay program world journal) which.Program = program.now
+name_of (Replay program world journal) which.World = world.now
+name_of (Replay program world journal) text = journal.now
+
+-- one of the texts of a command
+abbrev pub text_of : (program world order : List ℕ) → Text → List ℕ
+text_of program world order which.Program = program
+text_of program world order which.World = world
+text_of program world order which.Schedule = order
+text_of program world order which.Journal = order
+
+-- the text that a place is in
+abbrev pub text_at : Place → Text
+text_at (Line text line) = text
+text_at (Entry entry) = which.Journal

@@ -1,0 +1,44 @@
+//! What can be done with files.
+
+use crate::place::Text;
+
+/// A command, with the names of its files.
+#[derive(Clone, Copy)]
+pub enum Command<'a> {
+    /// A program is checked.
+    Check {
+        program: &'a str,
+    },
+    /// A program runs in a world by a schedule.
+    Run {
+        program: &'a str,
+        world: &'a str,
+        schedule: &'a str,
+    },
+    /// The steps of a journal are taken again.
+    Replay {
+        program: &'a str,
+        world: &'a str,
+        journal: &'a str,
+    },
+}
+
+impl<'a> Command<'a> {
+    ghost use Rattle.std.specs.Prelude.{◌≡◌};
+    ghost use Rattle.cli_commands.specs.Commands.{name_of};
+
+    /// The name of the file of a text. A check has no file but its program.
+    pub fn name_of(self, text: Text) -> &'a str
+        ensures { result.now ≡ name_of self.entry text }
+    {
+        match (self, text) {
+            (Command::Check { program }, _) => program,
+            (Command::Run { program, .. }, Text::Program) => program,
+            (Command::Run { world, .. }, Text::World) => world,
+            (Command::Run { schedule, .. }, _) => schedule,
+            (Command::Replay { program, .. }, Text::Program) => program,
+            (Command::Replay { world, .. }, Text::World) => world,
+            (Command::Replay { journal, .. }, _) => journal,
+        }
+    }
+}

@@ -1,0 +1,91 @@
+-- What words ask for, by the rules of `clap`.
+use Rattle.std.specs.Prelude.{◌≡◌, ◌≢◌, ◌⊎◌, ℕ, List, [], Option, Some, None, Result, Ok, Err, IfSome, codes}
+use Rattle.std.specs.Str.Parse.{IsNumeral, digits_value, without_leading_plus}
+use Rattle.clap.specs.Faults.{fault_of}
+use Rattle.clap.specs.Kinds.{Kinds, IsAmong, HasKind}
+use Rattle.clap.specs.Simple.{subcommand_of}
+use Rattle.clap.specs.Values.{kind_of}
+use Rattle.clap.specs.Walk.{Row, first_of}
+use Rattle.clap.specs.declared.error.Error.{Error}
+use Rattle.clap.specs.declared.error.kind.ErrorKind.{ErrorKind}
+use Rattle.clap.specs.declared.error.kind.ErrorKind.TheVariants.{DisplayHelp, DisplayVersion, OutOfMemory}
+use Rattle.cli_commands.specs.declared.command.Command.{Command}
+use Rattle.cli_commands.specs.declared.command.Command.TheVariants.{Check, Run, Replay}
+use Rattle.cli_words.specs.CommandLine.{command_line}
+use Rattle.cli_words.specs.declared.request.Request.{Request}
+use Rattle.cli_words.specs.declared.request.Request.TheVariants.{Serve, Explain, Show, Misuse, LacksSchedule, LacksMemory}
+
+-- ---- words that `clap` takes
+
+-- what `clap` finds in the words: the command that they name, and its words with their values
+abbrev pub Found : Type 0
+Found = Option (List ℕ × List Row)
+
+-- the value of a word of a command
+abbrev pub HasValue : List Row → (name : List ℕ) → List ℕ → Type 0
+HasValue rows name value = first_of name rows ≡ Some value
+
+-- the command on files that the words name, each file by the word of its name
+abbrev pub Names : (command : List ℕ) → List Row → Command → Type 0
+Names name rows (Check program) = (name ≡ codes "check") × HasValue rows (codes "PROG") program.now
+Names name rows (Run program world schedule) =
+    (name ≡ codes "run") × HasValue rows (codes "PROG") program.now × HasValue rows (codes "WORLD") world.now × HasValue rows (codes "FILE") schedule.now
+Names name rows (Replay program world journal) =
+    (name ≡ codes "replay") × HasValue rows (codes "PROG") program.now × HasValue rows (codes "WORLD") world.now × HasValue rows (codes "JOURNAL") journal.now
+
+-- such a command, where the words name one
+abbrev pub AreNamed : (command : List ℕ) → List Row → Option Command → Type 0
+AreNamed name rows (Some command) = Names name rows command
+AreNamed name rows None = (command : Command) → Names name rows command → ⊥
+
+-- the number that a text spells in decimal digits, before which a plus may be
+abbrev pub Spells : (text : List ℕ) → (number : ℕ) → Type 0
+Spells text number = IsNumeral 10 (without_leading_plus text) × (number ≡ digits_value 10 (without_leading_plus text))
+
+-- the number of a fault is in the word `N`, and that of a trap in the word after `trap`
+abbrev pub HasNumber : List Row → (number : ℕ) → Type 0
+HasNumber rows number =
+    ((text : List ℕ) × HasValue rows (codes "N") text × (first_of (codes "NUMBER") rows ≡ None) × Spells text number)
+    ⊎ ((text : List ℕ) × HasValue rows (codes "N") (codes "trap") × HasValue rows (codes "NUMBER") text × Spells text number)
+
+-- what is asked for: something with the files that are named, an explanation, or something with files of which one is not named
+abbrev pub AsksFor : Found → Request → Type 0
+AsksFor (Some (name, rows)) (Serve command) = Names name rows command
+AsksFor (Some (name, rows)) (Explain explanation) = (name ≡ codes "explain") × IfSome explanation (λ e. HasNumber rows e.number)
+AsksFor (Some (name, rows)) LacksSchedule = (name ≢ codes "explain") × AreNamed name rows None
+AsksFor None LacksSchedule = Unit {0}
+AsksFor found request = ⊥
+
+-- ---- words that `clap` doesn't take
+
+-- the help or the version is the answer
+abbrev pub IsHelp : ErrorKind → Type 0
+IsHelp kind = (kind ≡ DisplayHelp) ⊎ (kind ≡ DisplayVersion)
+
+-- What words ask for of which `clap` says this: the help or the version is shown, and else the words are misused, unless memory was refused.
+abbrev pub IsTold : Error → Request → Type 0
+IsTold error (Show text) = IsHelp (kind_of error)
+IsTold error (Misuse text) = (IsHelp (kind_of error) → ⊥) × (kind_of error ≢ OutOfMemory)
+IsTold error LacksMemory = Unit {0}
+IsTold error (Serve command) = ⊥
+IsTold error (Explain explanation) = ⊥
+IsTold error LacksSchedule = ⊥
+
+-- ---- all words
+
+-- what `clap` makes of these words: it takes them and they ask for this, or it answers with one of the faults that it finds in them
+abbrev pub AreParsed : (words : List (List ℕ)) → Result Request Error → Type 0
+AreParsed words (Ok request) = (fault_of command_line words ≡ []) × AsksFor (subcommand_of command_line words) request
+AreParsed words (Err error) = HasKind (fault_of command_line words) error
+
+-- What is asked for by words in which `clap` finds this command and one of these faults, or none: a text is shown only where the fault is that the help
+-- or the version is the answer, the words are misused only where it is another, and all else is asked for only by words without a fault.
+abbrev pub IsRead : (faults : Kinds) → Found → Request → Type 0
+IsRead faults found (Show text) = (kind : ErrorKind) × IsAmong kind faults × IsHelp kind
+IsRead faults found (Misuse text) = (kind : ErrorKind) × IsAmong kind faults × (IsHelp kind → ⊥)
+IsRead faults found LacksMemory = Unit {0}
+IsRead faults found request = (faults ≡ []) × AsksFor found request
+
+-- what these words ask for, of which the first is the program's name
+abbrev pub AreRead : (words : List (List ℕ)) → Request → Type 0
+AreRead words request = IsRead (fault_of command_line words) (subcommand_of command_line words) request

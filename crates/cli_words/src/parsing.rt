@@ -1,0 +1,139 @@
+//! From words to what they ask for.
+
+ghost use Rattle.std.specs.Prelude.{◌≡◌, IfOk, IfSome, List, codes, map, option_map};
+ghost use Rattle.clap.specs.Faults.{fault_of};
+ghost use Rattle.clap.specs.Kinds.{FailsBy};
+ghost use Rattle.clap.specs.Matches.{found_of};
+ghost use Rattle.clap.specs.Simple.{subcommand_of, subcommand_rows_of};
+ghost use Rattle.clap.specs.Walk.{Row, first_of, rows_of};
+ghost use Rattle.cli_words.specs.CommandLine.{command_line};
+ghost use Rattle.cli_words.specs.Requests.{HasValue, HasNumber, AreNamed, AsksFor, IsTold, AreParsed, AreRead};
+
+use crate::command_line::command_line;
+use crate::request::Request;
+use clap::error::ErrorKind;
+use clap::{ArgMatches, Error};
+use cli_commands::Command;
+use cli_explanations::Explanation;
+use std::alloc::{AllocError, Global};
+use std::convert::AsStr;
+
+/// What is to be done with files, by the command's name and the words that are given.
+fn command_of<'a>(
+    name: &str,
+    program: &'a str,
+    world: Option<&'a str>,
+    schedule: Option<&'a str>,
+    journal: Option<&'a str>,
+) -> Option<Command<'a>>
+    ensures { (rows : List Row) → HasValue rows (codes "PROG") program.entry.now → option_map (λ w. w.now) world.entry ≡ first_of (codes "WORLD") rows
+        → option_map (λ w. w.now) schedule.entry ≡ first_of (codes "FILE") rows → option_map (λ w. w.now) journal.entry ≡ first_of (codes "JOURNAL") rows
+        → AreNamed name.now rows result }
+{
+    match (name, world, schedule, journal) {
+        ("check", _, _, _) => Some(Command::Check { program }),
+        ("run", Some(world), Some(schedule), _) => Some(Command::Run {
+            program,
+            world,
+            schedule,
+        }),
+        ("replay", Some(world), _, Some(journal)) => Some(Command::Replay {
+            program,
+            world,
+            journal,
+        }),
+        _ => None,
+    }
+}
+
+/// What is to be done with files, as the words after the command's name say.
+fn served<'a>(name: &str, given: &ArgMatches<'a>) -> Option<Command<'a>>
+    ensures { AreNamed name.now (rows_of (found_of given.now)) result }
+{
+    command_of(
+        name,
+        given.get_str("PROG")?,
+        given.get_str("WORLD"),
+        given.get_str("FILE"),
+        given.get_str("JOURNAL"),
+    )
+}
+
+/// What the words after `explain` ask for: a fault by its number, or a trap by `trap` and its number.
+fn explanation_of(first: &str, second: Option<&str>) -> Option<Explanation>
+    ensures { (rows : List Row) → HasValue rows (codes "N") first.now → option_map (λ w. w.now) second.entry ≡ first_of (codes "NUMBER") rows
+        → IfSome result (λ e. HasNumber rows e.number) }
+{
+    match second {
+        None => cli_explanations::fault(first.parse::<u32>().ok()?),
+        Some(number) if first == "trap" => cli_explanations::trap(number.parse::<u32>().ok()?),
+        Some(_) => None,
+    }
+}
+
+/// What is to be explained.
+fn explained(given: &ArgMatches<'_>) -> Option<Explanation>
+    ensures { IfSome result (λ e. HasNumber (rows_of (found_of given.now)) e.number) }
+{
+    explanation_of(given.get_str("N")?, given.get_str("NUMBER"))
+}
+
+/// What words ask for that `clap` takes.
+fn asked_of<'a>(matches: &ArgMatches<'a>) -> Request<'a>
+    ensures { AsksFor (subcommand_rows_of matches.now) result }
+{
+    match matches.subcommand() {
+        Some(("explain", given)) => Request::Explain(explained(given)),
+        Some((name, given)) => match served(name, given) {
+            Some(command) => Request::Serve(command),
+            None => Request::LacksSchedule,
+        },
+        None => Request::LacksSchedule,
+    }
+}
+
+/// The words, as `clap` reads them.
+fn matches_of<'a, S: AsStr>(alloc: Global, words: &'a [S]) -> Result<ArgMatches<'a>, Error>
+    ensures kinds { FailsBy (fault_of command_line (map S.text words.now)) result }
+    ensures found { IfOk result (λ m. subcommand_rows_of m ≡ subcommand_of command_line (map S.text words.now)) }
+{
+    match command_line(alloc) {
+        Ok(command) => command.try_get_matches_from(words),
+        Err(refused) => Err(Error::from(refused)),
+    }
+}
+
+/// What the words ask for, as `clap` reads them.
+fn parse<'a, S: AsStr>(alloc: Global, words: &'a [S]) -> Result<Request<'a>, Error>
+    ensures { AreParsed (map S.text words.now) result }
+{
+    match matches_of(alloc, words) {
+        Ok(matches) => Ok(asked_of(&matches)),
+        Err(error) => Err(error),
+    }
+}
+
+/// What words ask for that `clap` doesn't take: its help or its version, or why they are no command line.
+fn told<'a>(alloc: Global, error: &Error) -> Request<'a>
+    ensures { IsTold error.now result }
+{
+    let text = match format!(in alloc; "{error}") {
+        Ok(text) => text,
+        Err(_) => return Request::LacksMemory,
+    };
+    match error.kind() {
+        ErrorKind::DisplayHelp | ErrorKind::DisplayVersion => Request::Show(text),
+        ErrorKind::OutOfMemory => Request::LacksMemory,
+        _ => Request::Misuse(text),
+    }
+}
+
+/// What the words ask for. The first is the program's name.
+pub fn read<'a, S: AsStr>(alloc: Global, words: &'a [S]) -> Request<'a>
+    ensures { AreRead (map S.text words.now) result }
+{
+    match parse(alloc, words) {
+        Ok(request) => request,
+        Err(error) => told(alloc, &error),
+    }
+}

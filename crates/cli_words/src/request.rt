@@ -1,0 +1,21 @@
+//! What words ask for.
+
+use cli_commands::Command;
+use cli_explanations::Explanation;
+
+/// What words ask for.
+#[derive(Drop)]
+pub enum Request<'a> {
+    /// Something is done with files.
+    Serve(Command<'a>),
+    /// A fault or a trap is explained, where there is one of the number.
+    Explain(Option<Explanation>),
+    /// This text is shown: the help or the version, for which a word asks.
+    Show(String),
+    /// They are no command line: why, and what there is.
+    Misuse(String),
+    /// A run, but they don't say how to schedule.
+    LacksSchedule,
+    /// Memory was refused.
+    LacksMemory,
+}

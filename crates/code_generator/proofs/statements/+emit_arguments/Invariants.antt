@@ -1,5 +1,0 @@
-use Rattle.std.proofs.Common.{length}
-use Rattle.code_generator.proofs.statements.+emit_arguments.Given as goal
-
-abbrev pub decreases-emit_arguments : goal.decreases-emit_arguments
-decreases-emit_arguments l = length l.parameters.now

@@ -1,0 +1,295 @@
+-- What the instruction at a place does.
+use Rattle.std.specs.Prelude.{◌≡◌, ℕ, ℤ, ◌+◌, ◌-◌, ◌<◌, ◌≤◌, ◌⊎◌, Bool, true, List, [], ◌∷◌, ◌++◌, length, flat_map, slice_get, slice_set, Option, Some, None, FitsSigned}
+use Rattle.std.specs.Bool.{beq}
+use Rattle.std.specs.List.{AllZip}
+use Rattle.std.specs.Int.{w32, cast_signed}
+use Rattle.base.specs.Bytes.{Identifier, lookup}
+use Rattle.base.specs.Element.{ElementType}
+use Rattle.syntax.specs.Tree.{Block}
+use Rattle.jni.specs.Access.{Access}
+use Rattle.jni.specs.JniFunction.{JniFunction, is_built_function, prototype}
+use Rattle.jni.specs.Prototype.{ParameterKind, FieldID, IntNumber, TextBytes, ArrayVariable, BufferVariable, Mode, IsCopy, ResultKind, NewLocal, NewGlobal, GivesInt, GivesField}
+use Rattle.type_rules.specs.Sorts.{Sort, Flag, Ref, Global, FieldId, Buffer}
+use Rattle.class_rules.specs.Fields as source
+use Rattle.semantics.specs.Object.{Reference}
+use Rattle.semantics.specs.Arguments.{Actual, ReferenceActual, FieldActual, NumberActual, TextActual, VariableActual, ModeActual, NothingActual, ReleaseMode}
+use Rattle.semantics.specs.Effect.{Effect, Becomes, Sets, SetsNull, SetsElement, MakesArray, Prints, Calls, Returns, TrapsAt, NoEffect}
+use Rattle.semantics.specs.Task.{Task, Branch, Target, Declared, Assigned, Tested, Dropped, VariableKind, ScalarKind, ReferenceKind, FieldKind, BufferKind}
+use Rattle.semantics.specs.Term.{Done}
+use Rattle.semantics.specs.Value.{Value, Trap, Int, Gives}
+use Rattle.semantics.specs.Value as value
+use Rattle.semantics.specs.Variable.{StaticReference, Empty}
+use Rattle.code.specs.Call.{Call}
+use Rattle.code.specs.declared.instr.Operand.{Operand as Where}
+use Rattle.code.specs.declared.instr.Operand.TheVariants as operand
+use Rattle.code.specs.declared.instr.NullableVariable.{NullableVariable}
+use Rattle.code.specs.declared.instr.NullableVariable.TheVariants as nullable
+use Rattle.code.specs.declared.instr.Target.{Target as Destination}
+use Rattle.code.specs.declared.instr.Target.TheVariants as destination
+use Rattle.code.specs.declared.instr.Instr.{Instr}
+use Rattle.code.specs.declared.instr.Instr.TheVariants as instr
+use Rattle.code.specs.declared.instr.Plain.{Plain}
+use Rattle.code.specs.declared.instr.Plain.TheVariants as plain
+use Rattle.code.specs.declared.instr.PlainTrap.{PlainTrap}
+use Rattle.code.specs.declared.instr.PlainTrap.TheVariants as trap
+use Rattle.code.specs.Depth.{Listing}
+use Rattle.code.specs.Effect.{truth_word, plain_of}
+use Rattle.code_meaning.specs.Coding.{mode_code}
+use Rattle.code_meaning.specs.Layout.{Known}
+use Rattle.code_meaning.specs.Slots.{word_of, ValueHasSort, Visible, Slots, Shows, IsSet, IsNulled, IsReferred, IsFieldSet, IsMade, IsElementSet, IsHeld, ShowsStatic, holds_null, with_null}
+use Rattle.code_meaning.specs.Stands.{target_name, number_sort, StandsFor}
+use Rattle.code_meaning.specs.Fits.{IsReferenceKind, TakesNull, TakesLocal, TakesGlobal, IsArray, HaveOwnSlots}
+
+-- the instructions that leave a function
+abbrev pub IsReturn : Instr → Type 0
+IsReturn instr.Return = Unit {0}
+IsReturn instr.ReturnJint = Unit {0}
+IsReturn (instr.ReturnReference operand) = Unit {0}
+IsReturn i = ⊥
+
+-- the trap of an instruction
+abbrev pub trap_of : PlainTrap → Trap
+trap_of trap.DivisionByZero = value.DivisionByZero
+trap_of trap.ShiftTooFar = value.ShiftTooFar
+trap_of trap.OutOfRange = value.OutOfRange
+
+-- an instruction works on the stack alone: where it leads, and the stack after it; a null test looks at the slots and the
+-- statics too
+abbrev pub Works : Visible → Slots → Instr → (stack : List ℕ) → Plain → (after : List ℕ) → Type 0
+Works visible slots (instr.TestNull variable equal) stack way after =
+    (null : Bool) × (holds_null visible slots variable ≡ Some null) × (way ≡ plain.Next) × (after ≡ truth_word (beq null equal) ∷ stack)
+Works visible slots i stack way after = plain_of i stack slots.numbers ≡ Some (way, after, slots.numbers)
+
+-- what holds at the place that a way leads to
+abbrev pub AtEnd : (ℕ → Type 0) → (place : ℕ) → Plain → Type 0
+AtEnd P place plain.Next = P (place + 1)
+AtEnd P place (plain.Skip n) = P (place + 1 + n)
+AtEnd P place (plain.Back n) = (n ≤ place) × P (place - n)
+AtEnd P place (plain.Trap t line) = ⊥
+
+-- an operand fits its parameter
+abbrev pub OperandFits : ParameterKind → Where → Type 0
+OperandFits p operand.Number = p ≡ IntNumber
+OperandFits p (operand.FieldId i) = p ≡ FieldID
+OperandFits p operand.Text = p ≡ TextBytes
+OperandFits p operand.Null = TakesNull p
+OperandFits p (operand.Local i) = TakesLocal p
+OperandFits p (operand.Static i) = TakesGlobal p
+OperandFits p (operand.Array array) = (t : ElementType) × (p ≡ ArrayVariable t)
+OperandFits p (operand.Buffer i) = (access : Access) × (p ≡ BufferVariable access)
+OperandFits p (operand.Mode mode) = p ≡ Mode
+OperandFits p (operand.IsCopy i) = p ≡ IsCopy
+
+-- a parameter that a variable itself is given for
+abbrev pub IsVariableKind : ParameterKind → Type 0
+IsVariableKind (ArrayVariable t) = Unit {0}
+IsVariableKind (BufferVariable access) = Unit {0}
+IsVariableKind IsCopy = Unit {0}
+IsVariableKind p = ⊥
+
+-- an argument is what its parameter asks for
+abbrev pub ActualFits : ParameterKind → Actual → Type 0
+ActualFits p (ReferenceActual x r) = IsReferenceKind p
+ActualFits p (FieldActual f) = p ≡ FieldID
+ActualFits p (NumberActual z) = p ≡ IntNumber
+ActualFits p (TextActual bytes) = p ≡ TextBytes
+ActualFits p (VariableActual x) = IsVariableKind p
+ActualFits p (ModeActual m) = p ≡ Mode
+ActualFits p NothingActual = p ≡ IsCopy
+
+-- the word of an argument that is a number
+abbrev pub word_given : Actual → List ℕ
+word_given (NumberActual z) = word_of (Int z) ∷ []
+word_given a = []
+
+-- those of several, the last on top
+abbrev pub words_given : List Actual → List ℕ
+words_given [] = []
+words_given (a ∷ args) = words_given args ++ word_given a
+
+-- the text of an argument
+abbrev pub text_given : Actual → List (List ℕ)
+text_given (TextActual bytes) = bytes ∷ []
+text_given a = []
+
+-- those of several, in order
+abbrev pub texts_given : List Actual → List (List ℕ)
+texts_given args = flat_map text_given args
+
+-- The place, with these names known, these operands and these slots, where this can be seen.
+module _ (code : Listing) (known : Known) (place : ℕ) (stack : List ℕ) (slots : Slots) (visible : Visible) where
+  -- it works on the stack alone, and the place that it leads to stands for these tasks
+  pub record GoesOn (tasks : List Task) : Type 0 where
+    pub here : Instr
+    pub way : Plain
+    pub after : List ℕ
+    pub at : slice_get code.instrs place ≡ Some here
+    pub works : Works visible slots here stack way after
+    pub names : Known
+    pub shows : Shows code names visible slots
+    pub stands : AtEnd (λ p. StandsFor code names p after tasks) place way
+
+  -- it writes number slots, so that they show what is changed, and the next place stands for these tasks
+  pub record Writes (changed : Visible → Type 0) (tasks : List Task) : Type 0 where
+    pub here : Instr
+    pub numbers : List ℕ
+    pub at : slice_get code.instrs place ≡ Some here
+    pub plain : plain_of here stack slots.numbers ≡ Some (plain.Next, [], numbers)
+    pub names : Known
+    pub shows : (new : Visible) → changed new → Shows code names new (record slots { numbers = numbers })
+    pub stands : StandsFor code names (place + 1) [] tasks
+
+  -- a new variable that isn't a number, or one that can be NULL
+  abbrev pub CanBeNull : Target → Type 0
+  CanBeNull (Declared ScalarKind x) = ⊥
+  CanBeNull (Declared kind x) = Unit {0}
+  CanBeNull (Assigned x) = (null : Bool) × (visible.sight.is_null x ≡ Gives null)
+  CanBeNull target = ⊥
+
+  -- the kind of the variable that a target is
+  abbrev pub kind_of_target : Target → Option VariableKind
+  kind_of_target (Declared kind x) = Some kind
+  kind_of_target (Assigned x) = visible.kind x
+  kind_of_target target = None
+
+  -- a variable in a slot is of the kind that it has there, and a static, which is of none, has the number of its place
+  abbrev pub IsStoredIn : NullableVariable → Option VariableKind → Identifier → Type 0
+  IsStoredIn (nullable.Local i) kind x = kind ≡ Some ReferenceKind
+  IsStoredIn (nullable.Static i) kind x = (kind ≡ None) × ShowsStatic visible x i
+  IsStoredIn (nullable.FieldId i) kind x = kind ≡ Some FieldKind
+  IsStoredIn (nullable.Buffer i) kind x = (t : ElementType) × (kind ≡ Some (BufferKind t))
+
+  -- it makes a variable NULL, and the next place stands for these tasks
+  pub record StoresNull (target : Target) (tasks : List Task) : Type 0 where
+    pub empty : stack ≡ []
+    pub name : Identifier
+    pub is : target_name target ≡ Some name
+    pub takes : CanBeNull target
+    pub variable : NullableVariable
+    pub stored : IsStoredIn variable (kind_of_target target) name
+    pub at : slice_get code.instrs place ≡ Some (instr.StoreNull variable)
+    pub names : Known
+    pub shows : (new : Visible) → IsNulled visible (kind_of_target target) name new → Shows code names new (with_null variable slots)
+    pub stands : StandsFor code names (place + 1) [] tasks
+
+  -- it prints the one word on the stack, which is this number
+  pub record PrintsTop (number : ℤ) (tasks : List Task) : Type 0 where
+    pub at : slice_get code.instrs place ≡ Some instr.PutJint
+    pub word : ℕ
+    pub top : stack ≡ word ∷ []
+    pub is : cast_signed w32 word ≡ number
+    pub stands : StandsFor code known (place + 1) [] tasks
+
+  -- An argument is NULL for a reference, a field ID or `isCopy`; the reference or the field ID of a known name; a `jint`; a
+  -- text; a local array, a buffer or a flag with a known name; or a release mode.
+  abbrev pub IsOperand : Where → Actual → Type 0
+  IsOperand operand.Null actual = ((x : Identifier) × (actual ≡ ReferenceActual x Empty)) ⊎ (actual ≡ FieldActual None) ⊎ (actual ≡ NothingActual)
+  IsOperand (operand.Local i) actual =
+      (x : Identifier) × (actual ≡ ReferenceActual x (visible.sight.reference x)) × (lookup x known ≡ Some (record { sort = Ref; index = i }))
+  IsOperand (operand.Static i) actual =
+      (x : Identifier) × (actual ≡ ReferenceActual x (visible.sight.reference x)) × (lookup x known ≡ Some (record { sort = Global; index = i }))
+  IsOperand operand.Number actual = (z : ℤ) × (actual ≡ NumberActual z) × FitsSigned w32 z
+  IsOperand (operand.FieldId i) actual =
+      (x : Identifier) × (actual ≡ FieldActual (visible.sight.field x)) × (lookup x known ≡ Some (record { sort = FieldId; index = i }))
+  IsOperand operand.Text actual = (bytes : List ℕ) × (actual ≡ TextActual bytes)
+  IsOperand (operand.Array array) actual = (x : Identifier) × (actual ≡ VariableActual x) × (t : ElementType) × IsArray known x t array.len array.start
+  IsOperand (operand.Buffer i) actual =
+      (x : Identifier) × (actual ≡ VariableActual x) × (t : ElementType) × (writable : Bool) × (lookup x known ≡ Some (record { sort = Buffer t writable; index = i }))
+  IsOperand (operand.Mode mode) actual = (m : ReleaseMode) × (actual ≡ ModeActual m) × (mode ≡ mode_code m)
+  IsOperand (operand.IsCopy i) actual = (x : Identifier) × (actual ≡ VariableActual x) × (lookup x known ≡ Some (record { sort = Flag; index = i }))
+
+  -- What the call gives goes into a slot: then the slots show the variable with it, and the next place stands for these tasks.
+  pub record TakesNumber (s : Sort) (i : ℕ) (x : Identifier) (tasks : List Task) : Type 0 where
+    pub within : i < length slots.numbers
+    pub names : Known
+    pub shows : (v : Value) (new : Visible) → ValueHasSort v s → IsSet visible x v new → Shows code names new (record slots { numbers = slice_set slots.numbers i (word_of v) })
+    pub stands : StandsFor code names (place + 1) [] tasks
+
+  -- the same of a reference, beside which is its level, if it is the variable's own
+  pub record TakesReference (i : ℕ) (x : Identifier) (tasks : List Task) : Type 0 where
+    pub within : i < length slots.references
+    pub names : Known
+    pub shows : (r : Reference) (new : Visible) → IsReferred visible x r new → Shows code names new (record slots { references = slice_set slots.references i r; owners = slice_set slots.owners i (new.owner x) })
+    pub stands : StandsFor code names (place + 1) [] tasks
+
+  -- the same of a field ID
+  pub record TakesField (i : ℕ) (x : Identifier) (tasks : List Task) : Type 0 where
+    pub within : i < length slots.fields
+    pub names : Known
+    pub shows : (f : Option source.FieldId) (new : Visible) → IsFieldSet visible x f new → Shows code names new (record slots { fields = slice_set slots.fields i f })
+    pub stands : StandsFor code names (place + 1) [] tasks
+
+  -- the same of a global reference, which a static that is known holds then
+  pub record TakesStatic (i : ℕ) (x : Identifier) (tasks : List Task) : Type 0 where
+    pub static : ShowsStatic visible x i
+    pub names : Known
+    pub shows : (h : StaticReference) (new : Visible) → IsHeld visible x h new → Shows code names new slots
+    pub stands : StandsFor code names (place + 1) [] tasks
+
+  -- The result is tested by an `if` on this line: with the truth whether it is 0 on the stack the next place stands for its
+  -- ways, and then for these tasks.
+  pub record TakesTest (line : ℕ) (target : Target) (tasks : List Task) : Type 0 where
+    pub then' : Block
+    pub else' : Block
+    pub is : target ≡ Tested then' else'
+    pub stands : (gave_zero : Bool) → StandsFor code known (place + 1) (truth_word gave_zero ∷ []) (Branch line (Done (value.Truth gave_zero)) then' else' ∷ tasks)
+
+  -- a new variable of this kind takes what is taken, or one that is of this kind already
+  abbrev pub GoesInto : VariableKind → Target → (Takes : Identifier → Type 0) → Type 0
+  GoesInto kind (Declared declared x) Takes = (declared ≡ kind) × Takes x
+  GoesInto kind (Assigned x) Takes = (visible.kind x ≡ Some kind) × Takes x
+  GoesInto kind target Takes = ⊥
+
+  -- where the result of a call in a statement on this line goes, by what the function gives, and what comes then; no function
+  -- that can be called today gives a buffer
+  abbrev pub TakesResult : (line : ℕ) → Destination → ResultKind → Target → List Task → Type 0
+  TakesResult line (destination.Number i) gives target tasks = (s : Sort) × (number_sort gives ≡ Some s) × GoesInto ScalarKind target (λ x. TakesNumber s i x tasks)
+  TakesResult line (destination.Local i) gives target tasks = (gives ≡ NewLocal) × GoesInto ReferenceKind target (λ x. TakesReference i x tasks)
+  TakesResult line (destination.FieldId i) gives target tasks = (gives ≡ GivesField) × GoesInto FieldKind target (λ x. TakesField i x tasks)
+  TakesResult line (destination.Static i) gives target tasks = (gives ≡ NewGlobal) × ((x : Identifier) × (target ≡ Assigned x) × TakesStatic i x tasks)
+  TakesResult line (destination.Buffer i) gives target tasks = ⊥
+  TakesResult line destination.Test gives target tasks = (gives ≡ GivesInt) × TakesTest line target tasks
+  TakesResult line destination.Dropped gives target tasks = (target ≡ Dropped) × StandsFor code known (place + 1) [] tasks
+
+  -- it calls this function with these arguments
+  pub record CallsFunction (line : ℕ) (target : Target) (f : JniFunction) (args : List Actual) (tasks : List Task) : Type 0 where
+    pub call : Call
+    pub at : slice_get code.instrs place ≡ Some (instr.Call call)
+    pub same_line : call.line ≡ line
+    pub same_function : call.function ≡ f
+    pub built : is_built_function f ≡ true
+    pub words : stack ≡ words_given args
+    pub texts : call.texts ≡ texts_given args
+    pub count : length args ≡ length (prototype f).parameters
+    pub kinds : AllZip OperandFits (prototype f).parameters call.operands
+    pub fit : AllZip ActualFits (prototype f).parameters args
+    pub given : AllZip IsOperand call.operands args
+    pub own_slots : HaveOwnSlots known
+    pub goes : TakesResult line call.target (prototype f).result target tasks
+
+  -- it leaves the function
+  pub record LeavesCall : Type 0 where
+    pub here : Instr
+    pub at : slice_get code.instrs place ≡ Some here
+    pub returns : IsReturn here
+
+  -- it traps on a line, and leaves stack and slots as they were
+  pub record Stops (reason : Trap) (line : ℕ) : Type 0 where
+    pub here : Instr
+    pub trap : PlainTrap
+    pub is : trap_of trap ≡ reason
+    pub at : slice_get code.instrs place ≡ Some here
+    pub plain : plain_of here stack slots.numbers ≡ Some (plain.Trap trap line, stack, slots.numbers)
+
+  -- the instruction at the place does what the first of the tasks does, whose effect is given
+  abbrev pub DoesEffect : (rest : List Task) → Effect → Type 0
+  DoesEffect rest (Becomes tasks) = GoesOn (tasks ++ rest)
+  DoesEffect rest (Sets x v) = Writes (IsSet visible x v) rest
+  DoesEffect rest (SetsNull target) = StoresNull target rest
+  DoesEffect rest (SetsElement x index z) = (t : ElementType) × (visible.array_type x ≡ Some t) × Writes (IsElementSet visible t x index z) rest
+  DoesEffect rest (MakesArray t x size) = Writes (IsMade visible t x size) rest
+  DoesEffect rest (Prints z) = PrintsTop z rest
+  DoesEffect rest (Calls line target f args) = CallsFunction line target f args rest
+  DoesEffect rest Returns = LeavesCall
+  DoesEffect rest (TrapsAt reason line) = Stops reason line
+  DoesEffect rest NoEffect = ⊥

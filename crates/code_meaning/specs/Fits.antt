@@ -1,0 +1,291 @@
+-- What lowering knows of the statements of an accepted function.
+use Rattle.std.specs.Prelude.{◌≡◌, ◌≢◌, ℕ, ◌+◌, ◌^◌, ◌<◌, ◌≤◌, ◌⊎◌, max, true, false, length, Some, None, IsTrue}
+use Rattle.std.specs.List.{AllZip}
+use Rattle.base.specs.Bytes.{Identifier, lookup}
+use Rattle.base.specs.Element.{ElementType, JChar}
+use Rattle.syntax.specs.Tree as tree
+use Rattle.syntax.specs.Tree.{LogicalNot, Complement, ToWord, ToInt, Expr, Argument, Call, RightSide, FromExpr, FromCall, Test, TestExpr, TestCall, Stmt, Block, End, Next, Function}
+use Rattle.jni.specs.Access.{Access}
+use Rattle.jni.specs.JniFunction.{JniFunction, is_built_function, function_named, prototype}
+use Rattle.jni.specs.Prototype.{ParameterKind, Nullable, NonNull, ClassObject, AnyArray, ObjectArray, StringObject, NumberArray, LocalVariable, StaticVariable, FieldID, IntNumber, TextBytes, ArrayVariable, BufferVariable, Mode, IsCopy, ResultKind, NewLocal, NewGlobal, GivesFlag, GivesInt, GivesField}
+use Rattle.type_rules.specs.Sorts.{Sort, Word, Jint, Flag, Truth, Ref, Global, FieldId, Buffer, Array, OperatorGroup, Logic, Equality, Order, OnWords, group, is_buffer_for}
+use Rattle.type_rules.specs.SortRules.{variable_sort, is_mode}
+use Rattle.code.specs.declared.slots.SlotCounts.{SlotCounts}
+use Rattle.semantics.specs.Term as term
+use Rattle.semantics.specs.Term.{Term, Done, Read, And, Or, IsNull, Prefix, Binary, term_of}
+use Rattle.code_meaning.specs.Layout.{Slot, Known, Layout, width, closed, layout_after, block_layout, entry_layout}
+use Rattle.code_meaning.specs.Slots.{ValueHasSort, IsNumberSort}
+
+-- ---- terms
+
+-- a name that is known as a number variable of this sort
+abbrev pub IsVariable : Known → Identifier → Sort → Type 0
+IsVariable known x s = (i : ℕ) × (lookup x known ≡ Some (record { sort = s; index = i })) × IsNumberSort s
+
+-- a name that is known as an array, from this slot on
+abbrev pub IsArray : Known → Identifier → ElementType → (size start : ℕ) → Type 0
+IsArray known x t size start = lookup x known ≡ Some (record { sort = Array t size; index = start })
+
+-- the sorts of an index
+abbrev pub IsIndexSort : Sort → Type 0
+IsIndexSort Word = Unit {0}
+IsIndexSort Jint = Unit {0}
+IsIndexSort s = ⊥
+
+-- what can be compared with NULL
+abbrev pub IsNullable : Sort → Type 0
+IsNullable Ref = Unit {0}
+IsNullable Global = Unit {0}
+IsNullable FieldId = Unit {0}
+IsNullable (Buffer t writable) = Unit {0}
+IsNullable s = ⊥
+
+-- the sort of both operands of an operator, and that of its result
+abbrev pub OperatorFits : OperatorGroup → (operands result : Sort) → Type 0
+OperatorFits Logic r s = ⊥
+OperatorFits Equality r s = IsNumberSort r × (s ≡ Truth)
+OperatorFits Order r s = IsIndexSort r × (s ≡ Truth)
+OperatorFits OnWords r s = (r ≡ Word) × (s ≡ Word)
+
+-- a term whose parts have the sorts that their operators ask for
+abbrev pub TermHasSort : Known → Term → Sort → Type 0
+TermHasSort known (Done v) s = ValueHasSort v s
+TermHasSort known (term.Number value true) s = (value < 2 ^ 32) × (s ≡ Word)
+TermHasSort known (term.Number value false) s = (value < 2 ^ 31) × (s ≡ Jint)
+TermHasSort known (term.Named tree.True) s = s ≡ Flag
+TermHasSort known (term.Named tree.False) s = s ≡ Flag
+TermHasSort known (term.Named c) s = ⊥
+TermHasSort known (Read x) s = IsVariable known x s
+TermHasSort known (term.Element x t) s = (r : Sort) × IsIndexSort r × TermHasSort known t r × ((e : ElementType) × (size : ℕ) × (start : ℕ) × IsArray known x e size start) × (s ≡ Jint)
+TermHasSort known (IsNull equal x) s = ((n : Slot) × (lookup x known ≡ Some n) × IsNullable n.sort) × (s ≡ Truth)
+TermHasSort known (Prefix LogicalNot t) s = TermHasSort known t Truth × (s ≡ Truth)
+TermHasSort known (Prefix Complement t) s = TermHasSort known t Word × (s ≡ Word)
+TermHasSort known (Prefix ToWord t) s = (r : Sort) × IsNumberSort r × TermHasSort known t r × (s ≡ Word)
+TermHasSort known (Prefix ToInt t) s = (r : Sort) × IsNumberSort r × TermHasSort known t r × (s ≡ Jint)
+TermHasSort known (And a b) s = TermHasSort known a Truth × TermHasSort known b Truth × (s ≡ Truth)
+TermHasSort known (Or a b) s = TermHasSort known a Truth × TermHasSort known b Truth × (s ≡ Truth)
+TermHasSort known (Binary op a b) s = (r : Sort) × OperatorFits (group op) r s × TermHasSort known a r × TermHasSort known b r
+
+-- no part has its value yet
+abbrev pub IsUntouched : Term → Type 0
+IsUntouched (Done v) = ⊥
+IsUntouched (term.Element x t) = IsUntouched t
+IsUntouched (Prefix op t) = IsUntouched t
+IsUntouched (And a b) = IsUntouched a × IsUntouched b
+IsUntouched (Or a b) = IsUntouched a × IsUntouched b
+IsUntouched (Binary op a b) = IsUntouched a × IsUntouched b
+IsUntouched t = Unit {0}
+
+-- operators inside one another
+abbrev pub term_height : Term → ℕ
+term_height (term.Element x t) = 1 + term_height t
+term_height (Prefix op t) = 1 + term_height t
+term_height (And a b) = 1 + max (term_height a) (term_height b)
+term_height (Or a b) = 1 + max (term_height a) (term_height b)
+term_height (Binary op a b) = 1 + max (term_height a) (term_height b)
+term_height t = 0
+
+-- a number or a truth of this sort, before its first step
+pub record NumberFits (known : Known) (t : Term) (s : Sort) : Type 0 where
+  pub sort : TermHasSort known t s
+  pub untouched : IsUntouched t
+  pub low : term_height t ≤ 32
+
+-- ---- slots
+
+-- a slot of this sort is there; no variable is a truth
+abbrev pub IndexWithin : SlotCounts → Sort → ℕ → Type 0
+IndexWithin slots Truth i = ⊥
+IndexWithin slots Ref i = i < slots.references
+IndexWithin slots Global i = i < slots.statics
+IndexWithin slots FieldId i = i < slots.field_ids
+IndexWithin slots (Buffer t writable) i = i < slots.buffers
+IndexWithin slots (Array t size) i = (0 < size) × (size ≤ 1024) × (i + size ≤ slots.numbers)
+IndexWithin slots s i = i < slots.numbers
+
+-- this number slot is one of the variable's
+abbrev pub IsPlaceOf : Slot → ℕ → Type 0
+IsPlaceOf s k = (s.index ≤ k) × (k < s.index + width s.sort)
+
+-- two variables have no slot in common
+pub record AreApart (s t : Slot) : Type 0 where
+  pub numbers : (k : ℕ) → IsPlaceOf s k → IsPlaceOf t k → ⊥
+  pub references : s.sort ≡ Ref → t.sort ≡ Ref → s.index ≢ t.index
+  pub fields : s.sort ≡ FieldId → t.sort ≡ FieldId → s.index ≢ t.index
+
+-- no known name but this has the slot
+abbrev pub IsOwn : Known → Identifier → Slot → Type 0
+IsOwn known x s = (y : Identifier) (t : Slot) → lookup y known ≡ Some t → y ≢ x → AreApart t s
+
+-- each known name has slots of its own
+abbrev pub HaveOwnSlots : Known → Type 0
+HaveOwnSlots known = (x : Identifier) (s : Slot) → lookup x known ≡ Some s → IsOwn known x s
+
+-- each known name has slots of its own, which are there
+pub record IsLaidOut (known : Known) (slots : SlotCounts) : Type 0 where
+  pub within : (x : Identifier) (s : Slot) → lookup x known ≡ Some s → IndexWithin slots s.sort s.index
+  pub own : HaveOwnSlots known
+
+-- slots of statics alone, counted from 0
+abbrev pub AreStatics : Known → Type 0
+AreStatics statics = (x : Identifier) (s : Slot) → lookup x statics ≡ Some s → (s.sort ≡ Global) × (s.index < length statics)
+
+-- as many of each kind at least
+pub record HasRoomFor (slots taken : SlotCounts) : Type 0 where
+  pub numbers : taken.numbers ≤ slots.numbers
+  pub references : taken.references ≤ slots.references
+  pub statics : taken.statics ≤ slots.statics
+  pub field_ids : taken.field_ids ≤ slots.field_ids
+  pub buffers : taken.buffers ≤ slots.buffers
+
+-- ---- statements
+
+-- the name of a variable of this sort
+abbrev pub NameFits : Known → Sort → Expr → Type 0
+NameFits known s (tree.Variable x) = (i : ℕ) × (lookup x known ≡ Some (record { sort = s; index = i }))
+NameFits known s e = ⊥
+
+-- NULL, the name of a local reference, or that of a static
+abbrev pub ReferenceFits : Known → Expr → Type 0
+ReferenceFits known (tree.Named tree.Null) = Unit {0}
+ReferenceFits known (tree.Variable x) = (s : Slot) × (lookup x known ≡ Some s) × ((s.sort ≡ Ref) ⊎ (s.sort ≡ Global))
+ReferenceFits known e = ⊥
+
+-- a parameter that is a reference
+abbrev pub IsReferenceKind : ParameterKind → Type 0
+IsReferenceKind Nullable = Unit {0}
+IsReferenceKind NonNull = Unit {0}
+IsReferenceKind ClassObject = Unit {0}
+IsReferenceKind AnyArray = Unit {0}
+IsReferenceKind ObjectArray = Unit {0}
+IsReferenceKind StringObject = Unit {0}
+IsReferenceKind (NumberArray t) = Unit {0}
+IsReferenceKind LocalVariable = Unit {0}
+IsReferenceKind StaticVariable = Unit {0}
+IsReferenceKind p = ⊥
+
+-- a parameter that `NULL` may stand for
+abbrev pub TakesNull : ParameterKind → Type 0
+TakesNull FieldID = Unit {0}
+TakesNull IsCopy = Unit {0}
+TakesNull LocalVariable = ⊥
+TakesNull StaticVariable = ⊥
+TakesNull p = IsReferenceKind p
+
+-- a parameter that a local reference may stand for
+abbrev pub TakesLocal : ParameterKind → Type 0
+TakesLocal StaticVariable = ⊥
+TakesLocal p = IsReferenceKind p
+
+-- a parameter that a static may stand for
+abbrev pub TakesGlobal : ParameterKind → Type 0
+TakesGlobal LocalVariable = ⊥
+TakesGlobal p = IsReferenceKind p
+
+-- NULL, or the name of a field ID
+abbrev pub FieldFits : Known → Expr → Type 0
+FieldFits known (tree.Named tree.Null) = Unit {0}
+FieldFits known e = NameFits known FieldId e
+
+-- the name of a local array with elements of this type
+abbrev pub ArrayFits : Known → ElementType → Expr → Type 0
+ArrayFits known t (tree.Variable x) = (size : ℕ) × (start : ℕ) × IsArray known x t size start
+ArrayFits known t e = ⊥
+
+-- the name of a buffer that this access may fill
+abbrev pub BufferFits : Known → Access → Expr → Type 0
+BufferFits known access (tree.Variable x) = (s : Slot) × (lookup x known ≡ Some s) × IsTrue (is_buffer_for access (Some s.sort))
+BufferFits known access e = ⊥
+
+-- an argument for a parameter
+abbrev pub ArgumentFits : Known → ParameterKind → Argument → Type 0
+ArgumentFits known IntNumber (tree.Value e) = NumberFits known (term_of e) Jint
+ArgumentFits known FieldID (tree.Value e) = FieldFits known e
+ArgumentFits known TextBytes (tree.Text bytes) = Unit {0}
+ArgumentFits known TextBytes (tree.Value e) = ⊥
+ArgumentFits known (ArrayVariable t) (tree.Value e) = ArrayFits known t e
+ArgumentFits known (BufferVariable access) (tree.Value e) = BufferFits known access e
+ArgumentFits known Mode (tree.Value e) = IsTrue (is_mode (tree.Value e))
+ArgumentFits known LocalVariable (tree.Value e) = NameFits known Ref e
+ArgumentFits known StaticVariable (tree.Value e) = NameFits known Global e
+ArgumentFits known IsCopy (tree.Value e) = e ≡ tree.Named tree.Null
+ArgumentFits known IsCopy (tree.AddressOf x) = IsVariable known x Flag
+ArgumentFits known p (tree.Value e) = ReferenceFits known e
+ArgumentFits known p a = ⊥
+
+-- a call of a function that is built, with an argument for each parameter
+pub record CallFits (known : Known) (c : Call) : Type 0 where
+  pub function : JniFunction
+  pub named : function_named c.function ≡ Some function
+  pub built : is_built_function function ≡ true
+  pub arguments : AllZip (ArgumentFits known) (prototype function).parameters c.arguments
+
+-- a value for a variable of this sort
+abbrev pub ValueFits : Known → Sort → Expr → Type 0
+ValueFits known Word e = NumberFits known (term_of e) Word
+ValueFits known Jint e = NumberFits known (term_of e) Jint
+ValueFits known Flag e = NumberFits known (term_of e) Flag
+ValueFits known Truth e = ⊥
+ValueFits known (Array t size) e = ⊥
+ValueFits known s e = e ≡ tree.Named tree.Null
+
+-- what a function gives fits a variable of this sort: a number, a reference or a field ID today
+abbrev pub ResultFits : Sort → ResultKind → Type 0
+ResultFits s GivesInt = s ≡ Jint
+ResultFits s GivesFlag = s ≡ Flag
+ResultFits s NewLocal = s ≡ Ref
+ResultFits s NewGlobal = s ≡ Global
+ResultFits s GivesField = s ≡ FieldId
+ResultFits s gives = ⊥
+
+-- a call's result for a variable of this sort
+pub record CallGives (known : Known) (s : Sort) (c : Call) : Type 0 where
+  pub fits : CallFits known c
+  pub result : ResultFits s (prototype fits.function).result
+
+-- a right side for such a variable
+abbrev pub RightFits : Known → Sort → RightSide → Type 0
+RightFits known s (FromExpr e) = ValueFits known s e
+RightFits known s (FromCall c) = CallGives known s c
+
+-- what an `if` tests: a truth, or whether a call gives 0
+abbrev pub TestFits : Known → Test → Type 0
+TestFits known (TestExpr e) = NumberFits known (term_of e) Truth
+TestFits known (TestCall c) = CallGives known Jint c
+
+-- what is returned: NULL, a local reference or a number
+abbrev pub ReturnFits : Known → Term → Type 0
+ReturnFits known (term.Named tree.Null) = Unit {0}
+ReturnFits known (Read x) = (s : Slot) × (lookup x known ≡ Some s) × ((s.sort ≡ Ref) ⊎ (s.sort ≡ Jint))
+ReturnFits known t = NumberFits known t Jint
+
+-- a name that isn't known yet
+abbrev pub IsNew : Known → Identifier → Type 0
+IsNew known x = lookup x known ≡ None
+
+abbrev mutual
+  -- a statement
+  pub StmtFits : Layout → Stmt → Type 0
+  StmtFits l (tree.Declare line t x r) = IsNew l.known x × RightFits l.known (variable_sort t) r
+  StmtFits l (tree.DeclareBuffer line t x r) = IsNew l.known x × RightFits l.known (Buffer t true) r
+  StmtFits l (tree.DeclareChars line x r) = IsNew l.known x × RightFits l.known (Buffer JChar false) r
+  StmtFits l (tree.DeclareArray line t x size) = IsNew l.known x × (0 < size) × (size ≤ 1024)
+  StmtFits l (tree.Assign line x r) = (s : Slot) × (lookup x l.known ≡ Some s) × RightFits l.known s.sort r
+  StmtFits l (tree.AssignElement line x i e) =
+      ((t : ElementType) × (size : ℕ) × (start : ℕ) × IsArray l.known x t size start) × ((r : Sort) × IsIndexSort r × NumberFits l.known (term_of i) r) × NumberFits l.known (term_of e) Jint
+  StmtFits l (tree.Perform line c) = CallFits l.known c
+  StmtFits l (tree.PutJint line e) = NumberFits l.known (term_of e) Jint
+  StmtFits l (tree.If line test then') = TestFits l.known test × BlockFits l then'
+  StmtFits l (tree.IfElse line test then' else') = TestFits l.known test × BlockFits l then' × BlockFits (closed l (block_layout l then')) else'
+  StmtFits l (tree.While line test body) = NumberFits l.known (term_of test) Truth × BlockFits l body
+  StmtFits l (tree.Return line) = Unit {0}
+  StmtFits l (tree.ReturnValue line e) = ReturnFits l.known (term_of e)
+
+  -- the statements of a block
+  pub BlockFits : Layout → Block → Type 0
+  BlockFits l (End line) = Unit {0}
+  BlockFits l (Next s rest) = StmtFits l s × BlockFits (layout_after l s) rest
+
+-- a function after these statics
+abbrev pub FunctionFits : (statics : Known) → Function → Type 0
+FunctionFits statics f = BlockFits (entry_layout statics f) f.body

@@ -1,8 +1,0 @@
-use Rattle.std.proofs.Common.{◌≡◌, map, take}
-use Rattle.std.specs.Prelude.{filter_map}
-use Rattle.world.specs.Views.{object_value_view}
-use Rattle.lowered.specs.Slots.{argument_word}
-use Rattle.execution.proofs.entry.number_slots.Given as goal
-
-abbrev pub invariant-loop-argument : goal.invariant-loop-argument
-invariant-loop-argument l = l.slots.items ≡ filter_map argument_word (map object_value_view (take l.argument-index l.arguments))

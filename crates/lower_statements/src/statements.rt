@@ -1,0 +1,582 @@
+//! The code of statements and blocks.
+
+ghost use Rattle.std.specs.Prelude.{◌≡◌, ◌+◌, ◌-◌, ◌<◌, ◌≤◌, [], ◌∷◌, ◌++◌, slice_set, vec_len, map, zip, IfOk, OnOk, IsTrue};
+ghost use Rattle.base.specs.Bytes.{lookup};
+ghost use Rattle.syntax.specs.Views.{expr_tree, argument_tree, call_tree, right_side_tree, test_tree, variable_type_tree, form_tree, block_tree};
+ghost use Rattle.jni.specs.JniFunction.{function_named};
+ghost use Rattle.jni.specs.Table.{function_value, parameter_value};
+ghost use Rattle.type_rules.specs.SortRules.{variable_sort};
+ghost use Rattle.semantics.specs.Arguments.{mode_of};
+ghost use Rattle.semantics.specs.Term.{term_of};
+ghost use Rattle.code_meaning.specs.Layout.{closed, layout_after, block_layout, with_name, new_slot};
+ghost use Rattle.code_meaning.specs.Coding.{mode_code, operand_code, argument_code, arguments_code, arguments_texts, variable_operand, result_target, named_call_code, right_code, assign_code, write_code, of_slot, return_code, returned_code, test_code, first_code, loop_code, expr_code, stmt_code, block_code};
+ghost use Rattle.lower_statements.specs.Names.{sort_view, slot_view};
+ghost use Rattle.lower_statements.specs.Plain.{is_declaring, is_plain};
+
+use crate::emitting::{counted, emit, replace};
+use crate::names::{Names, Slot, Sort};
+use crate::terms::{element_type, emit_expr, nullable};
+use code::instr;
+use code::instr::{BoxedCall, Instr, LocalArray, Operand, ReferenceOperand, ReleaseMode, Target};
+use jni::{JniFunction, ParameterKind, function_named};
+use std::alloc::{AllocError, Global};
+use syntax::{
+    Argument, Block, Call, Constant, ElementType, Expr, Form, Name, RightSide, Test, VariableType,
+};
+
+/// A statement on this line, with the names that are known after it.
+#[cycle(statements)]
+pub fn emit_form<'a>(
+    code: &mut Vec<Instr>,
+    names: &mut Names<'a>,
+    line: u32,
+    form: &'a Form,
+) -> Result<(), AllocError>
+    ensures code { OnOk result (code.new.items ≡ code.old.items ++ stmt_code names.old (form_tree line form.now)) }
+    ensures names { OnOk result (names.new ≡ layout_after names.old (form_tree line form.now)) }
+{
+    match form {
+        Form::If(test, first) => {
+            let end = emit_first(code, names, line, test, first)?;
+            emit_end(code, end)
+        }
+        Form::IfElse(test, first, second) => {
+            let end = emit_first(code, names, line, test, first)?;
+            emit_block(code, names, second)?;
+            emit_end(code, end)
+        }
+        Form::While(test, body) => emit_loop(code, names, line, body, test),
+        _ => emit_plain(code, names, line, form),
+    }
+}
+
+/// A statement without blocks.
+fn emit_plain<'a>(
+    code: &mut Vec<Instr>,
+    names: &mut Names<'a>,
+    line: u32,
+    form: &'a Form,
+) -> Result<(), AllocError>
+    requires { IsTrue (is_plain form.now) }
+    ensures code { OnOk result (code.new.items ≡ code.old.items ++ stmt_code names.old (form_tree line form.now)) }
+    ensures names { OnOk result (names.new ≡ layout_after names.old (form_tree line form.now)) }
+{
+    match form {
+        Form::Assign(name, right) => emit_assignment(code, names, line, name, right),
+        Form::AssignElement(name, index, value) => {
+            emit_element_set(code, names, line, name, index, value)
+        }
+        Form::Perform(call) => emit_call(code, names, line, Target::Dropped, call),
+        Form::PutJint(number) => emit_print(code, names, line, number),
+        Form::Return(None) => emit(code, Instr::Return),
+        Form::Return(Some(value)) => emit_return(code, names, line, value),
+        Form::If(..) | Form::IfElse(..) | Form::While(..) => Ok(()),
+        _ => emit_declaring(code, names, line, form),
+    }
+}
+
+/// A statement that declares a name.
+fn emit_declaring<'a>(
+    code: &mut Vec<Instr>,
+    names: &mut Names<'a>,
+    line: u32,
+    form: &'a Form,
+) -> Result<(), AllocError>
+    requires { IsTrue (is_declaring form.now) }
+    ensures code { OnOk result (code.new.items ≡ code.old.items ++ stmt_code names.old (form_tree line form.now)) }
+    ensures names { OnOk result (names.new ≡ layout_after names.old (form_tree line form.now)) }
+{
+    match form {
+        Form::Declare(kind, name, right) => {
+            emit_declaration(code, names, line, name, variable_sort(*kind), right)
+        }
+        Form::DeclareBuffer(element, name, right) => {
+            emit_declaration(code, names, line, name, Sort::Buffer(*element, true), right)
+        }
+        Form::DeclareChars(name, right) => {
+            let sort = Sort::Buffer(ElementType::Jchar, false);
+            emit_declaration(code, names, line, name, sort, right)
+        }
+        Form::DeclareArray(element, name, size) => {
+            emit_array(code, names, name, *element, *size)
+        }
+        _ => Ok(()),
+    }
+}
+
+/// The statements of a block, whose names are forgotten after it.
+#[cycle(statements)]
+pub fn emit_block<'a>(
+    code: &mut Vec<Instr>,
+    names: &mut Names<'a>,
+    block: &'a Block,
+) -> Result<(), AllocError>
+    ensures code { OnOk result (code.new.items ≡ code.old.items ++ block_code names.old (block_tree block.now)) }
+    ensures names { OnOk result (names.new ≡ closed names.old (block_layout names.old (block_tree block.now))) }
+{
+    let outside = names.len();
+    for stmt in &block.statements {
+        emit_form(code, names, counted(stmt.line)?, &stmt.form)?;
+    }
+    names.leave(outside);
+    Ok(())
+}
+
+/// An `if` up to the end of its first way. It answers the place of the jump there, which is not known yet.
+#[cycle(statements)]
+fn emit_first<'a>(
+    code: &mut Vec<Instr>,
+    names: &mut Names<'a>,
+    line: u32,
+    test: &Test,
+    first: &'a Block,
+) -> Result<usize, AllocError>
+    ensures end { IfOk result (λ end. end + 1 ≡ vec_len code.new) }
+    ensures code { OnOk result (code.new.items ≡ code.old.items ++ first_code (test_code names.old.known line (test_tree test.now)) (block_code names.old (block_tree first.now))) }
+    ensures names { OnOk result (names.new ≡ closed names.old (block_layout names.old (block_tree first.now))) }
+{
+    emit_test(code, names, line, test)?;
+    let jump = code.len();
+    emit(code, Instr::JumpIfFalse(0))?;
+    emit_block(code, names, first)?;
+    close_first(code, jump)
+}
+
+/// The end of an `if`'s first way: a jump, and how far that after the test leads. It answers the place of the former, which is
+/// not known yet.
+fn close_first(code: &mut Vec<Instr>, jump: usize) -> Result<usize, AllocError>
+    requires { jump < vec_len code.old }
+    ensures end { IfOk result (λ end. end + 1 ≡ vec_len code.new) }
+    ensures code { OnOk result (code.new.items ≡ slice_set (code.old.items ++ Instr.Jump 0 ∷ []) jump (Instr.JumpIfFalse (vec_len code.old - jump))) }
+{
+    let end = code.len();
+    let skipped = counted(end - jump)?;
+    emit(code, Instr::Jump(0))?;
+    replace(code, jump, Instr::JumpIfFalse(skipped));
+    Ok(end)
+}
+
+/// The end of an `if`: the jump after its second way, and how far that after its first one leads.
+fn emit_end(code: &mut Vec<Instr>, end: usize) -> Result<(), AllocError>
+    requires { end < vec_len code.old }
+    ensures { OnOk result (code.new.items ≡ slice_set (code.old.items ++ Instr.Jump 0 ∷ []) end (Instr.Jump (vec_len code.old - end))) }
+{
+    let skipped = counted(code.len() - end)?;
+    emit(code, Instr::Jump(0))?;
+    replace(code, end, Instr::Jump(skipped));
+    Ok(())
+}
+
+/// A loop: its test, its body, and the way back to the test.
+#[cycle(statements)]
+fn emit_loop<'a>(
+    code: &mut Vec<Instr>,
+    names: &mut Names<'a>,
+    line: u32,
+    body: &'a Block,
+    test: &Expr,
+) -> Result<(), AllocError>
+    ensures code { OnOk result (code.new.items ≡ code.old.items ++ loop_code (expr_code names.old.known line (expr_tree test.now)) (block_code names.old (block_tree body.now))) }
+    ensures names { OnOk result (names.new ≡ closed names.old (block_layout names.old (block_tree body.now))) }
+{
+    let start = code.len();
+    emit_expr(code, names, line, test)?;
+    let jump = code.len();
+    emit(code, Instr::JumpIfFalse(0))?;
+    emit_block(code, names, body)?;
+    close_turn(code, start, jump)
+}
+
+/// The end of a loop's turn: the jump back to the test, and how far that after the test leads.
+fn close_turn(code: &mut Vec<Instr>, start: usize, jump: usize) -> Result<(), AllocError>
+    requires begun { start ≤ jump }
+    requires inside { jump < vec_len code.old }
+    ensures { OnOk result (code.new.items ≡ slice_set (code.old.items ++ Instr.JumpBack (vec_len code.old - start) ∷ []) jump (Instr.JumpIfFalse (vec_len code.old - jump))) }
+{
+    let end = code.len();
+    let back = counted(end - start)?;
+    let skipped = counted(end - jump)?;
+    emit(code, Instr::JumpBack(back))?;
+    replace(code, jump, Instr::JumpIfFalse(skipped));
+    Ok(())
+}
+
+/// A test, whose truth is on the stack then.
+fn emit_test(
+    code: &mut Vec<Instr>,
+    names: &Names<'_>,
+    line: u32,
+    test: &Test,
+) -> Result<(), AllocError>
+    ensures { OnOk result (code.new.items ≡ code.old.items ++ test_code names.now.known line (test_tree test.now)) }
+{
+    match test {
+        Test::Expr(expr) => emit_expr(code, names, line, expr),
+        Test::Call(call) => emit_call(code, names, line, Target::Test, call),
+    }
+}
+
+/// The sort of a declared variable.
+fn variable_sort(kind: VariableType) -> Sort
+    ensures { sort_view result ≡ variable_sort (variable_type_tree kind) }
+{
+    match kind {
+        VariableType::Uint32 => Sort::Word,
+        VariableType::Jint | VariableType::Jsize => Sort::Jint,
+        VariableType::Jboolean => Sort::Flag,
+        VariableType::JfieldId => Sort::FieldId,
+        VariableType::Reference(_) => Sort::Reference,
+    }
+}
+
+/// What a new variable is set to, and its name.
+fn emit_declaration<'a>(
+    code: &mut Vec<Instr>,
+    names: &mut Names<'a>,
+    line: u32,
+    name: &'a Name,
+    sort: Sort,
+    right: &RightSide,
+) -> Result<(), AllocError>
+    ensures code { OnOk result (code.new.items ≡ code.old.items ++ right_code names.old.known line (new_slot (sort_view sort) names.old) (right_side_tree right.now)) }
+    ensures names { OnOk result (names.new ≡ with_name name.now (sort_view sort) names.old) }
+{
+    emit_right(code, names, line, names.new_slot(sort), right)?;
+    names.declare(name, sort)
+}
+
+/// A new array of `len` zeros.
+fn emit_array<'a>(
+    code: &mut Vec<Instr>,
+    names: &mut Names<'a>,
+    name: &'a Name,
+    element: ElementType,
+    len: u32,
+) -> Result<(), AllocError>
+    ensures code { OnOk result (code.new.items ≡ code.old.items ++ Instr.ClearArray (record { start = names.old.slots.numbers; len = len }) ∷ []) }
+    ensures names { OnOk result (names.new ≡ with_name name.now (sort_view (Sort.Array element len)) names.old) }
+{
+    let start = names.slots().numbers;
+    emit(code, Instr::ClearArray(LocalArray { start, len }))?;
+    names.declare(name, Sort::Array(element, len))
+}
+
+/// What a known variable is set to.
+fn emit_assignment(
+    code: &mut Vec<Instr>,
+    names: &Names<'_>,
+    line: u32,
+    name: &Name,
+    right: &RightSide,
+) -> Result<(), AllocError>
+    ensures { OnOk result (code.new.items ≡ code.old.items ++ assign_code names.now.known line (lookup name.now names.now.known) (right_side_tree right.now)) }
+{
+    match names.slot_of(name) {
+        Some(slot) => emit_right(code, names, line, slot, right),
+        None => Ok(()),
+    }
+}
+
+/// A right side, whose value goes into this slot.
+fn emit_right(
+    code: &mut Vec<Instr>,
+    names: &Names<'_>,
+    line: u32,
+    slot: Slot,
+    right: &RightSide,
+) -> Result<(), AllocError>
+    ensures { OnOk result (code.new.items ≡ code.old.items ++ right_code names.now.known line (slot_view slot) (right_side_tree right.now)) }
+{
+    match right {
+        RightSide::Expr(Expr::Named(Constant::Null)) => match nullable(slot) {
+            Some(variable) => emit(code, Instr::StoreNull(variable)),
+            None => Ok(()),
+        },
+        RightSide::Expr(value) => {
+            emit_expr(code, names, line, value)?;
+            emit(code, Instr::Store(slot.index))
+        }
+        RightSide::Call(call) => emit_call(code, names, line, result_target(slot), call),
+    }
+}
+
+/// Where a call's result for the variable of a slot goes.
+fn result_target(slot: Slot) -> Target
+    ensures { result ≡ result_target (sort_view slot.sort) slot.index }
+{
+    match slot.sort {
+        Sort::Reference => Target::Local(slot.index),
+        Sort::Static => Target::Static(slot.index),
+        Sort::FieldId => Target::FieldId(slot.index),
+        Sort::Buffer(..) => Target::Buffer(slot.index),
+        _ => Target::Number(slot.index),
+    }
+}
+
+/// An index, a value, and the element of a named array that is set to it.
+fn emit_element_set(
+    code: &mut Vec<Instr>,
+    names: &Names<'_>,
+    line: u32,
+    name: &Name,
+    index: &Expr,
+    value: &Expr,
+) -> Result<(), AllocError>
+    ensures { OnOk result (code.new.items ≡ code.old.items ++ (expr_code names.now.known line (expr_tree index.now) ++ (expr_code names.now.known line (expr_tree value.now) ++ of_slot (write_code line) (lookup name.now names.now.known)))) }
+{
+    emit_expr(code, names, line, index)?;
+    emit_expr(code, names, line, value)?;
+    emit_write(code, names, line, name)
+}
+
+/// A number that is printed.
+fn emit_print(
+    code: &mut Vec<Instr>,
+    names: &Names<'_>,
+    line: u32,
+    number: &Expr,
+) -> Result<(), AllocError>
+    ensures { OnOk result (code.new.items ≡ code.old.items ++ (expr_code names.now.known line (expr_tree number.now) ++ Instr.PutJint ∷ [])) }
+{
+    emit_expr(code, names, line, number)?;
+    emit(code, Instr::PutJint)
+}
+
+/// An element of a named array, after its index and its value.
+fn emit_write(
+    code: &mut Vec<Instr>,
+    names: &Names<'_>,
+    line: u32,
+    name: &Name,
+) -> Result<(), AllocError>
+    ensures { OnOk result (code.new.items ≡ code.old.items ++ of_slot (write_code line) (lookup name.now names.now.known)) }
+{
+    match names.slot_of(name) {
+        Some(
+            Slot {
+                sort: Sort::Array(element, len),
+                index,
+            },
+        ) => {
+            let array = LocalArray { start: index, len };
+            emit(
+                code,
+                Instr::StoreElement(element_type(element), array, line),
+            )
+        }
+        _ => Ok(()),
+    }
+}
+
+/// A call, whose result goes there; none of a function that isn't known.
+fn emit_call(
+    code: &mut Vec<Instr>,
+    names: &Names<'_>,
+    line: u32,
+    target: Target,
+    call: &Call,
+) -> Result<(), AllocError>
+    ensures { OnOk result (code.new.items ≡ code.old.items ++ named_call_code names.now.known line target (function_named (call_tree call.now).function) (call_tree call.now).arguments) }
+{
+    let Some(function) = function_named(call.function.as_bytes()) else {
+        return Ok(());
+    };
+    let parameters = function.prototype().parameters;
+    emit_arguments(code, names, line, parameters, &call.arguments)?;
+    let operands = operands_of(*code.allocator(), names, parameters, &call.arguments)?;
+    emit_prepared(code, line, target, function, operands, &call.arguments)
+}
+
+/// A call whose numbers are on the stack, with copies of its texts.
+fn emit_prepared(
+    code: &mut Vec<Instr>,
+    line: u32,
+    target: Target,
+    function: JniFunction,
+    operands: Vec<Operand>,
+    arguments: &[Argument],
+) -> Result<(), AllocError>
+    ensures { OnOk result (code.new.items ≡ code.old.items ++ Instr.Call (record { line = line; target = target; function = function_value function; operands = operands.items; texts = arguments_texts (map argument_tree arguments.now) }) ∷ []) }
+{
+    let alloc = *code.allocator();
+    let mut texts = Vec::new(alloc);
+    push_texts(&mut texts, arguments)?;
+    let call = instr::Call::new(line, target, function, operands, texts);
+    emit(code, Instr::Call(BoxedCall::of(alloc, call)?))
+}
+
+/// The arguments that are worked out before a call, in order.
+fn emit_arguments(
+    code: &mut Vec<Instr>,
+    names: &Names<'_>,
+    line: u32,
+    parameters: &[ParameterKind],
+    arguments: &[Argument],
+) -> Result<(), AllocError>
+    ensures { OnOk result (code.new.items ≡ code.old.items ++ arguments_code names.now.known line (zip (map parameter_value parameters.now) (map argument_tree arguments.now))) }
+{
+    match parameters {
+        [] => Ok(()),
+        [parameter, parameters @ ..] => match arguments {
+            [] => Ok(()),
+            [argument, arguments @ ..] => {
+                emit_argument(code, names, line, *parameter, argument)?;
+                emit_arguments(code, names, line, parameters, arguments)
+            }
+        },
+    }
+}
+
+/// An argument, where it is worked out before the call.
+fn emit_argument(
+    code: &mut Vec<Instr>,
+    names: &Names<'_>,
+    line: u32,
+    parameter: ParameterKind,
+    argument: &Argument,
+) -> Result<(), AllocError>
+    ensures { OnOk result (code.new.items ≡ code.old.items ++ argument_code names.now.known line (parameter_value parameter, argument_tree argument.now)) }
+{
+    match (parameter, argument) {
+        (ParameterKind::IntNumber, Argument::Value(number)) => {
+            emit_expr(code, names, line, number)
+        }
+        _ => Ok(()),
+    }
+}
+
+/// Where the arguments of a call are found, in order.
+fn push_operands(
+    operands: &mut Vec<Operand>,
+    names: &Names<'_>,
+    parameters: &[ParameterKind],
+    arguments: &[Argument],
+) -> Result<(), AllocError>
+    ensures { OnOk result (operands.new.items ≡ operands.old.items ++ map (operand_code names.now.known) (zip (map parameter_value parameters.now) (map argument_tree arguments.now))) }
+{
+    match parameters {
+        [] => Ok(()),
+        [parameter, parameters @ ..] => match arguments {
+            [] => Ok(()),
+            [argument, arguments @ ..] => {
+                operands.push(operand_of(names, *parameter, argument))?;
+                push_operands(operands, names, parameters, arguments)
+            }
+        },
+    }
+}
+
+/// The same as a list.
+fn operands_of(
+    alloc: Global,
+    names: &Names<'_>,
+    parameters: &[ParameterKind],
+    arguments: &[Argument],
+) -> Result<Vec<Operand>, AllocError>
+    ensures { IfOk result (λ operands. operands.items ≡ map (operand_code names.now.known) (zip (map parameter_value parameters.now) (map argument_tree arguments.now))) }
+{
+    let mut operands = Vec::new(alloc);
+    push_operands(&mut operands, names, parameters, arguments)?;
+    Ok(operands)
+}
+
+/// Where an argument is found.
+fn operand_of(names: &Names<'_>, parameter: ParameterKind, argument: &Argument) -> Operand
+    ensures { result ≡ operand_code names.now.known (parameter_value parameter, argument_tree argument.now) }
+{
+    match (parameter, argument) {
+        (ParameterKind::IntNumber, Argument::Value(_)) => Operand::Number,
+        (ParameterKind::Mode, Argument::Value(mode)) => Operand::Mode(release_mode(mode)),
+        (_, Argument::Value(Expr::Variable(name))) => match names.slot_of(name) {
+            Some(Slot { sort, index }) => variable_operand(sort, index),
+            None => Operand::Null,
+        },
+        (_, Argument::Value(_)) => Operand::Null,
+        (_, Argument::Text(_)) => Operand::Text,
+        (_, Argument::AddressOf(name)) => match names.slot_of(name) {
+            Some(Slot { sort: _, index }) => Operand::IsCopy(index),
+            None => Operand::Null,
+        },
+    }
+}
+
+/// The mode that stands for `JNI_COMMIT`, `JNI_ABORT` or 0.
+fn release_mode(mode: &Expr) -> ReleaseMode
+    ensures { result ≡ mode_code (mode_of (expr_tree mode.now)) }
+{
+    match mode {
+        Expr::Named(Constant::Commit) => ReleaseMode::CopyBack,
+        Expr::Named(Constant::Abort) => ReleaseMode::FreeUncopied,
+        _ => ReleaseMode::CopyBackAndFree,
+    }
+}
+
+/// A variable that isn't a number.
+fn variable_operand(sort: Sort, index: u32) -> Operand
+    ensures { result ≡ variable_operand (sort_view sort) index }
+{
+    match sort {
+        Sort::Reference => Operand::Local(index),
+        Sort::Static => Operand::Static(index),
+        Sort::FieldId => Operand::FieldId(index),
+        Sort::Array(_, len) => Operand::Array(LocalArray { start: index, len }),
+        Sort::Buffer(..) => Operand::Buffer(index),
+        _ => Operand::Null,
+    }
+}
+
+/// Copies of the texts among the arguments of a call, in order.
+fn push_texts(texts: &mut Vec<Vec<u8>>, arguments: &[Argument]) -> Result<(), AllocError>
+    ensures { OnOk result (map (λ text. text.items) texts.new.items ≡ map (λ text. text.items) texts.old.items ++ arguments_texts (map argument_tree arguments.now)) }
+{
+    match arguments {
+        [] => Ok(()),
+        [Argument::Text(bytes), arguments @ ..] => {
+            let text = Vec::from_slice(*texts.allocator(), bytes)?;
+            texts.push(text)?;
+            push_texts(texts, arguments)
+        }
+        [_, arguments @ ..] => push_texts(texts, arguments),
+    }
+}
+
+/// A return of NULL, of a name, or of another number.
+fn emit_return(
+    code: &mut Vec<Instr>,
+    names: &Names<'_>,
+    line: u32,
+    value: &Expr,
+) -> Result<(), AllocError>
+    ensures { OnOk result (code.new.items ≡ code.old.items ++ return_code names.now.known line (term_of (expr_tree value.now))) }
+{
+    match value {
+        Expr::Named(Constant::Null) => {
+            emit(code, Instr::ReturnReference(ReferenceOperand::Null))
+        }
+        Expr::Variable(name) => emit_returned(code, names, name),
+        Expr::Paren(inner) => emit_return(code, names, line, inner),
+        _ => {
+            emit_expr(code, names, line, value)?;
+            emit(code, Instr::ReturnJint)
+        }
+    }
+}
+
+/// A return of a name, a reference or a number.
+fn emit_returned(code: &mut Vec<Instr>, names: &Names<'_>, name: &Name) -> Result<(), AllocError>
+    ensures { OnOk result (code.new.items ≡ code.old.items ++ of_slot returned_code (lookup name.now names.now.known)) }
+{
+    match names.slot_of(name) {
+        Some(
+            Slot {
+                sort: Sort::Reference,
+                index,
+            },
+        ) => emit(code, Instr::ReturnReference(ReferenceOperand::Local(index))),
+        Some(slot) => {
+            emit(code, Instr::Load(slot.index))?;
+            emit(code, Instr::ReturnJint)
+        }
+        None => Ok(()),
+    }
+}

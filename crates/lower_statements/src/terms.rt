@@ -1,0 +1,312 @@
+//! The code of expressions.
+
+ghost use Rattle.std.specs.Prelude.{◌≡◌, ◌-◌, ◌<◌, [], ◌∷◌, ◌++◌, slice_set, vec_len, OnOk};
+ghost use Rattle.std.specs.Option.{option_copied};
+ghost use Rattle.base.specs.Bytes.{lookup};
+ghost use Rattle.syntax.specs.Parts.{null_tested};
+ghost use Rattle.syntax.specs.Tree.{Binary, Equal, NotEqual};
+ghost use Rattle.syntax.specs.Views.{constant_tree, prefix_tree, binary_tree, element_tree, expr_tree};
+ghost use Rattle.semantics.specs.Term as term;
+ghost use Rattle.semantics.specs.Term.{term_of};
+ghost use Rattle.code_meaning.specs.Coding.{nullable_of, element_of, element_code, null_code, of_slot, load_code, constant_code, prefix_code, operator_code, is_signed, skip_code, logical_code, term_code, expr_code};
+ghost use Rattle.lower_statements.specs.Names.{sort_view};
+
+use crate::emitting::{counted, emit, replace};
+use crate::names::{Names, Slot, Sort};
+use code::instr;
+use code::instr::{Instr, LocalArray, NullableVariable, Operator, TrappingOperator};
+use std::alloc::AllocError;
+use syntax::{BinaryOp, Constant, ElementType, Expr, Name, PrefixOp};
+
+/// An expression in a statement on this line. What no accepted program has becomes nothing.
+#[cycle(expressions)]
+pub fn emit_expr(
+    code: &mut Vec<Instr>,
+    names: &Names<'_>,
+    line: u32,
+    expr: &Expr,
+) -> Result<(), AllocError>
+    ensures { OnOk result (code.new.items ≡ code.old.items ++ expr_code names.now.known line (expr_tree expr.now)) }
+{
+    match expr {
+        Expr::Number { value, .. } => emit(code, Instr::Push(*value)),
+        Expr::Named(constant) => emit_constant(code, *constant),
+        Expr::Variable(name) => emit_variable(code, names, name),
+        Expr::Element(name, index) => {
+            emit_expr(code, names, line, index)?;
+            emit_element(code, names, line, name)
+        }
+        Expr::Prefix(operator, operand) => {
+            emit_expr(code, names, line, operand)?;
+            emit(code, prefix_instr(*operator))
+        }
+        Expr::Binary(operator, operands) => {
+            emit_binary(code, names, line, *operator, &operands.0, &operands.1)
+        }
+        Expr::Paren(inner) => emit_expr(code, names, line, inner),
+    }
+}
+
+/// A variable's value.
+fn emit_variable(code: &mut Vec<Instr>, names: &Names<'_>, name: &Name) -> Result<(), AllocError>
+    ensures { OnOk result (code.new.items ≡ code.old.items ++ of_slot load_code (lookup name.now names.now.known)) }
+{
+    match names.slot_of(name) {
+        Some(slot) => emit(code, Instr::Load(slot.index)),
+        None => Ok(()),
+    }
+}
+
+/// A named constant. NULL is no number, and modes are none that are worked out.
+fn emit_constant(code: &mut Vec<Instr>, constant: Constant) -> Result<(), AllocError>
+    ensures { OnOk result (code.new.items ≡ code.old.items ++ constant_code (constant_tree constant)) }
+{
+    match constant {
+        Constant::True => emit(code, Instr::Push(1)),
+        Constant::False => emit(code, Instr::Push(0)),
+        Constant::Commit | Constant::Abort | Constant::Null => Ok(()),
+    }
+}
+
+/// An element of a named array, after its index.
+fn emit_element(
+    code: &mut Vec<Instr>,
+    names: &Names<'_>,
+    line: u32,
+    name: &Name,
+) -> Result<(), AllocError>
+    ensures { OnOk result (code.new.items ≡ code.old.items ++ of_slot (element_code line) (lookup name.now names.now.known)) }
+{
+    match names.slot_of(name) {
+        Some(
+            Slot {
+                sort: Sort::Array(_, len),
+                index,
+            },
+        ) => emit(
+            code,
+            Instr::LoadElement(LocalArray { start: index, len }, line),
+        ),
+        _ => Ok(()),
+    }
+}
+
+/// A binary operator with its operands.
+#[cycle(expressions)]
+fn emit_binary(
+    code: &mut Vec<Instr>,
+    names: &Names<'_>,
+    line: u32,
+    operator: BinaryOp,
+    left: &Expr,
+    right: &Expr,
+) -> Result<(), AllocError>
+    ensures { OnOk result (code.new.items ≡ code.old.items ++ expr_code names.now.known line (Binary (binary_tree operator) (expr_tree left.now) (expr_tree right.now))) }
+{
+    match operator {
+        BinaryOp::LogicalAnd => emit_logical(code, names, line, true, left, right),
+        BinaryOp::LogicalOr => emit_logical(code, names, line, false, left, right),
+        BinaryOp::Equal => match tested_name(left, right) {
+            Some(name) => emit_null_test(code, names, name, true),
+            None => emit_operator(code, names, line, operator, left, right),
+        },
+        BinaryOp::NotEqual => match tested_name(left, right) {
+            Some(name) => emit_null_test(code, names, name, false),
+            None => emit_operator(code, names, line, operator, left, right),
+        },
+        BinaryOp::BitOr
+        | BinaryOp::BitXor
+        | BinaryOp::BitAnd
+        | BinaryOp::Less
+        | BinaryOp::LessEqual
+        | BinaryOp::Greater
+        | BinaryOp::GreaterEqual
+        | BinaryOp::ShiftLeft
+        | BinaryOp::ShiftRight
+        | BinaryOp::Add
+        | BinaryOp::Subtract
+        | BinaryOp::Multiply
+        | BinaryOp::Divide
+        | BinaryOp::Remainder => emit_operator(code, names, line, operator, left, right),
+    }
+}
+
+/// An operator after its operands.
+#[cycle(expressions)]
+fn emit_operator(
+    code: &mut Vec<Instr>,
+    names: &Names<'_>,
+    line: u32,
+    operator: BinaryOp,
+    left: &Expr,
+    right: &Expr,
+) -> Result<(), AllocError>
+    ensures { OnOk result (code.new.items ≡ code.old.items ++ term_code names.now.known line (term.Binary (binary_tree operator) (term_of (expr_tree left.now)) (term_of (expr_tree right.now)))) }
+{
+    emit_expr(code, names, line, left)?;
+    emit_expr(code, names, line, right)?;
+    emit_operation(code, names, line, operator, left)
+}
+
+/// An operator whose operands are on the stack, of which this is the left one.
+fn emit_operation(
+    code: &mut Vec<Instr>,
+    names: &Names<'_>,
+    line: u32,
+    operator: BinaryOp,
+    left: &Expr,
+) -> Result<(), AllocError>
+    ensures { OnOk result (code.new.items ≡ code.old.items ++ operator_code line (is_signed names.now.known (term_of (expr_tree left.now))) (binary_tree operator) ∷ []) }
+{
+    let signed = is_signed(names, left);
+    emit(code, operator_instr(line, signed, operator))
+}
+
+/// `&&` or `||`: the left side, the jump over the right side, and the right side.
+#[cycle(expressions)]
+fn emit_logical(
+    code: &mut Vec<Instr>,
+    names: &Names<'_>,
+    line: u32,
+    conjunction: bool,
+    left: &Expr,
+    right: &Expr,
+) -> Result<(), AllocError>
+    ensures { OnOk result (code.new.items ≡ code.old.items ++ logical_code conjunction (expr_code names.now.known line (expr_tree left.now)) (expr_code names.now.known line (expr_tree right.now))) }
+{
+    emit_expr(code, names, line, left)?;
+    let place = code.len();
+    emit(code, skip(conjunction, 0))?;
+    emit_expr(code, names, line, right)?;
+    close_side(code, conjunction, place)
+}
+
+/// The end of the right side of `&&` or `||`: how far the jump in front of it leads.
+fn close_side(code: &mut Vec<Instr>, conjunction: bool, place: usize) -> Result<(), AllocError>
+    requires { place < vec_len code.old }
+    ensures { OnOk result (code.new.items ≡ slice_set code.old.items place (skip_code conjunction (vec_len code.old - place - 1))) }
+{
+    let skipped = counted(code.len() - place - 1)?;
+    replace(code, place, skip(conjunction, skipped));
+    Ok(())
+}
+
+fn skip(conjunction: bool, skipped: u32) -> Instr
+    ensures { result ≡ skip_code conjunction skipped }
+{
+    if conjunction {
+        Instr::JumpIfFalseOrPop(skipped)
+    } else {
+        Instr::JumpIfTrueOrPop(skipped)
+    }
+}
+
+/// The name in `x == NULL` or `x != NULL`.
+fn tested_name<'a>(left: &'a Expr, right: &Expr) -> Option<&'a Name>
+    ensures equal { option_copied result ≡ null_tested (Binary Equal (expr_tree left.now) (expr_tree right.now)) }
+    ensures unequal { option_copied result ≡ null_tested (Binary NotEqual (expr_tree left.now) (expr_tree right.now)) }
+{
+    match left {
+        Expr::Variable(name) => match right {
+            Expr::Named(Constant::Null) => Some(name),
+            _ => None,
+        },
+        _ => None,
+    }
+}
+
+fn emit_null_test(
+    code: &mut Vec<Instr>,
+    names: &Names<'_>,
+    name: &Name,
+    equal: bool,
+) -> Result<(), AllocError>
+    ensures { OnOk result (code.new.items ≡ code.old.items ++ null_code equal (lookup name.now names.now.known)) }
+{
+    match names.slot_of(name) {
+        Some(slot) => match nullable(slot) {
+            Some(variable) => emit(code, Instr::TestNull { variable, equal }),
+            None => Ok(()),
+        },
+        None => Ok(()),
+    }
+}
+
+/// The variable of a slot, if it can be NULL.
+pub fn nullable(slot: Slot) -> Option<NullableVariable>
+    ensures { result ≡ nullable_of (sort_view slot.sort) slot.index }
+{
+    match slot.sort {
+        Sort::Reference => Some(NullableVariable::Local(slot.index)),
+        Sort::Static => Some(NullableVariable::Static(slot.index)),
+        Sort::FieldId => Some(NullableVariable::FieldId(slot.index)),
+        Sort::Buffer(..) => Some(NullableVariable::Buffer(slot.index)),
+        Sort::Word | Sort::Jint | Sort::Flag | Sort::Array(..) => None,
+    }
+}
+
+/// The element type of an instruction.
+pub fn element_type(element: ElementType) -> instr::ElementType
+    ensures { result ≡ element_of (element_tree element) }
+{
+    match element {
+        ElementType::Jint => instr::ElementType::Int,
+        ElementType::Jshort => instr::ElementType::Short,
+        ElementType::Jbyte => instr::ElementType::Byte,
+        ElementType::Jchar => instr::ElementType::Char,
+    }
+}
+
+/// Whether an operand is a `jint`.
+fn is_signed(names: &Names<'_>, operand: &Expr) -> bool
+    ensures { result ≡ is_signed names.now.known (term_of (expr_tree operand.now)) }
+{
+    match operand {
+        Expr::Number { unsigned, .. } => !*unsigned,
+        Expr::Variable(name) => match names.slot_of(name) {
+            Some(slot) => matches!(slot.sort, Sort::Jint),
+            None => false,
+        },
+        Expr::Element(..) | Expr::Prefix(PrefixOp::ToInt, _) => true,
+        Expr::Paren(inner) => is_signed(names, inner),
+        Expr::Named(_) | Expr::Prefix(..) | Expr::Binary(..) => false,
+    }
+}
+
+fn prefix_instr(operator: PrefixOp) -> Instr
+    ensures { result ≡ prefix_code (prefix_tree operator) }
+{
+    match operator {
+        PrefixOp::LogicalNot => Instr::Not,
+        PrefixOp::Complement => Instr::Complement,
+        PrefixOp::ToWord | PrefixOp::ToInt => Instr::Convert,
+    }
+}
+
+/// A comparison is one of `jint`s where its operands are.
+fn operator_instr(line: u32, signed: bool, operator: BinaryOp) -> Instr
+    ensures { result ≡ operator_code line signed (binary_tree operator) }
+{
+    match operator {
+        BinaryOp::Divide => Instr::OperateOrTrap(TrappingOperator::Divide, line),
+        BinaryOp::Remainder => Instr::OperateOrTrap(TrappingOperator::Remainder, line),
+        BinaryOp::ShiftLeft => Instr::OperateOrTrap(TrappingOperator::ShiftLeft, line),
+        BinaryOp::ShiftRight => Instr::OperateOrTrap(TrappingOperator::ShiftRight, line),
+        BinaryOp::Multiply => Instr::Operate(Operator::Multiply),
+        BinaryOp::Add => Instr::Operate(Operator::Add),
+        BinaryOp::Subtract => Instr::Operate(Operator::Subtract),
+        BinaryOp::BitAnd | BinaryOp::LogicalAnd => Instr::Operate(Operator::And),
+        BinaryOp::BitXor => Instr::Operate(Operator::Xor),
+        BinaryOp::BitOr | BinaryOp::LogicalOr => Instr::Operate(Operator::Or),
+        BinaryOp::Equal => Instr::Operate(Operator::Equal),
+        BinaryOp::NotEqual => Instr::Operate(Operator::NotEqual),
+        BinaryOp::Less if signed => Instr::Operate(Operator::SignedLess),
+        BinaryOp::Less => Instr::Operate(Operator::Less),
+        BinaryOp::LessEqual if signed => Instr::Operate(Operator::SignedLessEqual),
+        BinaryOp::LessEqual => Instr::Operate(Operator::LessEqual),
+        BinaryOp::Greater if signed => Instr::Operate(Operator::SignedGreater),
+        BinaryOp::Greater => Instr::Operate(Operator::Greater),
+        BinaryOp::GreaterEqual if signed => Instr::Operate(Operator::SignedGreaterEqual),
+        BinaryOp::GreaterEqual => Instr::Operate(Operator::GreaterEqual),
+    }
+}

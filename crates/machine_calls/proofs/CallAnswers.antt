@@ -1,0 +1,512 @@
+-- What the machine works out of calls is what the source's calls do.
+use Rattle.std.proofs.Common.{◌≡◌, ℕ, pos, negsuc, zero, suc, ◌<◌, ◌≤◌, true, false, not, List, [], ◌∷◌, length, Option, Some, None, slice_get, refl, sym, ap, ◌∙◌, subst, arith, ℤ}
+use Rattle.std.specs.Prelude.{◌==◌, unwrap_or, FitsSigned}
+use Rattle.std.specs.Int.{w32, cast_signed, cast_unsigned}
+use Rattle.std.specs.List.{AllZip}
+use Rattle.std.specs.Option.{option_map_or}
+use Rattle.std.proofs.Math.Facts.{to_z-of_z}
+use Rattle.std.proofs.lemmas.Bool.Decides.{nat_tests}
+use Rattle.class_rules.specs.BuiltIns.{class_class, has_own_making, no_class_def_found_error, no_such_field_error}
+use Rattle.class_rules.specs.Class.{class_named, superclass, assignable}
+use Rattle.class_rules.specs.Fields.{FieldId, find_field, find_static, layout, own_statics}
+use Rattle.class_rules.proofs.GrownTables.{grown_is_ordered}
+use Rattle.classes.specs.declared.class.FieldHandle.{FieldHandle}
+use Rattle.code.specs.Call.{Call}
+use Rattle.code.specs.Effect.{truth_word, element_word}
+use Rattle.code.specs.declared.instr.Operand.{Operand}
+use Rattle.code.specs.declared.instr.Operand.TheVariants as operand
+use Rattle.heap.specs.Heap.{name_at}
+use Rattle.jni.specs.JniFunction.{JniFunction, FindClass, AllocObject, NewLocalRef, NewGlobalRef, DeleteLocalRef, DeleteGlobalRef, IsSameObject, EnsureLocalCapacity, PushLocalFrame, PopLocalFrame, GetFieldID, GetStaticFieldID, GetArrayLength, GetSuperclass, GetObjectClass, IsInstanceOf, IsAssignableFrom, GetField, SetField, GetObjectField, SetObjectField, GetStaticField, SetStaticField, GetStaticObjectField, SetStaticObjectField, prototype, is_built_function}
+use Rattle.jni.specs.Prototype.{ParameterKind, ClassObject, FieldID, IntNumber, NonNull, NewLocal, GivesField, GivesInt, Nullable, GivesNothing}
+use Rattle.semantics.specs.Arguments.{Actual, variable_given, reference_given, object_given, name_or_zero, text_given, field_given, number_given}
+use Rattle.semantics.specs.CallEffects.{delete_global_effect, delete_local_effect, ensure_effect, push_effect, found_class_effect, found_field_effect, heap_effect, same_reference, CallEffect, level_of}
+use Rattle.semantics.specs.CallStep.{trap_of_call}
+use Rattle.semantics.specs.CallTable.{call_effect}
+use Rattle.semantics.specs.Heap.{class_of, object_at, field_place, number_in, place_in, value_at, reference_in, static_place, with_value_at}
+use Rattle.semantics.specs.Object.{Object, Reference, ObjectValue, Number, Refers}
+use Rattle.semantics.specs.Task.{Target}
+use Rattle.semantics.specs.Thread.{Shared, Thread, BuffersInUse}
+use Rattle.semantics.specs.World.{World, fresh_object, loaded_objects}
+use Rattle.world_values.proofs.LoadedWorlds.{class_within as found_within}
+use Rattle.world_values.specs.SoundWorlds.{IsSound}
+use Rattle.code_meaning.specs.Does.{OperandFits}
+use Rattle.code_meaning.specs.Fits.{IsReferenceKind}
+use Rattle.code_meaning.specs.Lowered.{Lowered}
+use Rattle.base.specs.Element.{ElementType}
+use Rattle.semantics.specs.Value.{Int, convert}
+use Rattle.code_meaning.specs.Slots.{word_of}
+use Rattle.machine_calls.proofs.KeyLaws.{OwnKey}
+use Rattle.base.specs.Bytes.{lookup}
+use Rattle.semantics.specs.Variable.{Variable}
+use Rattle.machine_calls.proofs.FieldValues.{word_there, reference_there, writes}
+use Rattle.code_meaning.specs.Coding.{element_of}
+use Rattle.heap.specs.declared.value.Value.TheVariants as cell
+use Rattle.heap.specs.declared.value.Value.{Value}
+use Rattle.code_meaning.proofs.ElementWords.{convert_fits, element_words}
+use Rattle.machine_calls.specs.StoreAgrees.{StoreAgrees}
+use Rattle.machine_calls.proofs.Handles.{class_of_field, class_within}
+use Rattle.machine_calls.specs.declared.answer.Answer.{Answer}
+use Rattle.machine_calls.specs.declared.store.Store.{Store}
+use Rattle.machine_calls.specs.declared.activation.Activation.{Activation}
+use Rattle.machine_calls.specs.Answers.{HoldsObject, IsAnswer, IsMakeable}
+use Rattle.machine_calls.specs.Asked.{IsAsked, references_of}
+use Rattle.machine_calls.specs.Statics.{References}
+use Rattle.machine_calls.specs.Checked.{some_missing, may_be_null}
+use Rattle.machine_calls.specs.Given.{key_at, operand_at, operand_of, class_of_given, class_there, fits_there, name_there, field_at, field_there}
+use Rattle.machine_calls.specs.HeapAgrees.{HeapAgrees, ReferenceAgrees, ValueAgrees}
+use Rattle.machine_calls.specs.WorkedOut.{deletes, deletes_global, frame_for, class_object, found_class, IsFoundField, IsWorkedOut, place_there, value_there, word_in, address_in, held_reference, room_for, top_word, writes_there}
+use Rattle.machine_calls.proofs.CallChecks.{class_given_is, class_is, field_at_place, fits_is, name_is, reference_at_place, handle_of}
+use Rattle.machine_calls.proofs.BlocksOfNames.{Named, named, name_within}
+use Rattle.machine_calls.proofs.CallTraps.{has_passed, none_deleted, none_lacking, none_unfit, handles_there}
+use Rattle.machine_calls.proofs.LongTables.{classes_loaded, grown_long}
+use Rattle.machine_calls.proofs.CallOperands.{count_is, few_there, class_object_is, super_known, only_text, two_texts, first_object, first_class, second_field, only_number, third_number, class_of_first, only_static, own_making}
+
+-- a call that is asked and passed its checks
+module _ (p : Lowered) (w : World) (store : Store) (pending : Option ℕ) (call : Activation) (function : Call) (shared : Shared) (s : Thread) (sound : IsSound w) (in_use : BuffersInUse) (k : ℕ) (args : List Actual) where
+  abbrev references : References
+  references = references_of store call
+
+  abbrev fields : List (Option FieldHandle)
+  fields = call.fields.items
+
+  -- what is asked of function f
+  abbrev Asked : JniFunction → Type 0
+  Asked f = IsAsked p w store pending call function shared s f args
+
+  -- what is worked out for it
+  abbrev Works : JniFunction → Answer → Type 0
+  Works f answer = IsWorkedOut w.classes store.heap store.loaded.items references fields call.stack function f answer
+
+  -- the answer is what it does
+  abbrev Does : JniFunction → Answer → Type 0
+  Does f answer = IsAnswer w.classes store.heap call.locals (prototype f).result shared s answer (call_effect w.classes in_use k shared s args f)
+
+  abbrev at : (i : ℕ) → Option ℕ
+  at i = operand_at references (operand_of function.operands i)
+
+  agrees : (f : JniFunction) → Asked f → (i : ℕ) → ReferenceAgrees store.heap (at i) (reference_given args i)
+  agrees f h i = reference_at_place w.classes store.heap references fields function.operands args i h.given
+
+  name_of : (f : JniFunction) → Asked f → (i : ℕ) → name_there store.heap (at i) ≡ object_given args i
+  name_of f h i = name_is w.classes store.heap references fields shared.heap h.store_agrees.heap.blocks (at i) (reference_given args i) (agrees f h i)
+
+  table_of : (f : JniFunction) → Asked f → (c : ℕ) → 0 < c → c ≤ length w.classes → ReferenceAgrees store.heap (class_object store.loaded.items (Some c)) (Some c)
+  table_of f h c low high = class_object_is store.heap store.loaded.items (length (loaded_objects w)) c h.store_agrees.table low (omega (arith, high, classes_loaded w))
+
+  -- the object of a name that a block has
+  object_of : (f : JniFunction) → Asked f → (a n : ℕ) → name_at store.heap a ≡ Some n → (o : Object) × (object_at shared.heap n ≡ Some o)
+  object_of f h a n there =
+      let object : Named store.heap shared.heap a n = named store.heap shared.heap a n h.store_agrees.heap there in
+      (object.agrees.object, ap (object_at shared.heap) (sym object.birth) ∙ object.agrees.is)
+
+  low_name : (n : ℕ) (o : Object) → object_at shared.heap n ≡ Some o → 0 < n
+  low_name zero o h = absurd (cc)
+  low_name (suc n) o h = omega arith
+
+  no_field_class : IsMakeable w.classes no_such_field_error
+  no_field_class = record { low = omega arith; high = omega (arith, grown_long w.classes sound.grown); no_class = λ e. cc }
+
+  no_class_class : IsMakeable w.classes no_class_def_found_error
+  no_class_class = record { low = omega arith; high = omega (arith, grown_long w.classes sound.grown); no_class = λ e. cc }
+
+  answers_length : Asked GetArrayLength → (answer : Answer) → Works GetArrayLength answer → Does GetArrayLength answer
+  unfolding call_effect
+  answers_length h answer is =
+      let size = count_is w.classes store.heap references fields shared.heap h.store_agrees.heap.blocks (at 0) (reference_given args 0) (agrees GetArrayLength h 0) in
+      let few = few_there w.classes store.heap references fields shared.heap h.store_agrees.heap.blocks (at 0) h.store_agrees.laid_out (omega (arith, sound.cells, h.store_agrees.cells)) in
+      subst (λ (x : Answer). Does GetArrayLength x) (sym is) (refl, refl, (size, subst (λ (l : ℕ). FitsSigned w32 (pos l)) size (record { sfits = few })))
+
+  answers_instance : Asked IsInstanceOf → (answer : Answer) → Works IsInstanceOf answer → Does IsInstanceOf answer
+  unfolding call_effect
+  answers_instance h answer is =
+      subst (λ (x : Answer). Does IsInstanceOf x) (sym is)
+      (refl, refl, ap truth_word (ap (fits_there w.classes store.heap (at 0)) (name_of IsInstanceOf h 1) ∙ fits_is w.classes store.heap references fields shared.heap h.store_agrees.heap.blocks (at 0) (reference_given args 0) (object_given args 1) (agrees IsInstanceOf h 0)))
+
+  answers_assignable : Asked IsAssignableFrom → (answer : Answer) → Works IsAssignableFrom answer → Does IsAssignableFrom answer
+  unfolding call_effect
+  answers_assignable h answer is =
+      subst (λ (x : Answer). Does IsAssignableFrom x) (sym is)
+      (refl, refl, ap truth_word ((λ i. assignable w.classes (name_of IsAssignableFrom h 0 i) (name_of IsAssignableFrom h 1 i))))
+
+  answers_new_global : Asked NewGlobalRef → (answer : Answer) → Works NewGlobalRef answer → Does NewGlobalRef answer
+  unfolding call_effect
+  answers_new_global h answer is = subst (λ (x : Answer). Does NewGlobalRef x) (sym is) (refl, (reference_given args 0, agrees NewGlobalRef h 0, refl))
+
+  answers_new_local : Asked NewLocalRef → (answer : Answer) → Works NewLocalRef answer → Does NewLocalRef answer
+  unfolding call_effect
+  answers_new_local h answer is = subst (λ (x : Answer). Does NewLocalRef x) (sym is) (refl, refl, agrees NewLocalRef h 0)
+
+  -- an object has a name, so that its number isn't that of NULL
+  has_name : (o : Option ℕ) (n : ℕ) → HeapAgrees store.heap shared.heap → ReferenceAgrees store.heap o (Some n) → 0 < n
+  has_name None n same h = absurd h
+  has_name (Some a) n same h = (name_within store.heap shared.heap a n same h).0
+
+  no_null : (n : ℕ) → 0 < n → ((0 == n) ≡ false) × ((n == 0) ≡ false)
+  no_null n low =
+      let first : (0 == n) ≡ false = grind (arith, nat_tests, low) in
+      let second : (n == 0) ≡ false = grind (arith, nat_tests, low) in
+      (first, second)
+
+  same_names : (o p : Option ℕ) (q r : Reference) → HeapAgrees store.heap shared.heap → ReferenceAgrees store.heap o q → ReferenceAgrees store.heap p r → (name_or_zero q == name_or_zero r) ≡ same_reference q r
+  same_names o p None None same h g = refl
+  same_names o p None (Some m) same h g = (no_null m (has_name p m same g)).0
+  same_names o p (Some n) None same h g = (no_null n (has_name o n same h)).1
+  same_names o p (Some n) (Some m) same h g = refl
+
+  answers_same : Asked IsSameObject → (answer : Answer) → Works IsSameObject answer → Does IsSameObject answer
+  unfolding call_effect
+  answers_same h answer is =
+      subst (λ (x : Answer). Does IsSameObject x) (sym is)
+      (refl, refl, ap truth_word ((λ i. name_of IsSameObject h 0 i == name_of IsSameObject h 1 i) ∙ same_names (at 0) (at 1) (reference_given args 0) (reference_given args 1) h.store_agrees.heap (agrees IsSameObject h 0) (agrees IsSameObject h 1)))
+
+  -- room for references
+  answers_ensure : Asked EnsureLocalCapacity → (answer : Answer) → Works EnsureLocalCapacity answer → Does EnsureLocalCapacity answer
+  unfolding call_effect
+  answers_ensure h answer is =
+      let only = only_number w.classes store.heap references fields function.operands args h.kinds h.given in
+      let word : cast_signed w32 (top_word call.stack) ≡ only.0 = ap (λ (l : List ℕ). cast_signed w32 (top_word l)) (h.words ∙ only.3) ∙ to_z-of_z {w = w32} only.2 in
+      subst (λ (x : Answer). Does EnsureLocalCapacity x) (sym (is ∙ ap room_for word))
+      (subst (λ (z : ℤ). IsAnswer w.classes store.heap call.locals GivesInt shared s (room_for only.0) (ensure_effect w.classes shared s z)) (sym only.1) (by_number only.0))
+    where
+      by_number : (z : ℤ) → IsAnswer w.classes store.heap call.locals GivesInt shared s (room_for z) (ensure_effect w.classes shared s z)
+      by_number (pos n) = (refl, refl)
+      by_number (negsuc n) = (refl, refl)
+
+  answers_push : Asked PushLocalFrame → (answer : Answer) → Works PushLocalFrame answer → Does PushLocalFrame answer
+  unfolding call_effect
+  answers_push h answer is =
+      let only = only_number w.classes store.heap references fields function.operands args h.kinds h.given in
+      let word : cast_signed w32 (top_word call.stack) ≡ only.0 = ap (λ (l : List ℕ). cast_signed w32 (top_word l)) (h.words ∙ only.3) ∙ to_z-of_z {w = w32} only.2 in
+      subst (λ (x : Answer). Does PushLocalFrame x) (sym (is ∙ ap frame_for word))
+      (subst (λ (z : ℤ). IsAnswer w.classes store.heap call.locals GivesInt shared s (frame_for only.0) (push_effect w.classes shared s z)) (sym only.1) (by_number only.0))
+    where
+      by_number : (z : ℤ) → IsAnswer w.classes store.heap call.locals GivesInt shared s (frame_for z) (push_effect w.classes shared s z)
+      by_number (pos n) = (refl, refl)
+      by_number (negsuc n) = (refl, refl)
+
+  answers_pop : Asked PopLocalFrame → (answer : Answer) → Works PopLocalFrame answer → Does PopLocalFrame answer
+  unfolding call_effect
+  answers_pop h answer is = subst (λ (x : Answer). Does PopLocalFrame x) (sym is) (refl, (reference_given args 0, agrees PopLocalFrame h 0, refl))
+
+  -- what is known of the key of a reference that is deleted
+  abbrev pub HasKey : JniFunction → Type 0
+  HasKey f = f ≡ DeleteLocalRef → OwnKey store.heap call.locals (key_at references (operand_of function.operands 0)) (reference_given args 0) (level_of (lookup (variable_given args 0) s.variables))
+
+  answers_delete : HasKey DeleteLocalRef → (answer : Answer) → Works DeleteLocalRef answer → Does DeleteLocalRef answer
+  unfolding call_effect
+  answers_delete keyed answer is = subst (λ (x : Answer). Does DeleteLocalRef x) (sym is) (by_key (key_at references (operand_of function.operands 0)) (reference_given args 0) (keyed refl))
+    where
+      variable : Option Variable
+      variable = lookup (variable_given args 0) s.variables
+
+      by_key : (key : Option ℕ) (r : Reference) → OwnKey store.heap call.locals key r (level_of variable) → IsAnswer w.classes store.heap call.locals GivesNothing shared s (deletes key) (delete_local_effect shared s variable r)
+      by_key None None own = (refl, refl, tt)
+      by_key None (Some n) own = absurd own
+      by_key (Some key) None own = absurd own
+      by_key (Some key) (Some n) own = (refl, (n, level_of variable, own, refl))
+
+  -- what is known of the static whose global reference ends
+  abbrev pub IsHeld : JniFunction → Type 0
+  IsHeld f = f ≡ DeleteGlobalRef → (i n : ℕ) → operand_of function.operands 0 ≡ operand.Static i → reference_given args 0 ≡ Some n → HoldsObject shared (variable_given args 0) i n
+
+  answers_delete_global : IsHeld DeleteGlobalRef → Asked DeleteGlobalRef → (answer : Answer) → Works DeleteGlobalRef answer → Does DeleteGlobalRef answer
+  unfolding call_effect
+  answers_delete_global held h answer is =
+      subst (λ (x : Answer). Does DeleteGlobalRef x) (sym is)
+      (let static = only_static function.operands h.kinds in
+      subst (λ (o : Operand). IsAnswer w.classes store.heap call.locals GivesNothing shared s (deletes_global (at 0) o) (delete_global_effect shared s (variable_given args 0) (reference_given args 0))) (sym static.1)
+      (by_reference static.0 (at 0) (reference_given args 0) (λ n given. held refl static.0 n static.1 given) (agrees DeleteGlobalRef h 0)))
+    where
+      by_reference : (i : ℕ) (o : Option ℕ) (r : Reference) → ((n : ℕ) → r ≡ Some n → HoldsObject shared (variable_given args 0) i n) → ReferenceAgrees store.heap o r → IsAnswer w.classes store.heap call.locals GivesNothing shared s (deletes_global o (operand.Static i)) (delete_global_effect shared s (variable_given args 0) r)
+      by_reference i None None holds agree = (refl, refl, tt)
+      by_reference i None (Some n) holds agree = absurd agree
+      by_reference i (Some a) None holds agree = absurd agree
+      by_reference i (Some a) (Some n) holds agree = (refl, (variable_given args 0, n, holds n refl, refl))
+
+  -- the class objects are the first of the table
+  answers_superclass : Asked GetSuperclass → (answer : Answer) → Works GetSuperclass answer → Does GetSuperclass answer
+  unfolding call_effect
+  answers_superclass h answer is =
+      subst (λ (x : Answer). Does GetSuperclass x) (sym is)
+      (refl, refl, subst (λ c. ReferenceAgrees store.heap (class_object store.loaded.items (superclass w.classes c)) (superclass w.classes (object_given args 0))) (sym (name_of GetSuperclass h 0)) (by_super (superclass w.classes (object_given args 0)) refl))
+    where
+      by_super : (o : Option ℕ) → superclass w.classes (object_given args 0) ≡ o → ReferenceAgrees store.heap (class_object store.loaded.items o) o
+      by_super None e = tt
+      by_super (Some c) e = let known = super_known w.classes (grown_is_ordered w.classes sound.grown) (object_given args 0) c e in table_of GetSuperclass h c known.0 known.1
+
+  answers_class : Asked GetObjectClass → (target : Target) → trap_of_call w.classes shared s target GetObjectClass args ≡ None → (answer : Answer) → Works GetObjectClass answer → Does GetObjectClass answer
+  unfolding call_effect
+  answers_class h target free answer is =
+      let first = first_object w.classes store.heap references fields [] function.operands args h.kinds h.given (none_deleted p w store pending call function shared s GetObjectClass args h target free) (none_lacking p w store pending call function shared s GetObjectClass args h target free) in
+      let object = object_of GetObjectClass h first.address first.name first.named in
+      let known = h.store_agrees.classed first.name object.0 object.1 in
+      let class : class_of shared.heap first.name ≡ object.0.class = ap (λ (o : Option Object). option_map_or (λ (x : Object). x.class) o 0) object.1 in
+      let there : class_of_given store.heap (at 0) ≡ object.0.class = ap (class_of_given store.heap) first.at ∙ class_is w.classes store.heap references fields shared.heap h.store_agrees.heap.blocks first.address first.name first.named ∙ class in
+      let given : class_of shared.heap (object_given args 0) ≡ object.0.class = ap (λ (q : Reference). class_of shared.heap (name_or_zero q)) first.is ∙ class in
+      subst (λ (x : Answer). Does GetObjectClass x) (sym is) (
+        refl,
+        refl,
+        subst (λ (c : ℕ). ReferenceAgrees store.heap (class_object store.loaded.items (Some c)) (Some (class_of shared.heap (object_given args 0)))) (sym there)
+            (subst (λ (c : ℕ). ReferenceAgrees store.heap (class_object store.loaded.items (Some object.0.class)) (Some c)) (sym given) (table_of GetObjectClass h object.0.class known.low known.high)),
+      )
+
+  answers_alloc : Asked AllocObject → (target : Target) → trap_of_call w.classes shared s target AllocObject args ≡ None → (answer : Answer) → Works AllocObject answer → Does AllocObject answer
+  unfolding call_effect
+  answers_alloc h target free answer is =
+      let first = first_class w.classes store.heap references fields [] function.operands args h.kinds h.given (none_deleted p w store pending call function shared s AllocObject args h target free) (none_lacking p w store pending call function shared s AllocObject args h target free) in
+      let object = object_of AllocObject h first.address first.name first.named in
+      let known = h.store_agrees.classed first.name object.0 object.1 in
+      let class : class_of shared.heap first.name ≡ object.0.class = ap (λ (o : Option Object). option_map_or (λ (x : Object). x.class) o 0) object.1 in
+      let of_class : class_there store.heap first.address ≡ class_class = class_of_first w.classes store.heap references fields [] function.operands first.address first.at h.kinds (none_unfit p w store pending call function shared s AllocObject args h target free) in
+      let same : object.0.class ≡ class_class = sym class ∙ sym (class_is w.classes store.heap references fields shared.heap h.store_agrees.heap.blocks first.address first.name first.named) ∙ of_class in
+      let name : name_there store.heap (at 0) ≡ first.name = name_of AllocObject h 0 ∙ ap name_or_zero first.is in
+      let makeable : IsMakeable w.classes first.name = record {
+        low = low_name first.name object.0 object.1;
+        high = known.of_class same;
+        no_class = own_making w.classes first.name (ap (λ (n : ℕ). not (has_own_making w.classes n)) (sym name) ∙ has_passed p w store pending call function shared s AllocObject args h target free);
+      } in
+      subst (λ (x : Answer). Does AllocObject x) (sym is)
+      (refl, refl, refl, refl, ap (fresh_object w.classes) (sym (name_of AllocObject h 0)), subst (IsMakeable w.classes) (sym name) makeable)
+
+  answers_find : Asked FindClass → (answer : Answer) → Works FindClass answer → Does FindClass answer
+  unfolding call_effect
+  answers_find h answer is =
+      let text : unwrap_or (slice_get function.texts 0) [] ≡ text_given args 0 = ap (λ (l : List (List ℕ)). unwrap_or (slice_get l 0) []) h.texts ∙ only_text w.classes store.heap references fields function.operands args h.kinds h.given in
+      subst (λ (x : Answer). Does FindClass x) (sym (is ∙ ap (λ (l : List ℕ). found_class store.loaded.items (class_named w.classes l)) text)) (by_class (class_named w.classes (text_given args 0)) refl)
+    where
+      by_class : (o : Option ℕ) → class_named w.classes (text_given args 0) ≡ o → IsAnswer w.classes store.heap call.locals NewLocal shared s (found_class store.loaded.items o) (found_class_effect shared s no_class_def_found_error o)
+      by_class None e = (refl, no_class_class)
+      by_class (Some c) e = let known = found_within w.classes (text_given args 0) c e in (refl, refl, table_of FindClass h c known.0 known.1)
+
+  found_field : (o : Option FieldId) (answer : Answer) → IsFoundField w.classes o answer → IsAnswer w.classes store.heap call.locals GivesField shared s answer (found_field_effect shared s no_such_field_error o)
+  found_field None answer is = subst (λ (x : Answer). IsAnswer w.classes store.heap call.locals GivesField shared s x (found_field_effect shared s no_such_field_error None)) (sym is) (refl, no_field_class)
+  found_field (Some f) answer is = subst (λ (x : Answer). IsAnswer w.classes store.heap call.locals GivesField shared s x (found_field_effect shared s no_such_field_error (Some f))) (sym is.1) (refl, refl, is.2)
+
+  answers_field : Asked GetFieldID → (answer : Answer) → Works GetFieldID answer → Does GetFieldID answer
+  unfolding call_effect
+  answers_field h answer is =
+      let texts = two_texts w.classes store.heap references fields function.operands args h.kinds h.given in
+      let one : unwrap_or (slice_get function.texts 0) [] ≡ text_given args 1 = ap (λ (l : List (List ℕ)). unwrap_or (slice_get l 0) []) h.texts ∙ texts.0 in
+      let two : unwrap_or (slice_get function.texts 1) [] ≡ text_given args 2 = ap (λ (l : List (List ℕ)). unwrap_or (slice_get l 1) []) h.texts ∙ texts.1 in
+      let same : find_field w.classes (name_there store.heap (at 0)) (unwrap_or (slice_get function.texts 0) []) (unwrap_or (slice_get function.texts 1) []) ≡ find_field w.classes (object_given args 0) (text_given args 1) (text_given args 2) =
+      λ i. find_field w.classes (name_of GetFieldID h 0 i) (one i) (two i) in
+      found_field (find_field w.classes (object_given args 0) (text_given args 1) (text_given args 2)) answer (subst (λ (o : Option FieldId). IsFoundField w.classes o answer) same is)
+
+  answers_static : Asked GetStaticFieldID → (answer : Answer) → Works GetStaticFieldID answer → Does GetStaticFieldID answer
+  unfolding call_effect
+  answers_static h answer is =
+      let texts = two_texts w.classes store.heap references fields function.operands args h.kinds h.given in
+      let one : unwrap_or (slice_get function.texts 0) [] ≡ text_given args 1 = ap (λ (l : List (List ℕ)). unwrap_or (slice_get l 0) []) h.texts ∙ texts.0 in
+      let two : unwrap_or (slice_get function.texts 1) [] ≡ text_given args 2 = ap (λ (l : List (List ℕ)). unwrap_or (slice_get l 1) []) h.texts ∙ texts.1 in
+      let same : find_static w.classes (name_there store.heap (at 0)) (unwrap_or (slice_get function.texts 0) []) (unwrap_or (slice_get function.texts 1) []) ≡ find_static w.classes (object_given args 0) (text_given args 1) (text_given args 2) =
+      λ i. find_static w.classes (name_of GetStaticFieldID h 0 i) (one i) (two i) in
+      found_field (find_static w.classes (object_given args 0) (text_given args 1) (text_given args 2)) answer (subst (λ (o : Option FieldId). IsFoundField w.classes o answer) same is)
+
+  -- ---- fields
+
+  -- the field ID of argument 1 is a handle
+  record Fielded (f : JniFunction) : Type 0 where
+    pub handle : FieldHandle
+    pub at_handle : field_at fields (operand_of function.operands 1) ≡ Some handle
+    pub is_field : field_there w.classes (Some handle) ≡ field_given args 1
+
+  fielded : (f : JniFunction) (parameters : List ParameterKind) (p : ParameterKind) → Asked f → may_be_null p ≡ false → (prototype f).parameters ≡ p ∷ FieldID ∷ parameters → some_missing references fields (prototype f).parameters function.operands ≡ false → Fielded f
+  fielded f parameters q h never are missing =
+      let found = second_field w.classes store.heap references fields q parameters function.operands never (subst (λ (l : List ParameterKind). AllZip OperandFits l function.operands) are h.kinds) (subst (λ (l : List ParameterKind). some_missing references fields l function.operands ≡ false) are missing) in
+      record {
+        handle = found.0;
+        at_handle = found.1;
+        is_field = ap (field_there w.classes) (sym found.1) ∙ field_at_place w.classes store.heap references fields function.operands args 1 h.given;
+      }
+
+  -- the place of the field in the object of argument 0
+  place_of : (f : JniFunction) → Asked f → Fielded f → place_there w.classes (field_at fields (operand_of function.operands 1)) (layout w.classes (class_of_given store.heap (at 0))) ≡ field_place w.classes shared.heap (object_given args 0) (field_given args 1)
+  place_of f h found =
+      ap (λ (o : Option FieldHandle). place_there w.classes o (layout w.classes (class_of_given store.heap (at 0)))) found.at_handle
+      ∙ ap (λ (x : FieldId). place_in x (layout w.classes (class_of_given store.heap (at 0)))) found.is_field
+      ∙ ap (λ (c : ℕ). place_in (field_given args 1) (layout w.classes c)) (class_given_is w.classes store.heap references fields shared.heap h.store_agrees.heap.blocks (at 0) (reference_given args 0) (agrees f h 0))
+
+  -- what is worked out and done of an object's field
+  abbrev memory_place : ℕ
+  memory_place = place_there w.classes (field_at fields (operand_of function.operands 1)) (layout w.classes (class_of_given store.heap (at 0)))
+
+  abbrev source_place : ℕ → ℕ
+  source_place n = field_place w.classes shared.heap n (field_given args 1)
+
+  -- a number of an object is read
+  number_read : (o : Option ℕ) (a n m i j : ℕ) → o ≡ Some a → name_at store.heap a ≡ Some n → m ≡ n → i ≡ j → StoreAgrees p w store shared → (word_in (value_there store.heap o i) ≡ word_of (Int (number_in (value_at shared.heap m j)))) × FitsSigned w32 (number_in (value_at shared.heap m j))
+  number_read o a n m i j held there same place agree =
+      let word = word_there p w store shared agree a n j there in (
+        (λ k. word_in (value_there store.heap (held k) (place k))) ∙ word.word_is ∙ ap (λ (x : ℕ). word_of (Int (number_in (value_at shared.heap x j)))) (sym same),
+        subst (λ (x : ℕ). FitsSigned w32 (number_in (value_at shared.heap x j))) (sym same) word.fits,
+      )
+
+  -- a reference of an object is read
+  reference_read : (o : Option ℕ) (a n m i j : ℕ) → o ≡ Some a → name_at store.heap a ≡ Some n → m ≡ n → i ≡ j → StoreAgrees p w store shared → ReferenceAgrees store.heap (address_in (value_there store.heap o i)) (reference_in (value_at shared.heap m j))
+  reference_read o a n m i j held there same place agree =
+      subst (λ (x : Option ℕ). ReferenceAgrees store.heap x (reference_in (value_at shared.heap m j))) (sym (λ k. address_in (value_there store.heap (held k) (place k))))
+      (subst (λ (x : ℕ). ReferenceAgrees store.heap (address_in (value_there store.heap (Some a) j)) (reference_in (value_at shared.heap x j))) (sym same) (reference_there p w store shared agree a n j there))
+
+  -- a value of an object is written
+  value_written : (o : Option ℕ) (a n m i j : ℕ) (v v' : Value) (u u' : ObjectValue) → o ≡ Some a → name_at store.heap a ≡ Some n → m ≡ n → i ≡ j → v ≡ v' → u ≡ u' → ValueAgrees store.heap v' u' → StoreAgrees p w store shared
+      → IsAnswer w.classes store.heap call.locals GivesNothing shared s (writes_there store.heap o i v) (heap_effect shared s (with_value_at shared.heap m j u))
+  value_written o a n m i j v v' u u' held there same place value is fits agree =
+      subst (λ (x : Answer). IsAnswer w.classes store.heap call.locals GivesNothing shared s x (heap_effect shared s (with_value_at shared.heap m j u))) (sym (λ k. writes_there store.heap (held k) (place k) (value k)))
+      (subst (λ (x : CallEffect). IsAnswer w.classes store.heap call.locals GivesNothing shared s (writes_there store.heap (Some a) j v') x) (sym (λ k. heap_effect shared s (with_value_at shared.heap (same k) j (is k))))
+      (writes p w store shared agree call.locals s a n j v' u' there fits))
+
+  -- the number on top of the stack, as a cell of a type holds it
+  record Kept (T : ElementType) : Type 0 where
+    pub number : ℤ
+    pub is : number_given args 2 ≡ number
+    pub word : element_word (element_of T) (top_word call.stack) ≡ cast_unsigned w32 (convert T number)
+
+  kept : (f : JniFunction) (q : ParameterKind) (T : ElementType) → IsReferenceKind q → (prototype f).parameters ≡ q ∷ FieldID ∷ IntNumber ∷ [] → Asked f → Kept T
+  kept f q T kind are h =
+      let third = third_number w.classes store.heap references fields q function.operands args kind (subst (λ (l : List ParameterKind). AllZip OperandFits l function.operands) are h.kinds) h.given in
+      record {
+        number = third.0;
+        is = third.1;
+        word = ap (λ (l : List ℕ). element_word (element_of T) (top_word l)) (h.words ∙ third.3) ∙ element_words T third.0 third.2;
+      }
+
+  -- how a cell holds a reference
+  held_agrees : (o : Option ℕ) (q : Reference) → ReferenceAgrees store.heap o q → ValueAgrees store.heap (held_reference o) (Refers q)
+  held_agrees None None h = h
+  held_agrees None (Some n) h = absurd h
+  held_agrees (Some a) None h = absurd h
+  held_agrees (Some a) (Some n) h = h
+
+  answers_get : (T : ElementType) → Asked (GetField T) → (target : Target) → trap_of_call w.classes shared s target (GetField T) args ≡ None → (answer : Answer) → Works (GetField T) answer → Does (GetField T) answer
+  unfolding call_effect
+  answers_get T h target free answer is =
+      let missing = none_lacking p w store pending call function shared s (GetField T) args h target free in
+      let first = first_object w.classes store.heap references fields (FieldID ∷ []) function.operands args h.kinds h.given (none_deleted p w store pending call function shared s (GetField T) args h target free) missing in
+      let place = place_of (GetField T) h (fielded (GetField T) [] NonNull h refl refl missing) in
+      let name : object_given args 0 ≡ first.name = ap name_or_zero first.is in
+      subst (λ (x : Answer). Does (GetField T) x) (sym is) (refl, refl, number_read (at 0) first.address first.name (object_given args 0) memory_place (source_place (object_given args 0)) first.at first.named name place h.store_agrees)
+
+  answers_set : (T : ElementType) → Asked (SetField T) → (target : Target) → trap_of_call w.classes shared s target (SetField T) args ≡ None → (answer : Answer) → Works (SetField T) answer → Does (SetField T) answer
+  unfolding call_effect
+  answers_set T h target free answer is =
+      let missing = none_lacking p w store pending call function shared s (SetField T) args h target free in
+      let first = first_object w.classes store.heap references fields (FieldID ∷ IntNumber ∷ []) function.operands args h.kinds h.given (none_deleted p w store pending call function shared s (SetField T) args h target free) missing in
+      let place = place_of (SetField T) h (fielded (SetField T) (IntNumber ∷ []) NonNull h refl refl missing) in
+      let name : object_given args 0 ≡ first.name = ap name_or_zero first.is in
+      let it = kept (SetField T) NonNull T tt refl h in
+      subst (λ (x : Answer). Does (SetField T) x) (sym is)
+      (value_written (at 0) first.address first.name (object_given args 0) memory_place (source_place (object_given args 0)) (cell.Number (element_word (element_of T) (top_word call.stack))) (cell.Number (cast_unsigned w32 (convert T it.number))) (Number (convert T (number_given args 2))) (Number (convert T it.number))
+      first.at first.named name place (ap cell.Number it.word) (ap (λ (z : ℤ). Number (convert T z)) it.is) (convert_fits T it.number, refl) h.store_agrees)
+
+  answers_get_object : Asked GetObjectField → (target : Target) → trap_of_call w.classes shared s target GetObjectField args ≡ None → (answer : Answer) → Works GetObjectField answer → Does GetObjectField answer
+  unfolding call_effect
+  answers_get_object h target free answer is =
+      let missing = none_lacking p w store pending call function shared s GetObjectField args h target free in
+      let first = first_object w.classes store.heap references fields (FieldID ∷ []) function.operands args h.kinds h.given (none_deleted p w store pending call function shared s GetObjectField args h target free) missing in
+      let place = place_of GetObjectField h (fielded GetObjectField [] NonNull h refl refl missing) in
+      let name : object_given args 0 ≡ first.name = ap name_or_zero first.is in
+      subst (λ (x : Answer). Does GetObjectField x) (sym is) (refl, refl, reference_read (at 0) first.address first.name (object_given args 0) memory_place (source_place (object_given args 0)) first.at first.named name place h.store_agrees)
+
+  answers_set_object : Asked SetObjectField → (target : Target) → trap_of_call w.classes shared s target SetObjectField args ≡ None → (answer : Answer) → Works SetObjectField answer → Does SetObjectField answer
+  unfolding call_effect
+  answers_set_object h target free answer is =
+      let missing = none_lacking p w store pending call function shared s SetObjectField args h target free in
+      let first = first_object w.classes store.heap references fields (FieldID ∷ Nullable ∷ []) function.operands args h.kinds h.given (none_deleted p w store pending call function shared s SetObjectField args h target free) missing in
+      let place = place_of SetObjectField h (fielded SetObjectField (Nullable ∷ []) NonNull h refl refl missing) in
+      let name : object_given args 0 ≡ first.name = ap name_or_zero first.is in
+      subst (λ (x : Answer). Does SetObjectField x) (sym is)
+      (value_written (at 0) first.address first.name (object_given args 0) memory_place (source_place (object_given args 0)) (held_reference (at 2)) (held_reference (at 2)) (Refers (reference_given args 2)) (Refers (reference_given args 2))
+      first.at first.named name place refl refl (held_agrees (at 2) (reference_given args 2) (agrees SetObjectField h 2)) h.store_agrees)
+
+  -- ---- statics
+
+  -- the class object of the static of argument 1
+  record Holder : Type 0 where
+    pub address : ℕ
+    pub at_holder : class_object store.loaded.items (Some (field_there w.classes (field_at fields (operand_of function.operands 1))).class) ≡ Some address
+    pub named_holder : name_at store.heap address ≡ Some (field_given args 1).class
+    pub place : place_there w.classes (field_at fields (operand_of function.operands 1)) (own_statics w.classes (field_there w.classes (field_at fields (operand_of function.operands 1))).class) ≡ static_place w.classes (field_given args 1)
+
+  holder : (f : JniFunction) → Asked f → Fielded f → Holder
+  holder f h found =
+      let there = handle_of w.classes fields function.operands 1 (handles_there p w store pending call function shared s f args h) found.handle found.at_handle in
+      let same : (field_there w.classes (field_at fields (operand_of function.operands 1))).class ≡ (field_given args 1).class = ap (λ (x : FieldId). x.class) (field_at_place w.classes store.heap references fields function.operands args 1 h.given) in
+      let class : (field_given args 1).class ≡ found.handle.class = ap (λ (x : FieldId). x.class) (sym found.is_field) ∙ sym (class_of_field w.classes found.handle there) in
+      let within = class_within w.classes found.handle there in
+      let agrees_so = table_of f h found.handle.class within.0 within.1 in
+      by_address (class_object store.loaded.items (Some (field_given args 1).class)) refl
+      (subst (λ (c : ℕ). ReferenceAgrees store.heap (class_object store.loaded.items (Some c)) (Some c)) (sym class) agrees_so) same
+      (ap (λ (o : Option FieldHandle). place_there w.classes o (own_statics w.classes (field_there w.classes o).class)) found.at_handle ∙ ap (λ (x : FieldId). place_in x (own_statics w.classes x.class)) found.is_field)
+    where
+      by_address : (o : Option ℕ) → class_object store.loaded.items (Some (field_given args 1).class) ≡ o → ReferenceAgrees store.heap (class_object store.loaded.items (Some (field_given args 1).class)) (Some (field_given args 1).class)
+          → (field_there w.classes (field_at fields (operand_of function.operands 1))).class ≡ (field_given args 1).class
+          → place_there w.classes (field_at fields (operand_of function.operands 1)) (own_statics w.classes (field_there w.classes (field_at fields (operand_of function.operands 1))).class) ≡ static_place w.classes (field_given args 1) → Holder
+      by_address None e known same place = absurd (subst (λ (o : Option ℕ). ReferenceAgrees store.heap o (Some (field_given args 1).class)) e known)
+      by_address (Some a) e known same place = record {
+        address = a;
+        at_holder = ap (λ (c : ℕ). class_object store.loaded.items (Some c)) same ∙ e;
+        named_holder = subst (λ (o : Option ℕ). ReferenceAgrees store.heap o (Some (field_given args 1).class)) e known;
+        place = place;
+      }
+
+  answers_get_static : (T : ElementType) → Asked (GetStaticField T) → (target : Target) → trap_of_call w.classes shared s target (GetStaticField T) args ≡ None → (answer : Answer) → Works (GetStaticField T) answer → Does (GetStaticField T) answer
+  unfolding call_effect
+  answers_get_static T h target free answer is =
+      let missing = none_lacking p w store pending call function shared s (GetStaticField T) args h target free in
+      let it = holder (GetStaticField T) h (fielded (GetStaticField T) [] ClassObject h refl refl missing) in
+      subst (λ (x : Answer). Does (GetStaticField T) x) (sym is) (refl, refl, number_read (class_object store.loaded.items (Some (field_there w.classes (field_at fields (operand_of function.operands 1))).class)) it.address (field_given args 1).class (field_given args 1).class (place_there w.classes (field_at fields (operand_of function.operands 1)) (own_statics w.classes (field_there w.classes (field_at fields (operand_of function.operands 1))).class)) (static_place w.classes (field_given args 1)) it.at_holder it.named_holder refl it.place h.store_agrees)
+
+  answers_set_static : (T : ElementType) → Asked (SetStaticField T) → (target : Target) → trap_of_call w.classes shared s target (SetStaticField T) args ≡ None → (answer : Answer) → Works (SetStaticField T) answer → Does (SetStaticField T) answer
+  unfolding call_effect
+  answers_set_static T h target free answer is =
+      let missing = none_lacking p w store pending call function shared s (SetStaticField T) args h target free in
+      let it = holder (SetStaticField T) h (fielded (SetStaticField T) (IntNumber ∷ []) ClassObject h refl refl missing) in
+      let number = kept (SetStaticField T) ClassObject T tt refl h in
+      subst (λ (x : Answer). Does (SetStaticField T) x) (sym is)
+      (value_written (class_object store.loaded.items (Some (field_there w.classes (field_at fields (operand_of function.operands 1))).class)) it.address (field_given args 1).class (field_given args 1).class (place_there w.classes (field_at fields (operand_of function.operands 1)) (own_statics w.classes (field_there w.classes (field_at fields (operand_of function.operands 1))).class)) (static_place w.classes (field_given args 1)) (cell.Number (element_word (element_of T) (top_word call.stack))) (cell.Number (cast_unsigned w32 (convert T number.number))) (Number (convert T (number_given args 2))) (Number (convert T number.number))
+      it.at_holder it.named_holder refl it.place (ap cell.Number number.word) (ap (λ (z : ℤ). Number (convert T z)) number.is) (convert_fits T number.number, refl) h.store_agrees)
+
+  answers_get_static_object : Asked GetStaticObjectField → (target : Target) → trap_of_call w.classes shared s target GetStaticObjectField args ≡ None → (answer : Answer) → Works GetStaticObjectField answer → Does GetStaticObjectField answer
+  unfolding call_effect
+  answers_get_static_object h target free answer is =
+      let missing = none_lacking p w store pending call function shared s GetStaticObjectField args h target free in
+      let it = holder GetStaticObjectField h (fielded GetStaticObjectField [] ClassObject h refl refl missing) in
+      subst (λ (x : Answer). Does GetStaticObjectField x) (sym is) (refl, refl, reference_read (class_object store.loaded.items (Some (field_there w.classes (field_at fields (operand_of function.operands 1))).class)) it.address (field_given args 1).class (field_given args 1).class (place_there w.classes (field_at fields (operand_of function.operands 1)) (own_statics w.classes (field_there w.classes (field_at fields (operand_of function.operands 1))).class)) (static_place w.classes (field_given args 1)) it.at_holder it.named_holder refl it.place h.store_agrees)
+
+  answers_set_static_object : Asked SetStaticObjectField → (target : Target) → trap_of_call w.classes shared s target SetStaticObjectField args ≡ None → (answer : Answer) → Works SetStaticObjectField answer → Does SetStaticObjectField answer
+  unfolding call_effect
+  answers_set_static_object h target free answer is =
+      let missing = none_lacking p w store pending call function shared s SetStaticObjectField args h target free in
+      let it = holder SetStaticObjectField h (fielded SetStaticObjectField (Nullable ∷ []) ClassObject h refl refl missing) in
+      subst (λ (x : Answer). Does SetStaticObjectField x) (sym is)
+      (value_written (class_object store.loaded.items (Some (field_there w.classes (field_at fields (operand_of function.operands 1))).class)) it.address (field_given args 1).class (field_given args 1).class (place_there w.classes (field_at fields (operand_of function.operands 1)) (own_statics w.classes (field_there w.classes (field_at fields (operand_of function.operands 1))).class)) (static_place w.classes (field_given args 1)) (held_reference (at 2)) (held_reference (at 2)) (Refers (reference_given args 2)) (Refers (reference_given args 2))
+      it.at_holder it.named_holder refl it.place refl refl (held_agrees (at 2) (reference_given args 2) (agrees SetStaticObjectField h 2)) h.store_agrees)
+
+  -- the answer is what the call does
+  pub answers : (f : JniFunction) → Asked f → (target : Target) → trap_of_call w.classes shared s target f args ≡ None → (answer : Answer) → Works f answer → HasKey f → IsHeld f → Does f answer
+  answers FindClass h target free answer is keyed held = answers_find h answer is
+  answers GetSuperclass h target free answer is keyed held = answers_superclass h answer is
+  answers GetObjectClass h target free answer is keyed held = answers_class h target free answer is
+  answers IsInstanceOf h target free answer is keyed held = answers_instance h answer is
+  answers IsAssignableFrom h target free answer is keyed held = answers_assignable h answer is
+  answers NewGlobalRef h target free answer is keyed held = answers_new_global h answer is
+  answers DeleteGlobalRef h target free answer is keyed held = answers_delete_global held h answer is
+  answers NewLocalRef h target free answer is keyed held = answers_new_local h answer is
+  answers IsSameObject h target free answer is keyed held = answers_same h answer is
+  answers EnsureLocalCapacity h target free answer is keyed held = answers_ensure h answer is
+  answers PushLocalFrame h target free answer is keyed held = answers_push h answer is
+  answers PopLocalFrame h target free answer is keyed held = answers_pop h answer is
+  answers DeleteLocalRef h target free answer is keyed held = answers_delete keyed answer is
+  answers AllocObject h target free answer is keyed held = answers_alloc h target free answer is
+  answers GetFieldID h target free answer is keyed held = answers_field h answer is
+  answers GetStaticFieldID h target free answer is keyed held = answers_static h answer is
+  answers (GetField T) h target free answer is keyed held = answers_get T h target free answer is
+  answers (SetField T) h target free answer is keyed held = answers_set T h target free answer is
+  answers GetObjectField h target free answer is keyed held = answers_get_object h target free answer is
+  answers SetObjectField h target free answer is keyed held = answers_set_object h target free answer is
+  answers (GetStaticField T) h target free answer is keyed held = answers_get_static T h target free answer is
+  answers (SetStaticField T) h target free answer is keyed held = answers_set_static T h target free answer is
+  answers GetStaticObjectField h target free answer is keyed held = answers_get_static_object h target free answer is
+  answers SetStaticObjectField h target free answer is keyed held = answers_set_static_object h target free answer is
+  answers GetArrayLength h target free answer is keyed held = answers_length h answer is
+  answers f h target free answer is keyed held = absurd (let no : is_built_function f ≡ true = h.answered in cc)

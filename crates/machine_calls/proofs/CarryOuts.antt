@@ -1,0 +1,375 @@
+-- What is carried out is what the source's call leaves.
+use Rattle.std.proofs.Common.{◌≤◌, drop, ◌≡◌, ℕ, pos, negsuc, zero, suc, ◌-◌, ◌<◌, ◌^◌, Bool, true, false, List, [], ◌∷◌, ◌++◌, length, inl, inr, Option, Some, None, refl, sym, ap, ◌∙◌, subst, arith, append-nil}
+use Rattle.std.specs.Global.{Vec}
+use Rattle.std.specs.Option.{option_to_list}
+use Rattle.base.specs.Bytes.{Identifier}
+use Rattle.heap.specs.Heap.{name_at}
+use Rattle.code_meaning.specs.Slots.{static_index}
+use Rattle.semantics.specs.CallEffects.{without_one}
+use Rattle.semantics.specs.Object.{Reference, object_size, sizes}
+use Rattle.semantics.specs.Variable.{Empty, Live, Deleted, assign}
+use Rattle.tables.specs.Globals.{without}
+use Rattle.tables.specs.References.{address_at}
+use Rattle.machine_calls.specs.declared.statics.StaticReference.{StaticReference}
+use Rattle.machine_calls.specs.declared.statics.StaticReference.TheVariants as static
+use Rattle.machine_calls.specs.Statics.{held as held_of, held_at}
+use Rattle.machine_calls.proofs.StaticStores.{fresh_global, keeps_but_statics, live_there, with_deleted, with_global}
+use Rattle.std.specs.Prelude.{slice_get, slice_set, nat_le, if◌then◌else◌}
+use Rattle.std.proofs.lemmas.Bool.{le-leb, leb-true}
+use Rattle.std.proofs.lemmas.Option.{slice_get_within}
+use Rattle.class_rules.specs.Class.{Classes}
+use Rattle.class_rules.specs.Fields.{layout}
+use Rattle.heap.specs.Heap.{Space, left_of, with_value}
+use Rattle.heap.specs.declared.value.Value.{Value}
+use Rattle.jni.specs.Prototype.{ResultKind, NewLocal, NewGlobal, GivesFlag, GivesInt, GivesField, GivesNothing, GivesBuffer}
+use Rattle.semantics.specs.CallEffects.{frames_effect, without_local, CallResult, Leaves, NoResult, ReferenceResult, ScalarResult, CallEffect, out_of_memory, refuses_frames, with_capacity}
+use Rattle.semantics.specs.CallStep.{failure, makes_objects}
+use Rattle.semantics.specs.Heap.{Heap, next_name}
+use Rattle.semantics.specs.Thread as source
+use Rattle.semantics.specs.Thread.{Shared, Thread}
+use Rattle.semantics.specs.Value.{Int}
+use Rattle.semantics.specs.World.{World, fresh_object, loaded_objects}
+use Rattle.world_values.proofs.LoadedWorlds.{loaded_error}
+use Rattle.code_meaning.specs.Lowered.{Lowered}
+use Rattle.machine_calls.specs.declared.answer.Answer.{Answer}
+use Rattle.machine_calls.specs.declared.answer.Answer.TheVariants as answer
+use Rattle.machine_calls.specs.declared.answer.Given.{Given}
+use Rattle.machine_calls.specs.declared.answer.Given.TheVariants as given
+use Rattle.machine_calls.specs.declared.store.Store.{Store}
+use Rattle.machine_calls.specs.StoreAgrees.{HeldAgrees, StoreAgrees, Keeps}
+use Rattle.machine_calls.specs.Answers.{GivenAgrees, IsAnswer}
+use Rattle.machine_calls.specs.CarriedOut.{CarriesOut, IsFresh, IsLeft, IsPossible, ResultAgrees, can_fail, failed, made_by}
+use Rattle.machine_calls.specs.Locals.{FramesAgree, IsKeyOf}
+use Rattle.tables.specs.Locals as tables
+use Rattle.tables.specs.Locals.{Frame, LocalTable, capacities, popped}
+use Rattle.machine_calls.specs.HeapAgrees.{ReferenceAgrees}
+use Rattle.machine_calls.specs.Made.{HasMade, MakesGlobal}
+use Rattle.machine_calls.proofs.AnswerCases.{gives_it, makes_it, throws_it, writes_it}
+use Rattle.machine_calls.proofs.CellsMade.{cells_made, fresh_size, nothing_asked}
+use Rattle.machine_calls.proofs.Keeping.{frames_stay, keeps_same, key_stays, reference_stays}
+use Rattle.machine_calls.proofs.Makes as making
+use Rattle.machine_calls.proofs.LocalFrames.{frame_ended, frame_made, key_deleted, key_ensured, key_popped, key_pushed, no_frames, reference_deleted, room_ensured, same_capacities}
+use Rattle.machine_calls.proofs.Writes as writing
+
+-- what is carried out, by the answer's case
+module _ (p : Lowered) (w : World) (space : Space) (before : LocalTable) (kind : ResultKind) (shared : Shared) (s : Thread) (effect : CallEffect) where
+  pub by_answer : (a b : Answer) → a ≡ b → (refused : Bool) (store : Store) (pending : Option ℕ) (locals : LocalTable) (g : Given) → (IsAnswer w.classes space before kind shared s b effect → CarriesOut p w space before b kind shared s effect refused store pending locals g)
+      → IsAnswer w.classes space before kind shared s a effect → CarriesOut p w space before a kind shared s effect refused store pending locals g
+  by_answer a b same refused store pending locals g f does =
+      subst (λ (x : Answer). CarriesOut p w space before x kind shared s effect refused store pending locals g) (sym same) (f (subst (λ (x : Answer). IsAnswer w.classes space before kind shared s x effect) same does))
+
+-- a call that fails gives what it gives in the source
+failed_agrees : (classes : Classes) (store : Store) (kind : ResultKind) → can_fail kind ≡ true → ResultAgrees classes store (failed kind) kind (failure kind)
+failed_agrees classes store NewLocal h = refl
+failed_agrees classes store NewGlobal h = (refl, (None, inr (refl, refl), tt, λ key e. absurd (cc)))
+failed_agrees classes store GivesField h = refl
+failed_agrees classes store GivesFlag h = refl
+failed_agrees classes store GivesInt h = (refl, record { sfits = omega arith })
+failed_agrees classes store GivesNothing h = tt
+failed_agrees classes store (GivesBuffer a) h = absurd (cc)
+
+-- what isn't for a static
+result_agrees : (classes : Classes) (store : Store) (kind : ResultKind) (g : Given) (c : CallResult) → GivenAgrees classes store.heap kind g c → ResultAgrees classes store g kind c
+result_agrees classes store kind given.Nothing c h = h
+result_agrees classes store kind (given.Number word) c h = h
+result_agrees classes store kind (given.Reference a) c h = h
+result_agrees classes store kind (given.FieldId f) c h = h
+result_agrees classes store NewLocal (given.Global s) c h = absurd h
+result_agrees classes store NewGlobal (given.Global s) c h = absurd h
+result_agrees classes store GivesFlag (given.Global s) c h = absurd h
+result_agrees classes store GivesInt (given.Global s) c h = absurd h
+result_agrees classes store GivesField (given.Global s) c h = absurd h
+result_agrees classes store GivesNothing (given.Global s) c h = absurd h
+result_agrees classes store (GivesBuffer a) (given.Global s) c h = absurd h
+
+get_below : (xs : List ℕ) (i : ℕ) → i < length xs → (a : ℕ) × (slice_get xs i ≡ Some a)
+get_below [] i h = absurd (omega (arith, h))
+get_below (x ∷ xs) zero h = (x, refl)
+get_below (x ∷ xs) (suc i) h = get_below xs i (omega (arith, h))
+
+module _ (p : Lowered) (w : World) (store : Store) (pending : Option ℕ) (locals : LocalTable) (kind : ResultKind) (shared : Shared) (s : Thread) (h : IsPossible p w store pending locals kind shared s) where
+  -- what is left of an effect, with the frames as they were
+  abbrev Carries : Answer → CallEffect → Bool → Store → Option ℕ → Given → Type 0
+  Carries a effect refused after pending' g = CarriesOut p w store.heap locals a kind shared s effect refused after pending' locals g
+
+  -- the OutOfMemoryError object is there
+  error_there : ReferenceAgrees store.heap (slice_get store.loaded.items (length w.classes)) (Some (out_of_memory w.classes))
+  error_there =
+      let table = h.store_agrees.table in
+      let within = slice_get_within (loaded_objects w) (length w.classes) (fresh_object w.classes 11) (loaded_error w) in
+      let found = get_below store.loaded.items (length w.classes) (omega (arith, within, table.counted)) in
+      subst (λ (o : Option ℕ). ReferenceAgrees store.heap o (Some (out_of_memory w.classes))) (sym found.1) (table.named (length w.classes) found.0 found.1)
+
+  -- the allocation was refused
+  refuses : (a : Answer) (effect : CallEffect) → makes_objects effect ≡ true → left_of store.heap < sizes (made_by w.classes effect) → Carries a effect true store (slice_get store.loaded.items (length w.classes)) (failed kind)
+  refuses a effect makes short = record {
+    store_agrees = h.store_agrees;
+    keeps = keeps_same store.heap shared;
+    pending_agrees = error_there;
+    frames_agree = h.frames_agree;
+    left = λ key n level is left. is;
+    given_agrees = failed_agrees w.classes store kind h.fails;
+    still = λ same. refl;
+    could_refuse = λ e. makes;
+    room = (short, refl);
+  }
+
+  abbrev Does : Answer → CallEffect → Type 0
+  Does a effect = IsAnswer w.classes store.heap locals kind shared s a effect
+
+  pub refuses_object : (class : ℕ) (effect : CallEffect) → Does (answer.Makes class) effect → left_of store.heap < object_size (length (layout w.classes class)) → Carries (answer.Makes class) effect true store (slice_get store.loaded.items (length w.classes)) (failed kind)
+  refuses_object class effect does short =
+      refuses (answer.Makes class) effect (ap makes_objects (makes_it w.classes store.heap locals kind shared s class effect does).is)
+      (omega (arith, short, cells_made w.classes store.heap locals kind shared s (answer.Makes class) effect does))
+
+  pub refuses_exception : (class : ℕ) (effect : CallEffect) → Does (answer.Throws class) effect → left_of store.heap < object_size (length (layout w.classes class)) → Carries (answer.Throws class) effect true store (slice_get store.loaded.items (length w.classes)) (failed kind)
+  refuses_exception class effect does short =
+      refuses (answer.Throws class) effect (ap makes_objects (throws_it w.classes store.heap locals kind shared s class effect does).is)
+      (omega (arith, short, cells_made w.classes store.heap locals kind shared s (answer.Throws class) effect does))
+
+  -- nothing is added to the heap
+  same_heap : (t : Shared) → record t { heap = t.heap ++ [] } ≡ t
+  same_heap t = ap (λ (l : Heap). let r : Shared = record t { heap = l } in r) (append-nil t.heap)
+
+  pub gives : (g : Given) (effect : CallEffect) → Does (answer.Gives g) effect → Carries (answer.Gives g) effect false store pending g
+  gives g effect does =
+      let it = gives_it w.classes store.heap locals kind shared s g effect does in
+      subst (λ (e : CallEffect). Carries (answer.Gives g) e false store pending g) (sym it.is) (record {
+        store_agrees = subst (StoreAgrees p w store) (sym (same_heap shared)) h.store_agrees;
+        keeps = subst (Keeps store.heap shared store.heap) (sym (same_heap shared)) (keeps_same store.heap shared);
+        pending_agrees = h.pending_agrees;
+        frames_agree = h.frames_agree;
+        left = λ key n level is left. is;
+        given_agrees = result_agrees w.classes store kind _ _ (it.agrees);
+        still = λ same. refl;
+        could_refuse = λ e. absurd (cc);
+        room = nothing_asked store.heap;
+      })
+
+  pub writes : (a place : ℕ) (v : Value) (effect : CallEffect) → Does (answer.Writes a place v) effect → Carries (answer.Writes a place v) effect false (record store { heap = with_value store.heap a place v }) pending given.Nothing
+  writes a place v effect does =
+      let it = writes_it w.classes store.heap locals kind shared s a place v effect does in
+      let after : Store = record store { heap = with_value store.heap a place v } in
+      let agrees = writing.written_agrees p w store shared it.after a place v h.store_agrees it.writes in
+      let keeps = writing.written_keeps p w store shared it.after a place v h.store_agrees it.writes in
+      subst (λ (e : CallEffect). Carries (answer.Writes a place v) e false after pending given.Nothing) (sym it.is) (record {
+        store_agrees = subst (StoreAgrees p w after) (sym (same_heap it.after)) agrees;
+        keeps = subst (Keeps store.heap shared after.heap) (sym (same_heap it.after)) keeps;
+        pending_agrees = reference_stays store.heap after.heap keeps.names pending s.pending h.pending_agrees;
+        frames_agree = frames_stay store.heap after.heap keeps.names locals s.frames h.frames_agree;
+        left = λ key n level is left. key_stays store.heap after.heap keeps.names locals key n level is;
+        given_agrees = result_agrees w.classes after kind _ _ (subst (λ (k : ResultKind). GivenAgrees w.classes after.heap k given.Nothing NoResult) (sym it.kind_is) tt);
+        still = λ same. ap (λ (x : Shared). x.statics) it.writes.is;
+        could_refuse = λ e. absurd (cc);
+        room = nothing_asked store.heap;
+      })
+
+  -- the frames can't have more room
+  no_room : (a : Answer) → kind ≡ GivesInt → (effect : CallEffect) → effect ≡ refuses_frames w.classes shared s → Carries a effect false store (slice_get store.loaded.items (length w.classes)) (given.Number (2 ^ 32 - 4))
+  no_room a int effect is =
+      subst (λ (e : CallEffect). Carries a e false store (slice_get store.loaded.items (length w.classes)) (given.Number (2 ^ 32 - 4))) (sym is) (record {
+        store_agrees = subst (StoreAgrees p w store) (sym (same_heap shared)) h.store_agrees;
+        keeps = subst (Keeps store.heap shared store.heap) (sym (same_heap shared)) (keeps_same store.heap shared);
+        pending_agrees = error_there;
+        frames_agree = h.frames_agree;
+        left = λ key n level is left. is;
+        given_agrees = result_agrees w.classes store kind _ _ (subst (λ (k : ResultKind). GivenAgrees w.classes store.heap k (given.Number (2 ^ 32 - 4)) (ScalarResult (Int (negsuc 3)))) (sym int) (refl, record { sfits = omega arith }));
+        still = λ same. refl;
+        could_refuse = λ e. absurd (cc);
+        room = nothing_asked store.heap;
+      })
+
+  pub refuses_room : (effect : CallEffect) → Does answer.RefusesFrames effect → Carries answer.RefusesFrames effect false store (slice_get store.loaded.items (length w.classes)) (given.Number (2 ^ 32 - 4))
+  refuses_room effect does = no_room answer.RefusesFrames does.0 effect does.1
+
+  -- keys are left by an answer after which the table is this one
+  abbrev Left : Answer → LocalTable → Type 0
+  Left a after = (key n level : ℕ) → IsKeyOf store.heap locals key n level → IsLeft a (length locals.frames) key level → IsKeyOf store.heap after key n level
+
+  -- the frames become these, and nothing else changes
+  framed : (a : Answer) (after : LocalTable) (gs : List source.Frame) (g : Given) (c : CallResult) (effect : CallEffect) → effect ≡ Leaves [] shared (record s { frames = gs }) c → FramesAgree store.heap after gs → Left a after → GivenAgrees w.classes store.heap kind g c
+      → CarriesOut p w store.heap locals a kind shared s effect false store pending after g
+  framed a after gs g c effect is agree left given_agrees =
+      subst (λ (e : CallEffect). CarriesOut p w store.heap locals a kind shared s e false store pending after g) (sym is) (record {
+        store_agrees = subst (StoreAgrees p w store) (sym (same_heap shared)) h.store_agrees;
+        keeps = subst (Keeps store.heap shared store.heap) (sym (same_heap shared)) (keeps_same store.heap shared);
+        pending_agrees = h.pending_agrees;
+        frames_agree = agree;
+        left = left;
+        given_agrees = result_agrees w.classes store kind g c given_agrees;
+        still = λ same. refl;
+        could_refuse = λ e. absurd (cc);
+        room = nothing_asked store.heap;
+      })
+
+  -- these frames are wanted, of which there can be so much room at most
+  module _ (a : Answer) (after : LocalTable) (gs : List source.Frame) (agree : FramesAgree store.heap after gs) (int : kind ≡ GivesInt) (effect : CallEffect) (is : effect ≡ frames_effect w.classes shared s gs) where
+    decided : (b : Bool) → nat_le (capacities after) 1024 ≡ b → effect ≡ (if b then Leaves [] shared (record s { frames = gs }) (ScalarResult (Int (pos 0))) else refuses_frames w.classes shared s)
+    decided b fits =
+        is ∙ ap (λ (b : Bool). if b then Leaves [] shared (record s { frames = gs }) (ScalarResult (Int (pos 0))) else refuses_frames w.classes shared s) (sym (ap (λ (n : ℕ). nat_le n 1024) (same_capacities store.heap after gs agree)) ∙ fits)
+
+    had : Left a after → capacities after ≤ 1024 → CarriesOut p w store.heap locals a kind shared s effect false store pending after (given.Number 0)
+    had left fits =
+        framed a after gs (given.Number 0) (ScalarResult (Int (pos 0))) effect (decided true (le-leb (capacities after) 1024 fits)) agree left
+        (subst (λ (k : ResultKind). GivenAgrees w.classes store.heap k (given.Number 0) (ScalarResult (Int (pos 0)))) (sym int) (refl, record { sfits = omega arith }))
+
+    not_had : 1024 < capacities after → Carries a effect false store (slice_get store.loaded.items (length w.classes)) (given.Number (2 ^ 32 - 4))
+    not_had over = no_room a int effect (decided false (by_test (nat_le (capacities after) 1024) refl))
+      where
+        by_test : (b : Bool) → nat_le (capacities after) 1024 ≡ b → b ≡ false
+        by_test true e = absurd (omega (arith, over, leb-true (capacities after) 1024 e))
+        by_test false e = refl
+
+  module _ (more : ℕ) (effect : CallEffect) (does : Does (answer.Ensures more) effect) where
+    pub ensures : 0 < length locals.frames → capacities (tables.ensured locals more) ≤ 1024 → CarriesOut p w store.heap locals (answer.Ensures more) kind shared s effect false store pending (tables.ensured locals more) (given.Number 0)
+    ensures there fits =
+        had (answer.Ensures more) (tables.ensured locals more) (with_capacity more s.frames) (room_ensured store.heap locals s.frames more there h.frames_agree) does.0 effect does.1
+        (λ key n level is left. key_ensured store.heap locals key n level is more there) fits
+
+    -- without a frame there is none to be given room
+    pub ensures_none : length locals.frames ≡ 0 → Carries (answer.Ensures more) effect false store pending (given.Number 0)
+    ensures_none none =
+        let no : s.frames ≡ [] = no_frames store.heap locals s.frames h.frames_agree none in
+        let same : with_capacity more s.frames ≡ s.frames = ap (with_capacity more) no ∙ sym no in
+        let agree : FramesAgree store.heap locals (with_capacity more s.frames) = subst (FramesAgree store.heap locals) (sym same) h.frames_agree in
+        let nothing : capacities locals ≡ 0 = same_capacities store.heap locals s.frames h.frames_agree ∙ ap source.capacities no in
+        had (answer.Ensures more) locals (with_capacity more s.frames) agree does.0 effect does.1 (λ key n level is left. is) (omega (arith, nothing))
+
+    pub ensures_not : 0 < length locals.frames → 1024 < capacities (tables.ensured locals more) → Carries (answer.Ensures more) effect false store (slice_get store.loaded.items (length w.classes)) (given.Number (2 ^ 32 - 4))
+    ensures_not there over = not_had (answer.Ensures more) (tables.ensured locals more) (with_capacity more s.frames) (room_ensured store.heap locals s.frames more there h.frames_agree) does.0 effect does.1 over
+
+  module _ (capacity : ℕ) (effect : CallEffect) (does : Does (answer.Pushes capacity) effect) where
+    abbrev new : List source.Frame
+    new = record { capacity = capacity; references = [] } ∷ s.frames
+
+    pub pushes : capacities (tables.pushed locals capacity) ≤ 1024 → CarriesOut p w store.heap locals (answer.Pushes capacity) kind shared s effect false store pending (tables.pushed locals capacity) (given.Number 0)
+    pushes fits =
+        had (answer.Pushes capacity) (tables.pushed locals capacity) new (frame_made store.heap locals s.frames capacity h.frames_agree) does.0 effect does.1
+        (λ key n level is left. key_pushed store.heap locals key n level is capacity) fits
+
+    pub pushes_not : 1024 < capacities (tables.pushed locals capacity) → Carries (answer.Pushes capacity) effect false store (slice_get store.loaded.items (length w.classes)) (given.Number (2 ^ 32 - 4))
+    pushes_not over = not_had (answer.Pushes capacity) (tables.pushed locals capacity) new (frame_made store.heap locals s.frames capacity h.frames_agree) does.0 effect does.1 over
+
+  module _ (a : Option ℕ) (effect : CallEffect) (does : Does (answer.Pops a) effect) where
+    -- what was given, where the frames become these
+    ended : (after : LocalTable) → FramesAgree store.heap after (drop 1 s.frames) → Left (answer.Pops a) after → CarriesOut p w store.heap locals (answer.Pops a) kind shared s effect false store pending after (given.Reference a)
+    ended after agree left =
+        framed (answer.Pops a) after (drop 1 s.frames) (given.Reference a) (ReferenceResult does.1.0) effect does.1.2 agree left
+        (subst (λ (k : ResultKind). GivenAgrees w.classes store.heap k (given.Reference a) (ReferenceResult does.1.0)) (sym does.0) does.1.1)
+
+    pub pops : CarriesOut p w store.heap locals (answer.Pops a) kind shared s effect false store pending (popped locals) (given.Reference a)
+    pops = ended (popped locals) (frame_ended store.heap locals s.frames h.frames_agree) (λ key n level is apart. key_popped store.heap locals key n level is apart)
+
+    -- without a frame there is none to end
+    pub pops_none : length locals.frames ≡ 0 → Carries (answer.Pops a) effect false store pending (given.Reference a)
+    pops_none none =
+        let no : s.frames ≡ [] = no_frames store.heap locals s.frames h.frames_agree none in
+        ended locals (subst (FramesAgree store.heap locals) (no ∙ sym (ap (λ (gs : List source.Frame). drop 1 gs) no)) h.frames_agree) (λ key n level is apart. is)
+
+  pub deletes : (key : ℕ) (effect : CallEffect) → Does (answer.Deletes key) effect → CarriesOut p w store.heap locals (answer.Deletes key) kind shared s effect false store pending (tables.without locals key) given.Nothing
+  deletes key effect (nothing, (n, level, there, is)) =
+      framed (answer.Deletes key) (tables.without locals key) (without_local level n s.frames) given.Nothing NoResult effect is
+      (reference_deleted store.heap locals s.frames key n level there h.frames_agree)
+      (λ other m at its apart. key_deleted store.heap locals other m at its key apart)
+      (subst (λ (k : ResultKind). GivenAgrees w.classes store.heap k given.Nothing NoResult) (sym nothing) tt)
+
+  -- a global reference was made, or none for NULL
+  pub makes_global : (globals : List (Option ℕ)) (held : StaticReference) (effect : CallEffect) (a : Option ℕ) (r : Reference) → kind ≡ NewGlobal → ReferenceAgrees store.heap a r → effect ≡ Leaves [] (record shared { globals = option_to_list r ++ shared.globals }) s (ReferenceResult r)
+      → MakesGlobal store.globals a globals held → Carries (answer.MakesGlobal a) effect false (record store { globals = globals }) pending (given.Global held)
+  makes_global globals held effect None (Some n) global agrees is made = absurd agrees
+  makes_global globals held effect (Some a) None global agrees is made = absurd agrees
+  makes_global globals held effect None None global agrees is made =
+      subst (λ (e : CallEffect). Carries (answer.MakesGlobal None) e false (record store { globals = globals }) pending (given.Global held)) (sym is) (record {
+        store_agrees = subst (StoreAgrees p w (record store { globals = globals })) (sym (same_heap shared)) (subst (λ (l : List (Option ℕ)). StoreAgrees p w (record store { globals = l }) shared) (sym made.0) h.store_agrees);
+        keeps = subst (Keeps store.heap shared store.heap) (sym (same_heap shared)) (keeps_same store.heap shared);
+        pending_agrees = h.pending_agrees;
+        frames_agree = h.frames_agree;
+        left = λ key n level is left. is;
+        given_agrees = (global, (None, inl refl, subst (λ (x : StaticReference). HeldAgrees store.heap (held_of globals x) Empty) (sym made.1) tt, λ key e. absurd (let clash : static.Empty ≡ static.Live key = sym made.1 ∙ e in cc)));
+        still = λ same. refl;
+        could_refuse = λ e. absurd (cc);
+        room = nothing_asked store.heap;
+      })
+  makes_global globals held effect (Some a) (Some n) global agrees is made =
+      let after : Shared = record shared { globals = n ∷ shared.globals } in
+      subst (λ (e : CallEffect). Carries (answer.MakesGlobal (Some a)) e false (record store { globals = globals }) pending (given.Global held)) (sym is) (record {
+        store_agrees = subst (StoreAgrees p w (record store { globals = globals })) (sym (same_heap after)) (with_global p w store shared h.store_agrees globals made.0 a n made.2 agrees);
+        keeps = subst (Keeps store.heap shared store.heap) (sym (same_heap after)) (keeps_but_statics p w store shared h.store_agrees shared.statics (n ∷ shared.globals) (inl refl));
+        pending_agrees = h.pending_agrees;
+        frames_agree = h.frames_agree;
+        left = λ key n level is left. is;
+        given_agrees = (
+          global,
+          (
+            Some n,
+            inl refl,
+            subst (λ (x : StaticReference). HeldAgrees store.heap (held_of globals x) (Live n)) (sym made.1) (subst (λ (o : Option ℕ). HeldAgrees store.heap (held_at o) (Live n)) (sym made.2.has) agrees),
+            subst (IsFresh (record store { globals = globals })) (sym made.1) (fresh_global p w store shared h.store_agrees globals made.0 a made.2),
+          ),
+        );
+        still = λ same. refl;
+        could_refuse = λ e. absurd (cc);
+        room = nothing_asked store.heap;
+      })
+
+  -- the global reference of a static ended
+  deletes_global : (statics : Vec StaticReference) (effect : CallEffect) (x : Identifier) (i key a n : ℕ) → kind ≡ GivesNothing → slice_get store.statics.items i ≡ Some (static.Live key) → address_at store.globals key ≡ Some a → name_at store.heap a ≡ Some n → static_index x shared.statics ≡ Some i
+      → effect ≡ Leaves [] (record shared { globals = without_one n shared.globals; statics = assign x Deleted shared.statics }) s NoResult → statics.items ≡ slice_set store.statics.items i static.Deleted
+      → Carries (answer.DeletesGlobal i) effect false (record store { statics = statics; globals = without store.globals key }) pending given.Nothing
+  deletes_global statics effect x i key a n nothing at address named place is marked =
+      let marked_store : Store = record store { statics = statics; globals = without store.globals key } in
+      let after : Shared = record shared { globals = without_one n shared.globals; statics = assign x Deleted shared.statics } in
+      subst (λ (e : CallEffect). Carries (answer.DeletesGlobal i) e false marked_store pending given.Nothing) (sym is) (record {
+        store_agrees = subst (StoreAgrees p w marked_store) (sym (same_heap after)) (with_deleted p w store shared h.store_agrees statics x i key a n at address named place marked);
+        keeps = subst (Keeps store.heap shared store.heap) (sym (same_heap after)) (keeps_but_statics p w store shared h.store_agrees (assign x Deleted shared.statics) (without_one n shared.globals) (inr (x, Deleted, refl)));
+        pending_agrees = h.pending_agrees;
+        frames_agree = h.frames_agree;
+        left = λ key n level is left. is;
+        given_agrees = subst (λ (k : ResultKind). GivenAgrees w.classes store.heap k given.Nothing NoResult) (sym nothing) tt;
+        still = λ same. absurd (let clash : GivesNothing ≡ NewGlobal = sym nothing ∙ same in cc);
+        could_refuse = λ e. absurd (cc);
+        room = nothing_asked store.heap;
+      })
+
+  -- the global reference of a static ended, as was answered
+  pub deletes_static : (statics : Vec StaticReference) (globals : List (Option ℕ)) (i : ℕ) (effect : CallEffect) → Does (answer.DeletesGlobal i) effect → statics.items ≡ slice_set store.statics.items i static.Deleted → ((key : ℕ) → slice_get store.statics.items i ≡ Some (static.Live key) → globals ≡ without store.globals key)
+      → Carries (answer.DeletesGlobal i) effect false (record store { statics = statics; globals = globals }) pending given.Nothing
+  deletes_static statics globals i effect does marked gone =
+      let live = live_there p w store shared h.store_agrees does.1.0 i does.1.1 does.1.2.place does.1.2.there in
+      subst (λ (l : List (Option ℕ)). Carries (answer.DeletesGlobal i) effect false (record store { statics = statics; globals = l }) pending given.Nothing) (sym (gone live.key live.at))
+      (deletes_global statics effect does.1.0 i live.key live.address does.1.1 does.0 live.at live.held live.named does.1.2.place does.1.3 marked)
+
+  module _ (new : Store) (class a : ℕ) (made : HasMade w.classes store class new a) where
+    object_fits : sizes (fresh_object w.classes class ∷ []) ≤ left_of store.heap
+    object_fits = omega (arith, made.room, fresh_size w.classes class)
+
+    pub makes : (effect : CallEffect) → Does (answer.Makes class) effect → Carries (answer.Makes class) effect false new pending (given.Reference (Some a))
+    makes effect does =
+        let it = makes_it w.classes store.heap locals kind shared s class effect does in
+        subst (λ (e : CallEffect). Carries (answer.Makes class) e false new pending (given.Reference (Some a))) (sym it.is) (record {
+          store_agrees = making.made_agrees p w store new shared class a h.store_agrees made it.makeable;
+          keeps = making.made_keeps p w store new shared class a h.store_agrees made;
+          pending_agrees = reference_stays store.heap new.heap (making.names_stay p w store new shared class a h.store_agrees made) pending s.pending h.pending_agrees;
+          frames_agree = frames_stay store.heap new.heap (making.names_stay p w store new shared class a h.store_agrees made) locals s.frames h.frames_agree;
+          left = λ key n level is left. key_stays store.heap new.heap (making.names_stay p w store new shared class a h.store_agrees made) locals key n level is;
+          given_agrees = result_agrees w.classes new kind _ _ (subst (λ (k : ResultKind). GivenAgrees w.classes new.heap k (given.Reference (Some a)) (ReferenceResult (Some (next_name shared.heap)))) (sym it.kind_is)
+              (making.made_named p w store new shared class a h.store_agrees made));
+          still = λ same. refl;
+          could_refuse = λ e. absurd (cc);
+          room = object_fits;
+        })
+
+    pub throws : (effect : CallEffect) → Does (answer.Throws class) effect → Carries (answer.Throws class) effect false new (Some a) (failed kind)
+    throws effect does =
+        let it = throws_it w.classes store.heap locals kind shared s class effect does in
+        subst (λ (e : CallEffect). Carries (answer.Throws class) e false new (Some a) (failed kind)) (sym it.is) (record {
+          store_agrees = making.made_agrees p w store new shared class a h.store_agrees made it.makeable;
+          keeps = making.made_keeps p w store new shared class a h.store_agrees made;
+          pending_agrees = making.made_named p w store new shared class a h.store_agrees made;
+          frames_agree = frames_stay store.heap new.heap (making.names_stay p w store new shared class a h.store_agrees made) locals s.frames h.frames_agree;
+          left = λ key n level is left. key_stays store.heap new.heap (making.names_stay p w store new shared class a h.store_agrees made) locals key n level is;
+          given_agrees = failed_agrees w.classes new kind h.fails;
+          still = λ same. refl;
+          could_refuse = λ e. absurd (cc);
+          room = object_fits;
+        })

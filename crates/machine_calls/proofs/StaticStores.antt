@@ -1,0 +1,139 @@
+-- The store once statics and global references have changed.
+use Rattle.std.proofs.Common.{◌≡◌, ℕ, List, ◌∷◌, length, Option, Some, None, refl, sym, ap, ◌∙◌, subst, arith}
+use Rattle.std.specs.Global.{Vec}
+use Rattle.std.specs.Prelude.{slice_get, slice_set, IsSome}
+use Rattle.heap.specs.Heap.{name_at}
+use Rattle.tables.specs.Keys.{Gains}
+use Rattle.tables.specs.References.{address_at}
+use Rattle.machine_calls.specs.CarriedOut.{IsFresh}
+use Rattle.machine_calls.proofs.GlobalLaws.{slots_deleted, slots_gained, helds_kept, helds_marked, key_fresh, keys_kept, keys_marked, slot_there}
+use Rattle.machine_calls.specs.declared.references.Held.TheVariants as memory
+use Rattle.semantics.specs.CallEffects.{without_one}
+use Rattle.tables.specs.Globals.{without}
+use Rattle.std.proofs.lemmas.List.{length-map}
+use Rattle.std.proofs.lemmas.Option.{slice_get-map}
+use Rattle.std.specs.Option.{option_map}
+use Rattle.syntax.specs.Parts.{statics_of}
+use Rattle.syntax.specs.Tree.{Static}
+use Rattle.syntax.specs.Views.{unit_tree}
+use Rattle.base.specs.Bytes.{Identifier, lookup}
+use Rattle.semantics.specs.Thread.{Shared}
+use Rattle.semantics.specs.Variable.{Live, Deleted, Statics, StaticReference, assign}
+use Rattle.semantics.specs.World.{World}
+use Rattle.code_meaning.specs.Lowered.{Lowered}
+use Rattle.code_meaning.specs.Slots.{static_index}
+use Rattle.machine_calls.specs.declared.references.Held.{Held}
+use Rattle.machine_calls.specs.declared.statics.StaticReference.{StaticReference as InMemory}
+use Rattle.machine_calls.specs.declared.statics.StaticReference.TheVariants as static
+use Rattle.machine_calls.specs.declared.store.Store.{Store}
+use Rattle.machine_calls.specs.HeapAgrees.{SlotsAgree}
+use Rattle.machine_calls.specs.StoreAgrees.{AreNamed, HeldAgrees, Keeps, MayChange, StaticsAgree, StoreAgrees}
+use Rattle.machine_calls.specs.Statics.{HaveKeys, all_held, held, held_at, held_or_null}
+use Rattle.machine_calls.proofs.Keeping.{none_made}
+use Rattle.machine_calls.proofs.HeldStatics.{held_set, same_names, static_put, static_there, statics_count}
+
+module _ (p : Lowered) (w : World) (store : Store) (shared : Shared) (h : StoreAgrees p w store shared) where
+  -- other statics and other global references
+  pub with_references : (statics : Vec InMemory) (globals : List (Option ℕ)) (names : Statics) (source_globals : List ℕ) → StaticsAgree store.heap (all_held globals statics.items) names → AreNamed p (record shared { statics = names }) → HaveKeys globals statics.items → SlotsAgree store.heap globals source_globals
+      → StoreAgrees p w (record store { statics = statics; globals = globals }) (record shared { statics = names; globals = source_globals })
+  with_references statics globals names source_globals agree named keys same = record {
+    heap = h.heap;
+    laid_out = h.laid_out;
+    cells = h.cells;
+    table = h.table;
+    begun = h.begun;
+    births = h.births;
+    classed = h.classed;
+    statics = agree;
+    named = named;
+    keys = keys;
+    globals = same;
+    monitors = h.monitors;
+  }
+
+  -- a static holds something else
+  pub with_static : (statics : Vec InMemory) (x : Identifier) (i : ℕ) (s : InMemory) (r : StaticReference) → statics.items ≡ slice_set store.statics.items i s → static_index x shared.statics ≡ Some i → HeldAgrees store.heap (held store.globals s) r → HaveKeys store.globals (slice_set store.statics.items i s)
+      → StoreAgrees p w (record store { statics = statics }) (record shared { statics = assign x r shared.statics })
+  with_static statics x i s r is place agrees keys =
+      with_references statics store.globals (assign x r shared.statics) shared.globals
+      (subst (λ (l : List Held). StaticsAgree store.heap l (assign x r shared.statics)) (sym (ap (all_held store.globals) is ∙ held_set store.globals store.statics.items i s))
+      (static_put store.heap x (all_held store.globals store.statics.items) shared.statics i (held store.globals s) r h.statics place agrees))
+      (same_names x r shared.statics i place ∙ h.named)
+      (subst (HaveKeys store.globals) (sym is) keys)
+      h.globals
+
+  -- there are as many as the unit has
+  pub shared_long : length shared.statics ≡ length (statics_of (unit_tree p.unit))
+  shared_long = sym (length-map shared.statics (λ (s : Identifier × StaticReference). s.0)) ∙ ap length h.named ∙ length-map (statics_of (unit_tree p.unit)) (λ (g : Static). g.name)
+
+  pub statics_long : length store.statics.items ≡ length (statics_of (unit_tree p.unit))
+  statics_long = sym (length-map store.statics.items (held store.globals)) ∙ statics_count store.heap (all_held store.globals store.statics.items) shared.statics h.statics ∙ shared_long
+
+  -- the same statics
+  pub with_same : (statics : Vec InMemory) → statics.items ≡ store.statics.items → StoreAgrees p w (record store { statics = statics }) shared
+  with_same statics is =
+      with_references statics store.globals shared.statics shared.globals (subst (λ (l : List InMemory). StaticsAgree store.heap (all_held store.globals l) shared.statics) (sym is) h.statics) h.named (subst (HaveKeys store.globals) (sym is) h.keys) h.globals
+
+  -- a global reference was made
+  pub with_global : (globals : List (Option ℕ)) (key a n : ℕ) → Gains store.globals key a globals → name_at store.heap a ≡ Some n → StoreAgrees p w (record store { globals = globals }) (record shared { globals = n ∷ shared.globals })
+  with_global globals key a n put named =
+      with_references store.statics globals shared.statics (n ∷ shared.globals)
+      (subst (λ (l : List Held). StaticsAgree store.heap l shared.statics) (sym (helds_kept store.globals globals key a store.statics.items put h.keys)) h.statics)
+      h.named
+      (keys_kept store.globals globals key a store.statics.items put h.keys)
+      (slots_gained store.heap store.globals globals shared.globals key a n h.globals put named)
+
+  -- its key is one that no static holds
+  pub fresh_global : (globals : List (Option ℕ)) (key a : ℕ) → Gains store.globals key a globals → IsFresh (record store { globals = globals }) (static.Live key)
+  fresh_global globals key a put k is =
+      let same : key ≡ k = cc in
+      subst (λ (j : ℕ). IsSome (address_at globals j) × ((i : ℕ) → slice_get store.statics.items i ≡ Some (static.Live j) → ⊥)) same
+      (some_there (address_at globals key) a put.has, key_fresh store.globals globals key a store.statics.items put h.keys)
+    where
+      some_there : (o : Option ℕ) (a : ℕ) → o ≡ Some a → IsSome o
+      some_there None a e = absurd (cc)
+      some_there (Some b) a e = refl
+
+  -- a static that holds an object has a global reference to it
+  pub record LiveThere (i n : ℕ) : Type 0 where
+    pub key : ℕ
+    pub address : ℕ
+    pub at : slice_get store.statics.items i ≡ Some (static.Live key)
+    pub held : address_at store.globals key ≡ Some address
+    pub named : name_at store.heap address ≡ Some n
+
+  pub live_there : (x : Identifier) (i n : ℕ) → static_index x shared.statics ≡ Some i → lookup x shared.statics ≡ Some (Live n) → LiveThere i n
+  live_there x i n place at =
+      by_static (slice_get store.statics.items i) refl
+      (subst (λ (o : Option Held). HeldAgrees store.heap (held_or_null o) (Live n)) (slice_get-map (held store.globals) store.statics.items i) (static_there store.heap x (all_held store.globals store.statics.items) shared.statics i (Live n) h.statics place at))
+    where
+      by_key : (key : ℕ) (o : Option ℕ) → slice_get store.statics.items i ≡ Some (static.Live key) → address_at store.globals key ≡ o → HeldAgrees store.heap (held_at o) (Live n) → LiveThere i n
+      by_key key None at e agree = absurd agree
+      by_key key (Some a) at e agree = record { key = key; address = a; at = at; held = e; named = agree }
+
+      by_static : (o : Option InMemory) → slice_get store.statics.items i ≡ o → HeldAgrees store.heap (held_or_null (option_map (held store.globals) o)) (Live n) → LiveThere i n
+      by_static None e agree = absurd agree
+      by_static (Some static.Empty) e agree = absurd agree
+      by_static (Some static.Deleted) e agree = absurd agree
+      by_static (Some (static.Live key)) e agree = by_key key (address_at store.globals key) e refl agree
+
+  -- the global reference of a static ended, and the static is marked
+  pub with_deleted : (statics : Vec InMemory) (x : Identifier) (i key a n : ℕ) → slice_get store.statics.items i ≡ Some (static.Live key) → address_at store.globals key ≡ Some a → name_at store.heap a ≡ Some n → static_index x shared.statics ≡ Some i → statics.items ≡ slice_set store.statics.items i static.Deleted
+      → StoreAgrees p w (record store { statics = statics; globals = without store.globals key }) (record shared { statics = assign x Deleted shared.statics; globals = without_one n shared.globals })
+  with_deleted statics x i key a n at address named place is =
+      with_references statics (without store.globals key) (assign x Deleted shared.statics) (without_one n shared.globals)
+      (subst (λ (l : List Held). StaticsAgree store.heap l (assign x Deleted shared.statics)) (sym (ap (all_held (without store.globals key)) is ∙ helds_marked store.globals key store.statics.items i at h.keys))
+      (static_put store.heap x (all_held store.globals store.statics.items) shared.statics i memory.Deleted Deleted h.statics place tt))
+      (same_names x Deleted shared.statics i place ∙ h.named)
+      (subst (HaveKeys (without store.globals key)) (sym is) (keys_marked store.globals key store.statics.items i at h.keys))
+      (slots_deleted store.heap store.globals shared.globals key a n h.globals (slot_there store.globals key a address) named)
+
+  -- a step that changes statics alone
+  pub keeps_but_statics : (statics : Statics) (globals : List ℕ) → MayChange shared.statics statics → Keeps store.heap shared store.heap (record shared { statics = statics; globals = globals })
+  keeps_but_statics statics globals may = record {
+    names = λ a n e. e;
+    statics = may;
+    shapes = λ n o at. (o, at, refl, refl);
+    room = none_made store.heap shared.heap shared.heap (omega arith);
+    few = omega arith;
+  }

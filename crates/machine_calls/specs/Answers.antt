@@ -1,0 +1,75 @@
+-- What answers are, by the effects of the source's calls.
+use Rattle.std.specs.Prelude.{◌≡◌, ℕ, ◌<◌, ◌≤◌, [], ◌∷◌, ◌++◌, drop, length, Some, None, FitsSigned}
+use Rattle.std.specs.Int.{w32}
+use Rattle.std.specs.Option.{option_to_list}
+use Rattle.base.specs.Bytes.{Identifier, lookup}
+use Rattle.class_rules.specs.BuiltIns.{class_class}
+use Rattle.class_rules.specs.Class.{Classes}
+use Rattle.heap.specs.Heap.{Space, name_at, values_at}
+use Rattle.heap.specs.declared.value.Value.{Value}
+use Rattle.jni.specs.Prototype.{ResultKind, NewLocal, NewGlobal, GivesFlag, GivesInt, GivesField, GivesNothing}
+use Rattle.semantics.specs.CallEffects.{CallResult, NoResult, NullResult, ScalarResult, ReferenceResult, FieldResult, CallEffect, Leaves, Throws, delete_global_effect, frames_effect, refuses_frames, with_capacity, without_local}
+use Rattle.semantics.specs.Heap.{next_name, with_value_at}
+use Rattle.semantics.specs.Object.{ObjectValue, Reference}
+use Rattle.semantics.specs.Thread.{Shared, Thread}
+use Rattle.semantics.specs.Value.{Int, Flag}
+use Rattle.semantics.specs.Variable.{Live}
+use Rattle.semantics.specs.World.{fresh_object}
+use Rattle.tables.specs.Locals.{LocalTable}
+use Rattle.code_meaning.specs.Slots.{word_of, static_index}
+use Rattle.machine_calls.specs.declared.answer.Given.{Given}
+use Rattle.machine_calls.specs.declared.answer.Given.TheVariants as given
+use Rattle.machine_calls.specs.declared.answer.Answer.{Answer}
+use Rattle.machine_calls.specs.declared.answer.Answer.TheVariants as answer
+use Rattle.machine_calls.specs.FieldIds.{FieldAgrees}
+use Rattle.machine_calls.specs.HeapAgrees.{ReferenceAgrees, ValueAgrees}
+use Rattle.machine_calls.specs.Locals.{IsKeyOf}
+
+-- what a function of this kind of result gives; NULL where it failed
+abbrev pub GivenAgrees : Classes → Space → ResultKind → Given → CallResult → Type 0
+GivenAgrees classes space GivesNothing given.Nothing NoResult = Unit {0}
+GivenAgrees classes space GivesInt (given.Number word) (ScalarResult (Int z)) = (word ≡ word_of (Int z)) × FitsSigned w32 z
+GivenAgrees classes space GivesFlag (given.Number word) (ScalarResult (Flag b)) = word ≡ word_of (Flag b)
+GivenAgrees classes space NewLocal (given.Reference a) (ReferenceResult r) = ReferenceAgrees space a r
+GivenAgrees classes space NewLocal (given.Reference a) NullResult = a ≡ None
+GivenAgrees classes space GivesField (given.FieldId h) (FieldResult f) = FieldAgrees classes h f
+GivenAgrees classes space GivesField (given.FieldId h) NullResult = h ≡ None
+GivenAgrees classes space kind g c = ⊥
+
+-- objects of this class can be made
+pub record IsMakeable (classes : Classes) (c : ℕ) : Type 0 where
+  pub low : 0 < c
+  pub high : c ≤ length classes
+  pub no_class : c ≡ class_class → ⊥
+
+-- another heap of the source, where a value of the object at an address is changed
+pub record WritesAt (space : Space) (s : Shared) (s' : Shared) (a place : ℕ) (v : Value) : Type 0 where
+  pub name : ℕ
+  pub there : name_at space a ≡ Some name
+  pub value : ObjectValue
+  pub agrees : ValueAgrees space v value
+  pub within : place < length (values_at space a)
+  pub is : s' ≡ record s { heap = with_value_at s.heap name place value }
+
+-- the static at this place holds the object of this name
+pub record HoldsObject (s : Shared) (x : Identifier) (i n : ℕ) : Type 0 where
+  pub place : static_index x s.statics ≡ Some i
+  pub there : lookup x s.statics ≡ Some (Live n)
+
+-- The answer is what the call does to this state, all checks being passed.
+abbrev pub IsAnswer : Classes → Space → LocalTable → ResultKind → Shared → Thread → Answer → CallEffect → Type 0
+IsAnswer classes space locals kind s t (answer.Throws c) (Throws class) = (c ≡ class) × IsMakeable classes c
+IsAnswer classes space locals kind s t (answer.Gives given) (Leaves [] s' t' c) = (s' ≡ s) × (t' ≡ t) × GivenAgrees classes space kind given c
+IsAnswer classes space locals kind s t (answer.Writes a place v) (Leaves [] s' t' NoResult) = (t' ≡ t) × (kind ≡ GivesNothing) × WritesAt space s s' a place v
+IsAnswer classes space locals kind s t (answer.Makes c) (Leaves (o ∷ []) s' t' (ReferenceResult r)) =
+    (s' ≡ s) × (t' ≡ t) × (kind ≡ NewLocal) × (r ≡ Some (next_name s.heap)) × (o ≡ fresh_object classes c) × IsMakeable classes c
+IsAnswer classes space locals kind s t (answer.Ensures more) effect = (kind ≡ GivesInt) × (effect ≡ frames_effect classes s t (with_capacity more t.frames))
+IsAnswer classes space locals kind s t (answer.Pushes capacity) effect = (kind ≡ GivesInt) × (effect ≡ frames_effect classes s t (record { capacity = capacity; references = [] } ∷ t.frames))
+IsAnswer classes space locals kind s t (answer.Pops a) effect = (kind ≡ NewLocal) × ((r : Reference) × ReferenceAgrees space a r × (effect ≡ Leaves [] s (record t { frames = drop 1 t.frames }) (ReferenceResult r)))
+IsAnswer classes space locals kind s t (answer.Deletes key) effect =
+    (kind ≡ GivesNothing) × ((n level : ℕ) × IsKeyOf space locals key n level × (effect ≡ Leaves [] s (record t { frames = without_local level n t.frames }) NoResult))
+IsAnswer classes space locals kind s t (answer.MakesGlobal a) effect =
+    (kind ≡ NewGlobal) × ((r : Reference) × ReferenceAgrees space a r × (effect ≡ Leaves [] (record s { globals = option_to_list r ++ s.globals }) t (ReferenceResult r)))
+IsAnswer classes space locals kind s t (answer.DeletesGlobal i) effect = (kind ≡ GivesNothing) × ((x : Identifier) × (n : ℕ) × HoldsObject s x i n × (effect ≡ delete_global_effect s t x (Some n)))
+IsAnswer classes space locals kind s t answer.RefusesFrames effect = (kind ≡ GivesInt) × (effect ≡ refuses_frames classes s t)
+IsAnswer classes space locals kind s t answer effect = ⊥

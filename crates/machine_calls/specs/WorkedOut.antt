@@ -1,0 +1,171 @@
+-- What the machine works out of a call, by what is in memory.
+use Rattle.std.specs.Prelude.{◌==◌, ◌≡◌, ℕ, ◌-◌, ℤ, pos, negsuc, nat_lt, List, [], ◌∷◌, length, slice_get, unwrap_or, if◌then◌else◌, Option, Some, None}
+use Rattle.std.specs.Int.{w32, cast_signed}
+use Rattle.base.specs.Element.{ElementType}
+use Rattle.class_rules.specs.BuiltIns.{no_class_def_found_error, no_such_field_error}
+use Rattle.class_rules.specs.Class.{Classes, assignable, class_named, superclass}
+use Rattle.class_rules.specs.Fields.{FieldId, find_field, find_static, layout, own_statics}
+use Rattle.classes.specs.FieldViews.{field_of, place_among}
+use Rattle.classes.specs.declared.class.FieldHandle.{FieldHandle}
+use Rattle.code.specs.Call.{Call}
+use Rattle.code.specs.Effect.{element_word, truth_word}
+use Rattle.code.specs.declared.instr.Operand.{Operand}
+use Rattle.code.specs.declared.instr.Operand.TheVariants as operand
+use Rattle.code_meaning.specs.Coding.{element_of}
+use Rattle.heap.specs.Heap.{Space, values_at}
+use Rattle.heap.specs.declared.value.Value.{Value}
+use Rattle.heap.specs.declared.value.Value.TheVariants as value
+use Rattle.jni.specs.JniFunction.{JniFunction, FindClass, GetSuperclass, GetObjectClass, IsInstanceOf, IsAssignableFrom, AllocObject, NewLocalRef, NewGlobalRef, DeleteLocalRef, DeleteGlobalRef, IsSameObject, EnsureLocalCapacity, PushLocalFrame, PopLocalFrame, GetFieldID, GetStaticFieldID, GetField, SetField, GetStaticField, SetStaticField, GetObjectField, SetObjectField, GetStaticObjectField, SetStaticObjectField, GetArrayLength}
+use Rattle.machine_calls.specs.declared.answer.Given.TheVariants.{Nothing, Number, Reference}
+use Rattle.machine_calls.specs.declared.answer.Given.TheVariants as given
+use Rattle.machine_calls.specs.declared.answer.Answer.{Answer}
+use Rattle.machine_calls.specs.declared.answer.Answer.TheVariants.{Gives, Writes, Makes, Throws, Ensures, Pushes, RefusesFrames, Pops, Deletes, MakesGlobal, DeletesGlobal}
+use Rattle.machine_calls.specs.Statics.{References}
+use Rattle.machine_calls.specs.Given.{operand_at, key_at, operand_of, field_at, class_of_given, name_there, fits_there, field_there}
+
+-- the number of values of the object at an address, and 0 for NULL
+abbrev pub count_there : Space → Option ℕ → ℕ
+count_there space None = 0
+count_there space (Some a) = length (values_at space a)
+
+-- the address of a class object, where class objects are the first of the table
+abbrev pub class_object : (loaded : List ℕ) → (class : Option ℕ) → Option ℕ
+class_object loaded None = None
+class_object loaded (Some c) = slice_get loaded (c - 1)
+
+-- a class that was found, or else an exception
+abbrev pub found_class : (loaded : List ℕ) → (class : Option ℕ) → Answer
+found_class loaded None = Throws no_class_def_found_error
+found_class loaded (Some c) = Gives (Reference (class_object loaded (Some c)))
+
+-- a handle of the field that was found, or else an exception
+abbrev pub IsFoundField : Classes → Option FieldId → Answer → Type 0
+IsFoundField classes None answer = answer ≡ Throws no_such_field_error
+IsFoundField classes (Some f) answer = (h : FieldHandle) × (answer ≡ Gives (given.FieldId (Some h))) × (field_of classes h ≡ Some f)
+
+-- room for this number of references more, which is refused for a negative number
+abbrev pub room_for : ℤ → Answer
+room_for (pos more) = Ensures more
+room_for (negsuc n) = RefusesFrames
+
+-- a frame with room for this number of references, which is refused for a negative number
+abbrev pub frame_for : ℤ → Answer
+frame_for (pos capacity) = Pushes capacity
+frame_for (negsuc n) = RefusesFrames
+
+-- the local reference of this key ends; nothing does for NULL
+abbrev pub deletes : (key : Option ℕ) → Answer
+deletes None = Gives Nothing
+deletes (Some key) = Deletes key
+
+-- the global reference of a static ends, for one that isn't NULL
+abbrev pub deletes_global : Option ℕ → Operand → Answer
+deletes_global None o = Gives Nothing
+deletes_global (Some a) (operand.Static i) = DeletesGlobal i
+deletes_global (Some a) o = Gives Nothing
+
+-- ---- cells
+
+-- a value of an object, where the object has it
+abbrev pub value_there : Space → Option ℕ → (place : ℕ) → Option Value
+value_there space None place = None
+value_there space (Some a) place = slice_get (values_at space a) place
+
+-- the word in a cell, and 0 where there is none
+abbrev pub word_in : Option Value → ℕ
+word_in (Some (value.Number word)) = word
+word_in v = 0
+
+-- the address in a cell, and NULL where there is none
+abbrev pub address_in : Option Value → Option ℕ
+address_in (Some (value.Block a)) = Some a
+address_in v = None
+
+-- how a cell holds a reference
+abbrev pub held_reference : Option ℕ → Value
+held_reference None = value.Null
+held_reference (Some a) = value.Block a
+
+-- a cell of an object changes, where the object has it
+abbrev pub writes_there : Space → Option ℕ → (place : ℕ) → Value → Answer
+writes_there space None place v = Gives Nothing
+writes_there space (Some a) place v = if nat_lt place (length (values_at space a)) then Writes a place v else Gives Nothing
+
+-- the word on top of the stack, and 0 where there is none
+abbrev pub top_word : List ℕ → ℕ
+top_word [] = 0
+top_word (word ∷ stack) = word
+
+-- the place of the field of a handle among these, and 0 for NULL
+abbrev pub place_there : Classes → Option FieldHandle → List FieldId → ℕ
+place_there classes None fields = 0
+place_there classes (Some h) fields = place_among (field_there classes (Some h)) fields
+
+-- ---- what a function does
+
+-- A call with these words on the stack.
+module _ (classes : Classes) (space : Space) (loaded : List ℕ) (references : References) (fields : List (Option FieldHandle)) (stack : List ℕ) (call : Call) where
+  -- the reference of an operand
+  abbrev pub reference : ℕ → Option ℕ
+  reference i = operand_at references (operand_of call.operands i)
+
+  -- a text of the call
+  abbrev pub text : ℕ → List ℕ
+  text i = unwrap_or (slice_get call.texts i) []
+
+  -- the field ID of operand 1
+  abbrev pub handle : Option FieldHandle
+  handle = field_at fields (operand_of call.operands 1)
+
+  -- its place among the fields of operand 0
+  abbrev pub place : ℕ
+  place = place_there classes handle (layout classes (class_of_given space (reference 0)))
+
+  -- the class that declares it
+  abbrev pub class : ℕ
+  class = (field_there classes handle).class
+
+  -- the class object that holds the static
+  abbrev pub declaring : Option ℕ
+  declaring = class_object loaded (Some class)
+
+  -- its place there
+  abbrev pub place_of_static : ℕ
+  place_of_static = place_there classes handle (own_statics classes class)
+
+  -- how a cell of this type holds the word on the stack
+  abbrev pub stored : ElementType → Value
+  stored T = value.Number (element_word (element_of T) (top_word stack))
+
+  -- the answer of a function that finds no field
+  abbrev pub worked_out : JniFunction → Answer
+  worked_out FindClass = found_class loaded (class_named classes (text 0))
+  worked_out GetSuperclass = Gives (Reference (class_object loaded (superclass classes (name_there space (reference 0)))))
+  worked_out GetObjectClass = Gives (Reference (class_object loaded (Some (class_of_given space (reference 0)))))
+  worked_out IsInstanceOf = Gives (Number (truth_word (fits_there classes space (reference 0) (name_there space (reference 1)))))
+  worked_out IsAssignableFrom = Gives (Number (truth_word (assignable classes (name_there space (reference 0)) (name_there space (reference 1)))))
+  worked_out AllocObject = Makes (name_there space (reference 0))
+  worked_out NewLocalRef = Gives (Reference (reference 0))
+  worked_out NewGlobalRef = MakesGlobal (reference 0)
+  worked_out DeleteGlobalRef = deletes_global (reference 0) (operand_of call.operands 0)
+  worked_out DeleteLocalRef = deletes (key_at references (operand_of call.operands 0))
+  worked_out IsSameObject = Gives (Number (truth_word (name_there space (reference 0) == name_there space (reference 1))))
+  worked_out EnsureLocalCapacity = room_for (cast_signed w32 (top_word stack))
+  worked_out PushLocalFrame = frame_for (cast_signed w32 (top_word stack))
+  worked_out PopLocalFrame = Pops (reference 0)
+  worked_out (GetField T) = Gives (Number (word_in (value_there space (reference 0) place)))
+  worked_out (SetField T) = writes_there space (reference 0) place (stored T)
+  worked_out GetObjectField = Gives (Reference (address_in (value_there space (reference 0) place)))
+  worked_out SetObjectField = writes_there space (reference 0) place (held_reference (reference 2))
+  worked_out (GetStaticField T) = Gives (Number (word_in (value_there space declaring place_of_static)))
+  worked_out (SetStaticField T) = writes_there space declaring place_of_static (stored T)
+  worked_out GetStaticObjectField = Gives (Reference (address_in (value_there space declaring place_of_static)))
+  worked_out SetStaticObjectField = writes_there space declaring place_of_static (held_reference (reference 2))
+  worked_out GetArrayLength = Gives (Number (count_there space (reference 0)))
+  worked_out f = Gives Nothing
+
+  -- what is worked out of a call of a function
+  abbrev pub IsWorkedOut : JniFunction → Answer → Type 0
+  IsWorkedOut GetFieldID answer = IsFoundField classes (find_field classes (name_there space (reference 0)) (text 0) (text 1)) answer
+  IsWorkedOut GetStaticFieldID answer = IsFoundField classes (find_static classes (name_there space (reference 0)) (text 0) (text 1)) answer
+  IsWorkedOut f answer = answer ≡ worked_out f

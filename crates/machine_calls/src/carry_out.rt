@@ -1,0 +1,267 @@
+//! What a call does to the store, and which exception is pending then.
+
+ghost use Rattle.std.specs.Prelude.{◌≡◌, ◌+◌, ◌-◌, ◌<◌, ◌≤◌, ◌^◌, length, nat_le, slice_get, true, false, IfOk, OnErr};
+ghost use Rattle.heap.specs.Heap.{left_of};
+ghost use Rattle.jni.specs.Prototype.{ResultKind as SourceKind};
+ghost use Rattle.jni.specs.Table.{result_value};
+ghost use Rattle.semantics.specs.CallEffects.{CallEffect};
+ghost use Rattle.semantics.specs.Thread.{Shared, Thread as SourceThread};
+ghost use Rattle.code_meaning.specs.Lowered.{Lowered};
+ghost use Rattle.tables.specs.declared.locals.TheConstants.{MOST_LOCALS};
+ghost use Rattle.tables.specs.Locals.{capacities, ensured, popped};
+ghost use Rattle.machine_calls.specs.Answers.{IsAnswer};
+ghost use Rattle.machine_calls.specs.CarriedOut.{CarriesOut, IsPossible, failed, is_of_frames, is_of_references};
+ghost use Rattle.machine_calls.specs.Made.{cells_of};
+ghost use Rattle.machine_calls.specs.declared.answer.Given.TheVariants.{Number};
+
+use crate::answer::{Answer, Given};
+use crate::make::make;
+use crate::statics::{StaticReference, delete_global, make_global};
+use crate::store::Store;
+use classes::table::ClassTable;
+use heap::{Addr, Heap};
+use jni::ResultKind;
+use std::alloc::AllocError;
+use tables::{Locals, TableFault};
+use world_values::World;
+
+/// What a call gives, and whether its allocation was refused.
+#[derive(Clone, Copy)]
+pub struct Carried {
+    pub given: Given,
+    pub refused: bool,
+}
+
+/// Whether what an answer makes has room in the heap.
+pub fn has_room(classes: &ClassTable, heap: &Heap, answer: &Answer) -> bool
+    ensures { result ≡ nat_le (cells_of classes.now answer.now) (left_of heap.now) }
+{
+    match *answer {
+        Answer::Makes(class) => 3 + classes.layout_len(class) <= heap.left(),
+        Answer::Throws(class) => 3 + classes.layout_len(class) <= heap.left(),
+        _ => true,
+    }
+}
+
+/// Does to the store and to a call's frames what a function of this kind of result answers. An object or an exception is refused
+/// exactly where it has no room in the heap: then the OutOfMemoryError object is pending, and the call fails.
+///
+/// An error says that host memory for a frame or a global reference was refused; then all is as before.
+pub fn carry_out(
+    world: &World,
+    store: &mut Store,
+    pending: &mut Option<Addr>,
+    locals: &mut Locals,
+    kind: ResultKind,
+    answer: Answer,
+) -> Result<Carried, AllocError>
+    requires possible { (p : Lowered) × (shared : Shared) × (s : SourceThread) × (effect : CallEffect) × IsPossible p world.now store.old pending.old locals.old (result_value kind) shared s
+        × IsAnswer world.now.classes store.old.heap locals.old (result_value kind) shared s answer effect }
+    requires few { store.old.births + 2 < 2 ^ 32 }
+    ensures carried { IfOk result (λ carried. (p : Lowered) (shared : Shared) (s : SourceThread) (effect : CallEffect) → IsPossible p world.now store.old pending.old locals.old (result_value kind) shared s
+        → IsAnswer world.now.classes store.old.heap locals.old (result_value kind) shared s answer effect
+        → CarriesOut p world.now store.old.heap locals.old answer (result_value kind) shared s effect carried.refused store.new pending.new locals.new carried.given) }
+    ensures store { OnErr result (store.new ≡ store.old) }
+    ensures pending { OnErr result (pending.new ≡ pending.old) }
+    ensures locals { OnErr result (locals.new ≡ locals.old) }
+    ensures of_references { OnErr result (is_of_references answer ≡ true) }
+{
+    // Here the proof takes up what is known of a world.
+    let _ = world.threads();
+    match answer {
+        Answer::Gives(given) => Ok(Carried {
+            given,
+            refused: false,
+        }),
+        Answer::Writes(addr, place, value) => {
+            store.heap.set(addr, place, value);
+            Ok(Carried {
+                given: Given::Nothing,
+                refused: false,
+            })
+        }
+        Answer::Makes(class) => match make(world.classes(), store, class) {
+            Some(addr) => Ok(Carried {
+                given: Given::Reference(Some(addr)),
+                refused: false,
+            }),
+            None => Ok(refuse(world, store, pending, kind)),
+        },
+        Answer::Throws(class) => match make(world.classes(), store, class) {
+            Some(addr) => {
+                *pending = Some(addr);
+                Ok(Carried {
+                    given: failed(kind),
+                    refused: false,
+                })
+            }
+            None => Ok(refuse(world, store, pending, kind)),
+        },
+        _ => carry_out_references(world, store, pending, locals, answer),
+    }
+}
+
+/// Does to the references of the store and of a call what an answer of references or of frames says.
+#[inline(always)]
+fn carry_out_references(
+    world: &World,
+    store: &mut Store,
+    pending: &mut Option<Addr>,
+    locals: &mut Locals,
+    answer: Answer,
+) -> Result<Carried, AllocError>
+    requires of_references { is_of_references answer ≡ true }
+    requires possible { (p : Lowered) × (kind : SourceKind) × (shared : Shared) × (s : SourceThread) × (effect : CallEffect) × IsPossible p world.now store.old pending.old locals.old kind shared s
+        × IsAnswer world.now.classes store.old.heap locals.old kind shared s answer effect }
+    ensures carried { IfOk result (λ carried. (p : Lowered) (kind : SourceKind) (shared : Shared) (s : SourceThread) (effect : CallEffect) → IsPossible p world.now store.old pending.old locals.old kind shared s
+        → IsAnswer world.now.classes store.old.heap locals.old kind shared s answer effect
+        → CarriesOut p world.now store.old.heap locals.old answer kind shared s effect carried.refused store.new pending.new locals.new carried.given) }
+    ensures store { OnErr result (store.new ≡ store.old) }
+    ensures pending { OnErr result (pending.new ≡ pending.old) }
+    ensures locals { OnErr result (locals.new ≡ locals.old) }
+{
+    match answer {
+        Answer::Deletes(key) => {
+            locals.delete(key).unwrap();
+            Ok(Carried {
+                given: Given::Nothing,
+                refused: false,
+            })
+        }
+        Answer::MakesGlobal(reference) => {
+            let held = make_global(&mut store.globals, reference)?;
+            Ok(Carried {
+                given: Given::Global(held),
+                refused: false,
+            })
+        }
+        Answer::DeletesGlobal(slot) => {
+            delete_global(&mut store.statics, &mut store.globals, slot);
+            Ok(Carried {
+                given: Given::Nothing,
+                refused: false,
+            })
+        }
+        _ => carry_out_frames(world, store, pending, locals, answer),
+    }
+}
+
+/// Does to a call's frames what an answer of frames says; the store stays.
+#[inline(always)]
+fn carry_out_frames(
+    world: &World,
+    store: &Store,
+    pending: &mut Option<Addr>,
+    locals: &mut Locals,
+    answer: Answer,
+) -> Result<Carried, AllocError>
+    requires { is_of_frames answer ≡ true }
+    ensures carried { IfOk result (λ carried. (p : Lowered) (kind : SourceKind) (shared : Shared) (s : SourceThread) (effect : CallEffect) → IsPossible p world.now store.now pending.old locals.old kind shared s
+        → IsAnswer world.now.classes store.now.heap locals.old kind shared s answer effect
+        → CarriesOut p world.now store.now.heap locals.old answer kind shared s effect carried.refused store.now pending.new locals.new carried.given) }
+    ensures pending { OnErr result (pending.new ≡ pending.old) }
+    ensures locals { OnErr result (locals.new ≡ locals.old) }
+{
+    match answer {
+        Answer::Ensures(more) => {
+            if ensure_room(locals, more) {
+                Ok(Carried {
+                    given: Given::Number(0),
+                    refused: false,
+                })
+            } else {
+                Ok(refuse_frames(world, store, pending))
+            }
+        }
+        Answer::Pushes(capacity) => {
+            match locals.push(capacity) {
+                Ok(()) => Ok(Carried {
+                    given: Given::Number(0),
+                    refused: false,
+                }),
+                Err(TableFault::Full) => Ok(refuse_frames(world, store, pending)),
+                Err(_) => Err(AllocError),
+            }
+        }
+        Answer::RefusesFrames => Ok(refuse_frames(world, store, pending)),
+        Answer::Pops(reference) => {
+            pop_frame(locals);
+            Ok(Carried {
+                given: Given::Reference(reference),
+                refused: false,
+            })
+        }
+        _ => unreachable!(),
+    }
+}
+
+/// Gives the current frame, if there is one, room for this many further references. Says whether it has it.
+fn ensure_room(locals: &mut Locals, more: u32) -> bool
+    ensures none { length locals.old.frames ≡ 0 → (result ≡ true) × (locals.new ≡ locals.old) }
+    ensures had { 0 < length locals.old.frames → result ≡ true → (locals.new ≡ ensured locals.old more) × (capacities (ensured locals.old more) ≤ MOST_LOCALS) }
+    ensures refused { result ≡ false → (0 < length locals.old.frames) × (locals.new ≡ locals.old) × (MOST_LOCALS < capacities (ensured locals.old more)) }
+{
+    if locals.frames() == 0 {
+        return true;
+    }
+    match locals.ensure(more) {
+        Ok(()) => true,
+        Err(_) => false,
+    }
+}
+
+/// Ends the current frame, if there is one.
+fn pop_frame(locals: &mut Locals)
+    ensures none { length locals.old.frames ≡ 0 → locals.new ≡ locals.old }
+    ensures some { 0 < length locals.old.frames → locals.new ≡ popped locals.old }
+{
+    if locals.frames() > 0 {
+        locals.pop();
+    }
+}
+
+/// The OutOfMemoryError object, which is made right after the class objects.
+fn out_of_memory(world: &World, store: &Store) -> Option<Addr>
+    ensures { result ≡ slice_get store.now.loaded.items (length world.now.classes) }
+{
+    store.loaded.get(world.classes().len()).copied()
+}
+
+/// The current frame gets no more room: -4, which is `JNI_ENOMEM`, is given, and the OutOfMemoryError object is pending.
+fn refuse_frames(world: &World, store: &Store, pending: &mut Option<Addr>) -> Carried
+    ensures carried { result ≡ record { given = Number (2 ^ 32 - 4); refused = false } }
+    ensures pending { pending.new ≡ slice_get store.now.loaded.items (length world.now.classes) }
+{
+    *pending = out_of_memory(world, store);
+    Carried {
+        given: Given::Number(u32::MAX - 3),
+        refused: false,
+    }
+}
+
+/// The OutOfMemoryError object is pending, and the call fails.
+fn refuse(world: &World, store: &Store, pending: &mut Option<Addr>, kind: ResultKind) -> Carried
+    ensures carried { result ≡ record { given = failed (result_value kind); refused = true } }
+    ensures pending { pending.new ≡ slice_get store.now.loaded.items (length world.now.classes) }
+{
+    *pending = out_of_memory(world, store);
+    Carried {
+        given: failed(kind),
+        refused: true,
+    }
+}
+
+/// What a call of this kind of result gives where it fails: NULL, -1 or nothing (JNI Specification, chapter 2, "Exceptions and
+/// Error Codes").
+fn failed(kind: ResultKind) -> Given
+    ensures { result ≡ failed (result_value kind) }
+{
+    match kind {
+        ResultKind::NewLocal => Given::Reference(None),
+        ResultKind::NewGlobal => Given::Global(StaticReference::Empty),
+        ResultKind::GivesField => Given::FieldId(None),
+        ResultKind::GivesInt => Given::Number(u32::MAX),
+        ResultKind::GivesFlag => Given::Number(0),
+        _ => Given::Nothing,
+    }
+}

@@ -1,0 +1,67 @@
+-- What a call answers is what its effect is.
+use Rattle.std.proofs.Common.{◌≡◌, ℕ, List, None, sym, ap, ◌∙◌, subst, Option}
+use Rattle.jni.specs.JniFunction.{JniFunction, prototype}
+use Rattle.jni.specs.Prototype.{ResultKind}
+use Rattle.jni.specs.Table.{function_value}
+use Rattle.semantics.specs.CallEffects.{CallEffect}
+use Rattle.semantics.specs.CallStep.{trap_of_call}
+use Rattle.semantics.specs.CallTable.{call_effect}
+use Rattle.semantics.specs.Effect.{Effect, effect_of}
+use Rattle.semantics.specs.Task.{Task}
+use Rattle.semantics.specs.Thread.{BuffersInUse, Shared, Thread, sight_of}
+use Rattle.semantics.specs.ThreadStep.{after_effect}
+use Rattle.semantics.specs.World.{World}
+use Rattle.code.specs.Call.{call_view}
+use Rattle.code.specs.declared.instr.Call.{Call}
+use Rattle.code_meaning.specs.Lowered.{Lowered}
+use Rattle.machine_calls.specs.declared.answer.Answer.{Answer}
+use Rattle.machine_calls.specs.declared.store.Store.{Store}
+use Rattle.machine_calls.specs.declared.activation.Activation.{Activation}
+use Rattle.machine_calls.specs.Answers.{IsAnswer}
+use Rattle.machine_calls.specs.Asked.{references_of}
+use Rattle.machine_calls.specs.CarriedOut.{IsPossible}
+use Rattle.machine_calls.specs.Made.{cells_of}
+use Rattle.machine_calls.specs.WorkedOut.{IsWorkedOut}
+use Rattle.semantics_safety.specs.Owners.{Owners}
+use Rattle.machine_steps.specs.Executes.{cells_made}
+use Rattle.machine_steps.specs.Invoked.{AtCall, IsAnswered}
+use Rattle.machine_calls.proofs.CallAnswers.{answers}
+use Rattle.machine_calls.proofs.CellsMade.{cells_made as cells_answered}
+use Rattle.machine_steps.proofs.CallInstructions.{CalledAs, called, cells_wanted, r, held, possible, owned_key, trap_is}
+
+-- the machine is at a call that no check stops
+module _ (p : Lowered) (w : World) (store : Store) (pending : Option ℕ) (call : Activation) (function : Call) (own : Owners) (shared : Shared) (s : Thread) (task : Task) (rest : List Task) (h : AtCall p w store pending call function own shared s task rest) (answer : Answer) (given : IsAnswered w store pending call function answer) where
+  abbrev pub it : CalledAs p w store pending call h.code (call_view function) own shared s task rest (r p w store pending call function own shared s task rest h) (effect_of (sight_of shared s) task)
+  it = called p w store pending call function own shared s task rest h
+
+  -- no check stops the source's
+  pub free : trap_of_call w.classes shared s it.target it.f it.args ≡ None
+  free = sym (trap_is p w store pending call function own shared s task rest h) ∙ given.free
+
+  pub worked : IsWorkedOut w.classes store.heap store.loaded.items (references_of store call) call.fields.items call.stack (call_view function) it.f answer
+  worked = subst (λ (x : JniFunction). IsWorkedOut w.classes store.heap store.loaded.items (references_of store call) call.fields.items call.stack (call_view function) x answer) it.asked.same_function given.works
+
+  -- the effect of the source's call
+  abbrev pub does : BuffersInUse → ℕ → CallEffect
+  does in_use k = call_effect w.classes in_use k shared s it.args it.f
+
+  -- the kind of its result
+  module _ (kind : ResultKind) (same : kind ≡ (prototype (function_value function.function)).result) where
+    pub kind_is : kind ≡ (prototype it.f).result
+    kind_is = same ∙ ap (λ (f : JniFunction). (prototype f).result) it.asked.same_function
+
+    pub answered : (in_use : BuffersInUse) (k : ℕ) → IsAnswer w.classes store.heap call.locals kind shared s answer (does in_use k)
+    answered in_use k =
+        subst (λ (x : ResultKind). IsAnswer w.classes store.heap call.locals x shared s answer (does in_use k)) (sym kind_is)
+        (answers p w store pending call (call_view function) shared s given.sound in_use k it.args it.f it.asked it.target free answer worked
+        (owned_key p w store pending call function own shared s task rest h) (held p w store pending call function own shared s task rest h))
+
+    pub can_carry : IsPossible p w store pending call.locals kind shared s
+    can_carry = subst (λ (x : ResultKind). IsPossible p w store pending call.locals x shared s) (sym kind_is) (possible p w store pending call function own shared s task rest h)
+
+    -- its step makes what the answer makes
+    pub cells_asked : (in_use : BuffersInUse) (k : ℕ) → cells_made shared (after_effect w.classes in_use k shared s rest (effect_of (sight_of shared s) task)) ≡ cells_of w.classes answer
+    cells_asked in_use k =
+        ap (λ (e : Effect). cells_made shared (after_effect w.classes in_use k shared s rest e)) it.is
+        ∙ cells_wanted p w store pending call function own shared s task rest h in_use k free
+        ∙ cells_answered w.classes store.heap call.locals kind shared s answer (does in_use k) (answered in_use k)

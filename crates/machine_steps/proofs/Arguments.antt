@@ -1,0 +1,137 @@
+-- The operands of a call give what the arguments of the source's call are.
+use Rattle.std.proofs.Common.{inl, inr, ◌≡◌, ℕ, zero, suc, ◌+◌, ◌-◌, List, [], ◌∷◌, length, Option, Some, None, refl, sym, ap, ◌∙◌, subst, arith, length-append}
+use Rattle.std.specs.Prelude.{slice_get}
+use Rattle.std.specs.List.{AllByRecursion, AllZip}
+use Rattle.std.proofs.lemmas.Bool.{le-leb}
+use Rattle.class_rules.specs.Class.{Classes}
+use Rattle.class_rules.specs.Fields.{FieldId}
+use Rattle.classes.specs.declared.class.FieldHandle.{FieldHandle}
+use Rattle.type_rules.specs.Sorts.{Ref, Global}
+use Rattle.type_rules.specs.Sorts as sort
+use Rattle.heap.specs.Heap.{Space}
+use Rattle.semantics.specs.Object.{Reference}
+use Rattle.semantics.specs.Arguments.{Actual, ReferenceActual, FieldActual}
+use Rattle.semantics.specs.Task.{Task}
+use Rattle.semantics.specs.Thread.{Frame}
+use Rattle.code.specs.declared.instr.Operand.{Operand}
+use Rattle.code.specs.declared.instr.Operand.TheVariants as operand
+use Rattle.code.specs.Depth.{Listing, words_taken, with_fewer}
+use Rattle.code_meaning.specs.Slots.{Visible}
+use Rattle.code_meaning.specs.Does.{IsOperand, word_given, words_given}
+use Rattle.code_meaning.specs.Lowered.{Lowered}
+use Rattle.machine_calls.specs.declared.activation.Activation.{Activation}
+use Rattle.machine_calls.specs.FieldIds.{FieldAgrees, FieldsAgree}
+use Rattle.machine_calls.specs.StoreAgrees.{StaticsAgree}
+use Rattle.machine_calls.specs.Statics.{References}
+use Rattle.machine_calls.specs.declared.references.Held.{Held}
+use Rattle.machine_calls.proofs.HeldStatics.{static_there}
+use Rattle.machine_calls.proofs.KeyLaws.{address_there}
+use Rattle.machine_calls.specs.Given.{held_in, IsGiven}
+use Rattle.machine_steps.proofs.Calls.{slots_of, Ready}
+
+-- ---- slots
+
+-- what the slot of a field ID holds
+field_there : (classes : Classes) (handles : List (Option FieldHandle)) (fields : List (Option FieldId)) (i : ℕ) (q : Option FieldId) → FieldsAgree classes handles fields → slice_get fields i ≡ Some q → FieldAgrees classes (held_in (slice_get handles i)) q
+field_there classes [] [] i q h e = absurd (cc)
+field_there classes [] (f ∷ fields) i q h e = absurd h
+field_there classes (a ∷ handles) [] i q h e = absurd h
+field_there classes (a ∷ handles) (f ∷ fields) zero q h e = let same : f ≡ q = cc in subst (λ (x : Option FieldId). FieldAgrees classes a x) same h.0
+field_there classes (a ∷ handles) (f ∷ fields) (suc i) q h e = field_there classes handles fields i q h.1 e
+
+-- ---- operands
+
+-- a slot with a local reference to an object has an owner
+abbrev pub HasOwner : List Reference → (owners : List (Option ℕ)) → Operand → Type 0
+HasOwner references owners (operand.Local i) = (n : ℕ) → slice_get references i ≡ Some (Some n) → (level : ℕ) × (slice_get owners i ≡ Some (Some level))
+HasOwner references owners o = Unit {0}
+
+module _ (p : Lowered) (classes : Classes) (space : Space) (call : Activation) (code : Listing) (visible : Visible) (frames : List Frame) (task : Task) (rest : List Task) (r : Ready p classes space call code visible frames task rest) (helds : List Held) (statics : StaticsAgree space helds visible.statics) where
+  abbrev references : References
+  references = record { keys = call.references.items; locals = call.locals; statics = helds }
+
+  one_given : (o : Operand) (a : Actual) → HasOwner r.references r.owners o → IsOperand code r.known call.place call.stack (slots_of call r.references r.owners r.fields) visible o a → IsGiven classes space references call.fields.items o a
+  one_given operand.Null a owned (inl h) = inl (record { name = h.0; reference = None; is = h.1; agrees = tt })
+  one_given operand.Null a owned (inr (inl h)) = inr (inl (record { field = None; is = h; agrees = tt }))
+  one_given operand.Null a owned (inr (inr h)) = inr (inr h)
+  one_given (operand.Local i) a owned h =
+      let shown = r.shows.each h.0 (record { sort = Ref; index = i }) h.2 in
+      record {
+        name = h.0;
+        reference = shown.reference;
+        is = h.1 ∙ ap (ReferenceActual h.0) shown.is;
+        agrees = address_there space call.locals call.references.items r.references r.owners i shown.reference r.agree shown.there (λ n is. owned n (shown.there ∙ ap (λ (q : Reference). Some q) is));
+      }
+  one_given (operand.Static i) a owned h =
+      let shown = r.shows.each h.0 (record { sort = Global; index = i }) h.2 in
+      record {
+        name = h.0;
+        reference = shown.static.held;
+        is = h.1 ∙ ap (ReferenceActual h.0) shown.reference;
+        agrees = static_there space h.0 helds visible.statics i shown.static.held statics shown.static.place shown.static.there;
+      }
+  one_given operand.Number a owned h = h
+  one_given (operand.FieldId i) a owned h =
+      let shown = r.shows.each h.0 (record { sort = sort.FieldId; index = i }) h.2 in
+      record { field = shown.field; is = h.1 ∙ ap FieldActual shown.is; agrees = field_there classes call.fields.items r.fields i shown.field r.fields_agree shown.there }
+  one_given operand.Text a owned h = h
+  one_given (operand.Array array) a owned h = (h.0, h.1)
+  one_given (operand.Buffer i) a owned h = (h.0, h.1)
+  one_given (operand.Mode mode) a owned h = h
+  one_given (operand.IsCopy i) a owned h = (h.0, h.1)
+
+  pub all_given : (operands : List Operand) (args : List Actual) → AllByRecursion (HasOwner r.references r.owners) operands → AllZip (IsOperand code r.known call.place call.stack (slots_of call r.references r.owners r.fields) visible) operands args
+      → AllZip (IsGiven classes space references call.fields.items) operands args
+  all_given [] [] owned h = tt
+  all_given [] (a ∷ args) owned h = absurd h
+  all_given (o ∷ operands) [] owned h = absurd h
+  all_given (o ∷ operands) (a ∷ args) owned h = (one_given o a owned.0 h.0, all_given operands args owned.1 h.1)
+
+-- ---- words
+
+-- how many words an operand takes
+abbrev one_taken : Operand → ℕ
+one_taken o = words_taken (o ∷ [])
+
+module _ (classes : Classes) (space : Space) (references : References) (fields : List (Option FieldHandle)) where
+  word_of_one : (o : Operand) (a : Actual) → IsGiven classes space references fields o a → length (word_given a) ≡ one_taken o
+  word_of_one operand.Null a (inl h) = ap (λ (b : Actual). length (word_given b)) h.is
+  word_of_one operand.Null a (inr (inl h)) = ap (λ (b : Actual). length (word_given b)) h.is
+  word_of_one operand.Null a (inr (inr h)) = ap (λ (b : Actual). length (word_given b)) h
+  word_of_one (operand.Local i) a h = ap (λ (b : Actual). length (word_given b)) h.is
+  word_of_one (operand.Static i) a h = ap (λ (b : Actual). length (word_given b)) h.is
+  word_of_one operand.Number a h = ap (λ (b : Actual). length (word_given b)) h.1
+  word_of_one (operand.FieldId i) a h = ap (λ (b : Actual). length (word_given b)) h.is
+  word_of_one operand.Text a h = ap (λ (b : Actual). length (word_given b)) h.1
+  word_of_one (operand.Array array) a h = ap (λ (b : Actual). length (word_given b)) h.1
+  word_of_one (operand.Buffer i) a h = ap (λ (b : Actual). length (word_given b)) h.1
+  word_of_one (operand.Mode mode) a h = ap (λ (b : Actual). length (word_given b)) h.1
+  word_of_one (operand.IsCopy i) a h = ap (λ (b : Actual). length (word_given b)) h.1
+
+  first_taken : (o : Operand) (operands : List Operand) → words_taken (o ∷ operands) ≡ one_taken o + words_taken operands
+  first_taken operand.Null operands = let taken : one_taken operand.Null ≡ 0 = refl in omega (arith, taken)
+  first_taken (operand.Local i) operands = let taken : one_taken (operand.Local i) ≡ 0 = refl in omega (arith, taken)
+  first_taken (operand.Static i) operands = let taken : one_taken (operand.Static i) ≡ 0 = refl in omega (arith, taken)
+  first_taken operand.Number operands = let taken : one_taken operand.Number ≡ 1 = refl in omega (arith, taken)
+  first_taken (operand.FieldId i) operands = let taken : one_taken (operand.FieldId i) ≡ 0 = refl in omega (arith, taken)
+  first_taken operand.Text operands = let taken : one_taken operand.Text ≡ 0 = refl in omega (arith, taken)
+  first_taken (operand.Array array) operands = let taken : one_taken (operand.Array array) ≡ 0 = refl in omega (arith, taken)
+  first_taken (operand.Buffer i) operands = let taken : one_taken (operand.Buffer i) ≡ 0 = refl in omega (arith, taken)
+  first_taken (operand.Mode mode) operands = let taken : one_taken (operand.Mode mode) ≡ 0 = refl in omega (arith, taken)
+  first_taken (operand.IsCopy i) operands = let taken : one_taken (operand.IsCopy i) ≡ 0 = refl in omega (arith, taken)
+
+  taken_words : (operands : List Operand) (args : List Actual) → AllZip (IsGiven classes space references fields) operands args → words_taken operands ≡ length (words_given args)
+  taken_words [] [] h = refl
+  taken_words [] (a ∷ args) h = absurd h
+  taken_words (o ∷ operands) [] h = absurd h
+  taken_words (o ∷ operands) (a ∷ args) h = omega (arith, first_taken o operands, word_of_one o a h.0, taken_words operands args h.1, length-append (words_given args) (word_given a))
+
+none_left : (n : ℕ) → with_fewer n n ≡ Some 0
+none_left n = rw (le-leb n n (omega arith)) (ap (λ (m : ℕ). Some m) (let e : n - n ≡ 0 = omega arith in e))
+
+-- a call takes all the words on the stack
+pub none_left_after : (classes : Classes) (space : Space) (references : References) (fields : List (Option FieldHandle)) (operands : List Operand) (args : List Actual) (stack : List ℕ) → AllZip (IsGiven classes space references fields) operands args → stack ≡ words_given args
+    → with_fewer (words_taken operands) (length stack) ≡ Some 0
+none_left_after classes space references fields operands args stack given words =
+    let count : length stack ≡ words_taken operands = ap length words ∙ sym (taken_words classes space references fields operands args given) in
+    subst (λ (n : ℕ). with_fewer (words_taken operands) n ≡ Some 0) (sym count) (none_left (words_taken operands))

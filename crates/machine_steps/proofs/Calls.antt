@@ -1,0 +1,237 @@
+-- What the instruction at the place of a call does.
+use Rattle.std.proofs.Common.{◌≡◌, ℕ, ℤ, zero, suc, ◌+◌, ◌<◌, Bool, List, [], ◌∷◌, ◌++◌, length, Option, Some, None, refl, sym, ap, ◌∙◌, subst, arith, Bor}
+use Rattle.std.specs.Prelude.{slice_get, IsSome}
+use Rattle.std.specs.Option.{option_copied}
+use Rattle.base.specs.Bytes.{Identifier}
+use Rattle.base.specs.Element.{ElementType}
+use Rattle.syntax.specs.Tree.{Function, Item, StaticItem, FunctionItem}
+use Rattle.syntax.specs.Views.{unit_tree}
+use Rattle.jni.specs.JniFunction.{JniFunction}
+use Rattle.heap.specs.Heap.{Space}
+use Rattle.semantics.specs.Object.{Reference}
+use Rattle.code.specs.declared.instr.Instr.{Instr}
+use Rattle.code.specs.declared.instr.Instr.TheVariants as instr
+use Rattle.code.specs.Call.{Call}
+use Rattle.code.specs.declared.instr.Plain.{Plain}
+use Rattle.code.specs.Effect.{IsPlain, plain_of}
+use Rattle.code.specs.Depth.{Listing, depth_after, depth_at, IsValid, LeadsInside, Leaves}
+use Rattle.code.specs.Running.{RunsAt}
+use Rattle.code.proofs.Runs.{runs_at}
+use Rattle.semantics.specs.Arguments.{Actual}
+use Rattle.semantics.specs.Effect.{Effect, Becomes, Sets, SetsNull, SetsElement, MakesArray, Prints, Calls, Returns, TrapsAt, NoEffect, effect_of}
+use Rattle.semantics.specs.Task.{Task, Target}
+use Rattle.semantics.specs.Value.{Value, Trap}
+use Rattle.code_meaning.specs.Layout.{Known, with_static}
+use Rattle.code_meaning.specs.Slots.{Visible, Slots, Shows, IsSet, IsMade, IsElementSet}
+use Rattle.code_meaning.specs.Stands.{StandsFor}
+use Rattle.code_meaning.specs.Does.{DoesEffect, GoesOn, Writes, StoresNull, PrintsTop, CallsFunction, LeavesCall, Stops, Works, IsReturn}
+use Rattle.code_meaning.specs.Lowered.{Lowered, IsLowered, IsCodeOf, AreCodesOf}
+use Rattle.machine_calls.specs.declared.activation.Activation.{Activation}
+use Rattle.class_rules.specs.Class.{Classes}
+use Rattle.class_rules.specs.Fields.{FieldId}
+use Rattle.classes.specs.declared.class.FieldHandle.{FieldHandle}
+use Rattle.semantics.specs.Thread.{Frame}
+use Rattle.tables.specs.Locals.{LocalTable}
+use Rattle.machine_calls.specs.Locals.{FramesAgree, KeysAgree}
+use Rattle.machine_steps.specs.Executes.{CallStands}
+use Rattle.machine_steps.specs.Moved.{HasMoved}
+use Rattle.machine_calls.specs.FieldIds.{FieldsAgree}
+
+-- ---- a function's code
+
+-- a code of a lowered program is its function's
+pub code_lowered : (statics : Known) (items : List Item) (codes : List Listing) (n : ℕ) (code : Listing) → AreCodesOf statics items codes → slice_get codes n ≡ Some code → (before : Known) × (f : Function) × IsCodeOf before f code
+code_lowered statics [] [] n code h e = absurd (cc)
+code_lowered statics [] (c ∷ codes) n code h e = absurd h
+code_lowered statics (StaticItem s ∷ items) codes n code h e = code_lowered (with_static s statics) items codes n code h.1 e
+code_lowered statics (FunctionItem f ∷ items) [] n code h e = absurd h
+code_lowered statics (FunctionItem f ∷ items) (c ∷ codes) zero code h e = (statics, f, let s : c ≡ code = cc in subst (IsCodeOf statics f) s h.0)
+code_lowered statics (FunctionItem f ∷ items) (c ∷ codes) (suc n) code h e = code_lowered statics items codes n code h.1 e
+
+-- the slots of a call, with the names of the objects that they refer to
+abbrev pub slots_of : Activation → List Reference → (owners : List (Option ℕ)) → List (Option FieldId) → Slots
+slots_of call references owners fields = record { numbers = call.numbers.items; references = references; owners = owners; fields = fields }
+
+-- ---- effects
+
+-- the effects that an instruction has
+module _ (code : Listing) (known : Known) (place : ℕ) (stack : List ℕ) (slots : Slots) (visible : Visible) (rest : List Task) (P : Effect → Type 0) where
+  pub does_cases : ((tasks : List Task) → GoesOn code known place stack slots visible (tasks ++ rest) → P (Becomes tasks))
+      → ((x : Identifier) (v : Value) → Writes code known place stack slots visible (IsSet visible x v) rest → P (Sets x v))
+      → ((target : Target) → StoresNull code known place stack slots visible target rest → P (SetsNull target))
+      → ((x : Identifier) (i : ℕ) (z : ℤ) (t : ElementType) → visible.array_type x ≡ Some t → Writes code known place stack slots visible (IsElementSet visible t x i z) rest → P (SetsElement x i z))
+      → ((t : ElementType) (x : Identifier) (size : ℕ) → Writes code known place stack slots visible (IsMade visible t x size) rest → P (MakesArray t x size))
+      → ((z : ℤ) → PrintsTop code known place stack slots visible z rest → P (Prints z))
+      → ((line : ℕ) (target : Target) (f : JniFunction) (args : List Actual) → CallsFunction code known place stack slots visible line target f args rest → P (Calls line target f args))
+      → (LeavesCall code known place stack slots visible → P Returns)
+      → ((trap : Trap) (line : ℕ) → Stops code known place stack slots visible trap line → P (TrapsAt trap line))
+      → (e : Effect) → DoesEffect code known place stack slots visible rest e → P e
+  does_cases becomes sets nulls element array prints calls returns traps (Becomes tasks) h = becomes tasks h
+  does_cases becomes sets nulls element array prints calls returns traps (Sets x v) h = sets x v h
+  does_cases becomes sets nulls element array prints calls returns traps (SetsNull target) h = nulls target h
+  does_cases becomes sets nulls element array prints calls returns traps (SetsElement x i z) h = element x i z h.0 h.1 h.2
+  does_cases becomes sets nulls element array prints calls returns traps (MakesArray t x size) h = array t x size h
+  does_cases becomes sets nulls element array prints calls returns traps (Prints z) h = prints z h
+  does_cases becomes sets nulls element array prints calls returns traps (Calls line target f args) h = calls line target f args h
+  does_cases becomes sets nulls element array prints calls returns traps Returns h = returns h
+  does_cases becomes sets nulls element array prints calls returns traps (TrapsAt trap line) h = traps trap line h
+  does_cases becomes sets nulls element array prints calls returns traps NoEffect h = absurd h
+
+-- what has an effect on the stack and the number slots alone is plain
+pub plain_instr : (i : Instr) (s m : List ℕ) (x : Plain × List ℕ × List ℕ) → plain_of i s m ≡ Some x → IsPlain i
+plain_instr (instr.TestNull variable equal) s m x h = absurd (cc)
+plain_instr (instr.StoreNull variable) s m x h = absurd (cc)
+plain_instr instr.PutJint s m x h = absurd (cc)
+plain_instr (instr.Call call) s m x h = absurd (cc)
+plain_instr instr.Return s m x h = absurd (cc)
+plain_instr instr.ReturnJint s m x h = absurd (cc)
+plain_instr (instr.ReturnReference operand) s m x h = absurd (cc)
+plain_instr i s m x h = tt
+
+-- a plain instruction works on the stack
+pub plain_works : (visible : Visible) (slots : Slots) (i : Instr) (stack : List ℕ) (way : Plain) (after : List ℕ) → IsPlain i → Works visible slots i stack way after → plain_of i stack slots.numbers ≡ Some (way, after, slots.numbers)
+plain_works visible slots (instr.TestNull variable equal) stack way after p h = absurd p
+plain_works visible slots i stack way after p h = h
+
+-- what works on the stack is plain, or a test of NULL
+abbrev pub IsNullTest : Instr → Type 0
+IsNullTest (instr.TestNull variable equal) = Unit {0}
+IsNullTest i = ⊥
+
+pub no_return : (i : Instr) → IsReturn i → IsPlain i → ⊥
+no_return instr.Return r h = h
+no_return instr.ReturnJint r h = h
+no_return (instr.ReturnReference operand) r h = h
+no_return i r h = r
+
+-- what is none of the others is plain
+pub plain_else : (i : Instr) → ((v : _) (equal : Bool) → i ≡ instr.TestNull v equal → ⊥) → ((v : _) → i ≡ instr.StoreNull v → ⊥) → (i ≡ instr.PutJint → ⊥) → ((call : Call) → i ≡ instr.Call call → ⊥)
+    → (i ≡ instr.Return → ⊥) → (i ≡ instr.ReturnJint → ⊥) → ((o : _) → i ≡ instr.ReturnReference o → ⊥) → IsPlain i
+plain_else (instr.TestNull v equal) test store put call return return_jint return_reference = test v equal refl
+plain_else (instr.StoreNull v) test store put call return return_jint return_reference = store v refl
+plain_else instr.PutJint test store put call return return_jint return_reference = put refl
+plain_else (instr.Call c) test store put call return return_jint return_reference = call c refl
+plain_else instr.Return test store put call return return_jint return_reference = return refl
+plain_else instr.ReturnJint test store put call return return_jint return_reference = return_jint refl
+plain_else (instr.ReturnReference o) test store put call return return_jint return_reference = return_reference o refl
+plain_else i test store put call return return_jint return_reference = tt
+
+-- ---- what is known of the instruction at a call's place
+
+pub record Ready (p : Lowered) (classes : Classes) (space : Space) (call : Activation) (code : Listing) (visible : Visible) (frames : List Frame) (task : Task) (rest : List Task) : Type 0 where
+  pub of_function : slice_get p.codes call.function ≡ Some code
+  pub valid : IsValid code
+  pub known : Known
+  pub references : List Reference
+  pub owners : List (Option ℕ)
+  pub agree : KeysAgree space call.locals call.references.items references owners
+  pub fields : List (Option FieldId)
+  pub fields_agree : FieldsAgree classes call.fields.items fields
+  pub frames_agree : FramesAgree space call.locals frames
+  pub shows : Shows code known visible (slots_of call references owners fields)
+  pub stands : StandsFor code known call.place call.stack (task ∷ rest)
+  pub does : DoesEffect code known call.place call.stack (slots_of call references owners fields) visible rest (effect_of visible.sight task)
+  pub depth : depth_at code.instrs call.place ≡ Some (length call.stack)
+
+pub ready : (p : Lowered) (classes : Classes) (space : Space) (call : Activation) (code : Listing) (visible : Visible) (frames : List Frame) (task : Task) (rest : List Task) → IsLowered p → slice_get p.codes call.function ≡ Some code → CallStands p classes space call visible frames (task ∷ rest) → Ready p classes space call code visible frames task rest
+ready p classes space call code visible frames task rest lowered at h =
+    let same : h.code ≡ code = cc (h.of_function) in
+    let found = code_lowered [] (unit_tree p.unit).items p.codes call.function code lowered at in
+    let shows = subst (λ (k : Listing). Shows k h.known visible (slots_of call h.references h.owners h.fields)) same h.shows in
+    let stands = subst (λ (k : Listing). StandsFor k h.known call.place call.stack (task ∷ rest)) same h.stands in
+    record {
+      of_function = at;
+      valid = found.2.valid;
+      known = h.known;
+      references = h.references;
+      owners = h.owners;
+      agree = h.agree;
+      fields = h.fields;
+      fields_agree = h.fields_agree;
+      frames_agree = h.frames_agree;
+      shows = shows;
+      stands = stands;
+      does = found.2.steps visible h.known (slots_of call h.references h.owners h.fields) call.place call.stack task rest shows stands;
+      depth = subst (λ (k : Listing). depth_at k.instrs call.place ≡ Some (length call.stack)) same h.depth;
+    }
+
+-- the owners are those of the call
+pub ready_owners : (p : Lowered) (classes : Classes) (space : Space) (call : Activation) (code : Listing) (visible : Visible) (frames : List Frame) (task : Task) (rest : List Task) (lowered : IsLowered p) (at : slice_get p.codes call.function ≡ Some code) (h : CallStands p classes space call visible frames (task ∷ rest))
+    → (ready p classes space call code visible frames task rest lowered at h).owners ≡ h.owners
+unfolding ready
+ready_owners p classes space call code visible frames task rest lowered at h = refl
+
+-- as many field IDs as handles
+pub fields_count : (classes : Classes) (handles : List (Option FieldHandle)) (fields : List (Option FieldId)) → FieldsAgree classes handles fields → length fields ≡ length handles
+fields_count classes [] [] h = refl
+fields_count classes [] (f ∷ fields) h = absurd h
+fields_count classes (a ∷ handles) [] h = absurd h
+fields_count classes (a ∷ handles) (f ∷ fields) h = ap suc (fields_count classes handles fields h.1)
+
+some_is : {A : Type 0} (o : Option A) (x : A) → o ≡ Some x → IsSome o
+some_is None x h = absurd (cc)
+some_is (Some y) x h = refl
+
+some_has : {A : Type 0} (o : Option A) → IsSome o → (x : A) × (o ≡ Some x)
+some_has None h = absurd (cc)
+some_has (Some x) h = (x, refl)
+
+module _ (p : Lowered) (classes : Classes) (space : Space) (call : Activation) (code : Listing) (visible : Visible) (frames : List Frame) (task : Task) (rest : List Task) (r : Ready p classes space call code visible frames task rest) where
+  -- there is an instruction
+  pub here : (i : Instr) × (slice_get code.instrs call.place ≡ Some i)
+  here =
+      does_cases code r.known call.place call.stack (slots_of call r.references r.owners r.fields) visible rest (λ e. (i : Instr) × (slice_get code.instrs call.place ≡ Some i))
+      (λ tasks g. (g.here, g.at)) (λ x v g. (g.here, g.at)) (λ target g. (instr.StoreNull g.variable, g.at)) (λ x i z t a g. (g.here, g.at)) (λ t x n g. (g.here, g.at))
+      (λ z g. (instr.PutJint, g.at)) (λ line target f args g. (instr.Call g.call, g.at)) (λ g. (g.here, g.at)) (λ trap line g. (g.here, g.at))
+      (effect_of visible.sight task) r.does
+
+  -- the call stands for tasks at another place
+  pub stands_at : (after : Activation) (to : ℕ) (stack numbers : List ℕ) (keys : List (Option ℕ)) (references : List Reference) (handles : List (Option FieldHandle)) (fields : List (Option FieldId)) (names : Known) (visible' : Visible) (tasks : List Task)
+      → depth_at code.instrs to ≡ Some (length stack) → HasMoved call after to stack numbers keys handles → KeysAgree space call.locals keys references r.owners → FieldsAgree classes handles fields → StandsFor code names to stack tasks
+      → Shows code names visible' (record { numbers = numbers; references = references; owners = r.owners; fields = fields }) → CallStands p classes space after visible' frames tasks
+  stands_at after to stack numbers keys references handles fields names visible' tasks d m agree handled stands shows = record {
+    code = code;
+    of_function = ap (slice_get p.codes) m.function ∙ r.of_function;
+    known = names;
+    stands = subst (λ (n : ℕ). StandsFor code names n after.stack tasks) (sym m.place) (subst (λ (s : List ℕ). StandsFor code names to s tasks) (sym m.stack) stands);
+    references = references;
+    owners = r.owners;
+    agree =
+        subst (λ (t : LocalTable). KeysAgree space t after.references.items references r.owners) (sym m.locals)
+        (subst (λ (l : List (Option ℕ)). KeysAgree space call.locals l references r.owners) (sym m.references) agree);
+    fields = fields;
+    fields_agree = subst (λ (l : List (Option FieldHandle)). FieldsAgree classes l fields) (sym m.fields) handled;
+    shows = subst (λ (ns : List ℕ). Shows code names visible' (record { numbers = ns; references = references; owners = r.owners; fields = fields })) (sym m.numbers) shows;
+    depth = ap (depth_at code.instrs) m.place ∙ d ∙ ap (λ (s : List ℕ). Some (length s)) (sym m.stack);
+    frames_agree = subst (λ (t : LocalTable). FramesAgree space t frames) (sym m.locals) r.frames_agree;
+  }
+
+  module _ (i : Instr) (at : slice_get code.instrs call.place ≡ Some i) where
+    pub runs : RunsAt code call.place i
+    runs = runs_at code r.valid call.place i at
+
+    -- room for the instruction
+    pub room : IsSome (depth_after i (length call.stack))
+    room = runs.room (length call.stack) r.depth
+
+    -- a plain one has an effect
+    pub plain_there : IsPlain i → IsSome (plain_of i call.stack call.numbers.items)
+    plain_there works = runs.plain call.stack call.numbers.items works r.depth r.shows.numbers
+
+    -- where a plain one leads
+    pub leads : (way : Plain) (stack numbers : List ℕ) → plain_of i call.stack call.numbers.items ≡ Some (way, stack, numbers) → LeadsInside code.instrs call.place way (length stack)
+    leads way stack numbers is = runs.leads call.stack call.numbers.items stack numbers way r.depth is
+
+    -- the depth after one that isn't plain
+    pub depth_behind : (after : ℕ) → (Leaves i → ⊥) → depth_after i (length call.stack) ≡ Some after → depth_at code.instrs (call.place + 1) ≡ Some after
+    depth_behind after stays is = (runs.rest_of (length call.stack) after stays r.depth is).words
+
+-- what a look-up gave is there
+pub is_there : {A : Type 0} (o : Option (Bor A)) (x : A) → option_copied o ≡ Some x → IsSome o
+is_there None x h = absurd (cc)
+is_there (Some r) x h = refl
+
+-- a word is on the stack
+pub positive : (n : ℕ) → IsSome (depth_after instr.PutJint n) → 0 < n
+positive zero h = absurd (cc (h))
+positive (suc n) h = omega arith

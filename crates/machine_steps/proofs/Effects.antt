@@ -1,0 +1,455 @@
+-- What an instruction did is the effect of the first of the tasks.
+use Rattle.std.proofs.Common.{◌≡◌, ℕ, suc, ℤ, pos, ◌+◌, ◌<◌, Bool, true, false, List, [], ◌∷◌, ◌++◌, length, replicate, Option, Some, None, refl, sym, ap, ◌∙◌, subst, arith, if◌then◌else◌}
+use Rattle.std.specs.Prelude.{slice_get, slice_set, nat_lt, IsSome, IsTrue}
+use Rattle.std.specs.Bool.{beq}
+use Rattle.std.specs.Int.{w32, cast_signed}
+use Rattle.std.proofs.lemmas.Bool.{ltb-true}
+use Rattle.base.specs.Bytes.{Identifier, lookup}
+use Rattle.base.specs.Element.{ElementType}
+use Rattle.class_rules.specs.Class.{Classes}
+use Rattle.jni.specs.JniFunction.{JniFunction}
+use Rattle.heap.specs.Heap.{Space}
+use Rattle.code.specs.declared.instr.Instr.{Instr}
+use Rattle.code.specs.declared.instr.Instr.TheVariants as instr
+use Rattle.code.specs.Call.{Call}
+use Rattle.code.specs.declared.instr.NullableVariable.{NullableVariable}
+use Rattle.code.specs.declared.instr.NullableVariable.TheVariants as nullable
+use Rattle.code_meaning.specs.Layout.{Known}
+use Rattle.code.specs.declared.instr.Plain.{Plain}
+use Rattle.code.specs.declared.instr.Plain.TheVariants as plain
+use Rattle.code.specs.Effect.{truth_word, plain_of, IsPlain}
+use Rattle.code.specs.Depth.{Listing, depth_after, depth_at, LeadsInside, Leaves, within_slots}
+use Rattle.semantics.specs.Arguments.{Actual}
+use Rattle.semantics.specs.Effect as effects
+use Rattle.semantics.specs.Effect.{Effect, Becomes, Sets, SetsNull, SetsElement, MakesArray, Prints, Calls, TrapsAt, effect_of}
+use Rattle.semantics.specs.Task.{Task, Target}
+use Rattle.semantics.specs.Thread as source
+use Rattle.semantics.specs.Thread.{BuffersInUse, Shared, sight_of, viewed_by}
+use Rattle.semantics.specs.ThreadStep.{with_tasks, after_effect, set_element}
+use Rattle.semantics.specs.Value.{Trap, convert}
+use Rattle.semantics.specs.Variable.{Variable, Scalar, LocalArray, assign}
+use Rattle.semantics_safety.specs.Owners.{Owners}
+use Rattle.code_meaning.specs.Slots as lower
+use Rattle.code_meaning.specs.Slots.{Visible, Slots, visible_to, Shows, IsSet, IsMade, IsElementSet}
+use Rattle.code_meaning.specs.Stands.{StandsFor}
+use Rattle.std.specs.Global.{Vec}
+use Rattle.code_meaning.specs.Does.{IsStoredIn, kind_of_target, GoesOn, Writes, StoresNull, PrintsTop, CallsFunction, Stops, Works, AtEnd, IsReturn}
+use Rattle.code_meaning.specs.Lowered.{Lowered}
+use Rattle.machine_steps.specs.declared.execute.Event.{Event}
+use Rattle.machine_steps.specs.declared.execute.Event.TheVariants as event
+use Rattle.machine_calls.specs.declared.activation.Activation.{Activation}
+use Rattle.machine_steps.specs.declared.execute.Executed.TheVariants.{Did, Returned}
+use Rattle.machine_steps.specs.Executes as agrees
+use Rattle.semantics.specs.World.{World}
+use Rattle.machine_calls.specs.declared.store.Store.{Store}
+use Rattle.machine_calls.specs.HeapAgrees.{ReferenceAgrees}
+use Rattle.machine_calls.specs.StoreAgrees.{StoreAgrees}
+use Rattle.machine_steps.specs.Executes.{Executes, CallStands, event_view}
+use Rattle.machine_calls.specs.Traps.{trap_view}
+use Rattle.machine_calls.specs.Asked.{references_of}
+use Rattle.machine_calls.specs.declared.statics.StaticReference.{StaticReference}
+use Rattle.machine_steps.specs.Moved.{HasMoved, end_of_way, WayIsSeen}
+use Rattle.machine_steps.specs.Variables.{is_null, HasSlot, nulled_references, nulled_fields, nulled_statics}
+use Rattle.machine_steps.proofs.Views.{Viewless, assigned_viewless}
+use Rattle.machine_steps.proofs.Calls.{does_cases, slots_of, Ready, plain_instr, plain_works, IsNullTest, no_return, stands_at, runs, room, leads, depth_behind, fields_count}
+use Rattle.machine_steps.proofs.Changes.{array_of, is_set, is_made, is_element_set}
+use Rattle.machine_calls.proofs.Keeping.{keeps_same}
+use Rattle.machine_calls.proofs.KeyLaws.{keys_count}
+use Rattle.machine_steps.proofs.Elements.{SetsWhatIsThere, sets_what_is_there}
+use Rattle.machine_steps.proofs.NullLaws.{puts_null, nulled_agree, variable_null_agrees}
+use Rattle.machine_calls.proofs.StaticStores.{keeps_but_statics}
+use Rattle.machine_steps.proofs.NulledStatics.{may_be_nulled, store_nulled}
+use Rattle.machine_calls.proofs.HeldStatics.{place_below}
+
+-- ---- a plain instruction
+
+-- a plain instruction's answer, by its parts
+abbrev pub Answer : Type 0
+Answer = Option (Plain × List ℕ × List ℕ)
+
+way_of : Answer → Plain
+way_of None = plain.Next
+way_of (Some x) = x.0
+
+stack_of : Answer → List ℕ
+stack_of None = []
+stack_of (Some x) = x.1
+
+numbers_of : Answer → List ℕ
+numbers_of None = []
+numbers_of (Some x) = x.2
+
+same_way : (o u : Plain) (a b m n : List ℕ) → ◌≡◌ {A = Answer} (Some (o, a, m)) (Some (u, b, n)) → o ≡ u
+unfolding way_of
+same_way o u a b m n h = ap way_of h
+
+same_stack : (o u : Plain) (a b m n : List ℕ) → ◌≡◌ {A = Answer} (Some (o, a, m)) (Some (u, b, n)) → a ≡ b
+unfolding stack_of
+same_stack o u a b m n h = ap stack_of h
+
+same_numbers : (o u : Plain) (a b m n : List ℕ) → ◌≡◌ {A = Answer} (Some (o, a, m)) (Some (u, b, n)) → m ≡ n
+unfolding numbers_of
+same_numbers o u a b m n h = ap numbers_of h
+
+-- the depth at the end of a way
+depth_at_end : (code : Listing) (place : ℕ) (way : Plain) (depth : ℕ) (P : ℕ → Type 0) → LeadsInside code.instrs place way depth → AtEnd P place way → depth_at code.instrs (end_of_way place way) ≡ Some depth
+depth_at_end code place plain.Next depth P h end = h.words
+depth_at_end code place (plain.Skip n) depth P h end = h.words
+depth_at_end code place (plain.Back n) depth P h end = h.1.words
+depth_at_end code place (plain.Trap trap line) depth P h end = absurd end
+
+at_end : (place : ℕ) (way : Plain) (P : ℕ → Type 0) → AtEnd P place way → P (end_of_way place way)
+at_end place plain.Next P end = end
+at_end place (plain.Skip n) P end = end
+at_end place (plain.Back n) P end = end.1
+at_end place (plain.Trap trap line) P end = absurd end
+
+quiet_at_end : (place : ℕ) (way : Plain) (P : ℕ → Type 0) (e : Event) → AtEnd P place way → WayIsSeen way e → e ≡ event.Quiet
+quiet_at_end place plain.Next P e end seen = seen
+quiet_at_end place (plain.Skip n) P e end seen = seen
+quiet_at_end place (plain.Back n) P e end seen = seen
+quiet_at_end place (plain.Trap trap line) P e end seen = absurd end
+
+-- what a test of NULL is not
+no_null_test : (i : Instr) → IsNullTest i → IsPlain i → ⊥
+no_null_test (instr.TestNull variable equal) h p = p
+no_null_test i h p = h
+
+no_return_test : (i : Instr) → IsReturn i → IsNullTest i → ⊥
+no_return_test (instr.TestNull variable equal) r h = r
+no_return_test i r h = h
+
+-- a number of words with room for a test of NULL
+pub few_words : (variable : NullableVariable) (equal : Bool) (n : ℕ) → IsSome (depth_after (instr.TestNull variable equal) n) → n < 64
+few_words variable equal n h = by_test (nat_lt n 64) refl h
+  where
+    by_test : (b : Bool) → nat_lt n 64 ≡ b → IsSome (if b then Some (suc n) else None) → n < 64
+    by_test true e k = ltb-true n 64 e
+    by_test false e k = absurd (cc (k))
+
+-- one word more than this number
+one_more : (n : ℕ) → IsSome (depth_after (instr.Push 0) n) → depth_after (instr.Push 0) n ≡ Some (suc n)
+one_more n h = by_test (nat_lt n 64) h
+  where
+    by_test : (b : Bool) → IsSome (if b then Some (suc n) else None) → (if b then Some (suc n) else None) ≡ Some (suc n)
+    by_test true k = refl
+    by_test false k = absurd (cc (k))
+
+-- An instruction that isn't plain has one of these effects.
+-- NULL in a variable changes no owner
+null_shows : (code : Listing) (known : Known) (visible : Visible) (slots : Slots) (v : NullableVariable) → Shows code known visible (lower.with_null v slots)
+    → Shows code known visible (record { numbers = (lower.with_null v slots).numbers; references = (lower.with_null v slots).references; owners = slots.owners; fields = (lower.with_null v slots).fields })
+null_shows code known visible slots (nullable.Local i) h = h
+null_shows code known visible slots (nullable.Static i) h = h
+null_shows code known visible slots (nullable.FieldId i) h = h
+null_shows code known visible slots (nullable.Buffer i) h = h
+
+module _ (p : Lowered) (classes : Classes) (space : Space) (call : Activation) (code : Listing) (visible : Visible) (frames : List source.Frame) (task : Task) (rest : List Task) (r : Ready p classes space call code visible frames task rest) (i : Instr) (at : slice_get code.instrs call.place ≡ Some i) where
+  abbrev slots : Slots
+  slots = slots_of call r.references r.owners r.fields
+
+  other_cases : (P : Effect → Type 0) → (IsPlain i → ⊥) → (IsNullTest i → (tasks : List Task) → GoesOn code r.known call.place call.stack slots visible (tasks ++ rest) → P (Becomes tasks))
+      → ((target : Target) (h : StoresNull code r.known call.place call.stack slots visible target rest) → i ≡ instr.StoreNull h.variable → P (SetsNull target))
+      → ((z : ℤ) → PrintsTop code r.known call.place call.stack slots visible z rest → i ≡ instr.PutJint → P (Prints z))
+      → ((line : ℕ) (target : Target) (f : JniFunction) (args : List Actual) (h : CallsFunction code r.known call.place call.stack slots visible line target f args rest) → i ≡ instr.Call h.call → P (Calls line target f args))
+      → (IsReturn i → P effects.Returns)
+      → P (effect_of visible.sight task)
+  other_cases P not_plain becomes nulls prints calls returns =
+      does_cases code r.known call.place call.stack slots visible rest P
+      (λ tasks h. let same : h.here ≡ i = cc (at, h.at) in becomes (tests tasks h) tasks h)
+      (λ x v h. absurd (writes (IsSet visible x v) h))
+      (λ target h. nulls target h (cc (at, h.at)))
+      (λ x j z t a h. absurd (writes (IsElementSet visible t x j z) h))
+      (λ t x n h. absurd (writes (IsMade visible t x n) h))
+      (λ z h. prints z h (cc (at, h.at)))
+      (λ line target f args h. calls line target f args h (cc (at, h.at)))
+      (λ h. let same : h.here ≡ i = cc (at, h.at) in returns (subst IsReturn same h.returns))
+      (λ trap line h. let same : h.here ≡ i = cc (at, h.at) in absurd (not_plain (plain_instr i call.stack slots.numbers _ (subst (λ (j : Instr). plain_of j call.stack slots.numbers ≡ Some (plain.Trap h.trap line, call.stack, slots.numbers)) same h.plain))))
+      (effect_of visible.sight task) r.does
+    where
+      writes : (changed : Visible → Type 0) → Writes code r.known call.place call.stack slots visible changed rest → ⊥
+      writes changed h =
+          let same : h.here ≡ i = cc (at, h.at) in
+          not_plain (plain_instr i call.stack slots.numbers _ (subst (λ (j : Instr). plain_of j call.stack slots.numbers ≡ Some (plain.Next, [], h.numbers)) same h.plain))
+
+      tests : (tasks : List Task) → GoesOn code r.known call.place call.stack slots visible (tasks ++ rest) → IsNullTest i
+      tests tasks h =
+          let same : h.here ≡ i = cc (at, h.at) in
+          let works = subst (λ (j : Instr). Works visible slots j call.stack h.way h.after) same h.works in
+          by_instr i not_plain h.way h.after works
+        where
+          by_instr : (j : Instr) → (IsPlain j → ⊥) → (way : Plain) (after : List ℕ) → Works visible slots j call.stack way after → IsNullTest j
+          by_instr (instr.TestNull variable equal) n way after w = tt
+          by_instr j n way after w = absurd (n (plain_instr j call.stack slots.numbers (way, after, slots.numbers) w))
+
+  -- the variable that is made NULL has its slot
+  pub slot_there : (variable : NullableVariable) (statics : ℕ) → i ≡ instr.StoreNull variable → length visible.statics ≡ statics → HasSlot (length call.references.items) (length call.fields.items) statics variable
+  slot_there (nullable.Local j) statics is same =
+      let within : within_slots code.slots (instr.StoreNull (nullable.Local j)) ≡ true = subst (λ (h : Instr). IsTrue (within_slots code.slots h)) is (runs p classes space call code visible frames task rest r i at).slots in
+      let below : j < code.slots.references = ltb-true j code.slots.references within in
+      omega (arith, below, keys_count space call.locals call.references.items r.references r.owners r.agree, r.shows.references)
+  slot_there (nullable.FieldId j) statics is same =
+      let within : within_slots code.slots (instr.StoreNull (nullable.FieldId j)) ≡ true = subst (λ (h : Instr). IsTrue (within_slots code.slots h)) is (runs p classes space call code visible frames task rest r i at).slots in
+      let below : j < code.slots.field_ids = ltb-true j code.slots.field_ids within in
+      omega (arith, below, fields_count classes call.fields.items r.fields r.fields_agree, r.shows.fields)
+  slot_there (nullable.Buffer j) statics is same = tt
+  slot_there (nullable.Static j) statics is same =
+      other_cases (λ effect. j < statics) (λ plain. subst IsPlain is plain) (λ test tasks h. absurd (subst IsNullTest is test))
+      (λ target h met.
+      let variable : h.variable ≡ nullable.Static j = let both : instr.StoreNull h.variable ≡ instr.StoreNull (nullable.Static j) = sym met ∙ is in cc in
+      let stored = subst (λ (v : NullableVariable). IsStoredIn code r.known call.place call.stack slots visible v (kind_of_target code r.known call.place call.stack slots visible target) h.name) variable h.stored in
+      omega (arith, same, place_below h.name visible.statics j stored.1.static.place))
+      (λ z h met. absurd (let both : instr.PutJint ≡ instr.StoreNull (nullable.Static j) = sym met ∙ is in cc))
+      (λ line target f args h met. absurd (let both : instr.Call h.call ≡ instr.StoreNull (nullable.Static j) = sym met ∙ is in cc))
+      (λ returns. absurd (subst IsReturn is returns))
+
+  -- a call's instruction calls the function of the first task
+  pub call_cases : (function : Call) → i ≡ instr.Call function → (P : Effect → Type 0)
+      → ((line : ℕ) (target : Target) (f : JniFunction) (args : List Actual) → CallsFunction code r.known call.place call.stack slots visible line target f args rest → P (Calls line target f args))
+      → P (effect_of visible.sight task)
+  call_cases function is P calls =
+      other_cases P (λ plain. subst IsPlain is plain) (λ test tasks h. absurd (subst IsNullTest is test)) (λ target h same. absurd (let both : instr.StoreNull h.variable ≡ instr.Call function = sym same ∙ is in cc))
+      (λ z h same. absurd (let both : instr.PutJint ≡ instr.Call function = sym same ∙ is in cc)) (λ line target f args h same. calls line target f args h) (λ returns. absurd (subst IsReturn is returns))
+
+-- ---- what an instruction did
+
+module _ (p : Lowered) (w : World) (store : Store) (in_use : BuffersInUse) (k : ℕ) (own : Owners) (shared : Shared) (shares : StoreAgrees p w store shared) (s : source.Thread) (pending : Option ℕ) (pends : ReferenceAgrees store.heap pending s.pending) (none : viewed_by s ≡ []) (call : Activation) (code : Listing) (task : Task) (rest : List Task)
+    (r : Ready p w.classes store.heap call code (visible_to own shared s) s.frames task rest) (i : Instr) (at : slice_get code.instrs call.place ≡ Some i) where
+  abbrev classes : Classes
+  classes = w.classes
+
+  abbrev space : Space
+  space = store.heap
+
+  abbrev seen : Visible
+  seen = visible_to own shared s
+
+  abbrev held : Slots
+  held = slots_of call r.references r.owners r.fields
+
+  -- an instruction on the stack and the number slots alone
+  module _ (tasks_are : s.tasks ≡ Some (task ∷ rest)) (after : Activation) (e : Event) (way : Plain) (stack numbers : List ℕ) (is : plain_of i call.stack call.numbers.items ≡ Some (way, stack, numbers))
+      (m : HasMoved call after (end_of_way call.place way) stack numbers call.references.items call.fields.items) (way_seen : WayIsSeen way e) where
+    becomes : IsPlain i → (tasks : List Task) → GoesOn code r.known call.place call.stack held seen (tasks ++ rest) → agrees.GoesOn p w space store in_use k own shared s rest after pending (Becomes tasks) false e
+    becomes works tasks h =
+        let same : h.here ≡ i = cc (h.at, at) in
+        let plain_is : plain_of i call.stack call.numbers.items ≡ Some (h.way, h.after, call.numbers.items) = plain_works seen held i call.stack h.way h.after works (subst (λ (j : Instr). Works seen held j call.stack h.way h.after) same h.works) in
+        let way_is : h.way ≡ way = same_way _ _ _ _ _ _ (sym plain_is ∙ is) in
+        let after_is : h.after ≡ stack = same_stack _ _ _ _ _ _ (sym plain_is ∙ is) in
+        let numbers_are : call.numbers.items ≡ numbers = same_numbers _ _ _ _ _ _ (sym plain_is ∙ is) in
+        let end : AtEnd (λ q. StandsFor code h.names q stack (tasks ++ rest)) call.place way =
+        subst (λ (u : Plain). AtEnd (λ q. StandsFor code h.names q stack (tasks ++ rest)) call.place u) way_is (subst (λ (st : List ℕ). AtEnd (λ q. StandsFor code h.names q st (tasks ++ rest)) call.place h.way) after_is h.stands) in
+        let next : source.Thread = with_tasks s (tasks ++ rest) in
+        record {
+          next = next;
+          steps = ap (λ (v : Event). source.Advances shared next (event_view v)) (sym (quiet_at_end call.place way (λ q. StandsFor code h.names q stack (tasks ++ rest)) e end way_seen));
+          work = stands_at p classes space call code seen s.frames task rest r after (end_of_way call.place way) stack numbers call.references.items r.references call.fields.items r.fields h.names (visible_to own shared next) (tasks ++ rest)
+              (depth_at_end code call.place way (length stack) (λ q. StandsFor code h.names q stack (tasks ++ rest)) (leads p classes space call code seen s.frames task rest r i at way stack numbers is) end) m r.agree r.fields_agree
+              (at_end call.place way (λ q. StandsFor code h.names q stack (tasks ++ rest)) end)
+              (subst (λ (ns : List ℕ). Shows code h.names (visible_to own shared next) (record { numbers = ns; references = r.references; owners = r.owners; fields = r.fields })) numbers_are h.shows);
+          next_shared = shared;
+          store_agrees = shares;
+          keeps = keeps_same space shared;
+          pending_agrees = pends;
+          calls = refl;
+          ending = refl;
+          viewless = none;
+          short = λ e. absurd (cc);
+        }
+
+    writes : (did : Effect) (changed : Visible → Type 0) → Writes code r.known call.place call.stack held seen changed rest → (vs : _) → after_effect classes in_use k shared s rest did ≡ source.Advances shared (record s { tasks = Some rest; variables = vs }) source.Quiet
+        → changed (visible_to own shared (record s { tasks = Some rest; variables = vs })) → Viewless vs → agrees.owners_left did (event_view e) (length s.frames) own vs ≡ own → agrees.GoesOn p w space store in_use k own shared s rest after pending did false e
+    writes did changed h vs steps shown no_view left =
+        let same : h.here ≡ i = cc (h.at, at) in
+        let plain_is : plain_of i call.stack call.numbers.items ≡ Some (plain.Next, [], h.numbers) = subst (λ (j : Instr). plain_of j call.stack call.numbers.items ≡ Some (plain.Next, [], h.numbers)) same h.plain in
+        let way_is : way ≡ plain.Next = same_way _ _ _ _ _ _ (sym is ∙ plain_is) in
+        let after_is : [] ≡ stack = same_stack _ _ _ _ _ _ (sym plain_is ∙ is) in
+        let numbers_are : h.numbers ≡ numbers = same_numbers _ _ _ _ _ _ (sym plain_is ∙ is) in
+        let quiet : e ≡ event.Quiet = subst (λ (w : Plain). WayIsSeen w e) way_is way_seen in
+        let next : source.Thread = record s { tasks = Some rest; variables = vs } in
+        let end : LeadsInside code.instrs call.place plain.Next (length stack) = subst (λ (w : Plain). LeadsInside code.instrs call.place w (length stack)) way_is (leads p classes space call code seen s.frames task rest r i at way stack numbers is) in
+        record {
+          next = next;
+          steps = steps ∙ ap (λ (v : Event). source.Advances shared next (event_view v)) (sym quiet);
+          work = subst (λ (o : Owners). CallStands p classes space after (visible_to o shared next) s.frames rest) (sym left)
+              (stands_at p classes space call code seen s.frames task rest r after (call.place + 1) stack numbers call.references.items r.references call.fields.items r.fields h.names (visible_to own shared next) rest end.words
+              (subst (λ (w : Plain). HasMoved call after (end_of_way call.place w) stack numbers call.references.items call.fields.items) way_is m) r.agree r.fields_agree
+              (subst (λ (st : List ℕ). StandsFor code h.names (call.place + 1) st rest) after_is h.stands)
+              (subst (λ (ns : List ℕ). Shows code h.names (visible_to own shared next) (record { numbers = ns; references = r.references; owners = r.owners; fields = r.fields })) numbers_are (h.shows (visible_to own shared next) shown)));
+          next_shared = shared;
+          store_agrees = shares;
+          keeps = keeps_same space shared;
+          pending_agrees = pends;
+          calls = refl;
+          ending = refl;
+          viewless = no_view;
+          short = λ e. absurd (cc);
+        }
+
+    traps : (reason : Trap) (line : ℕ) → Stops code r.known call.place call.stack held seen reason line → agrees.GoesOn p w space store in_use k own shared s rest after pending (TrapsAt reason line) false e
+    traps reason line h =
+        let same : h.here ≡ i = cc (h.at, at) in
+        let plain_is : plain_of i call.stack call.numbers.items ≡ Some (plain.Trap h.trap line, call.stack, call.numbers.items) =
+        subst (λ (j : Instr). plain_of j call.stack call.numbers.items ≡ Some (plain.Trap h.trap line, call.stack, call.numbers.items)) same h.plain in
+        let way_is : way ≡ plain.Trap h.trap line = same_way _ _ _ _ _ _ (sym is ∙ plain_is) in
+        let after_is : call.stack ≡ stack = same_stack _ _ _ _ _ _ (sym plain_is ∙ is) in
+        let numbers_are : call.numbers.items ≡ numbers = same_numbers _ _ _ _ _ _ (sym plain_is ∙ is) in
+        let seen_trap : WayIsSeen (plain.Trap h.trap line) e = subst (λ (w : Plain). WayIsSeen w e) way_is way_seen in
+        let trap_is : reason ≡ trap_view seen_trap.0 = sym h.is ∙ sym seen_trap.1 in
+        let stands : CallStands p classes space after seen s.frames (task ∷ rest) =
+        stands_at p classes space call code seen s.frames task rest r after call.place stack numbers call.references.items r.references call.fields.items r.fields r.known seen (task ∷ rest) (r.depth ∙ ap (λ (st : List ℕ). Some (length st)) after_is)
+        (subst (λ (w : Plain). HasMoved call after (end_of_way call.place w) stack numbers call.references.items call.fields.items) way_is m) r.agree r.fields_agree
+        (subst (λ (st : List ℕ). StandsFor code r.known call.place st (task ∷ rest)) after_is r.stands)
+        (subst (λ (ns : List ℕ). Shows code r.known seen (record { numbers = ns; references = r.references; owners = r.owners; fields = r.fields })) numbers_are r.shows) in
+        record {
+          next = s;
+          steps = ap (λ (t : Trap). source.Advances shared s (source.Trapped t line)) trap_is ∙ ap (λ (v : Event). source.Advances shared s (event_view v)) (sym seen_trap.2);
+          work = subst (λ (o : Option (List Task)). agrees.WorkAgrees p classes space seen (Some after) s.frames o) (sym tasks_are) stands;
+          next_shared = shared;
+          store_agrees = shares;
+          keeps = keeps_same space shared;
+          pending_agrees = pends;
+          calls = refl;
+          ending = refl;
+          viewless = none;
+          short = λ e. absurd (cc);
+        }
+
+    sets_element : (x : Identifier) (j : ℕ) (z : ℤ) (t : ElementType) → seen.array_type x ≡ Some t → Writes code r.known call.place call.stack held seen (IsElementSet seen t x j z) rest → SetsWhatIsThere seen.sight (SetsElement x j z)
+        → agrees.GoesOn p w space store in_use k own shared s rest after pending (SetsElement x j z) false e
+    sets_element x j z t type h there =
+        let array = array_of (lookup x s.variables) t type in
+        let v : Variable = LocalArray t (slice_set array.0 j (convert t z)) in
+        writes (SetsElement x j z) (IsElementSet seen t x j z) h (assign x v s.variables) (ap (set_element shared (with_tasks s rest) x j z) array.1)
+        (is_element_set own own shared s (record s { tasks = Some rest; variables = assign x v s.variables }) x (λ y other. refl) t array.0 j z there.0 array.1 there.1 refl) (assigned_viewless x v s.variables refl none) refl
+
+    pub plain_executes : Executes p w space store in_use k own shared s rest after pending (effect_of (sight_of shared s) task) (Did e)
+    plain_executes =
+        let works : IsPlain i = plain_instr i call.stack call.numbers.items (way, stack, numbers) is in
+        does_cases code r.known call.place call.stack held seen rest (λ effect. SetsWhatIsThere seen.sight effect → Executes p w space store in_use k own shared s rest after pending effect (Did e))
+        (λ tasks h there. becomes works tasks h)
+        (λ x v h there. writes (Sets x v) (IsSet seen x v) h (assign x (Scalar v) s.variables) refl (is_set own own shared s (record s { tasks = Some rest; variables = assign x (Scalar v) s.variables }) x (λ y other. refl) v refl) (assigned_viewless x (Scalar v) s.variables refl none) refl)
+        (λ target h. absurd (let same : i ≡ instr.StoreNull h.variable = cc (at, h.at) in subst IsPlain same works))
+        (λ x j z t type h there. sets_element x j z t type h there)
+        (λ t x n h there. let v : Variable = LocalArray t (replicate n (pos 0)) in writes (MakesArray t x n) (IsMade seen t x n) h (assign x v s.variables) refl (is_made own own shared s (record s { tasks = Some rest; variables = assign x v s.variables }) x (λ y other. refl) t n refl) (assigned_viewless x v s.variables refl none) refl)
+        (λ z h. absurd (let same : i ≡ instr.PutJint = cc (at, h.at) in subst IsPlain same works))
+        (λ line target f args h. absurd (let same : i ≡ instr.Call h.call = cc (at, h.at) in subst IsPlain same works))
+        (λ h. absurd (no_return i (let same : h.here ≡ i = cc (at, h.at) in subst IsReturn same h.returns) works))
+        (λ reason line h there. traps reason line h)
+        (effect_of seen.sight task) r.does (sets_what_is_there seen.sight task)
+
+  -- a test of NULL
+  pub test_executes : (variable : NullableVariable) (equal : Bool) (after : Activation) → i ≡ instr.TestNull variable equal → HasMoved call after (call.place + 1) (truth_word (beq (is_null (references_of store call) call.fields.items variable) equal) ∷ call.stack) call.numbers.items call.references.items call.fields.items
+      → Executes p w space store in_use k own shared s rest after pending (effect_of (sight_of shared s) task) (Did event.Quiet)
+  test_executes variable equal after is m =
+      other_cases p classes space call code seen s.frames task rest r i at (λ effect. Executes p w space store in_use k own shared s rest after pending effect (Did event.Quiet)) (λ plain. subst IsPlain is plain)
+      (λ test tasks h. goes tasks h)
+      (λ target h same. absurd (let both : instr.StoreNull h.variable ≡ instr.TestNull variable equal = sym same ∙ is in cc))
+      (λ z h same. absurd (let both : instr.PutJint ≡ instr.TestNull variable equal = sym same ∙ is in cc))
+      (λ line target f args h same. absurd (let both : instr.Call h.call ≡ instr.TestNull variable equal = sym same ∙ is in cc))
+      (λ returns. absurd (subst IsReturn is returns))
+    where
+      goes : (tasks : List Task) → GoesOn code r.known call.place call.stack held seen (tasks ++ rest) → agrees.GoesOn p w space store in_use k own shared s rest after pending (Becomes tasks) false event.Quiet
+      goes tasks h =
+          let same : h.here ≡ instr.TestNull variable equal = cc (h.at, at, is) in
+          let v = subst (λ (j : Instr). Works seen held j call.stack h.way h.after) same h.works in
+          let null : is_null (references_of store call) call.fields.items variable ≡ v.0 = variable_null_agrees classes space (references_of store call) call.fields.items seen held variable v.0 r.agree shares.statics r.fields_agree v.1 in
+          let words : h.after ≡ truth_word (beq (is_null (references_of store call) call.fields.items variable) equal) ∷ call.stack = v.3 ∙ ap (λ (b : Bool). truth_word (beq b equal) ∷ call.stack) (sym null) in
+          let next : source.Thread = with_tasks s (tasks ++ rest) in
+          let stack : List ℕ = truth_word (beq (is_null (references_of store call) call.fields.items variable) equal) ∷ call.stack in
+          let end : StandsFor code h.names (call.place + 1) stack (tasks ++ rest) =
+          subst (λ (u : Plain). AtEnd (λ q. StandsFor code h.names q stack (tasks ++ rest)) call.place u) v.2 (subst (λ (st : List ℕ). AtEnd (λ q. StandsFor code h.names q st (tasks ++ rest)) call.place h.way) words h.stands) in
+          record {
+            next = next;
+            steps = refl;
+            work = stands_at p classes space call code seen s.frames task rest r after (call.place + 1) stack call.numbers.items call.references.items r.references call.fields.items r.fields h.names (visible_to own shared next) (tasks ++ rest)
+                (depth_behind p classes space call code seen s.frames task rest r i at (length stack) (λ leaves. subst Leaves is leaves)
+                (ap (λ (j : Instr). depth_after j (length call.stack)) is ∙ one_more (length call.stack) (subst (λ (j : Instr). IsSome (depth_after j (length call.stack))) is (room p classes space call code seen s.frames task rest r i at)))) m r.agree r.fields_agree end h.shows;
+            next_shared = shared;
+            store_agrees = shares;
+            keeps = keeps_same space shared;
+            pending_agrees = pends;
+            calls = refl;
+            ending = refl;
+            viewless = none;
+            short = λ e. absurd (cc);
+          }
+
+  -- NULL is stored
+  pub store_executes : (variable : NullableVariable) (after : Activation) (statics : Vec StaticReference) → i ≡ instr.StoreNull variable → statics.items ≡ nulled_statics variable store.statics.items → HasMoved call after (call.place + 1) call.stack call.numbers.items (nulled_references variable call.references.items) (nulled_fields variable call.fields.items)
+      → Executes p w space (record store { statics = statics }) in_use k own shared s rest after pending (effect_of (sight_of shared s) task) (Did event.Quiet)
+  store_executes variable after statics is nulled_are m =
+      other_cases p classes space call code seen s.frames task rest r i at (λ effect. Executes p w space (record store { statics = statics }) in_use k own shared s rest after pending effect (Did event.Quiet)) (λ plain. subst IsPlain is plain)
+      (λ test tasks h. absurd (subst IsNullTest is test))
+      (λ target h same. stores target h (let both : instr.StoreNull h.variable ≡ instr.StoreNull variable = sym same ∙ is in cc))
+      (λ z h same. absurd (let both : instr.PutJint ≡ instr.StoreNull variable = sym same ∙ is in cc))
+      (λ line target f args h same. absurd (let both : instr.Call h.call ≡ instr.StoreNull variable = sym same ∙ is in cc))
+      (λ returns. absurd (subst IsReturn is returns))
+    where
+      stores : (target : Target) (h : StoresNull code r.known call.place call.stack held seen target rest) → h.variable ≡ variable → agrees.GoesOn p w space (record store { statics = statics }) in_use k own shared s rest after pending (SetsNull target) false event.Quiet
+      stores target h same =
+          let kind = kind_of_target code r.known call.place call.stack held seen target in
+          let null = puts_null own shared s none rest code r.known call.place call.stack held target h.name h.is h.takes in
+          let next : source.Thread = record s { tasks = Some rest; variables = null.variables } in
+          let now : Shared = record shared { statics = lower.nulled_statics kind h.name shared.statics } in
+          let stored = subst (λ (v : NullableVariable). IsStoredIn code r.known call.place call.stack held seen v kind h.name) same h.stored in
+          let nulled = nulled_agree classes space call.locals call.references.items call.fields.items held variable r.agree r.fields_agree in
+          let m' : HasMoved call after (call.place + 1) [] (lower.with_null variable held).numbers (nulled_references variable call.references.items) (nulled_fields variable call.fields.items) =
+          record { function = m.function; place = m.place; stack = m.stack ∙ h.empty; numbers = m.numbers ∙ sym nulled.numbers; references = m.references; fields = m.fields; locals = m.locals } in
+          record {
+            next = next;
+            steps = null.steps;
+            work = stands_at p classes space call code seen s.frames task rest r after (call.place + 1) [] (lower.with_null variable held).numbers (nulled_references variable call.references.items) (lower.with_null variable held).references (nulled_fields variable call.fields.items) (lower.with_null variable held).fields h.names (visible_to own now next) rest
+                (depth_behind p classes space call code seen s.frames task rest r i at 0 (λ leaves. subst Leaves is leaves) (ap (λ (j : Instr). depth_after j (length call.stack)) is ∙ ap (λ (st : List ℕ). Some (length st)) h.empty)) m' nulled.references nulled.fields h.stands
+                (null_shows code h.names (visible_to own now next) held variable (subst (λ (v : NullableVariable). Shows code h.names (visible_to own now next) (lower.with_null v held)) same (h.shows (visible_to own now next) null.nulled)));
+            next_shared = now;
+            store_agrees = store_nulled p w store shared shares own code r.known call.place call.stack held s statics h.name variable kind stored nulled_are;
+            keeps = keeps_but_statics p w store shared shares now.statics shared.globals (may_be_nulled kind h.name shared.statics);
+            pending_agrees = pends;
+            calls = refl;
+            ending = refl;
+            viewless = null.viewless;
+            short = λ e. absurd (cc);
+          }
+
+  -- a print
+  pub put_executes : (word : ℕ) (after : Activation) (stack : List ℕ) → i ≡ instr.PutJint → call.stack ≡ word ∷ stack → HasMoved call after (call.place + 1) stack call.numbers.items call.references.items call.fields.items
+      → Executes p w space store in_use k own shared s rest after pending (effect_of (sight_of shared s) task) (Did (event.Printed (cast_signed w32 word)))
+  put_executes word after stack put top m =
+      other_cases p classes space call code seen s.frames task rest r i at (λ effect. Executes p w space store in_use k own shared s rest after pending effect (Did (event.Printed (cast_signed w32 word)))) (λ plain. subst IsPlain put plain)
+      (λ test tasks h. absurd (subst IsNullTest put test))
+      (λ target h same. absurd (let both : instr.StoreNull h.variable ≡ instr.PutJint = sym same ∙ put in cc))
+      (λ z h same. prints z h)
+      (λ line target f args h same. absurd (let both : instr.Call h.call ≡ instr.PutJint = sym same ∙ put in cc))
+      (λ returns. absurd (subst IsReturn put returns))
+    where
+      prints : (z : ℤ) → PrintsTop code r.known call.place call.stack held seen z rest → agrees.GoesOn p w space store in_use k own shared s rest after pending (Prints z) false (event.Printed (cast_signed w32 word))
+      prints z h =
+          let words : word ≡ h.word = cc (top, h.top) in
+          let nothing : [] ≡ stack = cc (top, h.top) in
+          let number : z ≡ cast_signed w32 word = sym h.is ∙ ap (λ (w : ℕ). cast_signed w32 w) (sym words) in
+          record {
+            next = with_tasks s rest;
+            steps = ap (λ (n : ℤ). source.Advances shared (with_tasks s rest) (source.PrintedNumber n)) number;
+            work = stands_at p classes space call code seen s.frames task rest r after (call.place + 1) stack call.numbers.items call.references.items r.references call.fields.items r.fields r.known seen rest
+                (depth_behind p classes space call code seen s.frames task rest r i at (length stack) (λ leaves. subst Leaves put leaves) (ap (λ (j : Instr). depth_after j (length call.stack)) put ∙ ap (λ (st : List ℕ). depth_after instr.PutJint (length st)) top)) m r.agree r.fields_agree
+                (subst (λ (st : List ℕ). StandsFor code r.known (call.place + 1) st rest) nothing h.stands) r.shows;
+            next_shared = shared;
+            store_agrees = shares;
+            keeps = keeps_same space shared;
+            pending_agrees = pends;
+            calls = refl;
+            ending = refl;
+            viewless = none;
+            short = λ e. absurd (cc);
+          }
+
+  -- a return
+  pub return_executes : IsReturn i → (after : Activation) → Executes p w space store in_use k own shared s rest after pending (effect_of (sight_of shared s) task) Returned
+  return_executes is after =
+      other_cases p classes space call code seen s.frames task rest r i at (λ effect. Executes p w space store in_use k own shared s rest after pending effect Returned) (no_return i is)
+      (λ test tasks h. absurd (no_return_test i is test))
+      (λ target h same. absurd (subst IsReturn same is))
+      (λ z h same. absurd (subst IsReturn same is))
+      (λ line target f args h same. absurd (subst IsReturn same is))
+      (λ returns. (refl, shares, refl, pends))

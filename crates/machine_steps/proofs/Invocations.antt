@@ -1,0 +1,620 @@
+-- After a call the machine's call in progress stands for the source's thread.
+use Rattle.std.specs.Int.{w32, cast_signed}
+use Rattle.std.specs.Ordering.{int_eq}
+use Rattle.std.proofs.Math.Facts.{to_z-of_z}
+use Rattle.std.proofs.lemmas.Bool.Decides.{Decides-int_eq, eqb_tells}
+use Rattle.code.specs.Effect.{truth_word}
+use Rattle.std.proofs.Common.{◌≡◌, ℕ, ℤ, pos, ◌+◌, Bool, true, false, ⊎_elim, inl, inr, List, [], ◌∷◌, ◌++◌, length, Option, Some, None, refl, sym, ap, ◌∙◌, subst, if◌then◌else◌}
+use Rattle.std.specs.Global.{Vec}
+use Rattle.std.specs.Option.{option_and_then}
+use Rattle.std.specs.Prelude.{slice_get, slice_set, ◌==◌}
+use Rattle.base.specs.Bytes.{Identifier, lookup}
+use Rattle.class_rules.specs.Class.{Classes}
+use Rattle.class_rules.specs.Fields.{FieldId}
+use Rattle.classes.specs.declared.class.FieldHandle.{FieldHandle as Handle}
+use Rattle.heap.specs.Heap.{Space}
+use Rattle.jni.specs.JniFunction.{JniFunction, prototype}
+use Rattle.jni.specs.Prototype.{ResultKind, NewLocal, NewGlobal, GivesFlag, GivesInt, GivesField}
+use Rattle.type_rules.specs.Sorts.{Sort, Jint}
+use Rattle.type_rules.specs.Sorts as sort
+use Rattle.semantics.specs.Arguments.{Actual, variable_given}
+use Rattle.semantics.specs.CallEffects.{CallResult, NoResult, NullResult, ScalarResult, ReferenceResult, FieldResult, BufferResult}
+use Rattle.semantics.specs.CallStep.{blank, filled, is_zero, put, put_assigned, static_result, received, tell_copy}
+use Rattle.semantics.specs.Effect.{tasks_after}
+use Rattle.semantics.specs.Object.{Reference}
+use Rattle.semantics.specs.Term.{Done}
+use Rattle.semantics.specs.Task.{Task, Branch, Target, VariableKind, ScalarKind, ReferenceKind, FieldKind, Declared, Assigned, Tested, Dropped}
+use Rattle.semantics.specs.Thread as source
+use Rattle.semantics.specs.Thread.{Shared, viewed_by}
+use Rattle.semantics.specs.Value.{Value, Word, Int, Flag, Truth}
+use Rattle.semantics.specs.Variable.{StaticReference, Variable, Variables, Scalar, LocalRef, FieldHandle, Elements, LocalArray, as_static, assign}
+use Rattle.semantics.specs.World.{World}
+use Rattle.code.specs.Call.{Call}
+use Rattle.code.specs.Depth.{Listing, depth_at, with_fewer, with_result, words_taken}
+use Rattle.code.specs.declared.instr.Instr.TheVariants as instr
+use Rattle.code.specs.declared.instr.Target.{Target as Destination}
+use Rattle.code.specs.declared.instr.Target.TheVariants as destination
+use Rattle.code_meaning.specs.Layout.{Known}
+use Rattle.code_meaning.specs.Does.{GoesInto, TakesStatic, TakesTest, TakesField, TakesNumber, TakesReference, TakesResult}
+use Rattle.code_meaning.specs.Lowered.{Lowered}
+use Rattle.code_meaning.specs.Slots.{Visible, Shows, Slots, ValueHasSort, kind_of_variable, static_index, type_of_array, visible_to, word_of}
+use Rattle.code_meaning.specs.Stands.{StandsFor, number_sort}
+use Rattle.machine_calls.specs.declared.answer.Given.{Given}
+use Rattle.machine_calls.specs.declared.answer.Given.TheVariants as given
+use Rattle.machine_calls.specs.declared.activation.Activation.{Activation}
+use Rattle.machine_steps.specs.Executes.{CallStands}
+use Rattle.machine_calls.specs.FieldIds.{FieldAgrees, FieldsAgree}
+use Rattle.machine_calls.specs.StoreAgrees.{HeldAgrees, Keeps, StoreAgrees}
+use Rattle.machine_calls.specs.Locals.{FramesAgree, IsKeyOf, KeysAgree}
+use Rattle.tables.specs.Locals.{LocalTable, AreStacked}
+use Rattle.semantics_safety.specs.Owners.{Owners, is_target, level_held}
+use Rattle.std.specs.Str.{bytes_eq}
+use Rattle.std.proofs.lemmas.Slice.Eq.{bytes_eq-Decides}
+use Rattle.machine_calls.specs.Answers.{GivenAgrees}
+use Rattle.machine_calls.specs.CarriedOut.{IsFresh, ResultAgrees}
+use Rattle.machine_calls.specs.Statics.{held as held_of}
+use Rattle.machine_calls.specs.declared.statics.StaticReference.{StaticReference as InMemory}
+use Rattle.machine_calls.specs.declared.store.Store.{Store}
+use Rattle.code_meaning.proofs.StaticLaws.{is_held}
+use Rattle.code_meaning.proofs.OwnerLaws.{fewer_owners}
+use Rattle.machine_calls.proofs.HeldStatics.{keys_put}
+use Rattle.machine_calls.proofs.StaticStores.{with_same, with_static}
+use Rattle.machine_calls.specs.HeapAgrees.{ReferenceAgrees}
+use Rattle.machine_steps.specs.Received.{HasRoom, MakesLocal, Receives, fields_with, numbers_with, stack_with, statics_with}
+use Rattle.machine_steps.proofs.Calls.{Ready, depth_behind, slots_of}
+use Rattle.machine_steps.proofs.Changes.{OthersOwn, lookup_same, field_by_kind, is_field_set, is_referred, is_set, local_by_kind, scalar_by_kind}
+use Rattle.machine_steps.proofs.StillShown.{shows_stay}
+use Rattle.machine_calls.proofs.KeyLaws.{key_put, keys_left, live_there}
+use Rattle.machine_steps.proofs.MadeKeys.{made_left, made_new, room_frame}
+use Rattle.machine_calls.proofs.LocalFrames.{as_many_frames}
+use Rattle.machine_steps.proofs.Receives.{received_count, IsNoBuffer, field_put, frames_agree, frames_received, no_buffer, nothing_told, received_is}
+use Rattle.machine_steps.proofs.Views.{assigned_viewless}
+
+-- ---- the source's thread
+
+-- the thread of a call of function f, with these frames, this exception pending and this given
+module _ (line : ℕ) (f : JniFunction) (args : List Actual) (rest : List Task) (s : source.Thread) (left : List source.Frame) (q : Reference) (c : CallResult) where
+  -- before what was given goes to its target
+  abbrev pub resumption : Target → source.Thread
+  resumption target = record (received (prototype f).result c (record s { frames = left; pending = q })) { tasks = Some (tasks_after line target (is_zero c) ++ rest); variables = tell_copy (variable_given args 1) c s.variables }
+
+  -- and afterwards, with these variables
+  abbrev pub going : Variables → source.Thread
+  going vs = record s { tasks = Some rest; variables = vs; frames = frames_received (prototype f).result c left; pending = q }
+
+  module _ (plain : IsNoBuffer c) where
+    resumed_is : (target : Target) → resumption target ≡ record (going s.variables) { tasks = Some (tasks_after line target (is_zero c) ++ rest) }
+    resumed_is target =
+        ap (λ (t : source.Thread). let r : source.Thread = record t { tasks = Some (tasks_after line target (is_zero c) ++ rest); variables = tell_copy (variable_given args 1) c s.variables } in r) (received_is (prototype f).result c (record s { frames = left; pending = q }))
+        ∙ ap (λ (vs : Variables). let r : source.Thread = record (going vs) { tasks = Some (tasks_after line target (is_zero c) ++ rest) } in r) (nothing_told (variable_given args 1) c s.variables plain)
+
+    module _ (next : Shared) where
+      dropped_is : put Dropped c next (resumption Dropped) ≡ source.Advances next (going s.variables) source.Quiet
+      dropped_is = ap (put Dropped c next) (resumed_is Dropped)
+
+      declared_is : (kind : VariableKind) (x : Identifier) (v : Variable) → filled (blank kind (length (frames_received (prototype f).result c left))) c ≡ v
+          → put (Declared kind x) c next (resumption (Declared kind x)) ≡ source.Advances next (going (assign x v s.variables)) source.Quiet
+      declared_is kind x v is = ap (put (Declared kind x) c next) (resumed_is (Declared kind x)) ∙ ap (λ (w : Variable). source.Advances next (going (assign x w s.variables)) source.Quiet) is
+
+      assigned_is : (x : Identifier) (old v : Variable) → lookup x s.variables ≡ Some old → filled old c ≡ v
+          → put (Assigned x) c next (resumption (Assigned x)) ≡ source.Advances next (going (assign x v s.variables)) source.Quiet
+      assigned_is x old v at is =
+          ap (put (Assigned x) c next) (resumed_is (Assigned x))
+          ∙ ap (put_assigned x c next (going s.variables)) at
+          ∙ ap (λ (w : Variable). source.Advances next (going (assign x w s.variables)) source.Quiet) is
+
+-- ---- what was given
+
+-- a number
+record IsNumber (g : Given) (c : CallResult) (of : Sort) : Type 0 where
+  pub value : Value
+  pub gave : c ≡ ScalarResult value
+  pub same : g ≡ given.Number (word_of value)
+  pub sorted : ValueHasSort value of
+
+-- a reference
+record IsReference (space : Space) (g : Given) (c : CallResult) : Type 0 where
+  pub address : Option ℕ
+  pub reference : Reference
+  pub same : g ≡ given.Reference address
+  pub agrees : ReferenceAgrees space address reference
+  pub fills : (level : ℕ) (old : Reference) → filled (LocalRef level old) c ≡ LocalRef level reference
+
+-- a field ID
+record IsField (classes : Classes) (g : Given) (c : CallResult) : Type 0 where
+  pub handle : Option Handle
+  pub field : Option FieldId
+  pub same : g ≡ given.FieldId handle
+  pub agrees : FieldAgrees classes handle field
+  pub fills : (old : Option FieldId) → filled (FieldHandle old) c ≡ FieldHandle field
+
+number_given : (classes : Classes) (space : Space) (kind : ResultKind) (g : Given) (c : CallResult) (of : Sort) → GivenAgrees classes space kind g c → number_sort kind ≡ Some of → IsNumber g c of
+number_given classes space GivesInt (given.Number word) (ScalarResult (Int z)) of h e = record { value = Int z; gave = refl; same = ap given.Number h.0; sorted = (h.1, let same : Jint ≡ of = cc in sym same) }
+number_given classes space GivesInt (given.Number word) (ScalarResult (Word n)) of h e = absurd h
+number_given classes space GivesInt (given.Number word) (ScalarResult (Flag b)) of h e = absurd h
+number_given classes space GivesInt (given.Number word) (ScalarResult (Truth b)) of h e = absurd h
+number_given classes space GivesInt (given.Number word) NoResult of h e = absurd h
+number_given classes space GivesInt (given.Number word) NullResult of h e = absurd h
+number_given classes space GivesInt (given.Number word) (ReferenceResult r) of h e = absurd h
+number_given classes space GivesInt (given.Number word) (FieldResult f) of h e = absurd h
+number_given classes space GivesInt (given.Number word) (BufferResult b) of h e = absurd h
+number_given classes space GivesInt given.Nothing c of h e = absurd h
+number_given classes space GivesInt (given.Reference a) c of h e = absurd h
+number_given classes space GivesInt (given.FieldId a) c of h e = absurd h
+number_given classes space GivesInt (given.Global s) c of h e = absurd h
+number_given classes space GivesFlag (given.Number word) (ScalarResult (Flag b)) of h e = record { value = Flag b; gave = refl; same = ap given.Number h; sorted = let same : sort.Flag ≡ of = cc in sym same }
+number_given classes space GivesFlag (given.Number word) (ScalarResult (Word n)) of h e = absurd h
+number_given classes space GivesFlag (given.Number word) (ScalarResult (Int z)) of h e = absurd h
+number_given classes space GivesFlag (given.Number word) (ScalarResult (Truth b)) of h e = absurd h
+number_given classes space GivesFlag (given.Number word) NoResult of h e = absurd h
+number_given classes space GivesFlag (given.Number word) NullResult of h e = absurd h
+number_given classes space GivesFlag (given.Number word) (ReferenceResult r) of h e = absurd h
+number_given classes space GivesFlag (given.Number word) (FieldResult f) of h e = absurd h
+number_given classes space GivesFlag (given.Number word) (BufferResult b) of h e = absurd h
+number_given classes space GivesFlag given.Nothing c of h e = absurd h
+number_given classes space GivesFlag (given.Reference a) c of h e = absurd h
+number_given classes space GivesFlag (given.FieldId a) c of h e = absurd h
+number_given classes space GivesFlag (given.Global s) c of h e = absurd h
+number_given classes space kind g c of h e = absurd (cc)
+
+reference_given : (classes : Classes) (space : Space) (g : Given) (c : CallResult) → GivenAgrees classes space NewLocal g c → IsReference space g c
+reference_given classes space (given.Reference a) (ReferenceResult r) h = record { address = a; reference = r; same = refl; agrees = h; fills = λ level old. refl }
+reference_given classes space (given.Reference a) NullResult h = record { address = a; reference = None; same = refl; agrees = subst (λ (o : Option ℕ). ReferenceAgrees space o None) (sym h) tt; fills = λ level old. refl }
+reference_given classes space (given.Reference a) NoResult h = absurd h
+reference_given classes space (given.Reference a) (ScalarResult v) h = absurd h
+reference_given classes space (given.Reference a) (FieldResult f) h = absurd h
+reference_given classes space (given.Reference a) (BufferResult b) h = absurd h
+reference_given classes space given.Nothing c h = absurd h
+reference_given classes space (given.Number word) c h = absurd h
+reference_given classes space (given.FieldId a) c h = absurd h
+reference_given classes space (given.Global s) c h = absurd h
+
+field_given : (classes : Classes) (space : Space) (g : Given) (c : CallResult) → GivenAgrees classes space GivesField g c → IsField classes g c
+field_given classes space (given.FieldId a) (FieldResult f) h = record { handle = a; field = f; same = refl; agrees = h; fills = λ old. refl }
+field_given classes space (given.FieldId a) NullResult h = record { handle = a; field = None; same = refl; agrees = subst (λ (o : Option Handle). FieldAgrees classes o None) (sym h) tt; fills = λ old. refl }
+field_given classes space (given.FieldId a) NoResult h = absurd h
+field_given classes space (given.FieldId a) (ScalarResult v) h = absurd h
+field_given classes space (given.FieldId a) (ReferenceResult r) h = absurd h
+field_given classes space (given.FieldId a) (BufferResult b) h = absurd h
+field_given classes space given.Nothing c h = absurd h
+field_given classes space (given.Number word) c h = absurd h
+field_given classes space (given.Reference a) c h = absurd h
+field_given classes space (given.Global s) c h = absurd h
+
+-- what a static takes
+record IsGlobal (store : Store) (g : Given) (c : CallResult) : Type 0 where
+  pub held : InMemory
+  pub reference : Reference
+  pub same : g ≡ given.Global held
+  pub gave : static_result c ≡ as_static reference
+  pub agrees : HeldAgrees store.heap (held_of store.globals held) (as_static reference)
+  pub fresh : IsFresh store held
+
+global_given : (classes : Classes) (store : Store) (g : Given) (c : CallResult) → ResultAgrees classes store g NewGlobal c → IsGlobal store g c
+global_given classes store (given.Global s) c h = record { held = s; reference = h.1.0; same = refl; gave = ⊎_elim (λ e. ap static_result e) (λ e. ap static_result e.0 ∙ ap as_static (sym e.1)) h.1.1; agrees = h.1.2; fresh = h.1.3 }
+global_given classes store given.Nothing c h = absurd h
+global_given classes store (given.Number word) c h = absurd h
+global_given classes store (given.Reference a) c h = absurd h
+global_given classes store (given.FieldId f) c h = absurd h
+
+-- what any other target takes
+other_given : (classes : Classes) (store : Store) (kind : ResultKind) (g : Given) (c : CallResult) → (kind ≡ NewGlobal → ⊥) → ResultAgrees classes store g kind c → GivenAgrees classes store.heap kind g c
+other_given classes store kind given.Nothing c other h = h
+other_given classes store kind (given.Number word) c other h = h
+other_given classes store kind (given.Reference a) c other h = h
+other_given classes store kind (given.FieldId f) c other h = h
+other_given classes store kind (given.Global s) c other h = absurd (other h.0)
+
+plain_result : (classes : Classes) (store : Store) (kind : ResultKind) (g : Given) (c : CallResult) → ResultAgrees classes store g kind c → IsNoBuffer c
+plain_result classes store kind given.Nothing c h = no_buffer classes store.heap kind given.Nothing c h
+plain_result classes store kind (given.Number word) c h = no_buffer classes store.heap kind (given.Number word) c h
+plain_result classes store kind (given.Reference a) c h = no_buffer classes store.heap kind (given.Reference a) c h
+plain_result classes store kind (given.FieldId f) c h = no_buffer classes store.heap kind (given.FieldId f) c h
+plain_result classes store kind (given.Global s) c h = ⊎_elim (λ e. subst IsNoBuffer (sym e) tt) (λ e. subst IsNoBuffer (sym e.0) tt) h.1.1
+
+frames_result : (classes : Classes) (store : Store) (kind : ResultKind) (g : Given) (c : CallResult) (locals after : LocalTable) (key : Option ℕ) (gs : List source.Frame) → AreStacked locals → ResultAgrees classes store g kind c → MakesLocal kind g locals key after → FramesAgree store.heap locals gs → FramesAgree store.heap after (frames_received kind c gs)
+frames_result classes store kind given.Nothing c locals after key gs stacked h makes agree = frames_agree store.heap classes kind given.Nothing c locals key after gs stacked h makes agree
+frames_result classes store kind (given.Number word) c locals after key gs stacked h makes agree = frames_agree store.heap classes kind (given.Number word) c locals key after gs stacked h makes agree
+frames_result classes store kind (given.Reference a) c locals after key gs stacked h makes agree = frames_agree store.heap classes kind (given.Reference a) c locals key after gs stacked h makes agree
+frames_result classes store kind (given.FieldId f) c locals after key gs stacked h makes agree = frames_agree store.heap classes kind (given.FieldId f) c locals key after gs stacked h makes agree
+frames_result classes store kind (given.Global s) c locals after key gs stacked h makes agree =
+    subst (λ (k : ResultKind). FramesAgree store.heap after (frames_received k c gs)) (sym h.0)
+    (subst (λ (t : LocalTable). FramesAgree store.heap t gs) (sym (subst (λ (k : ResultKind). MakesLocal k (given.Global s) locals key after) h.0 makes).1) agree)
+
+-- ---- owners
+
+-- the owners once a result is in its variable
+abbrev pub put_owners : Target → Owners → Variables → Owners
+put_owners target own vs x = if is_target target x then level_held (lookup x vs) else own x
+
+-- a variable that refers to no object has no reference of its own, and those of the others stay
+fewer_put : (kind : VariableKind) (x : Identifier) (v : Variable) (own : Owners) (vs : Variables) → level_held (Some v) ≡ None → (y : Identifier) (level : ℕ) → put_owners (Declared kind x) own (assign x v vs) y ≡ Some level → own y ≡ Some level
+fewer_put kind x v own vs none y level = by_test (bytes_eq y x) refl
+  where
+    by_test : (b : Bool) → bytes_eq y x ≡ b → (if b then level_held (lookup y (assign x v vs)) else own y) ≡ Some level → own y ≡ Some level
+    by_test false e is = is
+    by_test true e is =
+        let same : y ≡ x = (bytes_eq-Decides y x).0 e in
+        let nothing : level_held (lookup y (assign x v vs)) ≡ None = ap (λ (z : Identifier). level_held (lookup z (assign x v vs))) same ∙ ap level_held (lookup_same x v vs) ∙ none in
+        absurd (let clash : None ≡ Some level = sym nothing ∙ is in cc)
+
+-- so does a static
+fewer_static : (x : Identifier) (own : Owners) (vs : Variables) → lookup x vs ≡ None → (y : Identifier) (level : ℕ) → put_owners (Assigned x) own vs y ≡ Some level → own y ≡ Some level
+fewer_static x own vs none y level = by_test (bytes_eq y x) refl
+  where
+    by_test : (b : Bool) → bytes_eq y x ≡ b → (if b then level_held (lookup y vs) else own y) ≡ Some level → own y ≡ Some level
+    by_test false e is = is
+    by_test true e is =
+        let same : y ≡ x = (bytes_eq-Decides y x).0 e in
+        absurd (let clash : None ≡ Some level = sym (ap (λ (z : Identifier). level_held (lookup z vs)) same ∙ ap level_held none) ∙ is in cc)
+
+-- the others' stay
+others_put : (kind : VariableKind) (x : Identifier) (own : Owners) (vs : Variables) → OthersOwn own (put_owners (Declared kind x) own vs) x
+others_put kind x own vs y other = by_test (bytes_eq y x) refl
+  where
+    by_test : (b : Bool) → bytes_eq y x ≡ b → (if b then level_held (lookup y vs) else own y) ≡ own y
+    by_test false e = refl
+    by_test true e = absurd (other ((bytes_eq-Decides y x).0 e))
+
+-- and the variable's level is its own
+put_here : (kind : VariableKind) (x : Identifier) (v : Variable) (own : Owners) (vs : Variables) → put_owners (Declared kind x) own (assign x v vs) x ≡ level_held (Some v)
+put_here kind x v own vs = ap (λ (b : Bool). if b then level_held (lookup x (assign x v vs)) else own x) ((bytes_eq-Decides x x).1 refl) ∙ ap level_held (lookup_same x v vs)
+
+-- a call stands for its tasks also where fewer references are variables' own
+fewer_stands : (p : Lowered) (classes : Classes) (space : Space) (call : Activation) (own own' : Owners) (shared : Shared) (s : source.Thread) (frames : List source.Frame) (tasks : List Task) → ((x : Identifier) (level : ℕ) → own' x ≡ Some level → own x ≡ Some level)
+    → CallStands p classes space call (visible_to own shared s) frames tasks → CallStands p classes space call (visible_to own' shared s) frames tasks
+fewer_stands p classes space call own own' shared s frames tasks among h = record {
+  code = h.code;
+  of_function = h.of_function;
+  known = h.known;
+  stands = h.stands;
+  references = h.references;
+  owners = h.owners;
+  agree = h.agree;
+  fields = h.fields;
+  fields_agree = h.fields_agree;
+  shows = fewer_owners h.code h.known (visible_to own shared s) (slots_of call h.references h.owners h.fields) h.shows own' among;
+  depth = h.depth;
+  frames_agree = h.frames_agree;
+}
+
+-- no variable has a name of no kind that is no array
+nothing_named : (o : Option Variable) → kind_of_variable o ≡ None → type_of_array o ≡ None → o ≡ None
+nothing_named None k t = refl
+nothing_named (Some (Scalar v)) k t = absurd (cc)
+nothing_named (Some (LocalRef level q)) k t = absurd (cc)
+nothing_named (Some (FieldHandle f)) k t = absurd (cc)
+nothing_named (Some (Elements type b)) k t = absurd (cc)
+nothing_named (Some (LocalArray type zs)) k t = absurd (cc)
+
+-- a `jint` is 0 where its word is
+zero_word : (v : Value) → ValueHasSort v Jint → (word_of v == 0) ≡ is_zero (ScalarResult v)
+zero_word (Word n) h = absurd (let same = h.1 in cc)
+zero_word (Flag b) h = absurd (cc)
+zero_word (Truth b) h = absurd (cc)
+zero_word (Int z) h =
+    ⊎_elim
+    (λ (t : ((word_of (Int z) == 0) ≡ true) × (word_of (Int z) ≡ 0)).
+    let number : z ≡ pos 0 = sym (to_z-of_z {w = w32} h.0) ∙ ap (cast_signed w32) t.1 in
+    t.0 ∙ sym ((Decides-int_eq z (pos 0)).1 number))
+    (λ (t : ((word_of (Int z) == 0) ≡ false) × (word_of (Int z) ≡ 0 → ⊥)). t.0 ∙ sym (unequal (int_eq z (pos 0)) refl t.1))
+    (eqb_tells (word_of (Int z)) 0)
+  where
+    unequal : (b : Bool) → int_eq z (pos 0) ≡ b → (word_of (Int z) ≡ 0 → ⊥) → int_eq z (pos 0) ≡ false
+    unequal true e differs = absurd (differs (ap (λ (y : ℤ). word_of (Int y)) ((Decides-int_eq z (pos 0)).0 e)))
+    unequal false e differs = e
+
+-- ---- the end of a call
+
+-- the thread goes on with these tasks, and the machine's call stands for it
+pub record Finishes (p : Lowered) (w : World) (old : Space) (shared : Shared) (store : Store) (statics : Vec InMemory) (next : Shared) (line : ℕ) (target : Target) (f : JniFunction) (args : List Actual) (rest : List Task) (s : source.Thread) (left : List source.Frame) (q : Reference) (c : CallResult) (own : Owners) (after : Activation) : Type 0 where
+  pub now : Shared
+  pub variables : Variables
+  pub tasks : List Task
+  pub steps : put target c next (resumption line f args rest s left q c target) ≡ source.Advances now (going line f args tasks s left q c variables) source.Quiet
+  pub store_agrees : StoreAgrees p w (record store { statics = statics }) now
+  pub keeps : Keeps old shared store.heap now
+  pub stands : CallStands p w.classes store.heap after (visible_to (put_owners target own variables) now (going line f args tasks s left q c variables)) (frames_received (prototype f).result c left) tasks
+  pub viewless : viewed_by (going line f args tasks s left q c variables) ≡ []
+
+module _ (p : Lowered) (w : World) (old : Space) (store : Store) (own : Owners) (shared next : Shared) (shares : StoreAgrees p w store next) (keeps : Keeps old shared store.heap next) (s : source.Thread) (none : viewed_by s ≡ []) (call : Activation) (code : Listing) (task : Task) (rest : List Task)
+    (r : Ready p w.classes old call code (visible_to own shared s) s.frames task rest) (line : ℕ) (f : JniFunction) (args : List Actual) (locals : LocalTable) (stacked : AreStacked locals) (room : HasRoom (prototype f).result locals) (keyed : KeysAgree store.heap locals call.references.items r.references r.owners) (left : List source.Frame) (framed : FramesAgree store.heap locals left) (q : Reference) (g : Given) (c : CallResult) (agrees : ResultAgrees w.classes store g (prototype f).result c)
+    (still : (prototype f).result ≡ NewGlobal → next.statics ≡ shared.statics) (function : Call) (at : slice_get code.instrs call.place ≡ Some (instr.Call function)) (none_left : with_fewer (words_taken function.operands) (length call.stack) ≡ Some 0) (after : Activation) (statics : Vec InMemory) where
+  abbrev space : Space
+  space = store.heap
+
+  abbrev kind : ResultKind
+  kind = (prototype f).result
+
+  -- the call with the local references that the effect leaves
+  abbrev pub carried : Activation
+  carried = record call { locals = locals }
+
+  plain : IsNoBuffer c
+  plain = plain_result w.classes store kind g c agrees
+
+  abbrev resuming : Variables → source.Thread
+  resuming vs = going line f args rest s left q c vs
+
+  abbrev held : Slots
+  held = slots_of call r.references r.owners r.fields
+
+  abbrev Ends : Target → Type 0
+  Ends target = Finishes p w old shared store statics next line target f args rest s left q c own after
+
+  -- the keys once a result is made a local reference
+  kept_keys : (d : Destination) → Receives d kind g carried after → KeysAgree space after.locals call.references.items r.references r.owners
+  kept_keys d receives = keys_left space space locals after.locals call.references.items r.references r.owners keyed (λ i key n level at_key owned h. made_left space kind g locals after.locals receives.key stacked receives.makes key n level h)
+
+  frames_after : (d : Destination) → Receives d kind g carried after → FramesAgree space after.locals (frames_received kind c left)
+  frames_after d receives = frames_result w.classes store kind g c locals after.locals receives.key left stacked agrees receives.makes framed
+
+  -- the statics hold what they did
+  abbrev SameStatics : Type 0
+  SameStatics = statics.items ≡ store.statics.items
+
+  -- no word is on the stack afterwards
+  abbrev HasNoWord : Type 0
+  HasNoWord = with_result function.target 0 ≡ Some 0
+
+  -- with these words on the stack it stands for these tasks
+  stands_with : (words : List ℕ) (tasks : List Task) → with_result function.target 0 ≡ Some (length words) → (d : Destination) → Receives d kind g carried after → stack_with d g ≡ words
+      → (now : Owners) (names : Known) (vs : Variables) (references : List Reference) (owners : List (Option ℕ)) (fields : List (Option FieldId)) → KeysAgree space after.locals after.references.items references owners → FieldsAgree w.classes after.fields.items fields
+      → StandsFor code names (call.place + 1) words tasks → Shows code names (visible_to now shared (resuming vs)) (record { numbers = after.numbers.items; references = references; owners = owners; fields = fields })
+      → CallStands p w.classes space after (visible_to now next (resuming vs)) (frames_received kind c left) tasks
+  stands_with words tasks count d receives put now names vs references owners fields agree fields_agree stands shows = record {
+    code = code;
+    of_function = ap (slice_get p.codes) receives.function ∙ r.of_function;
+    known = names;
+    stands = subst (λ (n : ℕ). StandsFor code names n after.stack tasks) (sym receives.place) (subst (λ (l : List ℕ). StandsFor code names (call.place + 1) l tasks) (sym (receives.stack ∙ put)) stands);
+    references = references;
+    owners = owners;
+    agree = agree;
+    fields = fields;
+    fields_agree = fields_agree;
+    shows = shows_stay now shared next keeps.statics (resuming vs) code names (record { numbers = after.numbers.items; references = references; owners = owners; fields = fields }) shows;
+    depth =
+        ap (depth_at code.instrs) receives.place
+        ∙ depth_behind p w.classes old call code (visible_to own shared s) s.frames task rest r (instr.Call function) at (length words) (λ leaves. leaves) (ap (option_and_then (with_result function.target)) none_left ∙ count)
+        ∙ ap (λ (l : List ℕ). Some (length l)) (sym (receives.stack ∙ put));
+    frames_agree = frames_after d receives;
+  }
+
+  -- what is shown of the slots that the call has then
+  shown : {numbers : List ℕ} (names : Known) (visible : Visible) (references : List Reference) (owners : List (Option ℕ)) (fields : List (Option FieldId)) → after.numbers.items ≡ numbers
+      → Shows code names visible (record { numbers = numbers; references = references; owners = owners; fields = fields }) → Shows code names visible (record { numbers = after.numbers.items; references = references; owners = owners; fields = fields })
+  shown names visible references owners fields same_numbers h = subst (λ (l : List ℕ). Shows code names visible (record { numbers = l; references = references; owners = owners; fields = fields })) (sym same_numbers) h
+
+  -- as many frames in memory as in the source
+  frames_count : length locals.frames ≡ length left
+  frames_count = as_many_frames space locals left framed
+
+  stands_after : HasNoWord → (d : Destination) → stack_with d g ≡ [] → Receives d kind g carried after → (now : Owners) (names : Known) (vs : Variables) (references : List Reference) (owners : List (Option ℕ)) (fields : List (Option FieldId)) → KeysAgree space after.locals after.references.items references owners → FieldsAgree w.classes after.fields.items fields
+      → StandsFor code names (call.place + 1) [] rest → Shows code names (visible_to now shared (resuming vs)) (record { numbers = after.numbers.items; references = references; owners = owners; fields = fields })
+      → CallStands p w.classes space after (visible_to now next (resuming vs)) (frames_received kind c left) rest
+  stands_after no_word d empty receives = stands_with [] rest no_word d receives empty
+
+  -- ---- a number
+
+  module _ (no_word : HasNoWord) (i : ℕ) (receives : Receives (destination.Number i) kind g carried after) (of : Sort) (x : Identifier) (takes : TakesNumber code r.known call.place call.stack held (visible_to own shared s) of i x rest) (n : IsNumber g c of) where
+    number_stands : CallStands p w.classes space after (visible_to own next (resuming (assign x (Scalar n.value) s.variables))) (frames_received kind c left) rest
+    number_stands =
+        let vs = assign x (Scalar n.value) s.variables in
+        let numbers : after.numbers.items ≡ slice_set call.numbers.items i (word_of n.value) = receives.numbers ∙ ap (λ (h : Given). numbers_with (destination.Number i) h call.numbers.items) n.same in
+        stands_after no_word (destination.Number i) refl receives own takes.names vs r.references r.owners r.fields (subst (λ (l : List (Option ℕ)). KeysAgree space after.locals l r.references r.owners) (sym receives.references) (kept_keys (destination.Number i) receives))
+        (subst (λ (l : List (Option Handle)). FieldsAgree w.classes l r.fields) (sym receives.fields) r.fields_agree) takes.stands
+        (shown takes.names (visible_to own shared (resuming vs)) r.references r.owners r.fields numbers
+        (takes.shows n.value (visible_to own shared (resuming vs)) n.sorted (is_set own own shared s (resuming vs) x (λ y other. refl) n.value refl)))
+
+    number_viewless : viewed_by (resuming (assign x (Scalar n.value) s.variables)) ≡ []
+    number_viewless = assigned_viewless x (Scalar n.value) s.variables refl none
+
+  number_finishes : SameStatics → HasNoWord → (i : ℕ) (target : Target) → Receives (destination.Number i) kind g carried after → (of : Sort) → IsNumber g c of → GoesInto code r.known call.place call.stack held (visible_to own shared s) ScalarKind target (λ x. TakesNumber code r.known call.place call.stack held (visible_to own shared s) of i x rest) → Ends target
+  number_finishes same_statics no_word i (Declared declared x) receives of n goes = record {
+    now = next;
+    tasks = rest;
+    store_agrees = with_same p w store next shares statics same_statics;
+    keeps = keeps;
+    variables = assign x (Scalar n.value) s.variables;
+    steps = declared_is line f args rest s left q c plain next declared x (Scalar n.value) (ap (λ (k : VariableKind). filled (blank k (length (frames_received kind c left))) c) goes.0 ∙ ap (filled (blank ScalarKind 0)) n.gave);
+    stands = fewer_stands p w.classes space after own (put_owners (Declared declared x) own (assign x (Scalar n.value) s.variables)) next (resuming (assign x (Scalar n.value) s.variables)) (frames_received kind c left) rest (fewer_put declared x (Scalar n.value) own s.variables refl) (number_stands no_word i receives of x goes.1 n);
+    viewless = number_viewless no_word i receives of x goes.1 n;
+  }
+  number_finishes same_statics no_word i (Assigned x) receives of n goes =
+      let old = scalar_by_kind (lookup x s.variables) goes.0 in
+      record {
+        now = next;
+        tasks = rest;
+        store_agrees = with_same p w store next shares statics same_statics;
+        keeps = keeps;
+        variables = assign x (Scalar n.value) s.variables;
+        steps = assigned_is line f args rest s left q c plain next x (Scalar old.0) (Scalar n.value) old.1 (ap (filled (Scalar old.0)) n.gave);
+        stands = fewer_stands p w.classes space after own (put_owners (Assigned x) own (assign x (Scalar n.value) s.variables)) next (resuming (assign x (Scalar n.value) s.variables)) (frames_received kind c left) rest (fewer_put ScalarKind x (Scalar n.value) own s.variables refl) (number_stands no_word i receives of x goes.1 n);
+        viewless = number_viewless no_word i receives of x goes.1 n;
+      }
+  number_finishes same_statics no_word i (Tested a b) receives of n goes = absurd goes
+  number_finishes same_statics no_word i Dropped receives of n goes = absurd goes
+
+  -- ---- a reference
+
+  module _ (no_word : HasNoWord) (i : ℕ) (receives : Receives (destination.Local i) kind g carried after) (x : Identifier) (takes : TakesReference code r.known call.place call.stack held (visible_to own shared s) i x rest) (n : IsReference space g c) (level : ℕ) (counted : length locals.frames ≡ level) (new : Owners) (stay : OthersOwn own new x) (here : new x ≡ level_held (Some (LocalRef level n.reference))) (local : kind ≡ NewLocal) where
+    reference_stands : CallStands p w.classes space after (visible_to new next (resuming (assign x (LocalRef level n.reference) s.variables))) (frames_received kind c left) rest
+    reference_stands =
+        let vs = assign x (LocalRef level n.reference) s.variables in
+        let made = made_new space g n.address n.reference locals after.locals receives.key stacked (room_frame locals (subst (λ (k : ResultKind). HasRoom k locals) local room)) n.same n.agrees (subst (λ (k : ResultKind). MakesLocal k g locals receives.key after.locals) local receives.makes) in
+        stands_after no_word (destination.Local i) refl receives new takes.names vs (slice_set r.references i n.reference) (slice_set r.owners i (new x)) r.fields
+        (subst (λ (l : List (Option ℕ)). KeysAgree space after.locals l (slice_set r.references i n.reference) (slice_set r.owners i (new x))) (sym receives.references)
+        (key_put space after.locals call.references.items r.references r.owners i receives.key n.reference (new x) (kept_keys (destination.Local i) receives) made.null
+        (λ place m own_level at named owned.
+        let same : level ≡ own_level = let both : Some level ≡ Some own_level = ap (λ (q : Reference). level_held (Some (LocalRef level q))) (sym named) ∙ sym here ∙ owned in cc in
+        subst (IsKeyOf space after.locals place m) (counted ∙ same) (made.key_of place m at named))
+        (λ j place own_level at found owned. let live = live_there space locals call.references.items r.references r.owners j place own_level keyed found owned in let clash : None ≡ Some live.0 = sym (made.fresh place at) ∙ live.1 in cc)))
+        (subst (λ (l : List (Option Handle)). FieldsAgree w.classes l r.fields) (sym receives.fields) r.fields_agree) takes.stands
+        (shown takes.names (visible_to new shared (resuming vs)) (slice_set r.references i n.reference) (slice_set r.owners i (new x)) r.fields receives.numbers
+        (takes.shows n.reference (visible_to new shared (resuming vs)) (is_referred own new shared s (resuming vs) x stay level n.reference refl)))
+
+  -- a variable that takes a new local reference was declared where there were as many frames
+  abbrev pub IsDeclaredThere : Target → Type 0
+  IsDeclaredThere target = (x : Identifier) (level : ℕ) (old : Reference) → target ≡ Assigned x → lookup x s.variables ≡ Some (LocalRef level old) → level ≡ length left
+
+  reference_finishes : kind ≡ NewLocal → SameStatics → HasNoWord → (i : ℕ) (target : Target) → IsDeclaredThere target → Receives (destination.Local i) kind g carried after → IsReference space g c → GoesInto code r.known call.place call.stack held (visible_to own shared s) ReferenceKind target (λ x. TakesReference code r.known call.place call.stack held (visible_to own shared s) i x rest) → Ends target
+  reference_finishes local same_statics no_word i (Declared declared x) there receives n goes =
+      let level = length (frames_received kind c left) in
+      let counted : length locals.frames ≡ level = frames_count ∙ sym (received_count kind c left) in
+      record {
+        now = next;
+        tasks = rest;
+        store_agrees = with_same p w store next shares statics same_statics;
+        keeps = keeps;
+        variables = assign x (LocalRef level n.reference) s.variables;
+        steps = declared_is line f args rest s left q c plain next declared x (LocalRef level n.reference) (ap (λ (k : VariableKind). filled (blank k level) c) goes.0 ∙ n.fills level None);
+        stands = reference_stands no_word i receives x goes.1 n level counted (put_owners (Declared declared x) own (assign x (LocalRef level n.reference) s.variables)) (others_put declared x own (assign x (LocalRef level n.reference) s.variables)) (put_here declared x (LocalRef level n.reference) own s.variables) local;
+        viewless = assigned_viewless x (LocalRef level n.reference) s.variables refl none;
+      }
+  reference_finishes local same_statics no_word i (Assigned x) there receives n goes =
+      let old = local_by_kind (lookup x s.variables) goes.0 in
+      let counted : length locals.frames ≡ old.0 = frames_count ∙ sym (there x old.0 old.1 refl old.2) in
+      record {
+        now = next;
+        tasks = rest;
+        store_agrees = with_same p w store next shares statics same_statics;
+        keeps = keeps;
+        variables = assign x (LocalRef old.0 n.reference) s.variables;
+        steps = assigned_is line f args rest s left q c plain next x (LocalRef old.0 old.1) (LocalRef old.0 n.reference) old.2 (n.fills old.0 old.1);
+        stands = reference_stands no_word i receives x goes.1 n old.0 counted (put_owners (Assigned x) own (assign x (LocalRef old.0 n.reference) s.variables)) (others_put ReferenceKind x own (assign x (LocalRef old.0 n.reference) s.variables)) (put_here ReferenceKind x (LocalRef old.0 n.reference) own s.variables) local;
+        viewless = assigned_viewless x (LocalRef old.0 n.reference) s.variables refl none;
+      }
+  reference_finishes local same_statics no_word i (Tested a b) there receives n goes = absurd goes
+  reference_finishes local same_statics no_word i Dropped there receives n goes = absurd goes
+
+  -- ---- a field ID
+
+  module _ (no_word : HasNoWord) (i : ℕ) (receives : Receives (destination.FieldId i) kind g carried after) (x : Identifier) (takes : TakesField code r.known call.place call.stack held (visible_to own shared s) i x rest) (n : IsField w.classes g c) where
+    field_stands : CallStands p w.classes space after (visible_to own next (resuming (assign x (FieldHandle n.field) s.variables))) (frames_received kind c left) rest
+    field_stands =
+        let vs = assign x (FieldHandle n.field) s.variables in
+        let fields : after.fields.items ≡ slice_set call.fields.items i n.handle = receives.fields ∙ ap (λ (h : Given). fields_with (destination.FieldId i) h call.fields.items) n.same in
+        stands_after no_word (destination.FieldId i) refl receives own takes.names vs r.references r.owners (slice_set r.fields i n.field) (subst (λ (l : List (Option ℕ)). KeysAgree space after.locals l r.references r.owners) (sym receives.references) (kept_keys (destination.FieldId i) receives))
+        (subst (λ (l : List (Option Handle)). FieldsAgree w.classes l (slice_set r.fields i n.field)) (sym fields) (field_put w.classes call.fields.items r.fields i n.handle n.field r.fields_agree n.agrees)) takes.stands
+        (shown takes.names (visible_to own shared (resuming vs)) r.references r.owners (slice_set r.fields i n.field) receives.numbers
+        (takes.shows n.field (visible_to own shared (resuming vs)) (is_field_set own own shared s (resuming vs) x (λ y other. refl) n.field refl)))
+
+    field_viewless : viewed_by (resuming (assign x (FieldHandle n.field) s.variables)) ≡ []
+    field_viewless = assigned_viewless x (FieldHandle n.field) s.variables refl none
+
+  field_finishes : SameStatics → HasNoWord → (i : ℕ) (target : Target) → Receives (destination.FieldId i) kind g carried after → IsField w.classes g c → GoesInto code r.known call.place call.stack held (visible_to own shared s) FieldKind target (λ x. TakesField code r.known call.place call.stack held (visible_to own shared s) i x rest) → Ends target
+  field_finishes same_statics no_word i (Declared declared x) receives n goes = record {
+    now = next;
+    tasks = rest;
+    store_agrees = with_same p w store next shares statics same_statics;
+    keeps = keeps;
+    variables = assign x (FieldHandle n.field) s.variables;
+    steps = declared_is line f args rest s left q c plain next declared x (FieldHandle n.field) (ap (λ (k : VariableKind). filled (blank k (length (frames_received kind c left))) c) goes.0 ∙ n.fills None);
+    stands = fewer_stands p w.classes space after own (put_owners (Declared declared x) own (assign x (FieldHandle n.field) s.variables)) next (resuming (assign x (FieldHandle n.field) s.variables)) (frames_received kind c left) rest (fewer_put declared x (FieldHandle n.field) own s.variables refl) (field_stands no_word i receives x goes.1 n);
+    viewless = field_viewless no_word i receives x goes.1 n;
+  }
+  field_finishes same_statics no_word i (Assigned x) receives n goes =
+      let old = field_by_kind (lookup x s.variables) goes.0 in
+      record {
+        now = next;
+        tasks = rest;
+        store_agrees = with_same p w store next shares statics same_statics;
+        keeps = keeps;
+        variables = assign x (FieldHandle n.field) s.variables;
+        steps = assigned_is line f args rest s left q c plain next x (FieldHandle old.0) (FieldHandle n.field) old.1 (n.fills old.0);
+        stands = fewer_stands p w.classes space after own (put_owners (Assigned x) own (assign x (FieldHandle n.field) s.variables)) next (resuming (assign x (FieldHandle n.field) s.variables)) (frames_received kind c left) rest (fewer_put FieldKind x (FieldHandle n.field) own s.variables refl) (field_stands no_word i receives x goes.1 n);
+        viewless = field_viewless no_word i receives x goes.1 n;
+      }
+  field_finishes same_statics no_word i (Tested a b) receives n goes = absurd goes
+  field_finishes same_statics no_word i Dropped receives n goes = absurd goes
+
+  -- ---- a global reference
+
+  static_finishes : (i : ℕ) (x : Identifier) → HasNoWord → Receives (destination.Static i) kind g carried after → kind ≡ NewGlobal → statics.items ≡ statics_with (destination.Static i) g store.statics.items → IsGlobal store g c
+      → TakesStatic code r.known call.place call.stack held (visible_to own shared s) i x rest → Ends (Assigned x)
+  static_finishes i x no_word receives global same_statics n takes =
+      let h : StaticReference = as_static n.reference in
+      let now : Shared = record next { statics = assign x h next.statics } in
+      let seen : Shared = record shared { statics = assign x h shared.statics } in
+      let unnamed : lookup x s.variables ≡ None = nothing_named (lookup x s.variables) takes.static.no_variable.kind takes.static.no_variable.array_type in
+      let place : static_index x next.statics ≡ Some i = ap (static_index x) (still global) ∙ takes.static.static.place in
+      let assigned : statics.items ≡ slice_set store.statics.items i n.held = same_statics ∙ ap (λ (o : Given). statics_with (destination.Static i) o store.statics.items) n.same in
+      let now_statics : now.statics ≡ seen.statics = ap (assign x h) (still global) in
+      record {
+        now = now;
+        variables = s.variables;
+        tasks = rest;
+        steps =
+            ap (put (Assigned x) c next) (resumed_is line f args rest s left q c plain (Assigned x))
+            ∙ ap (put_assigned x c next (resuming s.variables)) unnamed
+            ∙ ap (λ (v : StaticReference). source.Advances (record next { statics = assign x v next.statics }) (resuming s.variables) source.Quiet) n.gave;
+        store_agrees = with_static p w store next shares statics x i n.held h assigned place n.agrees (keys_put store.globals store.statics.items i n.held n.fresh shares.keys);
+        keeps = record { names = keeps.names; statics = inr (x, h, now_statics); shapes = keeps.shapes; room = keeps.room; few = keeps.few };
+        stands = fewer_stands p w.classes space after own (put_owners (Assigned x) own s.variables) now (resuming s.variables) (frames_received kind c left) rest (fewer_static x own s.variables unnamed) (record {
+          code = code;
+          of_function = ap (slice_get p.codes) receives.function ∙ r.of_function;
+          known = takes.names;
+          stands = subst (λ (m : ℕ). StandsFor code takes.names m after.stack rest) (sym receives.place) (subst (λ (l : List ℕ). StandsFor code takes.names (call.place + 1) l rest) (sym receives.stack) takes.stands);
+          references = r.references;
+          owners = r.owners;
+          agree = subst (λ (l : List (Option ℕ)). KeysAgree space after.locals l r.references r.owners) (sym receives.references) (kept_keys (destination.Static i) receives);
+          fields = r.fields;
+          fields_agree = subst (λ (l : List (Option Handle)). FieldsAgree w.classes l r.fields) (sym receives.fields) r.fields_agree;
+          shows = shows_stay own seen now (inl now_statics) (resuming s.variables) code takes.names (record { numbers = after.numbers.items; references = r.references; owners = r.owners; fields = r.fields })
+              (shown takes.names (visible_to own seen (resuming s.variables)) r.references r.owners r.fields receives.numbers
+              (takes.shows h (visible_to own seen (resuming s.variables)) (is_held own shared s x h unnamed)));
+          depth =
+              ap (depth_at code.instrs) receives.place
+              ∙ depth_behind p w.classes old call code (visible_to own shared s) s.frames task rest r (instr.Call function) at 0 (λ leaves. leaves) (ap (option_and_then (with_result function.target)) none_left ∙ no_word)
+              ∙ ap (λ (l : List ℕ). Some (length l)) (sym receives.stack);
+          frames_agree = frames_after (destination.Static i) receives;
+        });
+        viewless = none;
+      }
+
+  -- ---- the test of an `if`
+
+  test_finishes : SameStatics → (target : Target) → with_result function.target 0 ≡ Some 1 → Receives destination.Test kind g carried after → IsNumber g c Jint → TakesTest code r.known call.place call.stack held (visible_to own shared s) line target rest → Ends target
+  test_finishes same_statics target count receives n takes =
+      let word : stack_with destination.Test g ≡ truth_word (is_zero c) ∷ [] =
+      ap (stack_with destination.Test) n.same ∙ ap (λ (b : Bool). truth_word b ∷ []) (zero_word n.value n.sorted ∙ sym (ap is_zero n.gave)) in
+      let tasks : List Task = Branch line (Done (Truth (is_zero c))) takes.then' takes.else' ∷ rest in
+      subst Ends (sym takes.is) (record {
+        now = next;
+        tasks = tasks;
+        store_agrees = with_same p w store next shares statics same_statics;
+        keeps = keeps;
+        variables = s.variables;
+        steps = ap (put (Tested takes.then' takes.else') c next) (resumed_is line f args rest s left q c plain (Tested takes.then' takes.else'));
+        stands = stands_with (truth_word (is_zero c) ∷ []) tasks count destination.Test receives word own r.known s.variables r.references r.owners r.fields (subst (λ (l : List (Option ℕ)). KeysAgree space after.locals l r.references r.owners) (sym receives.references) (kept_keys (destination.Test) receives))
+            (subst (λ (l : List (Option Handle)). FieldsAgree w.classes l r.fields) (sym receives.fields) r.fields_agree) (takes.stands (is_zero c))
+            (shown r.known (visible_to own shared (resuming s.variables)) r.references r.owners r.fields receives.numbers r.shows);
+        viewless = none;
+      })
+
+  -- ---- by where it goes
+
+  pub finishes : (d : Destination) (target : Target) → (kind ≡ NewLocal → IsDeclaredThere target) → function.target ≡ d → TakesResult code r.known call.place call.stack held (visible_to own shared s) line d kind target rest → Receives d kind g carried after → statics.items ≡ statics_with d g store.statics.items → Ends target
+  finishes (destination.Number i) target there same goes receives same_statics = number_finishes same_statics (ap (λ (d : Destination). with_result d 0) same) i target receives goes.0 (number_given w.classes space kind g c goes.0 (other_given w.classes store kind g c (λ e. let clash : None ≡ Some goes.0 = sym (ap number_sort e) ∙ goes.1 in cc) agrees) goes.1) goes.2
+  finishes (destination.Local i) target there same goes receives same_statics =
+      reference_finishes goes.0 same_statics (ap (λ (d : Destination). with_result d 0) same) i target (there goes.0) receives (reference_given w.classes space g c (subst (λ (k : ResultKind). GivenAgrees w.classes space k g c) goes.0 (other_given w.classes store kind g c (λ e. let clash : NewLocal ≡ NewGlobal = sym goes.0 ∙ e in cc) agrees))) goes.1
+  finishes (destination.FieldId i) target there same goes receives same_statics =
+      field_finishes same_statics (ap (λ (d : Destination). with_result d 0) same) i target receives (field_given w.classes space g c (subst (λ (k : ResultKind). GivenAgrees w.classes space k g c) goes.0 (other_given w.classes store kind g c (λ e. let clash : GivesField ≡ NewGlobal = sym goes.0 ∙ e in cc) agrees))) goes.1
+  finishes (destination.Static i) target there same goes receives same_statics =
+      subst Ends (sym goes.1.1) (static_finishes i goes.1.0 (ap (λ (d : Destination). with_result d 0) same) receives goes.0 same_statics (global_given w.classes store g c (subst (λ (k : ResultKind). ResultAgrees w.classes store g k c) goes.0 agrees)) goes.1.2)
+  finishes (destination.Buffer i) target there same goes receives same_statics = absurd goes
+  finishes destination.Test target there same goes receives same_statics =
+      test_finishes same_statics target (ap (λ (d : Destination). with_result d 0) same) receives (number_given w.classes space kind g c Jint (other_given w.classes store kind g c (λ e. let clash : GivesInt ≡ NewGlobal = sym goes.0 ∙ e in cc) agrees) (ap number_sort goes.0)) goes.1
+  finishes destination.Dropped target there same goes receives same_statics =
+      subst Ends (sym goes.0) (record {
+        now = next;
+        tasks = rest;
+        store_agrees = with_same p w store next shares statics same_statics;
+        keeps = keeps;
+        variables = s.variables;
+        steps = dropped_is line f args rest s left q c plain next;
+        stands = stands_after (ap (λ (d : Destination). with_result d 0) same) destination.Dropped refl receives own r.known s.variables r.references r.owners r.fields (subst (λ (l : List (Option ℕ)). KeysAgree space after.locals l r.references r.owners) (sym receives.references) (kept_keys (destination.Dropped) receives))
+            (subst (λ (l : List (Option Handle)). FieldsAgree w.classes l r.fields) (sym receives.fields) r.fields_agree) goes.1
+            (shown r.known (visible_to own shared (resuming s.variables)) r.references r.owners r.fields receives.numbers r.shows);
+        viewless = none;
+      })

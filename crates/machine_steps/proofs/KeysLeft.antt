@@ -1,0 +1,114 @@
+-- What a call leaves of the keys that are variables' own, before its result is put.
+use Rattle.std.proofs.Common.{◌≡◌, ◌≢◌, ℕ, ℤ, pos, negsuc, Bool, true, false, List, length, map, Option, Some, None, refl, sym, ap, ◌∙◌, nat_lt, if◌then◌else◌}
+use Rattle.std.specs.Prelude.{slice_get, ◌==◌}
+use Rattle.std.specs.Option.{option_map}
+use Rattle.std.proofs.lemmas.Bool.Decides.{Decides-eqb}
+use Rattle.std.proofs.lemmas.Option.{slice_get-map}
+use Rattle.classes.specs.declared.class.FieldHandle.{FieldHandle}
+use Rattle.class_rules.specs.Class.{Classes}
+use Rattle.class_rules.specs.Fields.{FieldId}
+use Rattle.code.specs.Call.{Call}
+use Rattle.code.specs.declared.instr.Operand.{Operand}
+use Rattle.code.specs.declared.instr.Operand.TheVariants as operand
+use Rattle.heap.specs.Heap.{Space, values_at}
+use Rattle.heap.specs.declared.value.Value.{Value}
+use Rattle.jni.specs.JniFunction.{JniFunction, FindClass, DeleteLocalRef, DeleteGlobalRef, EnsureLocalCapacity, PushLocalFrame, PopLocalFrame, GetFieldID, GetStaticFieldID, SetField, SetStaticField, SetObjectField, SetStaticObjectField}
+use Rattle.semantics_safety.specs.Owners.{other_than}
+use Rattle.machine_calls.specs.declared.answer.Answer.{Answer}
+use Rattle.machine_calls.specs.declared.answer.Given.TheVariants.{Nothing}
+use Rattle.machine_calls.specs.declared.answer.Answer.TheVariants as answer
+use Rattle.machine_calls.specs.CarriedOut.{IsLeft}
+use Rattle.machine_calls.specs.Statics.{References}
+use Rattle.machine_calls.specs.WorkedOut.{IsFoundField, IsWorkedOut, deletes_global, found_class, frame_for, room_for, writes_there}
+
+-- ---- answers that end no local reference
+
+abbrev pub ends_none : Answer → Bool
+ends_none (answer.Deletes key) = false
+ends_none (answer.Pops a) = false
+ends_none a = true
+
+none_class : (loaded : List ℕ) (o : Option ℕ) → ends_none (found_class loaded o) ≡ true
+none_class loaded None = refl
+none_class loaded (Some c) = refl
+
+none_room : (z : ℤ) → ends_none (room_for z) ≡ true
+none_room (pos n) = refl
+none_room (negsuc n) = refl
+
+none_frame : (z : ℤ) → ends_none (frame_for z) ≡ true
+none_frame (pos n) = refl
+none_frame (negsuc n) = refl
+
+none_global : (r : Option ℕ) (o : Operand) → ends_none (deletes_global r o) ≡ true
+none_global None o = refl
+none_global (Some a) (operand.Static i) = refl
+none_global (Some a) o = refl
+
+none_write : (space : Space) (r : Option ℕ) (place : ℕ) (v : Value) → ends_none (writes_there space r place v) ≡ true
+none_write space None place v = refl
+none_write space (Some a) place v = by_test (nat_lt place (length (values_at space a)))
+  where
+    by_test : (b : Bool) → ends_none (if b then answer.Writes a place v else answer.Gives Nothing) ≡ true
+    by_test true = refl
+    by_test false = refl
+
+none_field : (classes : Classes) (o : Option FieldId) (a : Answer) → IsFoundField classes o a → ends_none a ≡ true
+none_field classes None a h = ap ends_none h
+none_field classes (Some f) a h = ap ends_none h.1
+
+-- the functions that end local references
+abbrev pub may_end : JniFunction → Bool
+may_end DeleteLocalRef = true
+may_end PopLocalFrame = true
+may_end f = false
+
+module _ (classes : Classes) (space : Space) (loaded : List ℕ) (references : References) (fields : List (Option FieldHandle)) (stack : List ℕ) (call : Call) where
+  abbrev Works : JniFunction → Answer → Type 0
+  Works f a = IsWorkedOut classes space loaded references fields stack call f a
+
+  -- the others end none
+  pub others_end_none : (f : JniFunction) (a : Answer) → may_end f ≡ false → Works f a → ends_none a ≡ true
+  others_end_none FindClass a m is = ap ends_none is ∙ none_class loaded _
+  others_end_none EnsureLocalCapacity a m is = ap ends_none is ∙ none_room _
+  others_end_none PushLocalFrame a m is = ap ends_none is ∙ none_frame _
+  others_end_none DeleteGlobalRef a m is = ap ends_none is ∙ none_global _ _
+  others_end_none (SetField T) a m is = ap ends_none is ∙ none_write space _ _ _
+  others_end_none SetObjectField a m is = ap ends_none is ∙ none_write space _ _ _
+  others_end_none (SetStaticField T) a m is = ap ends_none is ∙ none_write space _ _ _
+  others_end_none SetStaticObjectField a m is = ap ends_none is ∙ none_write space _ _ _
+  others_end_none GetFieldID a m is = none_field classes _ a is
+  others_end_none GetStaticFieldID a m is = none_field classes _ a is
+  others_end_none DeleteLocalRef a m is = absurd (cc)
+  others_end_none PopLocalFrame a m is = absurd (cc)
+  others_end_none f a m is = ap ends_none is
+
+-- so all keys are left
+pub none_left_out : (a : Answer) (frames key level : ℕ) → ends_none a ≡ true → IsLeft a frames key level
+none_left_out (answer.Deletes k) frames key level e = absurd (cc)
+none_left_out (answer.Pops r) frames key level e = absurd (cc)
+none_left_out a frames key level e = tt
+
+-- ---- owners
+
+-- a level is among those other than one
+pub other_level : (top level : ℕ) (o : Option ℕ) → other_than top o ≡ Some level → (o ≡ Some level) × (level ≢ top)
+other_level top level None e = absurd (cc)
+other_level top level (Some l) e = by_test (l == top) refl e
+  where
+    by_test : (b : Bool) → (l == top) ≡ b → (if b then None else Some l) ≡ Some level → (Some l ≡ Some level) × (level ≢ top)
+    by_test true is e = absurd (cc)
+    by_test false is e =
+        let same : l ≡ level = cc in
+        (ap (λ (n : ℕ). Some n) same, λ at. let yes : (l == top) ≡ true = (Decides-eqb l top).1 (same ∙ at) in let clash : true ≡ false = sym yes ∙ is in cc)
+
+-- the owners of a list without one level
+pub others_get : (top : ℕ) (owners : List (Option ℕ)) (i level : ℕ) → slice_get (map (other_than top) owners) i ≡ Some (Some level) → (slice_get owners i ≡ Some (Some level)) × (level ≢ top)
+others_get top owners i level e = by_found (slice_get owners i) refl (sym (slice_get-map (other_than top) owners i) ∙ e)
+  where
+    by_found : (o : Option (Option ℕ)) → slice_get owners i ≡ o → option_map (other_than top) o ≡ Some (Some level) → (slice_get owners i ≡ Some (Some level)) × (level ≢ top)
+    by_found None at e = absurd (cc)
+    by_found (Some o) at e =
+        let inner : other_than top o ≡ Some level = cc in
+        let found = other_level top level o inner in
+        (at ∙ ap (λ (x : Option ℕ). Some x) found.0, found.1)

@@ -1,0 +1,152 @@
+-- What a call in progress has received is what the source's thread has.
+use Rattle.std.proofs.Common.{◌≡◌, ℕ, zero, suc, length, List, [], ◌∷◌, Option, Some, None, refl, sym, subst}
+use Rattle.std.specs.Prelude.{slice_set}
+use Rattle.base.specs.Bytes.{Identifier}
+use Rattle.class_rules.specs.Class.{Classes}
+use Rattle.class_rules.specs.Fields.{FieldId}
+use Rattle.classes.specs.declared.class.FieldHandle.{FieldHandle}
+use Rattle.heap.specs.Heap.{Space}
+use Rattle.jni.specs.Prototype.{ResultKind, NewLocal, NewGlobal, GivesFlag, GivesInt, GivesField, GivesNothing, GivesBuffer}
+use Rattle.semantics.specs.CallEffects.{CallResult, NoResult, NullResult, ScalarResult, ReferenceResult, FieldResult, BufferResult, with_local}
+use Rattle.semantics.specs.CallStep.{received, tell_copy}
+use Rattle.semantics.specs.Thread as source
+use Rattle.semantics.specs.Variable.{Variables}
+use Rattle.machine_calls.specs.declared.answer.Given.{Given}
+use Rattle.machine_calls.specs.declared.answer.Given.TheVariants as given
+use Rattle.machine_calls.specs.FieldIds.{FieldAgrees, FieldsAgree}
+use Rattle.machine_calls.specs.Locals.{FramesAgree}
+use Rattle.machine_calls.specs.Answers.{GivenAgrees}
+use Rattle.machine_steps.specs.Received.{MakesLocal}
+use Rattle.machine_calls.proofs.LocalFrames.{reference_made}
+use Rattle.tables.specs.Locals.{AreStacked, LocalTable}
+
+-- ---- no buffers
+
+-- a result that is no buffer
+abbrev pub IsNoBuffer : CallResult → Type 0
+IsNoBuffer (BufferResult b) = ⊥
+IsNoBuffer c = Unit {0}
+
+-- nothing that is given is a buffer
+pub no_buffer : (classes : Classes) (space : Space) (kind : ResultKind) (g : Given) (c : CallResult) → GivenAgrees classes space kind g c → IsNoBuffer c
+no_buffer classes space kind g NoResult h = tt
+no_buffer classes space kind g NullResult h = tt
+no_buffer classes space kind g (ScalarResult v) h = tt
+no_buffer classes space kind g (ReferenceResult r) h = tt
+no_buffer classes space kind g (FieldResult f) h = tt
+no_buffer classes space NewGlobal g (BufferResult b) h = h
+no_buffer classes space (GivesBuffer a) g (BufferResult b) h = h
+no_buffer classes space NewLocal given.Nothing (BufferResult b) h = h
+no_buffer classes space NewLocal (given.Number n) (BufferResult b) h = h
+no_buffer classes space NewLocal (given.Reference a) (BufferResult b) h = h
+no_buffer classes space NewLocal (given.FieldId a) (BufferResult b) h = h
+no_buffer classes space NewLocal (given.Global s) (BufferResult b) h = h
+no_buffer classes space GivesFlag given.Nothing (BufferResult b) h = h
+no_buffer classes space GivesFlag (given.Number n) (BufferResult b) h = h
+no_buffer classes space GivesFlag (given.Reference a) (BufferResult b) h = h
+no_buffer classes space GivesFlag (given.FieldId a) (BufferResult b) h = h
+no_buffer classes space GivesFlag (given.Global s) (BufferResult b) h = h
+no_buffer classes space GivesInt given.Nothing (BufferResult b) h = h
+no_buffer classes space GivesInt (given.Number n) (BufferResult b) h = h
+no_buffer classes space GivesInt (given.Reference a) (BufferResult b) h = h
+no_buffer classes space GivesInt (given.FieldId a) (BufferResult b) h = h
+no_buffer classes space GivesInt (given.Global s) (BufferResult b) h = h
+no_buffer classes space GivesField given.Nothing (BufferResult b) h = h
+no_buffer classes space GivesField (given.Number n) (BufferResult b) h = h
+no_buffer classes space GivesField (given.Reference a) (BufferResult b) h = h
+no_buffer classes space GivesField (given.FieldId a) (BufferResult b) h = h
+no_buffer classes space GivesField (given.Global s) (BufferResult b) h = h
+no_buffer classes space GivesNothing given.Nothing (BufferResult b) h = h
+no_buffer classes space GivesNothing (given.Number n) (BufferResult b) h = h
+no_buffer classes space GivesNothing (given.Reference a) (BufferResult b) h = h
+no_buffer classes space GivesNothing (given.FieldId a) (BufferResult b) h = h
+no_buffer classes space GivesNothing (given.Global s) (BufferResult b) h = h
+
+-- so nothing is told of a copy
+pub nothing_told : (x : Identifier) (c : CallResult) (variables : Variables) → IsNoBuffer c → tell_copy x c variables ≡ variables
+nothing_told [] c variables h = refl
+nothing_told (b ∷ x) NoResult variables h = refl
+nothing_told (b ∷ x) NullResult variables h = refl
+nothing_told (b ∷ x) (ScalarResult v) variables h = refl
+nothing_told (b ∷ x) (ReferenceResult r) variables h = refl
+nothing_told (b ∷ x) (FieldResult f) variables h = refl
+nothing_told (b ∷ x) (BufferResult c) variables h = absurd h
+
+-- ---- frames
+
+-- the source's frames with the local reference that a call gave
+abbrev pub frames_received : ResultKind → CallResult → List source.Frame → List source.Frame
+frames_received NewLocal (ReferenceResult (Some n)) frames = with_local n frames
+frames_received kind c frames = frames
+
+pub received_count : (kind : ResultKind) (c : CallResult) (frames : List source.Frame) → length (frames_received kind c frames) ≡ length frames
+received_count NewLocal (ReferenceResult (Some n)) [] = refl
+received_count NewLocal (ReferenceResult (Some n)) (f ∷ frames) = refl
+received_count NewLocal (ReferenceResult None) frames = refl
+received_count NewLocal NoResult frames = refl
+received_count NewLocal NullResult frames = refl
+received_count NewLocal (ScalarResult v) frames = refl
+received_count NewLocal (FieldResult f) frames = refl
+received_count NewLocal (BufferResult b) frames = refl
+received_count NewGlobal c frames = refl
+received_count GivesFlag c frames = refl
+received_count GivesInt c frames = refl
+received_count GivesField c frames = refl
+received_count GivesNothing c frames = refl
+received_count (GivesBuffer a) c frames = refl
+
+pub received_is : (kind : ResultKind) (c : CallResult) (t : source.Thread) → received kind c t ≡ record t { frames = frames_received kind c t.frames }
+received_is NewLocal (ReferenceResult (Some n)) t = refl
+received_is NewLocal (ReferenceResult None) t = refl
+received_is NewLocal NoResult t = refl
+received_is NewLocal NullResult t = refl
+received_is NewLocal (ScalarResult v) t = refl
+received_is NewLocal (FieldResult f) t = refl
+received_is NewLocal (BufferResult b) t = refl
+received_is NewGlobal c t = refl
+received_is GivesFlag c t = refl
+received_is GivesInt c t = refl
+received_is GivesField c t = refl
+received_is GivesNothing c t = refl
+received_is (GivesBuffer a) c t = refl
+
+-- ---- what was given
+
+module _ (space : Space) where
+  same_table : (locals after : LocalTable) (gs : List source.Frame) → after ≡ locals → FramesAgree space locals gs → FramesAgree space after gs
+  same_table locals after gs same agree = subst (λ (t : LocalTable). FramesAgree space t gs) (sym same) agree
+
+  -- the frames with what was given
+  pub frames_agree : (classes : Classes) (kind : ResultKind) (g : Given) (c : CallResult) (locals : LocalTable) (key : Option ℕ) (after : LocalTable) (gs : List source.Frame) → AreStacked locals → GivenAgrees classes space kind g c → MakesLocal kind g locals key after
+      → FramesAgree space locals gs → FramesAgree space after (frames_received kind c gs)
+  frames_agree classes NewLocal (given.Reference (Some a)) (ReferenceResult (Some n)) locals key after gs stacked h makes agree = reference_made space locals after gs makes.0 a n stacked makes.2 h agree
+  frames_agree classes NewLocal (given.Reference (Some a)) (ReferenceResult None) locals key after gs stacked h makes agree = absurd h
+  frames_agree classes NewLocal (given.Reference (Some a)) NullResult locals key after gs stacked h makes agree = absurd (cc)
+  frames_agree classes NewLocal (given.Reference (Some a)) NoResult locals key after gs stacked h makes agree = absurd h
+  frames_agree classes NewLocal (given.Reference (Some a)) (ScalarResult v) locals key after gs stacked h makes agree = absurd h
+  frames_agree classes NewLocal (given.Reference (Some a)) (FieldResult f) locals key after gs stacked h makes agree = absurd h
+  frames_agree classes NewLocal (given.Reference (Some a)) (BufferResult b) locals key after gs stacked h makes agree = absurd h
+  frames_agree classes NewLocal (given.Reference None) (ReferenceResult (Some n)) locals key after gs stacked h makes agree = absurd h
+  frames_agree classes NewLocal (given.Reference None) (ReferenceResult None) locals key after gs stacked h makes agree = same_table locals after gs makes.1 agree
+  frames_agree classes NewLocal (given.Reference None) NullResult locals key after gs stacked h makes agree = same_table locals after gs makes.1 agree
+  frames_agree classes NewLocal (given.Reference None) NoResult locals key after gs stacked h makes agree = same_table locals after gs makes.1 agree
+  frames_agree classes NewLocal (given.Reference None) (ScalarResult v) locals key after gs stacked h makes agree = same_table locals after gs makes.1 agree
+  frames_agree classes NewLocal (given.Reference None) (FieldResult f) locals key after gs stacked h makes agree = same_table locals after gs makes.1 agree
+  frames_agree classes NewLocal (given.Reference None) (BufferResult b) locals key after gs stacked h makes agree = same_table locals after gs makes.1 agree
+  frames_agree classes NewLocal given.Nothing c locals key after gs stacked h makes agree = absurd h
+  frames_agree classes NewLocal (given.Number n) c locals key after gs stacked h makes agree = absurd h
+  frames_agree classes NewLocal (given.FieldId f) c locals key after gs stacked h makes agree = absurd h
+  frames_agree classes NewLocal (given.Global s) c locals key after gs stacked h makes agree = absurd h
+  frames_agree classes NewGlobal g c locals key after gs stacked h makes agree = same_table locals after gs makes.1 agree
+  frames_agree classes GivesFlag g c locals key after gs stacked h makes agree = same_table locals after gs makes.1 agree
+  frames_agree classes GivesInt g c locals key after gs stacked h makes agree = same_table locals after gs makes.1 agree
+  frames_agree classes GivesField g c locals key after gs stacked h makes agree = same_table locals after gs makes.1 agree
+  frames_agree classes GivesNothing g c locals key after gs stacked h makes agree = same_table locals after gs makes.1 agree
+  frames_agree classes (GivesBuffer x) g c locals key after gs stacked h makes agree = same_table locals after gs makes.1 agree
+
+pub field_put : (classes : Classes) (handles : List (Option FieldHandle)) (fields : List (Option FieldId)) (i : ℕ) (h : Option FieldHandle) (f : Option FieldId) → FieldsAgree classes handles fields → FieldAgrees classes h f → FieldsAgree classes (slice_set handles i h) (slice_set fields i f)
+field_put classes [] [] i h f all agrees = all
+field_put classes [] (g ∷ fields) i h f all agrees = absurd all
+field_put classes (x ∷ handles) [] i h f all agrees = absurd all
+field_put classes (x ∷ handles) (g ∷ fields) zero h f all agrees = (agrees, all.1)
+field_put classes (x ∷ handles) (g ∷ fields) (suc i) h f all agrees = (all.0, field_put classes handles fields i h f all.1 agrees)

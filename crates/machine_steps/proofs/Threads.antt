@@ -1,0 +1,226 @@
+-- A thread's step is that of the source's thread.
+use Rattle.semantics.proofs.BuiltCalls.{waits_for_none}
+use Rattle.std.proofs.Common.{◌≡◌, ℕ, Bool, true, false, List, [], ◌∷◌, length, cond, eqb, Option, Some, None, refl, sym, ap, ◌∙◌, subst}
+use Rattle.std.specs.Prelude.{find}
+use Rattle.std.specs.Option.{option_map, option_map_or, option_and_then}
+use Rattle.syntax.specs.Views.{unit_tree}
+use Rattle.class_rules.specs.Class.{Classes}
+use Rattle.heap.specs.Heap.{Block, Space, class_at}
+use Rattle.semantics.specs.Object.{Object, Reference}
+use Rattle.semantics.specs.World.{Invocation, World, loaded_objects}
+use Rattle.semantics.specs.Heap.{Heap, class_of}
+use Rattle.semantics.specs.Activation.{return_step, monitors_after}
+use Rattle.semantics.specs.Activation as activation
+use Rattle.semantics.specs.CallStep.{waits_with}
+use Rattle.semantics.specs.Effect.{Effect, Calls, Returns, effect_of}
+use Rattle.semantics.specs.Task.{Task}
+use Rattle.semantics.specs.Thread as source
+use Rattle.semantics.specs.Thread.{BuffersInUse, Shared, Monitor, sight_of, without_owner}
+use Rattle.semantics.specs.Variable.{Variables}
+use Rattle.semantics.specs.ThreadStep.{thread_step, step_within, after_effect, next_effect, waits}
+use Rattle.code_meaning.specs.Slots.{Visible, visible_to}
+use Rattle.code_meaning.specs.Lowered.{Lowered, IsLowered}
+use Rattle.machine_steps.specs.declared.thread.Ending.{Ending}
+use Rattle.machine_steps.specs.declared.thread.Ending.TheVariants.{Unfinished}
+use Rattle.machine_steps.specs.declared.execute.Event.{Event}
+use Rattle.machine_steps.specs.declared.execute.Event.TheVariants as event
+use Rattle.machine_steps.specs.declared.thread.Thread.{Thread}
+use Rattle.machine_steps.specs.declared.thread.PendingCall.{PendingCall}
+use Rattle.machine_calls.specs.declared.activation.Activation.{Activation}
+use Rattle.semantics_safety.specs.Owners.{Owners, after_event, after_tasks}
+use Rattle.machine_calls.specs.declared.store.Store.{Store}
+use Rattle.machine_calls.specs.StoreAgrees.{StoreAgrees, Keeps}
+use Rattle.machine_steps.specs.ThreadAgrees.{CallsAgree, ThreadAgrees, ending_view}
+use Rattle.machine_steps.specs.Advances.{Advances, ending_after, calls_after}
+use Rattle.machine_steps.specs.Executes.{CallStands, WorkAgrees, GoesOn, after_any, cells_made, event_view, owners_left}
+use Rattle.machine_calls.specs.CarriedOut.{IsShortOf}
+use Rattle.machine_calls.proofs.Keeping.{keeps_same}
+use Rattle.machine_calls.specs.HeapAgrees.{ReferenceAgrees, BlocksAgree}
+use Rattle.machine_steps.proofs.Calls.{ready, slots_of, does_cases}
+
+-- ---- work
+
+-- the tasks that a call in progress stands for
+pub record Working (p : Lowered) (classes : Classes) (space : Space) (call : Activation) (visible : Visible) (frames : List source.Frame) (tasks : Option (List Task)) : Type 0 where
+  pub task : Task
+  pub rest : List Task
+  pub is : tasks ≡ Some (task ∷ rest)
+  pub stands : CallStands p classes space call visible frames (task ∷ rest)
+
+pub working : (p : Lowered) (classes : Classes) (space : Space) (visible : Visible) (frames : List source.Frame) (o : Option Activation) (call : Activation) (tasks : Option (List Task)) → WorkAgrees p classes space visible o frames tasks → o ≡ Some call → Working p classes space call visible frames tasks
+working p classes space visible frames None call tasks w e = absurd (cc)
+working p classes space visible frames (Some x) call None w e = absurd w
+working p classes space visible frames (Some x) call (Some []) w e = absurd (cc (w.stands.returns))
+working p classes space visible frames (Some x) call (Some (task ∷ rest)) w e = record { task = task; rest = rest; is = refl; stands = let same : x ≡ call = cc in subst (λ a. CallStands p classes space a visible frames (task ∷ rest)) same w }
+
+-- no call is in progress
+pub resting : (p : Lowered) (classes : Classes) (space : Space) (visible : Visible) (frames : List source.Frame) (o : Option Activation) (tasks : Option (List Task)) → WorkAgrees p classes space visible o frames tasks → o ≡ None → tasks ≡ None
+resting p classes space visible frames None None w e = refl
+resting p classes space visible frames None (Some tasks) w e = absurd w
+resting p classes space visible frames (Some x) tasks w e = absurd (cc)
+
+-- no thread waits for a monitor
+never_waits : (p : Lowered) (space : Space) (classes : Classes) (k : ℕ) (own : Owners) (shared : Shared) (s : source.Thread) (frames : List source.Frame) (call : Activation) (task : Task) (rest : List Task) → IsLowered p → CallStands p classes space call (visible_to own shared s) frames (task ∷ rest) → waits_with classes k shared s (effect_of (sight_of shared s) task) ≡ false
+never_waits p space classes k own shared s frames call task rest l w =
+    let r = ready p classes space call w.code (visible_to own shared s) frames task rest l w.of_function w in
+    does_cases w.code r.known call.place call.stack (slots_of call r.references r.owners r.fields) (visible_to own shared s) rest (λ e. waits_with classes k shared s e ≡ false)
+    (λ tasks h. refl) (λ x v h. refl) (λ target h. refl) (λ x i z t a h. refl) (λ t x n h. refl) (λ z h. refl)
+    (λ line target f args h. waits_for_none classes k shared s line target f args h.built)
+    (λ h. refl) (λ trap line h. refl) (effect_of (sight_of shared s) task) r.does
+
+not_waiting : (p : Lowered) (space : Space) (classes : Classes) (k : ℕ) (own : Owners) (shared : Shared) (s : source.Thread) (frames : List source.Frame) (o : Option Activation) (tasks : Option (List Task)) → IsLowered p → WorkAgrees p classes space (visible_to own shared s) o frames tasks → waits_with classes k shared s (next_effect shared s tasks) ≡ false
+not_waiting p space classes k own shared s frames None None l w = refl
+not_waiting p space classes k own shared s frames None (Some tasks) l w = absurd w
+not_waiting p space classes k own shared s frames (Some call) None l w = absurd w
+not_waiting p space classes k own shared s frames (Some call) (Some []) l w = refl
+not_waiting p space classes k own shared s frames (Some call) (Some (task ∷ rest)) l w = never_waits p space classes k own shared s frames call task rest l w
+
+pub unblocked : (p : Lowered) (classes : Classes) (space : Space) (made : ℕ) (k : ℕ) (own : Owners) (shared : Shared) (t : Thread) (s : source.Thread) → IsLowered p → ThreadAgrees p classes space made own shared t s → waits classes k shared s ≡ false
+unblocked p classes space made k own shared t s l h = not_waiting p space classes k own shared s s.frames t.call s.tasks l h.work
+
+-- ---- an instruction
+
+-- the owners after an effect
+left_owners : (effect : Effect) (event : source.Event) (frames : ℕ) (own : Owners) (vs : Variables) → after_event event effect frames own vs ≡ owners_left effect event frames own vs
+left_owners (Calls line target f args) source.Quiet frames own vs = refl
+left_owners (Calls line target f args) (source.PrintedNumber z) frames own vs = refl
+left_owners (Calls line target f args) (source.Trapped trap at) frames own vs = refl
+left_owners other source.Quiet frames own vs = refl
+left_owners other (source.PrintedNumber z) frames own vs = refl
+left_owners other (source.Trapped trap at) frames own vs = refl
+
+-- those after a step within a call
+advanced_owners : (shared : Shared) (s : source.Thread) (own : Owners) (task : Task) (rest : List Task) → s.tasks ≡ Some (task ∷ rest) → (event : source.Event) (vs : Variables)
+    → after_tasks shared s s.tasks own event vs ≡ owners_left (effect_of (sight_of shared s) task) event (length s.frames) own vs
+advanced_owners shared s own task rest is event vs = ap (λ (o : Option (List Task)). after_tasks shared s o own event vs) is ∙ left_owners (effect_of (sight_of shared s) task) event (length s.frames) own vs
+
+-- One step of a thread.
+module _ (p : Lowered) (w : World) (old : Space) (in_use : BuffersInUse) (k : ℕ) (own : Owners) (shared : Shared) (t : Thread) (s : source.Thread) (h : ThreadAgrees p w.classes old (length (loaded_objects w)) own shared t s) where
+  -- a step of the source's thread within its call
+  steps_by : (refused : Bool) (task : Task) (rest : List Task) → s.tasks ≡ Some (task ∷ rest) → thread_step (unit_tree p.unit) w.classes in_use k shared s refused ≡ after_any w.classes in_use k shared s rest refused (effect_of (sight_of shared s) task)
+  steps_by false task rest tasks = ap (step_within (unit_tree p.unit) w.classes in_use k shared s false) tasks
+  steps_by true task rest tasks = ap (step_within (unit_tree p.unit) w.classes in_use k shared s true) tasks
+
+  -- an instruction but a return
+  pub did : (store : Store) (refused : Bool) (e : Event) (task : Task) (rest : List Task) → s.tasks ≡ Some (task ∷ rest) → (after : Activation) (pending : Option ℕ) → GoesOn p w old store in_use k own shared s rest after pending (effect_of (sight_of shared s) task) refused e
+      → Advances p w old store in_use k own shared s (record t { call = Some after; pending = pending }) refused e
+  did store refused e task rest is after pending g = record {
+    next_shared = g.next_shared;
+    next = g.next;
+    steps = steps_by refused task rest is ∙ g.steps;
+    store_agrees = g.store_agrees;
+    keeps = g.keeps;
+    agrees =
+        let owned = owners_left (effect_of (sight_of shared s) task) (event_view e) (length s.frames) own g.next.variables in
+        subst (λ (now : Owners). ThreadAgrees p w.classes store.heap (length (loaded_objects w)) now g.next_shared (record t { call = Some after; pending = pending }) g.next)
+        (sym (advanced_owners shared s own task rest is (event_view e) g.next.variables)) (record {
+          calls = subst (CallsAgree p w.classes (length (loaded_objects w)) t.calls.items) (sym g.calls) h.calls;
+          work = g.work;
+          pending = g.pending_agrees;
+          ending = g.ending ∙ h.ending;
+          busy = λ a b c. subst (λ (o : Option (List Task)). WorkAgrees p w.classes store.heap (visible_to owned g.next_shared g.next) (Some after) g.next.frames o) b g.work;
+          caught = λ b. absurd (subst (λ (o : Option (List Task)). WorkAgrees p w.classes store.heap (visible_to owned g.next_shared g.next) (Some after) g.next.frames o) b g.work);
+          viewless = g.viewless;
+        });
+    short = λ was. subst (λ (a : source.Advance). IsShortOf (cells_made shared a) old store.heap) (sym (steps_by false task rest is)) (g.short was);
+  }
+
+-- ---- a return
+
+-- the ending of a thread that has these calls to come, with an exception of this class pending or none
+pub ending_of : Option ℕ → List Invocation → source.Ending
+ending_of (Some class) calls = source.Uncaught class
+ending_of None [] = source.Ended
+ending_of None (c ∷ calls) = source.Unfinished
+
+-- a thread after its call
+abbrev pub idle : Option ℕ → List Invocation → source.Thread
+idle class calls = record { calls = activation.calls_after (ending_of class calls) calls; tasks = None; variables = []; frames = []; pending = None; ending = ending_of class calls }
+
+no_monitors : (ending : source.Ending) (k : ℕ) (monitors : List Monitor) → monitors ≡ [] → monitors_after ending k monitors ≡ monitors
+no_monitors source.Unfinished k monitors none = refl
+no_monitors source.Ended k monitors none = ap (λ (m : List Monitor). without_owner m k) none ∙ sym none
+no_monitors (source.Uncaught c) k monitors none = ap (λ (m : List Monitor). without_owner m k) none ∙ sym none
+
+source_ending : (heap : Heap) (r : Reference) (calls : List Invocation) → activation.ending_after heap r calls ≡ ending_of (option_map (class_of heap) r) calls
+unfolding ending_of
+source_ending heap (Some n) calls = refl
+source_ending heap None [] = refl
+source_ending heap None (c ∷ calls) = refl
+
+returns_by : (k : ℕ) (shared : Shared) (s : source.Thread) (class : Option ℕ) → shared.monitors ≡ [] → option_map (class_of shared.heap) s.pending ≡ class → return_step k shared s ≡ source.Advances shared (idle class s.calls) source.Quiet
+returns_by k shared s class none pending =
+    let ends : activation.ending_after shared.heap s.pending s.calls ≡ ending_of class s.calls = source_ending shared.heap s.pending s.calls ∙ ap (λ (o : Option ℕ). ending_of o s.calls) pending in
+    ap (λ (ending : source.Ending). source.Advances (record shared { monitors = monitors_after ending k shared.monitors })
+    (record { calls = activation.calls_after ending s.calls; tasks = None; variables = []; frames = []; pending = None; ending = ending }) source.Quiet) ends
+    ∙ ap (λ (m : List Monitor). source.Advances (record shared { monitors = m }) (idle class s.calls) source.Quiet) (no_monitors (ending_of class s.calls) k shared.monitors none)
+
+calls_left : (p : Lowered) (classes : Classes) (made : ℕ) (class : Option ℕ) (nexts : List PendingCall) (calls : List Invocation) → CallsAgree p classes made nexts calls → CallsAgree p classes made (calls_after class nexts) (activation.calls_after (ending_of class calls) calls)
+unfolding ending_of
+calls_left p classes made (Some c) nexts calls h = tt
+calls_left p classes made None [] [] h = tt
+calls_left p classes made None [] (c ∷ calls) h = absurd h
+calls_left p classes made None (n ∷ nexts) [] h = absurd h
+calls_left p classes made None (n ∷ nexts) (c ∷ calls) h = h
+
+ending_agrees : (p : Lowered) (classes : Classes) (made : ℕ) (class : Option ℕ) (nexts : List PendingCall) (calls : List Invocation) (ending : Ending) → CallsAgree p classes made nexts calls → ending ≡ Unfinished → ending_of class calls ≡ ending_view (ending_after class nexts ending)
+unfolding ending_of
+ending_agrees p classes made (Some c) nexts calls ending h o = refl
+ending_agrees p classes made None [] [] ending h o = refl
+ending_agrees p classes made None [] (c ∷ calls) ending h o = absurd h
+ending_agrees p classes made None (n ∷ nexts) [] ending h o = absurd h
+ending_agrees p classes made None (n ∷ nexts) (c ∷ calls) ending h o = ap ending_view (sym o)
+
+something_to_do : (p : Lowered) (classes : Classes) (made : ℕ) (class : Option ℕ) (nexts : List PendingCall) (calls : List Invocation) (ending : Ending) → CallsAgree p classes made nexts calls → ending_after class nexts ending ≡ Unfinished → activation.calls_after (ending_of class calls) calls ≡ [] → ⊥
+unfolding ending_of
+something_to_do p classes made (Some c) nexts calls ending h o e = cc
+something_to_do p classes made None [] calls ending h o e = cc
+something_to_do p classes made None (n ∷ nexts) [] ending h o e = h
+something_to_do p classes made None (n ∷ nexts) (c ∷ calls) ending h o e = cc
+
+-- the class of the exception that is pending
+pub class_pending : (space : Space) (heap : Heap) (a : Option ℕ) (r : Reference) → BlocksAgree space heap space.blocks → ReferenceAgrees space a r → option_map (class_of heap) r ≡ option_and_then (class_at space) a
+class_pending space heap None None b h = refl
+class_pending space heap None (Some n) b h = absurd h
+class_pending space heap (Some a) None b h = absurd h
+class_pending space heap (Some a) (Some n) b h = found_class space.blocks b h
+  where
+    found_class : (bs : List Block) → BlocksAgree space heap bs → option_map (λ (b : Block). b.birth) (find (λ (b : Block). eqb b.address a) bs) ≡ Some n → Some (class_of heap n) ≡ option_map (λ (b : Block). b.class) (find (λ (b : Block). eqb b.address a) bs)
+    found_class [] agree e = absurd (cc)
+    found_class (b ∷ bs) agree e = by_test (eqb b.address a) (found_class bs agree.1) e
+      where
+        by_test : (t : Bool) → (option_map (λ (b : Block). b.birth) (find (λ (b : Block). eqb b.address a) bs) ≡ Some n → Some (class_of heap n) ≡ option_map (λ (b : Block). b.class) (find (λ (b : Block). eqb b.address a) bs))
+            → option_map (λ (b : Block). b.birth) (cond t (Some b) (find (λ (b : Block). eqb b.address a) bs)) ≡ Some n → Some (class_of heap n) ≡ option_map (λ (b : Block). b.class) (cond t (Some b) (find (λ (b : Block). eqb b.address a) bs))
+        by_test true later e =
+            let named : b.birth ≡ n = cc in
+            let there = agree.0 in
+            let of : class_of heap b.birth ≡ there.object.class = ap (λ (o : Option Object). option_map_or (λ (x : Object). x.class) o 0) there.is in
+            ap (λ (c : ℕ). Some c) (ap (class_of heap) (sym named) ∙ of ∙ sym there.class)
+        by_test false later e = later e
+
+module _ (p : Lowered) (w : World) (old : Space) (in_use : BuffersInUse) (k : ℕ) (own : Owners) (shared : Shared) (t : Thread) (s : source.Thread) (h : ThreadAgrees p w.classes old (length (loaded_objects w)) own shared t s) where
+  pub returned : (store : Store) (pending : Option ℕ) (after : Thread) (task : Task) (rest : List Task) → s.tasks ≡ Some (task ∷ rest) → StoreAgrees p w store shared → store.heap ≡ old → ReferenceAgrees store.heap pending s.pending → t.ending ≡ Unfinished
+      → effect_of (sight_of shared s) task ≡ Returns → after.call ≡ None → after.pending ≡ None → after.calls.items ≡ calls_after (option_and_then (class_at store.heap) pending) t.calls.items
+      → after.ending ≡ ending_after (option_and_then (class_at store.heap) pending) t.calls.items t.ending
+      → Advances p w old store in_use k own shared s after false event.Quiet
+  returned store pending after task rest tasks shares same pends o is no_call no_pending calls ending =
+      let class : Option ℕ = option_and_then (class_at store.heap) pending in
+      let made : ℕ = length (loaded_objects w) in
+      let of : option_map (class_of shared.heap) s.pending ≡ class = class_pending store.heap shared.heap pending s.pending shares.heap.blocks pends in
+      record {
+        next_shared = shared;
+        next = idle class s.calls;
+        steps = steps_by p w old in_use k own shared t s h false task rest tasks ∙ ap (after_effect w.classes in_use k shared s rest) is ∙ returns_by k shared s class shares.monitors of;
+        store_agrees = shares;
+        keeps = subst (λ (x : Space). Keeps x shared store.heap shared) same (keeps_same store.heap shared);
+        agrees = record {
+          calls = subst (λ (ns : List PendingCall). CallsAgree p w.classes made ns (activation.calls_after (ending_of class s.calls) s.calls)) (sym calls) (calls_left p w.classes made class t.calls.items s.calls h.calls);
+          work = subst (λ (c : Option Activation). WorkAgrees p w.classes store.heap (visible_to (after_tasks shared s s.tasks own source.Quiet []) shared (idle class s.calls)) c [] None) (sym no_call) refl;
+          pending = subst (λ (a : Option ℕ). ReferenceAgrees store.heap a None) (sym no_pending) tt;
+          ending = ending_agrees p w.classes made class t.calls.items s.calls t.ending h.calls o ∙ ap ending_view (sym ending);
+          busy = λ a b c. something_to_do p w.classes made class t.calls.items s.calls t.ending h.calls (sym ending ∙ a) c;
+          caught = λ b. refl;
+          viewless = refl;
+        };
+        short = λ e. absurd (cc);
+      }

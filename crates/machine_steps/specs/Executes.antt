@@ -1,0 +1,131 @@
+-- How a call in progress stands for its tasks, and what an instruction does to it.
+use Rattle.std.specs.Prelude.{◌≡◌, ℕ, ◌<◌, Bool, true, false, List, [], ◌∷◌, length, drop, Option, Some, None, slice_get}
+use Rattle.std.specs.List.{AllByRecursion}
+use Rattle.base.specs.Bytes.{Identifier, lookup}
+use Rattle.class_rules.specs.Class.{Classes}
+use Rattle.class_rules.specs.Fields.{FieldId}
+use Rattle.heap.specs.Heap.{Space}
+use Rattle.semantics.specs.Object.{Reference, sizes}
+use Rattle.semantics.specs.World.{World}
+use Rattle.code.specs.Depth.{Listing, depth_at}
+use Rattle.semantics.specs.Effect.{Effect, Calls, Returns}
+use Rattle.semantics.specs.Task.{Task, Assigned}
+use Rattle.semantics.specs.Checks.{frames_after}
+use Rattle.semantics.specs.Arguments.{Actual}
+use Rattle.semantics_safety.specs.Owners.{Owners, IsOwn, after_call}
+use Rattle.semantics_safety.specs.Used.{task_names}
+use Rattle.jni.specs.JniFunction.{JniFunction, prototype}
+use Rattle.jni.specs.Prototype.{NewLocal}
+use Rattle.semantics.specs.Thread as source
+use Rattle.semantics.specs.Thread.{BuffersInUse, Shared, Advance, Advances, NoAdvance, viewed_by}
+use Rattle.semantics.specs.Variable.{LocalRef, Variables}
+use Rattle.semantics.specs.ThreadStep.{next_effect, after_effect, after_refused_effect}
+use Rattle.code_meaning.specs.Layout.{Known}
+use Rattle.code_meaning.specs.Slots.{Visible, visible_to, Shows}
+use Rattle.code_meaning.specs.Stands.{StandsFor}
+use Rattle.code_meaning.specs.Lowered.{Lowered}
+use Rattle.machine_steps.specs.declared.execute.Event.{Event}
+use Rattle.machine_steps.specs.declared.execute.Event.TheVariants.{Quiet, Printed, Trapped}
+use Rattle.machine_calls.specs.declared.activation.Activation.{Activation}
+use Rattle.machine_steps.specs.declared.execute.Executed.{Executed}
+use Rattle.machine_steps.specs.declared.execute.Executed.TheVariants.{Did, Refused, Returned}
+use Rattle.machine_steps.specs.declared.fault.StepFault.{StepFault}
+use Rattle.machine_steps.specs.declared.fault.StepFault.TheVariants.{NoRoom, Memory}
+use Rattle.machine_calls.specs.declared.store.Store.{Store}
+use Rattle.machine_calls.specs.CarriedOut.{IsShortOf}
+use Rattle.machine_calls.specs.HeapAgrees.{ReferenceAgrees}
+use Rattle.machine_calls.specs.Locals.{FramesAgree, KeysAgree}
+use Rattle.machine_calls.specs.Traps.{trap_view}
+use Rattle.machine_calls.specs.StoreAgrees.{StoreAgrees, Keeps}
+use Rattle.machine_calls.specs.FieldIds.{FieldsAgree}
+
+-- what is seen of a thread's step by others
+abbrev pub event_view : Event → source.Event
+event_view Quiet = source.Quiet
+event_view (Printed z) = source.PrintedNumber z
+event_view (Trapped trap line) = source.Trapped (trap_view trap) line
+
+-- ---- a call in progress
+
+-- A call in progress stands for its tasks still to do, where this can be seen.
+pub record CallStands (p : Lowered) (classes : Classes) (space : Space) (call : Activation) (visible : Visible) (frames : List source.Frame) (tasks : List Task) : Type 0 where
+  pub code : Listing
+  pub of_function : slice_get p.codes call.function ≡ Some code
+  pub known : Known
+  pub stands : StandsFor code known call.place call.stack tasks
+  pub references : List Reference
+  pub owners : List (Option ℕ)
+  pub agree : KeysAgree space call.locals call.references.items references owners
+  pub fields : List (Option FieldId)
+  pub fields_agree : FieldsAgree classes call.fields.items fields
+  pub shows : Shows code known visible (record { numbers = call.numbers.items; references = references; owners = owners; fields = fields })
+  pub depth : depth_at code.instrs call.place ≡ Some (length call.stack)
+  pub frames_agree : FramesAgree space call.locals frames
+
+-- a call in progress, or none, which has no frame
+abbrev pub WorkAgrees : Lowered → Classes → Space → Visible → Option Activation → List source.Frame → Option (List Task) → Type 0
+WorkAgrees p classes space visible None frames None = frames ≡ []
+WorkAgrees p classes space visible None frames (Some tasks) = ⊥
+WorkAgrees p classes space visible (Some call) frames None = ⊥
+WorkAgrees p classes space visible (Some call) frames (Some tasks) = CallStands p classes space call visible frames tasks
+
+-- ---- steps
+
+-- What no step of an accepted unit breaks: a new local reference goes to a variable that was declared at the frame it comes into, and
+-- a local reference that a step uses is NULL or its variable's own.
+pub record IsSteady (own : Owners) (shared : Shared) (s : source.Thread) : Type 0 where
+  pub declared : (line : ℕ) (x : Identifier) (f : JniFunction) (args : List Actual) (level : ℕ) (r : Reference)
+      → next_effect shared s s.tasks ≡ Calls line (Assigned x) f args → (prototype f).result ≡ NewLocal → lookup x s.variables ≡ Some (LocalRef level r) → level ≡ length (frames_after f s.frames)
+  pub owned : (task : Task) (rest : List Task) → s.tasks ≡ Some (task ∷ rest) → AllByRecursion (λ x. IsOwn own x (lookup x s.variables)) (task_names task)
+
+-- A call in progress, with what is pending, stands for a thread's tasks, of which this is the first.
+pub record IsExecuting (p : Lowered) (w : World) (store : Store) (call : Activation) (pending : Option ℕ) (own : Owners) (shared : Shared) (s : source.Thread) (task : Task) (rest : List Task) : Type 0 where
+  pub store_agrees : StoreAgrees p w store shared
+  pub tasks : s.tasks ≡ Some (task ∷ rest)
+  pub stands : CallStands p w.classes store.heap call (visible_to own shared s) s.frames (task ∷ rest)
+  pub pending_agrees : ReferenceAgrees store.heap pending s.pending
+  pub viewless : viewed_by s ≡ []
+  pub steady : IsSteady own shared s
+
+-- what an effect of the first task leaves, or the same with its allocation refused
+abbrev pub after_any : Classes → BuffersInUse → ℕ → Shared → source.Thread → List Task → (refused : Bool) → Effect → Advance
+after_any classes in_use k shared s rest false effect = after_effect classes in_use k shared s rest effect
+after_any classes in_use k shared s rest true effect = after_refused_effect classes in_use k shared s rest effect
+
+-- the cells of the objects that a step makes
+abbrev pub cells_made : Shared → Advance → ℕ
+cells_made shared (Advances next t event) = sizes (drop (length shared.heap) next.heap)
+cells_made shared NoAdvance = 0
+
+-- Why a step that makes objects of so many cells was not taken: fewer are left after the highest block, and it may not be refused yet;
+-- or host memory was refused, which no step needs that makes objects.
+abbrev pub IsHindered : (left cells : ℕ) → (may_refuse : Bool) → StepFault → Type 0
+IsHindered left cells may_refuse NoRoom = (may_refuse ≡ false) × (left < cells)
+IsHindered left cells may_refuse Memory = cells ≡ 0
+
+-- the variables' own references once the first task has had this effect, which leaves these variables; a trap leaves them as they were
+abbrev pub owners_left : Effect → source.Event → (frames : ℕ) → Owners → Variables → Owners
+owners_left (Calls line target f args) (source.Trapped trap at) frames own vs = own
+owners_left (Calls line target f args) event frames own vs = after_call target f args frames own vs
+owners_left other event frames own vs = own
+
+-- The first task had this effect on thread k, with the rest still to do: the thread goes on within its call. Its allocation was
+-- refused only where too few cells were left.
+pub record GoesOn (p : Lowered) (w : World) (old : Space) (store : Store) (in_use : BuffersInUse) (k : ℕ) (own : Owners) (shared : Shared) (s : source.Thread) (rest : List Task) (call : Activation) (pending : Option ℕ) (effect : Effect) (refused : Bool) (event : Event) : Type 0 where
+  pub next_shared : Shared
+  pub next : source.Thread
+  pub steps : after_any w.classes in_use k shared s rest refused effect ≡ source.Advances next_shared next (event_view event)
+  pub store_agrees : StoreAgrees p w store next_shared
+  pub keeps : Keeps old shared store.heap next_shared
+  pub work : WorkAgrees p w.classes store.heap (visible_to (owners_left effect (event_view event) (length s.frames) own next.variables) next_shared next) (Some call) next.frames next.tasks
+  pub pending_agrees : ReferenceAgrees store.heap pending next.pending
+  pub calls : next.calls ≡ s.calls
+  pub ending : next.ending ≡ s.ending
+  pub viewless : viewed_by next ≡ []
+  pub short : refused ≡ true → IsShortOf (cells_made shared (after_effect w.classes in_use k shared s rest effect)) old store.heap
+
+-- what an instruction did is the effect of the first of the tasks; a return leaves the store as it was
+abbrev pub Executes : Lowered → World → Space → Store → BuffersInUse → ℕ → Owners → Shared → source.Thread → (rest : List Task) → Activation → (pending : Option ℕ) → Effect → Executed → Type 0
+Executes p w old store in_use k own shared s rest call pending effect (Did event) = GoesOn p w old store in_use k own shared s rest call pending effect false event
+Executes p w old store in_use k own shared s rest call pending effect Refused = GoesOn p w old store in_use k own shared s rest call pending effect true Quiet
+Executes p w old store in_use k own shared s rest call pending effect Returned = (effect ≡ Returns) × StoreAgrees p w store shared × (store.heap ≡ old) × ReferenceAgrees store.heap pending s.pending

@@ -1,0 +1,67 @@
+-- Where a call of a function of the JNI is made.
+use Rattle.std.specs.Prelude.{◌≡◌, ℕ, Bool, true, false, List, [], ◌∷◌, slice_get, Option, Some, None, is_some}
+use Rattle.code.specs.Call.{call_view}
+use Rattle.code.specs.Depth.{Listing}
+use Rattle.code.specs.declared.instr.Call.{Call as InMemory}
+use Rattle.code.specs.declared.instr.Instr.TheVariants as instr
+use Rattle.semantics.specs.Task.{Task}
+use Rattle.semantics.specs.Thread.{Shared, Thread, viewed_by}
+use Rattle.semantics.specs.Value.{Trap as SourceTrap}
+use Rattle.semantics.specs.World.{World}
+use Rattle.world_values.specs.SoundWorlds.{IsSound}
+use Rattle.jni.specs.Table.{function_value}
+use Rattle.semantics_safety.specs.Owners.{Owners}
+use Rattle.code_meaning.specs.Lowered.{Lowered, IsLowered}
+use Rattle.code_meaning.specs.Slots.{visible_to}
+use Rattle.machine_steps.specs.declared.invoke.Invoked.{Invoked}
+use Rattle.machine_steps.specs.declared.invoke.Invoked.TheVariants as invoked
+use Rattle.machine_steps.specs.declared.execute.Event.TheVariants.{Quiet, Trapped}
+use Rattle.machine_steps.specs.declared.execute.Executed.{Executed}
+use Rattle.machine_steps.specs.declared.execute.Executed.TheVariants.{Did, Refused}
+use Rattle.tables.specs.Locals.{has_room}
+use Rattle.machine_calls.specs.declared.answer.Answer.{Answer}
+use Rattle.machine_calls.specs.declared.store.Store.{Store}
+use Rattle.machine_calls.specs.declared.activation.Activation.{Activation}
+use Rattle.machine_calls.specs.Asked.{references_of}
+use Rattle.machine_calls.specs.Checked.{trap_found}
+use Rattle.machine_calls.specs.Locals.{locals_after}
+use Rattle.machine_calls.specs.StoreAgrees.{StoreAgrees}
+use Rattle.machine_calls.specs.WorkedOut.{IsWorkedOut}
+use Rattle.machine_steps.specs.Executes.{CallStands, IsSteady}
+use Rattle.machine_calls.specs.HeapAgrees.{ReferenceAgrees}
+
+-- A thread of the source has a call as its first task, the machine is at the instruction that stands for it, and all that the
+-- call can change agrees.
+pub record AtCall (p : Lowered) (w : World) (store : Store) (pending : Option ℕ) (call : Activation) (function : InMemory) (own : Owners) (shared : Shared) (s : Thread) (task : Task) (rest : List Task) : Type 0 where
+  pub lowered : IsLowered p
+  pub tasks : s.tasks ≡ Some (task ∷ rest)
+  pub shares : StoreAgrees p w store shared
+  pub pending_agrees : ReferenceAgrees store.heap pending s.pending
+  pub stands : CallStands p w.classes store.heap call (visible_to own shared s) s.frames (task ∷ rest)
+  pub viewless : viewed_by s ≡ []
+  pub steady : IsSteady own shared s
+  pub code : Listing
+  pub of_function : slice_get p.codes call.function ≡ Some code
+  pub at : slice_get code.instrs call.place ≡ Some (instr.Call (call_view function))
+
+-- the trap of a call before it does anything
+abbrev pub trap_at : World → Store → (pending : Option ℕ) → Activation → InMemory → Option SourceTrap
+trap_at w store pending call function =
+    trap_found w.classes store.heap (is_some pending) (has_room (locals_after (function_value function.function) call.locals)) (references_of store call) call.fields.items (function_value function.function) function.operands.items
+
+-- No check stops a call, and this is what it answers.
+pub record IsAnswered (w : World) (store : Store) (pending : Option ℕ) (call : Activation) (function : InMemory) (answer : Answer) : Type 0 where
+  pub sound : IsSound w
+  pub free : trap_at w store pending call function ≡ None
+  pub works : IsWorkedOut w.classes store.heap store.loaded.items (references_of store call) call.fields.items call.stack (call_view function) (function_value function.function) answer
+
+-- what a call came to that wasn't stopped
+abbrev pub done_or_refused : (refused : Bool) → Invoked
+done_or_refused true = invoked.Refused
+done_or_refused false = invoked.Done
+
+-- what the instruction of a call on this line did, by what the call came to
+abbrev pub executed_as : (line : ℕ) → Invoked → Executed
+executed_as line invoked.Done = Did Quiet
+executed_as line invoked.Refused = Refused
+executed_as line (invoked.Trapped trap) = Did (Trapped trap line)

@@ -1,0 +1,51 @@
+-- How an instruction moves a call on.
+use Rattle.std.specs.Prelude.{◌≡◌, ℕ, ◌+◌, ◌-◌, ◌≤◌, ◌<◌, ◌^◌, List, Option, Some}
+use Rattle.classes.specs.declared.class.FieldHandle.{FieldHandle}
+use Rattle.code.specs.Effect.{plain_of}
+use Rattle.code.specs.declared.instr.Instr.{Instr}
+use Rattle.code.specs.declared.instr.Plain.{Plain}
+use Rattle.code.specs.declared.instr.Plain.TheVariants as plain
+use Rattle.code_meaning.specs.Does.{trap_of}
+use Rattle.machine_calls.specs.declared.activation.Activation.{Activation}
+use Rattle.machine_calls.specs.declared.trap.Trap.{Trap as TrapInMemory}
+use Rattle.machine_calls.specs.Traps.{trap_view}
+use Rattle.machine_steps.specs.declared.execute.Event.{Event}
+use Rattle.machine_steps.specs.declared.execute.Event.TheVariants as event
+
+-- the call is at a place, with these operands, number slots, keys and field IDs, and its table as it was
+pub record HasMoved (call after : Activation) (to : ℕ) (words slots : List ℕ) (keys : List (Option ℕ)) (handles : List (Option FieldHandle)) : Type 0 where
+  pub function : after.function ≡ call.function
+  pub place : after.place ≡ to
+  pub stack : after.stack ≡ words
+  pub numbers : after.numbers.items ≡ slots
+  pub references : after.references.items ≡ keys
+  pub fields : after.fields.items ≡ handles
+  pub locals : after.locals ≡ call.locals
+
+-- the place that a way leads to; a trap stays
+abbrev pub end_of_way : (place : ℕ) → Plain → ℕ
+end_of_way place plain.Next = place + 1
+end_of_way place (plain.Skip n) = place + 1 + n
+end_of_way place (plain.Back n) = place - n
+end_of_way place (plain.Trap trap line) = place
+
+-- what is seen of a way
+abbrev pub WayIsSeen : Plain → Event → Type 0
+WayIsSeen (plain.Trap trap line) e = (t : TrapInMemory) × (trap_view t ≡ trap_of trap) × (e ≡ event.Trapped t line)
+WayIsSeen way e = e ≡ event.Quiet
+
+-- a way leads to a place that a word can hold
+abbrev pub IsReachable : (place : ℕ) → Plain → Type 0
+IsReachable place plain.Next = place + 1 < 2 ^ 64
+IsReachable place (plain.Skip n) = place + 1 + n < 2 ^ 64
+IsReachable place (plain.Back n) = n ≤ place
+IsReachable place (plain.Trap trap line) = Unit {0}
+
+-- what an instruction on the stack and the number slots alone did to a call
+pub record MovesPlainly (i : Instr) (call after : Activation) (seen : Event) : Type 0 where
+  pub way : Plain
+  pub stack : List ℕ
+  pub numbers : List ℕ
+  pub is : plain_of i call.stack call.numbers.items ≡ Some (way, stack, numbers)
+  pub moved : HasMoved call after (end_of_way call.place way) stack numbers call.references.items call.fields.items
+  pub way_seen : WayIsSeen way seen

@@ -1,0 +1,82 @@
+-- What a call in progress is after what a function gives is put where it belongs.
+use Rattle.std.specs.Prelude.{◌≡◌, ℕ, ◌+◌, ◌<◌, ◌==◌, true, List, [], ◌∷◌, length, slice_set, Option, Some, None}
+use Rattle.code.specs.Effect.{truth_word}
+use Rattle.classes.specs.declared.class.FieldHandle.{FieldHandle}
+use Rattle.code.specs.declared.instr.Target.{Target}
+use Rattle.code.specs.declared.instr.Target.TheVariants.{Number, Local, FieldId, Static, Test}
+use Rattle.jni.specs.Prototype.{ResultKind, NewLocal}
+use Rattle.machine_calls.specs.declared.answer.Given.{Given}
+use Rattle.machine_calls.specs.declared.answer.Given.TheVariants as given
+use Rattle.machine_calls.specs.declared.activation.Activation.{Activation}
+use Rattle.tables.specs.Locals.{LocalTable, IsMade, has_room}
+use Rattle.machine_calls.specs.declared.statics.StaticReference.{StaticReference}
+
+-- the stack, on which the test of an `if` finds the truth whether a number is 0
+abbrev pub stack_with : Target → Given → List ℕ
+stack_with Test (given.Number word) = truth_word (word == 0) ∷ []
+stack_with target g = []
+
+-- the number slots with what is given in the target
+abbrev pub numbers_with : Target → Given → List ℕ → List ℕ
+numbers_with (Number i) (given.Number word) numbers = slice_set numbers i word
+numbers_with target g numbers = numbers
+
+-- a function of this kind of result makes a local reference of what is given, if it isn't NULL, and this is its key
+abbrev pub MakesLocal : ResultKind → Given → (before : LocalTable) → (key : Option ℕ) → (after : LocalTable) → Type 0
+MakesLocal NewLocal (given.Reference (Some a)) before key after = (place : ℕ) × (key ≡ Some place) × IsMade before place a after
+MakesLocal kind g before key after = (key ≡ None) × (after ≡ before)
+
+-- the slots of references with a key in the target
+abbrev pub references_with : Target → (key : Option ℕ) → List (Option ℕ) → List (Option ℕ)
+references_with (Local i) key references = slice_set references i key
+references_with target key references = references
+
+-- the slots of field IDs with it
+abbrev pub fields_with : Target → Given → List (Option FieldHandle) → List (Option FieldHandle)
+fields_with (FieldId i) (given.FieldId h) fields = slice_set fields i h
+fields_with target g fields = fields
+
+-- the statics with it
+abbrev pub statics_with : Target → Given → List StaticReference → List StaticReference
+statics_with (Static i) (given.Global s) statics = slice_set statics i s
+statics_with target g statics = statics
+
+-- the target's slot is among this number of slots of numbers
+abbrev pub HasNumber : Target → ℕ → Type 0
+HasNumber (Number i) count = i < count
+HasNumber target count = Unit {0}
+
+-- among this number of slots of references
+abbrev pub HasReference : Target → ℕ → Type 0
+HasReference (Local i) count = i < count
+HasReference target count = Unit {0}
+
+-- among this number of slots of field IDs
+abbrev pub HasField : Target → ℕ → Type 0
+HasField (FieldId i) count = i < count
+HasField target count = Unit {0}
+
+-- among this number of statics
+abbrev pub HasStatic : Target → ℕ → Type 0
+HasStatic (Static i) count = i < count
+HasStatic target count = Unit {0}
+
+-- the target's slot is there
+abbrev pub HasTarget : Target → Activation → Type 0
+HasTarget target call = HasNumber target (length call.numbers.items) × HasReference target (length call.references.items) × HasField target (length call.fields.items)
+
+-- a local reference, where a function of this kind of result puts one, has room in the current frame
+abbrev pub HasRoom : ResultKind → LocalTable → Type 0
+HasRoom NewLocal locals = has_room locals ≡ true
+HasRoom kind locals = Unit {0}
+
+-- the call goes on after the instruction, with what is given where it belongs
+pub record Receives (target : Target) (kind : ResultKind) (g : Given) (call after : Activation) : Type 0 where
+  pub function : after.function ≡ call.function
+  pub place : after.place ≡ call.place + 1
+  pub stack : after.stack ≡ stack_with target g
+  pub numbers : after.numbers.items ≡ numbers_with target g call.numbers.items
+  pub key : Option ℕ
+  pub makes : MakesLocal kind g call.locals key after.locals
+  pub references : after.references.items ≡ references_with target key call.references.items
+  pub fields : after.fields.items ≡ fields_with target g call.fields.items

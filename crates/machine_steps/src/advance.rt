@@ -1,0 +1,127 @@
+//! A step of a thread.
+
+ghost use Rattle.std.specs.Prelude.{◌≡◌, ℕ, ◌+◌, ◌<◌, ◌^◌, true, false, Some, None, ◌∷◌, List, length, Ok, IfOk, IfErr, OnOk, OnErr};
+ghost use Rattle.std.specs.Option.{option_and_then};
+ghost use Rattle.std.specs.VecDeque.{deque_len};
+ghost use Rattle.heap.specs.Heap.{IsAddress, class_at, left_of};
+ghost use Rattle.syntax.specs.Views.{unit_tree};
+ghost use Rattle.semantics.specs.Thread.{BuffersInUse, Shared, Thread as SourceThread};
+ghost use Rattle.semantics.specs.ThreadStep.{thread_step};
+ghost use Rattle.semantics.specs.World.{loaded_objects};
+ghost use Rattle.semantics_safety.specs.Owners.{Owners};
+ghost use Rattle.code_meaning.specs.Lowered.{IsLowered};
+ghost use Rattle.machine_calls.specs.StoreAgrees.{StoreAgrees};
+ghost use Rattle.machine_steps.specs.ThreadAgrees.{ThreadAgrees};
+ghost use Rattle.machine_steps.specs.Advances.{AdvancesBy, ending_after, calls_after};
+ghost use Rattle.machine_steps.specs.Executes.{IsHindered, IsSteady, cells_made};
+ghost use Rattle.machine_steps.specs.Entry.{IsReady, Begins};
+
+use crate::entry::begin;
+use crate::execute::{Event, Executed, execute};
+use crate::fault::StepFault;
+use crate::thread::{Ending, PendingCall, Thread};
+use code_meaning::Program;
+use heap::{Addr, Heap};
+use machine_calls::activation::Activation;
+use machine_calls::store::Store;
+use std::alloc::AllocError;
+use std::collections::VecDeque;
+use world_values::World;
+
+/// What a step of a thread was.
+#[derive(Clone, Copy)]
+pub enum Advanced {
+    Did(Event),
+    /// The allocation of its call was refused.
+    Refused,
+}
+
+/// Takes one step of a thread that has not ended. Only the entry into a call, a new frame and a new global reference
+/// take host memory.
+///
+/// Where the step's objects have no room, its allocation is refused if it may be. Else `NoRoom` says so, before anything has
+/// changed: room can be made then, and the same step asked for again. It takes no host memory.
+#[inline(always)]
+pub fn advance(
+    program: &Program<'_>,
+    world: &World,
+    store: &mut Store,
+    thread: &mut Thread,
+    may_refuse: bool,
+) -> Result<Advanced, StepFault>
+    requires lowered { IsLowered program.now }
+    requires few { store.old.births + 2 < 2 ^ 32 }
+    requires agrees { (own : Owners) × (shared : Shared) × (s : SourceThread) × StoreAgrees program.now world.now store.old shared
+        × ThreadAgrees program.now world.now.classes store.old.heap (length (loaded_objects world.now)) own shared thread.old s × (thread.old.ending ≡ Ending.Unfinished) × IsSteady own shared s }
+    ensures advances { IfOk result (λ advanced. (in_use : BuffersInUse) (k : ℕ) (own : Owners) (shared : Shared) (s : SourceThread) → StoreAgrees program.now world.now store.old shared
+        → ThreadAgrees program.now world.now.classes store.old.heap (length (loaded_objects world.now)) own shared thread.old s
+        → IsSteady own shared s
+        → AdvancesBy program.now world.now store.old.heap store.new in_use k own shared s thread.new advanced) }
+    ensures hindered { IfErr result (λ fault. (in_use : BuffersInUse) (k : ℕ) (own : Owners) (shared : Shared) (s : SourceThread) → StoreAgrees program.now world.now store.old shared
+        → ThreadAgrees program.now world.now.classes store.old.heap (length (loaded_objects world.now)) own shared thread.old s
+        → IsSteady own shared s
+        → IsHindered (left_of store.old.heap) (cells_made shared (thread_step (unit_tree program.now.unit) world.now.classes in_use k shared s false)) may_refuse fault) }
+    ensures refuses { result ≡ Ok Advanced.Refused → may_refuse ≡ true }
+    ensures store { OnErr result (store.new ≡ store.old) }
+    ensures thread { OnErr result (thread.new ≡ thread.old) }
+{
+    match &mut thread.call {
+        None => match enter(program, &store.loaded, thread) {
+            Ok(()) => Ok(Advanced::Did(Event::Quiet)),
+            Err(_) => Err(StepFault::Memory),
+        },
+        Some(call) => match execute(program, world, store, &mut thread.pending, call, may_refuse) {
+            Ok(Executed::Did(event)) => Ok(Advanced::Did(event)),
+            Ok(Executed::Refused) => Ok(Advanced::Refused),
+            Ok(Executed::Returned) => {
+                leave(&store.heap, thread);
+                Ok(Advanced::Did(Event::Quiet))
+            }
+            Err(fault) => Err(fault),
+        },
+    }
+}
+
+/// The entry into the next call.
+#[inline(never)]
+fn enter(program: &Program<'_>, loaded: &[Addr], thread: &mut Thread) -> Result<(), AllocError>
+    requires lowered { IsLowered program.now }
+    requires some { 0 < deque_len thread.old.calls }
+    requires ready { (next : PendingCall) (rest : List PendingCall) → thread.old.calls.items ≡ next ∷ rest → IsReady program.now (length loaded.now) next }
+    ensures calls { OnOk result ((next : PendingCall) × (call : Activation) × (thread.old.calls.items ≡ next ∷ thread.new.calls.items)
+        × (thread.new.call ≡ Some call) × Begins program.now loaded.now next call) }
+    ensures pending { OnOk result (thread.new.pending ≡ thread.old.pending) }
+    ensures ending { OnOk result (thread.new.ending ≡ thread.old.ending) }
+    ensures err { OnErr result (thread.new ≡ thread.old) }
+{
+    let next = thread.calls.front().unwrap();
+    let code = program.code(next.function).unwrap();
+    let call = begin(*thread.calls.allocator(), code, loaded, next)?;
+    let _ = thread.calls.pop_front();
+    thread.call = Some(call);
+    Ok(())
+}
+
+/// The end of a call. An exception that is pending ends the thread, which drops its other calls.
+#[inline(never)]
+fn leave(heap: &Heap, thread: &mut Thread)
+    requires { (a : ℕ) → thread.old.pending ≡ Some a → IsAddress heap.now a }
+    ensures call { thread.new.call ≡ None }
+    ensures pending { thread.new.pending ≡ None }
+    ensures calls { thread.new.calls.items ≡ calls_after (option_and_then (class_at heap.now) thread.old.pending) thread.old.calls.items }
+    ensures ending { thread.new.ending ≡ ending_after (option_and_then (class_at heap.now) thread.old.pending) thread.old.calls.items thread.old.ending }
+{
+    thread.call = None;
+    match thread.pending {
+        Some(exception) => {
+            thread.pending = None;
+            thread.calls.clear();
+            thread.ending = Ending::Uncaught(heap.class_of(exception) as usize);
+        }
+        None => {
+            if thread.calls.is_empty() {
+                thread.ending = Ending::Ended;
+            }
+        }
+    }
+}

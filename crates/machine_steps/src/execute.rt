@@ -1,0 +1,171 @@
+//! An instruction of a call in progress.
+
+ghost use Rattle.std.specs.Prelude.{◌≡◌, ℕ, ◌+◌, ◌<◌, ◌^◌, ◌∷◌, true, Option, Some, IsSome, Ok, List, length, IfOk, IfErr, OnErr};
+ghost use Rattle.std.specs.Bool.{beq};
+ghost use Rattle.code.specs.Depth.{depth_after};
+ghost use Rattle.code.specs.Effect.{plain_of, truth_word};
+ghost use Rattle.heap.specs.Heap.{left_of};
+ghost use Rattle.semantics.specs.Effect.{effect_of};
+ghost use Rattle.semantics.specs.Task.{Task};
+ghost use Rattle.semantics.specs.Thread.{BuffersInUse, Shared, Thread as SourceThread, sight_of};
+ghost use Rattle.semantics.specs.ThreadStep.{after_effect};
+ghost use Rattle.semantics_safety.specs.Owners.{Owners};
+ghost use Rattle.code_meaning.specs.Lowered.{IsLowered};
+ghost use Rattle.machine_calls.specs.Asked.{references_of};
+ghost use Rattle.machine_steps.specs.Executes.{IsExecuting, IsHindered, Executes, cells_made};
+ghost use Rattle.machine_steps.specs.Invoked.{executed_as};
+ghost use Rattle.machine_steps.specs.Moved.{HasMoved, IsReachable, MovesPlainly};
+ghost use Rattle.machine_steps.specs.Variables.{is_null, HasSlot, nulled_references, nulled_fields, nulled_statics};
+
+use crate::fault::StepFault;
+use crate::invoke::{Invoked, invoke};
+use crate::variable::{is_null, set_null};
+use code::instr::{Instr, NullableVariable, Plain};
+use code::plain::plain;
+use code_meaning::Program;
+use heap::Addr;
+use machine_calls::activation::Activation;
+use machine_calls::references::References;
+use machine_calls::statics::StaticReference;
+use machine_calls::store::Store;
+use machine_calls::trap::{Trap, trap_of};
+use world_values::World;
+
+/// What is seen of a thread's step by others.
+#[derive(Clone, Copy)]
+pub enum Event {
+    Quiet,
+    /// The thread printed a number.
+    Printed(i32),
+    /// A statement of this line stopped the machine.
+    Trapped(Trap, u32),
+}
+
+/// What an instruction did.
+#[derive(Clone, Copy)]
+pub enum Executed {
+    Did(Event),
+    /// A call's allocation was refused.
+    Refused,
+    Returned,
+}
+
+/// One instruction of a call. Where what it makes has no room, it is refused if it may be, and else the fault says so.
+#[inline(always)]
+pub fn execute(
+    program: &Program<'_>,
+    world: &World,
+    store: &mut Store,
+    pending: &mut Option<Addr>,
+    call: &mut Activation,
+    may_refuse: bool,
+) -> Result<Executed, StepFault>
+    requires lowered { IsLowered program.now }
+    requires few { store.old.births + 2 < 2 ^ 32 }
+    requires stands { (own : Owners) × (shared : Shared) × (s : SourceThread) × (task : Task) × (rest : List Task) × IsExecuting program.now world.now store.old call.old pending.old own shared s task rest }
+    ensures done { IfOk result (λ done. (in_use : BuffersInUse) (k : ℕ) (own : Owners) (shared : Shared) (s : SourceThread) (task : Task) (rest : List Task) → IsExecuting program.now world.now store.old call.old pending.old own shared s task rest
+        → Executes program.now world.now store.old.heap store.new in_use k own shared s rest call.new pending.new (effect_of (sight_of shared s) task) done) }
+    ensures hindered { IfErr result (λ fault. (in_use : BuffersInUse) (k : ℕ) (own : Owners) (shared : Shared) (s : SourceThread) (task : Task) (rest : List Task) → IsExecuting program.now world.now store.old call.old pending.old own shared s task rest
+        → IsHindered (left_of store.old.heap) (cells_made shared (after_effect world.now.classes in_use k shared s rest (effect_of (sight_of shared s) task))) may_refuse fault) }
+    ensures refuses { result ≡ Ok Executed.Refused → may_refuse ≡ true }
+    ensures store { OnErr result (store.new ≡ store.old) }
+    ensures pending { OnErr result (pending.new ≡ pending.old) }
+    ensures call { OnErr result (call.new ≡ call.old) }
+{
+    let code = program.code_at(call.function);
+    let instr = code.instr_at(call.place);
+    match instr {
+        Instr::TestNull { variable, equal } => {
+            test_null(store, call, *variable, *equal);
+            Ok(Executed::Did(Event::Quiet))
+        }
+        Instr::StoreNull(variable) => {
+            store_null(&mut store.statics, call, *variable);
+            Ok(Executed::Did(Event::Quiet))
+        }
+        Instr::PutJint => {
+            let word = call.stack.pop();
+            call.place += 1;
+            Ok(Executed::Did(Event::Printed(word.cast_signed())))
+        }
+        Instr::Call(boxed) => {
+            let function = boxed.call();
+            match invoke(world, store, pending, call, function, may_refuse) {
+                Ok(invoked) => Ok(outcome_of(function.line, invoked)),
+                Err(fault) => Err(fault),
+            }
+        }
+        Instr::Return | Instr::ReturnJint | Instr::ReturnReference(_) => Ok(Executed::Returned),
+        _ => Ok(Executed::Did(run_plain(instr, call))),
+    }
+}
+
+/// What the instruction of a call on this line did, by what the call came to. A step knows its outcome by cases then, where one from memory would have to be read again.
+#[inline(always)]
+fn outcome_of(line: u32, invoked: Invoked) -> Executed
+    ensures { result ≡ executed_as line invoked }
+{
+    match invoked {
+        Invoked::Done => Executed::Did(Event::Quiet),
+        Invoked::Refused => Executed::Refused,
+        Invoked::Trapped(trap) => Executed::Did(Event::Trapped(trap, line)),
+    }
+}
+
+/// Puts the truth whether a variable is NULL, or isn't, onto the stack.
+#[inline(always)]
+fn test_null(store: &Store, call: &mut Activation, variable: NullableVariable, equal: bool)
+    requires room { length call.old.stack < 64 }
+    requires place { call.old.place + 1 < 2 ^ 64 }
+    ensures { HasMoved call.old call.new (call.old.place + 1) (truth_word (beq (is_null (references_of store.now call.old) call.old.fields.items variable) equal) ∷ call.old.stack)
+        call.old.numbers.items call.old.references.items call.old.fields.items }
+{
+    let references = References::new(
+        &call.references,
+        &call.locals,
+        &store.statics,
+        &store.globals,
+    );
+    let null = is_null(&references, &call.fields, variable);
+    call.stack.push(u32::from(null == equal));
+    call.place += 1;
+}
+
+/// Makes a variable NULL.
+#[inline(always)]
+fn store_null(statics: &mut [StaticReference], call: &mut Activation, variable: NullableVariable)
+    requires slot { HasSlot (length call.old.references.items) (length call.old.fields.items) (length statics.old) variable }
+    requires place { call.old.place + 1 < 2 ^ 64 }
+    ensures call { HasMoved call.old call.new (call.old.place + 1) call.old.stack call.old.numbers.items
+        (nulled_references variable call.old.references.items) (nulled_fields variable call.old.fields.items) }
+    ensures statics { statics.new ≡ nulled_statics variable statics.old }
+{
+    set_null(&mut call.references, &mut call.fields, statics, variable);
+    call.place += 1;
+}
+
+/// An instruction on the stack and the number slots alone.
+#[inline(always)]
+fn run_plain(instr: &Instr, call: &mut Activation) -> Event
+    requires operands { IsSome (plain_of instr.now call.old.stack call.old.numbers.items) }
+    requires room { IsSome (depth_after instr.now (length call.old.stack)) }
+    requires leads { (way : Plain) (stack numbers : List ℕ) → plain_of instr.now call.old.stack call.old.numbers.items ≡ Some (way, stack, numbers)
+        → IsReachable call.old.place way }
+    ensures { MovesPlainly instr.now call.old call.new result }
+{
+    match plain(instr, &mut call.stack, &mut call.numbers) {
+        Plain::Next => {
+            call.place += 1;
+            Event::Quiet
+        }
+        Plain::Skip(skipped) => {
+            call.place += 1 + skipped as usize;
+            Event::Quiet
+        }
+        Plain::Back(back) => {
+            call.place -= back as usize;
+            Event::Quiet
+        }
+        Plain::Trap(trap, line) => Event::Trapped(trap_of(trap), line),
+    }
+}

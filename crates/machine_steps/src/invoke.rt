@@ -1,0 +1,180 @@
+//! Calls of functions of the JNI (JNI Specification, chapter 4).
+
+ghost use Rattle.std.specs.Prelude.{◌≡◌, ◌+◌, ◌<◌, ◌^◌, ◌||◌, ℕ, nat_le, true, List, Option, Some, Ok, IfOk, IfErr, OnErr};
+ghost use Rattle.code.specs.Call.{IsPrepared};
+ghost use Rattle.heap.specs.Heap.{left_of};
+ghost use Rattle.semantics.specs.Effect.{effect_of};
+ghost use Rattle.semantics.specs.Task.{Task};
+ghost use Rattle.semantics.specs.Thread.{BuffersInUse, Shared, Thread as SourceThread, sight_of};
+ghost use Rattle.semantics.specs.ThreadStep.{after_effect};
+ghost use Rattle.semantics_safety.specs.Owners.{Owners};
+ghost use Rattle.code_meaning.specs.Lowered.{Lowered};
+ghost use Rattle.machine_steps.specs.Executes.{Executes, IsHindered, cells_made};
+ghost use Rattle.machine_calls.specs.CarriedOut.{is_of_references};
+ghost use Rattle.machine_calls.specs.Made.{cells_of};
+ghost use Rattle.machine_calls.specs.Traps.{trap_view};
+ghost use Rattle.machine_steps.specs.Invoked.{AtCall, IsAnswered, trap_at, done_or_refused, executed_as};
+
+use crate::fault::StepFault;
+use crate::receive::receive;
+use classes::table::ClassTable;
+use code::instr::Call;
+use heap::{Addr, Heap};
+use machine_calls::activation::Activation;
+use machine_calls::answer::{Answer, work_out};
+use machine_calls::carry_out::{carry_out, has_room};
+use machine_calls::check::check;
+use machine_calls::references::References;
+use machine_calls::store::Store;
+use machine_calls::trap::Trap;
+use std::alloc::AllocError;
+use world_values::World;
+
+/// What a call of a function of the JNI came to.
+#[derive(Clone, Copy)]
+pub enum Invoked {
+    Done,
+    /// Its allocation was refused.
+    Refused,
+    Trapped(Trap),
+}
+
+/// The instruction that calls a function. Only a new frame and a new global reference take host memory. Where what is made has no
+/// room, the call is refused if it may be, and else the fault says so.
+#[inline(never)]
+pub fn invoke(
+    world: &World,
+    store: &mut Store,
+    pending: &mut Option<Addr>,
+    call: &mut Activation,
+    function: &Call,
+    may_refuse: bool,
+) -> Result<Invoked, StepFault>
+    requires at_call { (p : Lowered) × (own : Owners) × (shared : Shared) × (s : SourceThread) × (task : Task) × (rest : List Task) × AtCall p world.now store.old pending.old call.old function.now own shared s task rest }
+    requires place { call.old.place + 1 < 2 ^ 64 }
+    requires few { store.old.births + 2 < 2 ^ 32 }
+    requires prepared { IsPrepared function.now }
+    ensures done { IfOk result (λ done. (p : Lowered) (in_use : BuffersInUse) (k : ℕ) (own : Owners) (shared : Shared) (s : SourceThread) (task : Task) (rest : List Task) → AtCall p world.now store.old pending.old call.old function.now own shared s task rest
+        → Executes p world.now store.old.heap store.new in_use k own shared s rest call.new pending.new (effect_of (sight_of shared s) task) (executed_as function.now.line done)) }
+    ensures hindered { IfErr result (λ fault. (p : Lowered) (in_use : BuffersInUse) (k : ℕ) (own : Owners) (shared : Shared) (s : SourceThread) (task : Task) (rest : List Task) → AtCall p world.now store.old pending.old call.old function.now own shared s task rest
+        → IsHindered (left_of store.old.heap) (cells_made shared (after_effect world.now.classes in_use k shared s rest (effect_of (sight_of shared s) task))) may_refuse fault) }
+    ensures refuses { result ≡ Ok Invoked.Refused → may_refuse ≡ true }
+    ensures store { OnErr result (store.new ≡ store.old) }
+    ensures pending { OnErr result (pending.new ≡ pending.old) }
+    ensures call { OnErr result (call.new ≡ call.old) }
+{
+    match answer_or_trap(world, store, *pending, call, function) {
+        Ok(answer) => {
+            if goes_ahead(world.classes(), &store.heap, &answer, may_refuse) {
+                match finish(world, store, pending, call, function, answer) {
+                    Ok(invoked) => Ok(invoked),
+                    Err(_) => Err(StepFault::Memory),
+                }
+            } else {
+                Err(StepFault::NoRoom)
+            }
+        }
+        Err(trap) => Ok(Invoked::Trapped(trap)),
+    }
+}
+
+/// Whether an answer is carried out: it may be refused, or what it makes has room.
+#[inline(always)]
+fn goes_ahead(classes: &ClassTable, heap: &Heap, answer: &Answer, may_refuse: bool) -> bool
+    ensures { result ≡ (may_refuse || nat_le (cells_of classes.now answer.now) (left_of heap.now)) }
+{
+    may_refuse || has_room(classes, heap, answer)
+}
+
+/// What a call answers, or the trap that a check found.
+#[inline(always)]
+fn answer_or_trap(
+    world: &World,
+    store: &Store,
+    pending: Option<Addr>,
+    call: &Activation,
+    function: &Call,
+) -> Result<Answer, Trap>
+    requires at_call { (p : Lowered) × (own : Owners) × (shared : Shared) × (s : SourceThread) × (task : Task) × (rest : List Task) × AtCall p world.now store.now pending call.now function.now own shared s task rest }
+    requires prepared { IsPrepared function.now }
+    ensures answer { IfOk result (IsAnswered world.now store.now pending call.now function.now) }
+    ensures trap { IfErr result (λ trap. trap_at world.now store.now pending call.now function.now ≡ Some (trap_view trap)) }
+{
+    let classes = world.classes();
+    let references = References::new(
+        &call.references,
+        &call.locals,
+        &store.statics,
+        &store.globals,
+    );
+    let trap = check(
+        classes,
+        &store.heap,
+        pending.is_some(),
+        &call.locals,
+        &references,
+        &call.fields,
+        function,
+    );
+    match trap {
+        Some(trap) => Err(trap),
+        None => Ok(work_out(
+            classes,
+            &store.heap,
+            &store.loaded,
+            &references,
+            &call.fields,
+            &call.stack,
+            function,
+        )),
+    }
+}
+
+/// Does what a call answers, and puts what it gives where it goes.
+#[inline(always)]
+fn finish(
+    world: &World,
+    store: &mut Store,
+    pending: &mut Option<Addr>,
+    call: &mut Activation,
+    function: &Call,
+    answer: Answer,
+) -> Result<Invoked, AllocError>
+    requires at_call { (p : Lowered) × (own : Owners) × (shared : Shared) × (s : SourceThread) × (task : Task) × (rest : List Task) × AtCall p world.now store.old pending.old call.old function.now own shared s task rest }
+    requires place { call.old.place + 1 < 2 ^ 64 }
+    requires few { store.old.births + 2 < 2 ^ 32 }
+    requires prepared { IsPrepared function.now }
+    requires answered { IsAnswered world.now store.old pending.old call.old function.now answer }
+    ensures done { IfOk result (λ done. (p : Lowered) (in_use : BuffersInUse) (k : ℕ) (own : Owners) (shared : Shared) (s : SourceThread) (task : Task) (rest : List Task) → AtCall p world.now store.old pending.old call.old function.now own shared s task rest
+        → Executes p world.now store.old.heap store.new in_use k own shared s rest call.new pending.new (effect_of (sight_of shared s) task) (executed_as function.now.line done)) }
+    ensures refused { result ≡ Ok Invoked.Refused → left_of store.old.heap < cells_of world.now.classes answer }
+    ensures of_references { OnErr result (is_of_references answer ≡ true) }
+    ensures store { OnErr result (store.new ≡ store.old) }
+    ensures pending { OnErr result (pending.new ≡ pending.old) }
+    ensures call { OnErr result (call.new ≡ call.old) }
+{
+    let kind = function.result;
+    let carried = carry_out(world, store, pending, &mut call.locals, kind, answer)?;
+    // Here the proof takes up what is known of a table.
+    let _ = call.locals.frames();
+    receive(
+        call,
+        &mut store.statics,
+        function.target,
+        kind,
+        &carried.given,
+    );
+    Ok(done_or_refused(carried.refused))
+}
+
+/// What a call came to that wasn't stopped.
+#[inline(always)]
+fn done_or_refused(refused: bool) -> Invoked
+    ensures { result ≡ done_or_refused refused }
+{
+    if refused {
+        Invoked::Refused
+    } else {
+        Invoked::Done
+    }
+}

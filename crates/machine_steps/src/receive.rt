@@ -1,0 +1,94 @@
+//! Where what a function gives goes.
+
+ghost use Rattle.std.specs.Prelude.{◌≡◌, ◌<◌, ◌^◌, ◌+◌, [], length};
+ghost use Rattle.jni.specs.Table.{result_value};
+ghost use Rattle.machine_steps.specs.Received.{HasTarget, HasRoom, MakesLocal, Receives, stack_with, numbers_with, fields_with, statics_with, HasStatic};
+
+use classes::class::FieldHandle;
+use code::instr::Target;
+use code::stack::Stack;
+use jni::ResultKind;
+use machine_calls::activation::Activation;
+use machine_calls::answer::Given;
+use machine_calls::statics::StaticReference;
+use tables::{Local, Locals};
+
+/// Puts what a function of this kind of result gives into its target, a new local reference also into the current frame, and
+/// goes on after the instruction. It takes no host memory.
+pub fn receive(
+    call: &mut Activation,
+    statics: &mut [StaticReference],
+    target: Target,
+    kind: ResultKind,
+    given: &Given,
+)
+    requires place { call.old.place + 1 < 2 ^ 64 }
+    requires target { HasTarget target call.old }
+    requires static_target { HasStatic target (length statics.old) }
+    requires room { HasRoom (result_value kind) call.old.locals }
+    ensures call { Receives target (result_value kind) given.now call.old call.new }
+    ensures statics { statics.new ≡ statics_with target given.now statics.old }
+{
+    call.stack.clear();
+    call.place += 1;
+    let key = make_local(&mut call.locals, kind, given);
+    match target {
+        Target::Dropped | Target::Buffer(_) => {}
+        Target::Number(slot) => put_number(&mut call.numbers, slot, given),
+        Target::Local(slot) => call.references[slot as usize] = key,
+        Target::FieldId(slot) => put_field(&mut call.fields, slot, given),
+        Target::Static(slot) => put_static(statics, slot, given),
+        Target::Test => put_test(&mut call.stack, given),
+    }
+}
+
+/// Makes a local reference in the current frame of what is given, where a function of this kind of result does and it isn't NULL.
+fn make_local(locals: &mut Locals, kind: ResultKind, given: &Given) -> Option<Local>
+    requires { HasRoom (result_value kind) locals.old }
+    ensures { MakesLocal (result_value kind) given.now locals.old result locals.new }
+{
+    match (kind, *given) {
+        (ResultKind::NewLocal, Given::Reference(Some(addr))) => Some(locals.make_in_room(addr)),
+        _ => None,
+    }
+}
+
+/// Puts the truth whether a number is 0 onto the stack, for the test of an `if`.
+fn put_test(stack: &mut Stack, given: &Given)
+    requires { stack.old ≡ [] }
+    ensures { stack.new ≡ stack_with Target.Test given.now }
+{
+    if let Given::Number(word) = *given {
+        stack.push(u32::from(word == 0));
+    }
+}
+
+/// Puts a number into its slot.
+fn put_number(numbers: &mut [u32], slot: u32, given: &Given)
+    requires { slot < length numbers.old }
+    ensures { numbers.new ≡ numbers_with (Target.Number slot) given.now numbers.old }
+{
+    if let Given::Number(word) = *given {
+        numbers[slot as usize] = word;
+    }
+}
+
+/// Puts a field ID into its slot.
+fn put_field(fields: &mut [Option<FieldHandle>], slot: u32, given: &Given)
+    requires { slot < length fields.old }
+    ensures { fields.new ≡ fields_with (Target.FieldId slot) given.now fields.old }
+{
+    if let Given::FieldId(field) = *given {
+        fields[slot as usize] = field;
+    }
+}
+
+/// Puts a global reference into its static. One that the static held stays.
+fn put_static(statics: &mut [StaticReference], slot: u32, given: &Given)
+    requires { slot < length statics.old }
+    ensures { statics.new ≡ statics_with (Target.Static slot) given.now statics.old }
+{
+    if let Given::Global(reference) = *given {
+        statics[slot as usize] = reference;
+    }
+}

@@ -1,6 +1,0 @@
-use Rattle.std.proofs.Common.{◌-◌, length}
-use Rattle.object_store.proofs.FrameLemmas.{AreOthers}
-use Rattle.object_store.proofs.names.last_place.Given as goal
-
-abbrev pub invariant-loop-done : goal.invariant-loop-done
-invariant-loop-done l = AreOthers l.name l.names (length l.names - l.done)

@@ -1,9 +1,0 @@
-use Rattle.std.proofs.Common.{List, ap}
-use Rattle.std.proofs.lemmas.List.{map-set}
-use Rattle.source.specs.Object.{Object, ObjectValue}
-use Rattle.world.specs.Views.{object_value_view}
-use Rattle.object_store.proofs.store.put_value.Goals as goal
-
-pub returns-then-place-len-clause-view : goal.returns-then-place-len-clause-view
-returns-then-place-len-clause-view c =
-    ap (λ (vs : List ObjectValue). let o : Object = record { class = c.args.object.now.class; values = vs } in o) (map-set object_value_view c.args.object.now.values.items c.args.place c.args.value)

@@ -1,0 +1,13 @@
+use Rattle.std.proofs.Common.{rules}
+use Rattle.parse_lexemes.specs.Lexemes.{views}
+use Rattle.parse_expressions.proofs.Called.{interface_is}
+use Rattle.parse_expressions.proofs.calls.interface.Goals as goal
+
+pub returns-in_err-rest : goal.returns-in_err-rest
+returns-in_err-rest c = rw (interface_is (views c.args.lexemes)) (search rules)
+
+pub returns-in_err-rest-2 : goal.returns-in_err-rest-2
+returns-in_err-rest-2 c = rw (interface_is (views c.args.lexemes)) (search rules)
+
+pub returns : goal.returns
+returns c = rw (interface_is (views c.args.lexemes)) (search rules)

@@ -1,0 +1,260 @@
+//! Calls of JNI functions, what variables are set to, and what is tested.
+
+ghost use Rattle.std.specs.Prelude.{◌≡◌, ◌≤◌, ◌+◌, length, map};
+ghost use Rattle.syntax.specs.Tree.{TestCall};
+ghost use Rattle.syntax.specs.Views.{argument_tree, call_tree, right_side_tree, test_tree};
+ghost use Rattle.parse_lexemes.specs.Results.{Gives};
+ghost use Rattle.parse_expressions.specs.Steps.{ReadCall, ReadName, ReadSetting, ReadTest, made_of, function_at, zero_at};
+ghost use Rattle.parse_lexemes.specs.Lexemes.{views, expect};
+ghost use Rattle.parse_expressions.specs.Reading.{interface_at, value_at, argument_at, arguments_at, call_at, starts_call, right_at, setting_at, test_at};
+
+use crate::expressions::{expect_two, expression, owned_name, right_expression};
+use parse_lexemes::{
+    Cursor, Fixed, ParseFault, expect, name_at, number_at, rest_of, starts_with, text_at,
+};
+use scan::{Mark, Word};
+use std::alloc::Global;
+use syntax::{Argument, Call, Name, RightSide, Test};
+
+/// What comes after `(*env)->`.
+fn interface(lexemes: Cursor<'_>) -> Result<Cursor<'_>, ParseFault>
+    ensures { Gives (λ x. views x) result (interface_at (views lexemes.entry)) }
+{
+    let rest = expect_two(
+        Fixed::Mark(Mark::OpenParen),
+        Fixed::Mark(Mark::Star),
+        lexemes,
+    )?;
+    let rest = expect_two(Fixed::Word(Word::Env), Fixed::Mark(Mark::CloseParen), rest)?;
+    expect(Fixed::Mark(Mark::Arrow), rest)
+}
+
+/// An argument that is no string.
+#[tactic(auto, unfolding(crate::specs::Reading::value_at))]
+fn value(
+    alloc: Global,
+    room: u32,
+    lexemes: Cursor<'_>,
+) -> Result<(Argument, Cursor<'_>), ParseFault>
+    requires { room ≤ 32 }
+    ensures { Gives (λ x. (argument_tree x.0, views x.1)) result (value_at room (views lexemes.entry)) }
+{
+    if starts_with(Fixed::Mark(Mark::Ampersand), lexemes) {
+        return match owned_name(alloc, rest_of(lexemes)) {
+            Ok((name, rest)) => Ok((Argument::AddressOf(name), rest)),
+            Err(fault) => Err(fault),
+        };
+    }
+    match expression(alloc, room, 0, lexemes) {
+        Ok((value, _, rest)) => Ok((Argument::Value(value), rest)),
+        Err(fault) => Err(fault),
+    }
+}
+
+/// An argument.
+#[tactic(auto, unfolding(crate::specs::Reading::argument_at))]
+fn argument(
+    alloc: Global,
+    room: u32,
+    lexemes: Cursor<'_>,
+) -> Result<(Argument, Cursor<'_>), ParseFault>
+    requires { room ≤ 32 }
+    ensures { Gives (λ x. (argument_tree x.0, views x.1)) result (argument_at room (views lexemes.entry)) }
+{
+    match text_at(lexemes) {
+        Some(bytes) => {
+            let Ok(bytes) = Vec::from_slice(alloc, bytes) else {
+                return Err(ParseFault::Memory);
+            };
+            Ok((Argument::Text(bytes), rest_of(lexemes)))
+        }
+        None => value(alloc, room, lexemes),
+    }
+}
+
+/// Arguments, each with the comma before it.
+fn arguments(
+    alloc: Global,
+    room: u32,
+    lexemes: Cursor<'_>,
+) -> Result<(Vec<Argument>, Cursor<'_>), ParseFault>
+    requires { room ≤ 32 }
+    ensures { Gives (λ x. (map argument_tree x.0.items, views x.1)) result (arguments_at room (length (views lexemes.entry) + 1) (views lexemes.entry)) }
+{
+    let mut arguments = Vec::new(alloc);
+    let mut rest = lexemes;
+    'arguments: while starts_with(Fixed::Mark(Mark::Comma), rest) {
+        let (argument, after) = argument(alloc, room, rest_of(rest))?;
+        arguments.push(argument)?;
+        rest = after;
+    }
+    Ok((arguments, rest))
+}
+
+/// A call with its arguments, and what comes after its closing parenthesis.
+fn called<'t>(
+    alloc: Global,
+    function: &[u8],
+    arguments: Vec<Argument>,
+    paren: Fixed,
+    lexemes: Cursor<'t>,
+) -> Result<(Call, Cursor<'t>), ParseFault>
+    ensures { Gives (λ x. (call_tree x.0, views x.1)) result (made_of {B = ReadCall} (expect paren (views lexemes.entry)) (λ after. (record { function = function.now; arguments = map argument_tree arguments.items }, after))) }
+{
+    let rest = expect(paren, lexemes)?;
+    let Ok(function) = Name::new(alloc, function) else {
+        return Err(ParseFault::Memory);
+    };
+    Ok((
+        Call {
+            function,
+            arguments,
+        },
+        rest,
+    ))
+}
+
+/// The name of the function that is called.
+#[inline(always)]
+fn function(lexemes: Cursor<'_>) -> Result<(&[u8], Cursor<'_>), ParseFault>
+    ensures { Gives (λ x. (x.0.now, views x.1)) result (function_at (views lexemes.entry)) }
+{
+    let rest = interface(lexemes)?;
+    name_at(rest)
+}
+
+/// A call.
+pub fn call(alloc: Global, room: u32, lexemes: Cursor<'_>) -> Result<(Call, Cursor<'_>), ParseFault>
+    requires { room ≤ 32 }
+    ensures { Gives (λ x. (call_tree x.0, views x.1)) result (call_at room (views lexemes.entry)) }
+{
+    let (function, rest) = function(lexemes)?;
+    let rest = expect_two(Fixed::Mark(Mark::OpenParen), Fixed::Word(Word::Env), rest)?;
+    let (arguments, rest) = arguments(alloc, room, rest)?;
+    called(
+        alloc,
+        function,
+        arguments,
+        Fixed::Mark(Mark::CloseParen),
+        rest,
+    )
+}
+
+/// Whether a call comes next, since no expression begins so.
+fn starts_call(lexemes: Cursor<'_>) -> bool
+    ensures { result ≡ starts_call (views lexemes.entry) }
+{
+    starts_with(Fixed::Mark(Mark::OpenParen), lexemes)
+        && starts_with(Fixed::Mark(Mark::Star), rest_of(lexemes))
+}
+
+/// An expression or a call.
+#[tactic(auto, unfolding(crate::specs::Reading::right_at))]
+pub(crate) fn right_side(
+    alloc: Global,
+    room: u32,
+    lexemes: Cursor<'_>,
+) -> Result<(RightSide, Cursor<'_>), ParseFault>
+    requires { room ≤ 32 }
+    ensures { Gives (λ x. (right_side_tree x.0, views x.1)) result (right_at room (views lexemes.entry)) }
+{
+    if starts_call(lexemes) {
+        return match call(alloc, room, lexemes) {
+            Ok((call, rest)) => Ok((RightSide::Call(call), rest)),
+            Err(fault) => Err(fault),
+        };
+    }
+    match right_expression(alloc, room, lexemes) {
+        Ok((value, _, rest)) => Ok((RightSide::Expr(value), rest)),
+        Err(fault) => Err(fault),
+    }
+}
+
+/// A name with what it is set to, and what comes after the semicolon.
+fn set_to<'t>(
+    alloc: Global,
+    name: &[u8],
+    right: RightSide,
+    semicolon: Fixed,
+    lexemes: Cursor<'t>,
+) -> Result<(Name, RightSide, Cursor<'t>), ParseFault>
+    ensures { Gives (λ x. (x.0, right_side_tree x.1, views x.2)) result (made_of {B = ReadSetting} (expect semicolon (views lexemes.entry)) (λ rest. (name.now, right_side_tree right, rest))) }
+{
+    match ended_name(alloc, name, semicolon, lexemes) {
+        Ok((name, rest)) => Ok((name, right, rest)),
+        Err(fault) => Err(fault),
+    }
+}
+
+/// A name, and what comes after this lexeme, which ends it.
+#[inline(always)]
+fn ended_name<'t>(
+    alloc: Global,
+    name: &[u8],
+    end: Fixed,
+    lexemes: Cursor<'t>,
+) -> Result<(Name, Cursor<'t>), ParseFault>
+    ensures { Gives (λ x. (x.0, views x.1)) result (made_of {B = ReadName} (expect end (views lexemes.entry)) (λ rest. (name.now, rest))) }
+{
+    let rest = expect(end, lexemes)?;
+    let Ok(name) = Name::new(alloc, name) else {
+        return Err(ParseFault::Memory);
+    };
+    Ok((name, rest))
+}
+
+/// A name, what it is set to, and what comes after the semicolon.
+#[tactic(auto, unfolding(crate::specs::Reading::setting_at))]
+pub fn setting(
+    alloc: Global,
+    room: u32,
+    lexemes: Cursor<'_>,
+) -> Result<(Name, RightSide, Cursor<'_>), ParseFault>
+    requires { room ≤ 32 }
+    ensures { Gives (λ x. (x.0, right_side_tree x.1, views x.2)) result (setting_at room (views lexemes.entry)) }
+{
+    let (name, rest) = name_at(lexemes)?;
+    let rest = expect(Fixed::Mark(Mark::Assign), rest)?;
+    let (right, rest) = right_side(alloc, room, rest)?;
+    set_to(alloc, name, right, Fixed::Mark(Mark::Semicolon), rest)
+}
+
+/// What comes after `== 0`.
+#[inline]
+#[tactic(auto, unfolding(crate::specs::Steps::zero_at))]
+fn zero(lexemes: Cursor<'_>) -> Result<Cursor<'_>, ParseFault>
+    ensures { Gives views result (zero_at (views lexemes.entry)) }
+{
+    let rest = expect(Fixed::Mark(Mark::Equal), lexemes)?;
+    match number_at(0, 0, rest) {
+        Ok((_, rest)) => Ok(rest),
+        Err(fault) => Err(fault),
+    }
+}
+
+/// A call with what tests it for 0, which comes next.
+#[inline]
+fn called_test(call: Call, lexemes: Cursor<'_>) -> Result<(Test, Cursor<'_>), ParseFault>
+    ensures { Gives (λ x. (test_tree x.0, views x.1)) result (made_of {B = ReadTest} (zero_at (views lexemes.entry)) (λ rest. (TestCall (call_tree call), rest))) }
+{
+    match zero(lexemes) {
+        Ok(rest) => Ok((Test::Call(call), rest)),
+        Err(fault) => Err(fault),
+    }
+}
+
+/// An expression, or a call that is tested for 0.
+#[tactic(auto, using(crate::proofs::Called::test_is))]
+pub fn test(alloc: Global, room: u32, lexemes: Cursor<'_>) -> Result<(Test, Cursor<'_>), ParseFault>
+    requires { room ≤ 32 }
+    ensures { Gives (λ x. (test_tree x.0, views x.1)) result (test_at room (views lexemes.entry)) }
+{
+    if starts_call(lexemes) {
+        let (call, rest) = call(alloc, room, lexemes)?;
+        return called_test(call, rest);
+    }
+    match expression(alloc, room, 0, lexemes) {
+        Ok((value, _, rest)) => Ok((Test::Expr(value), rest)),
+        Err(fault) => Err(fault),
+    }
+}

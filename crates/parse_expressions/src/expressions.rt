@@ -1,0 +1,482 @@
+//! Expressions, by the levels of their operators (ISO/IEC 9899:1999, 6.5).
+
+ghost use Rattle.std.specs.Prelude.{◌≡◌, ℕ, ◌+◌, ◌≤◌, ◌<◌, Result, IfOk, IfSome, is_ok};
+ghost use Rattle.std.specs.Option.{option_map};
+ghost use Rattle.syntax.specs.Limits.{operator_level};
+ghost use Rattle.syntax.specs.Views.{constant_tree, prefix_tree, binary_tree, expr_tree};
+ghost use Rattle.parse_lexemes.specs.Results.{Gives};
+ghost use Rattle.parse_expressions.specs.Steps.{made_of, two, joined_by, right_by, within, opening_view, level_inside, around, ending_at, operand_of, cast_at, paren_opening_at, bracket_at, element_opening_at, starts_deep, opening_at};
+ghost use Rattle.parse_lexemes.specs.declared.fault.ParseFault.{ParseFault};
+ghost use Rattle.parse_lexemes.specs.Lexemes.{views, expect, name_at};
+ghost use Rattle.parse_expressions.specs.Reading.{ReadExpr, operator_at, binary_of_mark, named_of, primary_at, starts_element, starts_inside, index_at, operand_at, expr_at, right_expr_at, deeper};
+ghost use Rattle.parse_lexemes.specs.Reading.{constant_of_word, rest_of};
+
+use parse_lexemes::{
+    Cursor, Fault, Fixed, ParseFault, Shape, expect, fault_at, mark_at, name_at, rest_of, shape_at,
+    starts_name, starts_with, unexpected,
+};
+use scan::{Mark, Word};
+use std::alloc::{AllocError, Global};
+use syntax::{BinaryOp, Constant, Expr, Name, PrefixOp};
+
+/// An expression, its height, and what comes after it.
+type ReadExpr<'t> = (Expr, u32, Cursor<'t>);
+
+/// What comes in an operand before an expression inside it.
+#[derive(Clone, Copy)]
+enum Opening<'t> {
+    Prefix(PrefixOp),
+    Paren,
+    /// The name before an opening bracket.
+    Element(&'t [u8]),
+}
+
+/// How an operand opens that has an expression inside, and what comes after that.
+type ReadOpening<'t> = Option<(Opening<'t>, Cursor<'t>)>;
+
+/// Prefixes bind tighter than all operators.
+const PREFIX_LEVEL: u32 = 11;
+
+/// How tightly an operator holds its operands.
+fn level(op: BinaryOp) -> u32
+    ensures { result ≡ operator_level (binary_tree op) }
+{
+    match op {
+        BinaryOp::LogicalOr => 1,
+        BinaryOp::LogicalAnd => 2,
+        BinaryOp::BitOr => 3,
+        BinaryOp::BitXor => 4,
+        BinaryOp::BitAnd => 5,
+        BinaryOp::Equal | BinaryOp::NotEqual => 6,
+        BinaryOp::Less | BinaryOp::LessEqual | BinaryOp::Greater | BinaryOp::GreaterEqual => 7,
+        BinaryOp::ShiftLeft | BinaryOp::ShiftRight => 8,
+        BinaryOp::Add | BinaryOp::Subtract => 9,
+        BinaryOp::Multiply | BinaryOp::Divide | BinaryOp::Remainder => 10,
+    }
+}
+
+/// The operator between two operands of a mark.
+fn binary_of(mark: Mark) -> Option<BinaryOp>
+    ensures { option_map binary_tree result ≡ binary_of_mark mark }
+{
+    match mark {
+        Mark::LogicalOr => Some(BinaryOp::LogicalOr),
+        Mark::LogicalAnd => Some(BinaryOp::LogicalAnd),
+        Mark::Bar => Some(BinaryOp::BitOr),
+        Mark::Caret => Some(BinaryOp::BitXor),
+        Mark::Ampersand => Some(BinaryOp::BitAnd),
+        Mark::Equal => Some(BinaryOp::Equal),
+        Mark::NotEqual => Some(BinaryOp::NotEqual),
+        Mark::Less => Some(BinaryOp::Less),
+        Mark::LessEqual => Some(BinaryOp::LessEqual),
+        Mark::Greater => Some(BinaryOp::Greater),
+        Mark::GreaterEqual => Some(BinaryOp::GreaterEqual),
+        Mark::ShiftLeft => Some(BinaryOp::ShiftLeft),
+        Mark::ShiftRight => Some(BinaryOp::ShiftRight),
+        Mark::Plus => Some(BinaryOp::Add),
+        Mark::Minus => Some(BinaryOp::Subtract),
+        Mark::Star => Some(BinaryOp::Multiply),
+        Mark::Slash => Some(BinaryOp::Divide),
+        Mark::Percent => Some(BinaryOp::Remainder),
+        _ => None,
+    }
+}
+
+/// The operator that comes next.
+fn operator(rest: Cursor<'_>) -> Option<BinaryOp>
+    ensures { option_map binary_tree result ≡ operator_at (views rest.entry) }
+{
+    match mark_at(rest) {
+        Some(mark) => binary_of(mark),
+        None => None,
+    }
+}
+
+/// The named constant of a word.
+fn constant_of(word: Word) -> Option<Constant>
+    ensures { option_map constant_tree result ≡ constant_of_word word }
+{
+    match word {
+        Word::JniTrue => Some(Constant::True),
+        Word::JniFalse => Some(Constant::False),
+        Word::JniCommit => Some(Constant::Commit),
+        Word::JniAbort => Some(Constant::Abort),
+        Word::Null => Some(Constant::Null),
+        _ => None,
+    }
+}
+
+/// A name, and what comes after it.
+pub fn owned_name(alloc: Global, lexemes: Cursor<'_>) -> Result<(Name, Cursor<'_>), ParseFault>
+    ensures { Gives (λ x. (x.0, views x.1)) result (name_at (views lexemes.entry)) }
+{
+    let (name, rest) = name_at(lexemes)?;
+    let Ok(name) = Name::new(alloc, name) else {
+        return Err(ParseFault::Memory);
+    };
+    Ok((name, rest))
+}
+
+/// Two lexemes, and what comes after them.
+#[inline(always)]
+pub fn expect_two(
+    first: Fixed,
+    second: Fixed,
+    lexemes: Cursor<'_>,
+) -> Result<Cursor<'_>, ParseFault>
+    ensures { Gives views result (two first second (views lexemes.entry)) }
+{
+    let rest = expect(first, lexemes)?;
+    expect(second, rest)
+}
+
+/// A named constant.
+#[inline(always)]
+fn named(word: Word, lexemes: Cursor<'_>) -> Result<ReadExpr<'_>, ParseFault>
+    ensures low { IfOk result (λ x. x.1 ≡ 0) }
+    ensures gives { Gives {Y = ReadExpr} (λ x. (expr_tree x.0, x.1, views x.2)) result (named_of (constant_of_word word) (views lexemes.entry) (rest_of (views lexemes.entry))) }
+{
+    match constant_of(word) {
+        Some(constant) => Ok((Expr::Named(constant), 0, rest_of(lexemes))),
+        None => Err(unexpected(lexemes)),
+    }
+}
+
+/// A number, a named constant or a name.
+#[tactic(auto, unfolding(crate::specs::Reading::primary_at))]
+fn primary(alloc: Global, lexemes: Cursor<'_>) -> Result<ReadExpr<'_>, ParseFault>
+    ensures low { IfOk result (λ x. x.1 ≡ 0) }
+    ensures gives { Gives (λ x. (expr_tree x.0, x.1, views x.2)) result (primary_at (views lexemes.entry)) }
+{
+    match shape_at(lexemes) {
+        Shape::Number { value, unsigned } => {
+            Ok((Expr::Number { value, unsigned }, 0, rest_of(lexemes)))
+        }
+        Shape::Name => match owned_name(alloc, lexemes) {
+            Ok((name, rest)) => Ok((Expr::Variable(name), 0, rest)),
+            Err(fault) => Err(fault),
+        },
+        Shape::Fixed(Fixed::Word(word)) => named(word, lexemes),
+        _ => Err(unexpected(lexemes)),
+    }
+}
+
+/// An expression inside an operand, with what is around it.
+fn around(alloc: Global, opening: Opening<'_>, inside: Expr) -> Result<Expr, AllocError>
+    ensures { IfOk result (λ e. expr_tree e ≡ around (opening_view opening.entry) (expr_tree inside)) }
+{
+    let inside = Box::new(alloc, inside)?;
+    match opening {
+        Opening::Prefix(op) => Ok(Expr::Prefix(op, inside)),
+        Opening::Paren => Ok(Expr::Paren(inside)),
+        Opening::Element(name) => Ok(Expr::Element(Name::new(alloc, name)?, inside)),
+    }
+}
+
+/// An expression with its height, and what comes after this lexeme, which ends it.
+#[inline(always)]
+pub fn closed(
+    end: Fixed,
+    inside: Expr,
+    height: u32,
+    lexemes: Cursor<'_>,
+) -> Result<ReadExpr<'_>, ParseFault>
+    ensures low { IfOk result (λ x. x.1 ≡ height) }
+    ensures gives { Gives (λ x. (expr_tree x.0, x.1, views x.2)) result (made_of {B = ReadExpr} (expect end (views lexemes.entry)) (λ after. (expr_tree inside, height, after))) }
+{
+    match expect(end, lexemes) {
+        Ok(rest) => Ok((inside, height, rest)),
+        Err(fault) => Err(fault),
+    }
+}
+
+/// What is read of an expression, and what comes after the next lexeme, which ends it.
+#[inline(always)]
+fn ended<'t>(end: Fixed, read: ReadExpr<'t>) -> Result<ReadExpr<'t>, ParseFault>
+    ensures low { IfOk result (λ x. x.1 ≡ read.entry.1) }
+    ensures gives { Gives (λ x. (expr_tree x.0, x.1, views x.2)) result (made_of {B = ReadExpr} (expect end (views read.entry.2)) (λ after. (expr_tree read.entry.0, read.entry.1, after))) }
+{
+    let (inside, height, rest) = read;
+    closed(end, inside, height, rest)
+}
+
+/// What is read inside an operand which opened so, and what comes after the lexeme that ends it.
+#[inline(always)]
+fn ended_as<'t>(opening: Opening<'t>, inside: ReadExpr<'t>) -> Result<ReadExpr<'t>, ParseFault>
+    ensures low { IfOk result (λ x. x.1 ≡ inside.entry.1) }
+    ensures gives { Gives (λ x. (expr_tree x.0, x.1, views x.2)) result (made_of {B = ReadExpr} (ending_at (opening_view opening.entry) (views inside.entry.2)) (λ after. (expr_tree inside.entry.0, inside.entry.1, after))) }
+{
+    match opening {
+        Opening::Prefix(_) => Ok(inside),
+        Opening::Paren => ended(Fixed::Mark(Mark::CloseParen), inside),
+        Opening::Element(_) => ended(Fixed::Mark(Mark::CloseBracket), inside),
+    }
+}
+
+/// An operand with the expression that was read inside it, and what comes after it.
+#[inline(always)]
+fn operand_of<'t>(
+    alloc: Global,
+    opening: Opening<'t>,
+    inside: ReadExpr<'t>,
+) -> Result<ReadExpr<'t>, ParseFault>
+    requires { inside.1 < 32 }
+    ensures low { IfOk result (λ x. x.1 ≡ 1 + inside.entry.1) }
+    ensures gives { Gives (λ x. (expr_tree x.0, x.1, views x.2)) result (operand_of (opening_view opening.entry) (expr_tree inside.entry.0, inside.entry.1, views inside.entry.2)) }
+{
+    let (inside, height, rest) = ended_as(opening, inside)?;
+    let Ok(operand) = around(alloc, opening, inside) else {
+        return Err(ParseFault::Memory);
+    };
+    Ok((operand, 1 + height, rest))
+}
+
+/// What is to the left of an operator, and what was read after it.
+#[inline(always)]
+fn joined<'t>(
+    alloc: Global,
+    op: BinaryOp,
+    left: ReadExpr<'t>,
+    right: Result<ReadExpr<'t>, ParseFault>,
+) -> Result<ReadExpr<'t>, ParseFault>
+    requires { IfOk right (λ x. (x.1 < 32) × (left.1 < 32)) }
+    ensures low { (most : ℕ) → IfOk right.entry (λ x. (x.1 < most) × (left.entry.1 < most)) → IfOk result (λ x. (x.1 ≤ most) × (left.entry.1 < x.1)) }
+    ensures gives { (read : Result ReadExpr ParseFault) → Gives (λ x. (expr_tree x.0, x.1, views x.2)) right.entry read → Gives (λ x. (expr_tree x.0, x.1, views x.2)) result (joined_by (binary_tree op) (expr_tree left.entry.0, left.entry.1, views left.entry.2) read) }
+{
+    let (right, right_height, rest) = right?;
+    let (left, height, _) = left;
+    let operands = Box::new(alloc, (left, right))?;
+    Ok((
+        Expr::Binary(op, operands),
+        1 + height.max(right_height),
+        rest,
+    ))
+}
+
+/// The operator that comes next, where it is of this level or tighter.
+#[inline(always)]
+fn operator_within(least: u32, rest: Cursor<'_>) -> Option<BinaryOp>
+    ensures { option_map binary_tree result ≡ within least (operator_at (views rest.entry)) }
+{
+    match operator(rest) {
+        Some(op) if level(op) >= least => Some(op),
+        _ => None,
+    }
+}
+
+/// Whether an operand begins here that holds another expression.
+fn starts_deep(lexemes: Cursor<'_>) -> bool
+    ensures { result ≡ starts_deep (views lexemes.entry) }
+{
+    starts_with(Fixed::Mark(Mark::Tilde), lexemes)
+        || starts_with(Fixed::Mark(Mark::Exclamation), lexemes)
+        || starts_with(Fixed::Mark(Mark::OpenParen), lexemes)
+}
+
+/// Whether a name with an index comes next.
+pub fn starts_element(lexemes: Cursor<'_>) -> bool
+    ensures { result ≡ starts_element (views lexemes.entry) }
+{
+    starts_name(lexemes) && starts_with(Fixed::Mark(Mark::OpenBracket), rest_of(lexemes))
+}
+
+/// A cast to a type, of which the closing parenthesis is read.
+#[inline(always)]
+fn cast(op: PrefixOp, lexemes: Cursor<'_>) -> Result<ReadOpening<'_>, ParseFault>
+    ensures { Gives (option_map (λ x. (opening_view x.0, views x.1))) result (cast_at (prefix_tree op) (views lexemes.entry)) }
+{
+    match expect(Fixed::Mark(Mark::CloseParen), lexemes) {
+        Ok(rest) => Ok(Some((Opening::Prefix(op), rest))),
+        Err(fault) => Err(fault),
+    }
+}
+
+/// What opens with a parenthesis: a cast, or an expression.
+#[inline(always)]
+#[tactic(auto, unfolding(crate::specs::Steps::paren_opening_at))]
+fn paren_opening(lexemes: Cursor<'_>) -> Result<ReadOpening<'_>, ParseFault>
+    ensures { Gives (option_map (λ x. (opening_view x.0, views x.1))) result (paren_opening_at (views lexemes.entry)) }
+{
+    if starts_with(Fixed::Word(Word::Uint32), lexemes) {
+        return cast(PrefixOp::ToWord, rest_of(lexemes));
+    }
+    if starts_with(Fixed::Word(Word::Jint), lexemes) {
+        return cast(PrefixOp::ToInt, rest_of(lexemes));
+    }
+    Ok(Some((Opening::Paren, lexemes)))
+}
+
+/// What comes after the opening bracket of an index, which counts one.
+#[inline(always)]
+#[tactic(auto, unfolding(crate::specs::Steps::bracket_at))]
+fn bracket(room: u32, lexemes: Cursor<'_>) -> Result<Cursor<'_>, ParseFault>
+    ensures some { IfOk result (λ _. 1 ≤ room) }
+    ensures gives { Gives views result (bracket_at room (views lexemes.entry)) }
+{
+    if room == 0 {
+        return Err(fault_at(Fault::TooHigh, lexemes));
+    }
+    expect(Fixed::Mark(Mark::OpenBracket), lexemes)
+}
+
+/// The name of an element, and its opening bracket.
+#[inline(always)]
+#[tactic(auto, unfolding(crate::specs::Steps::element_opening_at))]
+fn element_opening(room: u32, lexemes: Cursor<'_>) -> Result<ReadOpening<'_>, ParseFault>
+    ensures some { IfOk result (λ _. 1 ≤ room) }
+    ensures gives { Gives (option_map (λ x. (opening_view x.0, views x.1))) result (element_opening_at room (views lexemes.entry)) }
+{
+    let (name, rest) = name_at(lexemes)?;
+    match bracket(room, rest) {
+        Ok(rest) => Ok(Some((Opening::Element(name), rest))),
+        Err(fault) => Err(fault),
+    }
+}
+
+/// How an operand opens that has an expression inside, for which there is room, and what comes after that.
+#[inline(always)]
+#[tactic(auto, unfolding(crate::specs::Steps::opening_at))]
+fn operand_opening(room: u32, lexemes: Cursor<'_>) -> Result<ReadOpening<'_>, ParseFault>
+    ensures some { IfOk result (λ x. IfSome x (λ _. 1 ≤ room)) }
+    ensures gives { Gives (option_map (λ x. (opening_view x.0, views x.1))) result (opening_at room (views lexemes.entry)) }
+{
+    if room == 0 && starts_deep(lexemes) {
+        return Err(fault_at(Fault::TooHigh, lexemes));
+    }
+    if starts_with(Fixed::Mark(Mark::Tilde), lexemes) {
+        let prefix = Opening::Prefix(PrefixOp::Complement);
+        return Ok(Some((prefix, rest_of(lexemes))));
+    }
+    if starts_with(Fixed::Mark(Mark::Exclamation), lexemes) {
+        let prefix = Opening::Prefix(PrefixOp::LogicalNot);
+        return Ok(Some((prefix, rest_of(lexemes))));
+    }
+    if starts_with(Fixed::Mark(Mark::OpenParen), lexemes) {
+        return paren_opening(rest_of(lexemes));
+    }
+    if starts_element(lexemes) {
+        return element_opening(room, lexemes);
+    }
+    Ok(None)
+}
+
+/// The level of the expression inside an operand that opens so.
+#[inline(always)]
+fn level_inside(opening: Opening<'_>) -> u32
+    ensures { result ≡ level_inside (opening_view opening.entry) }
+{
+    match opening {
+        Opening::Prefix(_) => PREFIX_LEVEL,
+        Opening::Paren | Opening::Element(_) => 0,
+    }
+}
+
+/// An expression of this level or tighter, no higher than there is room.
+#[cycle(expressions)]
+pub fn expression(
+    alloc: Global,
+    room: u32,
+    least: u32,
+    lexemes: Cursor<'_>,
+) -> Result<ReadExpr<'_>, ParseFault>
+    requires { room ≤ 32 }
+    ensures low { IfOk result (λ x. x.1 ≤ room) }
+    ensures gives { Gives (λ x. (expr_tree x.0, x.1, views x.2)) result (expr_at room least (views lexemes.entry)) }
+{
+    let mut read = operand(alloc, room, lexemes)?;
+    while let Some(op) = operator_within(least, read.2) {
+        let right = right_operand(alloc, room, read.1, op, read.2);
+        read = joined(alloc, op, read, right)?;
+    }
+    Ok(read)
+}
+
+/// What comes after this operator, whose left operand has this height.
+#[cycle(expressions)]
+fn right_operand(
+    alloc: Global,
+    room: u32,
+    height: u32,
+    op: BinaryOp,
+    lexemes: Cursor<'_>,
+) -> Result<ReadExpr<'_>, ParseFault>
+    requires { room ≤ 32 }
+    ensures low { IfOk result (λ x. (x.1 < room) × (height < room)) }
+    ensures gives { Gives (λ x. (expr_tree x.0, x.1, views x.2)) result (right_by (deeper room) room height (binary_tree op) (views lexemes.entry)) }
+{
+    if height >= room {
+        return Err(fault_at(Fault::TooHigh, lexemes));
+    }
+    expression(alloc, room - 1, level(op) + 1, rest_of(lexemes))
+}
+
+/// A prefix with its operand, parentheses, an element, or what holds best.
+#[cycle(expressions)]
+fn operand(alloc: Global, room: u32, lexemes: Cursor<'_>) -> Result<ReadExpr<'_>, ParseFault>
+    requires { room ≤ 32 }
+    ensures low { IfOk result (λ x. x.1 ≤ room) }
+    ensures gives { Gives (λ x. (expr_tree x.0, x.1, views x.2)) result (operand_at room (views lexemes.entry)) }
+{
+    let Some((opening, rest)) = operand_opening(room, lexemes)? else {
+        return primary(alloc, lexemes);
+    };
+    let inside = expression(alloc, room - 1, level_inside(opening), rest)?;
+    operand_of(alloc, opening, inside)
+}
+
+/// An index in its brackets, which counts one.
+pub fn index(alloc: Global, room: u32, lexemes: Cursor<'_>) -> Result<ReadExpr<'_>, ParseFault>
+    requires { room ≤ 32 }
+    ensures low { IfOk result (λ x. x.1 < room) }
+    ensures gives { Gives (λ x. (expr_tree x.0, x.1, views x.2)) result (index_at room (views lexemes.entry)) }
+{
+    let rest = bracket(room, lexemes)?;
+    let index = expression(alloc, room - 1, 0, rest)?;
+    ended(Fixed::Mark(Mark::CloseBracket), index)
+}
+
+/// Whether a number, a named constant or a name comes next.
+#[tactic(auto, unfolding(crate::specs::Reading::primary_at))]
+fn starts_primary(lexemes: Cursor<'_>) -> bool
+    ensures { result ≡ is_ok (primary_at (views lexemes.entry)) }
+{
+    match shape_at(lexemes) {
+        Shape::Number { .. } | Shape::Name => true,
+        Shape::Fixed(Fixed::Word(word)) => constant_of(word).is_some(),
+        _ => false,
+    }
+}
+
+/// Whether what comes next may follow the opening parenthesis of an operand.
+#[tactic(auto, unfolding(crate::specs::Reading::starts_inside))]
+fn starts_inside(lexemes: Cursor<'_>) -> bool
+    ensures { result ≡ starts_inside (views lexemes.entry) }
+{
+    starts_primary(lexemes)
+        || starts_with(Fixed::Mark(Mark::OpenParen), lexemes)
+        || starts_with(Fixed::Mark(Mark::Tilde), lexemes)
+        || starts_with(Fixed::Mark(Mark::Exclamation), lexemes)
+        || starts_with(Fixed::Word(Word::Uint32), lexemes)
+        || starts_with(Fixed::Word(Word::Jint), lexemes)
+}
+
+/// The expression of a right side. Where no height is left, its parenthesis may still be that of a
+/// call: the token after it is the first that can't be there.
+#[tactic(auto, unfolding(crate::specs::Reading::right_expr_at))]
+pub(crate) fn right_expression(
+    alloc: Global,
+    room: u32,
+    lexemes: Cursor<'_>,
+) -> Result<ReadExpr<'_>, ParseFault>
+    requires { room ≤ 32 }
+    ensures { Gives (λ x. (expr_tree x.0, x.1, views x.2)) result (right_expr_at room (views lexemes.entry)) }
+{
+    if starts_with(Fixed::Mark(Mark::OpenParen), lexemes) && room == 0 {
+        let rest = rest_of(lexemes);
+        if starts_inside(rest) {
+            return Err(fault_at(Fault::TooHigh, rest));
+        }
+        return Err(unexpected(rest));
+    }
+    expression(alloc, room, 0, lexemes)
+}

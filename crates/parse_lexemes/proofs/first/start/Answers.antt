@@ -1,0 +1,7 @@
+use Rattle.std.proofs.Common.{refl}
+use Rattle.parse_lexemes.specs.Lexemes.{views}
+use Rattle.parse_lexemes.proofs.first.start.Goals as goal
+
+pub returns : goal.returns
+unfolding views
+returns c = refl

@@ -1,0 +1,83 @@
+-- How tokens are spelled, and the words of types.
+use Rattle.std.specs.Prelude.{ℕ, List, [], ◌∷◌}
+use Rattle.base.specs.Bytes.{Identifier}
+use Rattle.base.specs.Element.{ElementType, JInt, JShort, JByte, JChar}
+use Rattle.scan.specs.declared.token.Mark.{Mark}
+use Rattle.syntax.specs.Tree.{ReferenceType, JObject, JClass, JString, JArray, JThrowable, JIntArray, JShortArray, JByteArray, JCharArray, JObjectArray, Constant, True, False, Commit, Abort, Null, ResultType, Void, IntResult, ReferenceResult, ParameterType, IntParameter, ReferenceParameter, VariableType, UInt32, JIntVariable, JSize, JBoolean, JFieldId, ReferenceVariable}
+use Rattle.scan.specs.declared.reserved.Word.{Word}
+use Rattle.scan.specs.declared.reserved.Word.TheVariants as words
+use Rattle.parse_lexemes.specs.declared.first.Fixed.TheVariants as fixed
+use Rattle.parse_lexemes.specs.Meaning.{Meaning, Fixed', Name'}
+
+-- ---- tokens of a tree
+
+-- a token of a tree: in any line, or in the line that the tree tells
+pub data Spelled : Type 0 where
+  Anywhere : Meaning → Spelled
+  OnLine : (line : ℕ) → Meaning → Spelled
+
+abbrev pub meaning_in : Spelled → Meaning
+meaning_in (Anywhere meaning) = meaning
+meaning_in (OnLine line meaning) = meaning
+
+abbrev pub mark : Mark → Spelled
+mark m = Anywhere (Fixed' (fixed.Mark m))
+
+abbrev pub word : Word → Spelled
+word w = Anywhere (Fixed' (fixed.Word w))
+
+abbrev pub name : Identifier → Spelled
+name x = Anywhere (Name' x)
+
+-- tokens of which the first is in this line
+abbrev pub on_line : ℕ → List Spelled → List Spelled
+on_line line [] = []
+on_line line (t ∷ tokens) = OnLine line (meaning_in t) ∷ tokens
+
+-- ---- words and operators
+
+abbrev pub reference_word : ReferenceType → Word
+reference_word JObject = words.Jobject
+reference_word JClass = words.Jclass
+reference_word JString = words.Jstring
+reference_word JArray = words.Jarray
+reference_word JThrowable = words.Jthrowable
+reference_word JIntArray = words.JintArray
+reference_word JShortArray = words.JshortArray
+reference_word JByteArray = words.JbyteArray
+reference_word JCharArray = words.JcharArray
+reference_word JObjectArray = words.JobjectArray
+
+abbrev pub constant_word : Constant → Word
+constant_word True = words.JniTrue
+constant_word False = words.JniFalse
+constant_word Commit = words.JniCommit
+constant_word Abort = words.JniAbort
+constant_word Null = words.Null
+
+-- the word of an element type
+abbrev pub element_word : ElementType → Word
+element_word JInt = words.Jint
+element_word JShort = words.Jshort
+element_word JByte = words.Jbyte
+element_word JChar = words.Jchar
+
+-- the word of a variable's type
+abbrev pub variable_word : VariableType → Word
+variable_word UInt32 = words.Uint32
+variable_word JIntVariable = words.Jint
+variable_word JSize = words.Jsize
+variable_word JBoolean = words.Jboolean
+variable_word JFieldId = words.JfieldId
+variable_word (ReferenceVariable r) = reference_word r
+
+-- the word of a function's result
+abbrev pub result_word : ResultType → Word
+result_word Void = words.Void
+result_word IntResult = words.Jint
+result_word (ReferenceResult r) = reference_word r
+
+-- the word of a parameter's type
+abbrev pub parameter_word : ParameterType → Word
+parameter_word IntParameter = words.Jint
+parameter_word (ReferenceParameter r) = reference_word r

@@ -1,0 +1,137 @@
+//! The words of types.
+
+ghost use Rattle.std.specs.Prelude.{◌≡◌};
+ghost use Rattle.std.specs.Option.{option_map};
+ghost use Rattle.syntax.specs.Views.{reference_tree, result_tree, element_tree, parameter_type_tree, variable_type_tree};
+ghost use Rattle.parse_lexemes.specs.Lexemes.{views};
+ghost use Rattle.parse_lexemes.specs.Reading.{reference_of_word, result_of_word, element_of_word, parameter_of_word, variable_of_word, reference_type_at, result_type_at, element_type_at, parameter_type_at, variable_type_at};
+
+use crate::cursor::Cursor;
+use crate::first::{same_word, word_at};
+use scan::Word;
+use syntax::{ElementType, ParameterType, ReferenceType, ResultType, VariableType};
+
+/// The reference type of a word (JNI Specification, chapter 3, "Reference Types").
+fn reference_of(word: Word) -> Option<ReferenceType>
+    ensures { option_map reference_tree result ≡ reference_of_word word }
+{
+    match word {
+        Word::Jobject => Some(ReferenceType::Object),
+        Word::Jclass => Some(ReferenceType::Class),
+        Word::Jstring => Some(ReferenceType::String),
+        Word::Jarray => Some(ReferenceType::Array),
+        Word::Jthrowable => Some(ReferenceType::Throwable),
+        Word::JintArray => Some(ReferenceType::IntArray),
+        Word::JshortArray => Some(ReferenceType::ShortArray),
+        Word::JbyteArray => Some(ReferenceType::ByteArray),
+        Word::JcharArray => Some(ReferenceType::CharArray),
+        Word::JobjectArray => Some(ReferenceType::ObjectArray),
+        _ => None,
+    }
+}
+
+/// The result's type of a word.
+fn result_of(word: Word) -> Option<ResultType>
+    ensures { option_map result_tree result ≡ result_of_word word }
+{
+    match word {
+        Word::Void => Some(ResultType::Void),
+        Word::Jint => Some(ResultType::Jint),
+        _ => match reference_of(word) {
+            Some(reference) => Some(ResultType::Reference(reference)),
+            None => None,
+        },
+    }
+}
+
+/// The element's type of a word.
+fn element_of(word: Word) -> Option<ElementType>
+    ensures { option_map element_tree result ≡ element_of_word word }
+{
+    match word {
+        Word::Jint => Some(ElementType::Jint),
+        Word::Jshort => Some(ElementType::Jshort),
+        Word::Jbyte => Some(ElementType::Jbyte),
+        Word::Jchar => Some(ElementType::Jchar),
+        _ => None,
+    }
+}
+
+/// The parameter's type of a word.
+fn parameter_of(word: Word) -> Option<ParameterType>
+    ensures { option_map parameter_type_tree result ≡ parameter_of_word word }
+{
+    if same_word(word, Word::Jint) {
+        return Some(ParameterType::Jint);
+    }
+    match reference_of(word) {
+        Some(reference) => Some(ParameterType::Reference(reference)),
+        None => None,
+    }
+}
+
+/// The variable's type of a word, but for `jint`, which is an element's type too.
+fn variable_of(word: Word) -> Option<VariableType>
+    ensures { option_map variable_type_tree result ≡ variable_of_word word }
+{
+    match word {
+        Word::Uint32 => Some(VariableType::Uint32),
+        Word::Jsize => Some(VariableType::Jsize),
+        Word::Jboolean => Some(VariableType::Jboolean),
+        Word::JfieldId => Some(VariableType::JfieldId),
+        _ => match reference_of(word) {
+            Some(reference) => Some(VariableType::Reference(reference)),
+            None => None,
+        },
+    }
+}
+
+/// The type of references that comes next.
+pub fn reference_type(lexemes: Cursor<'_>) -> Option<ReferenceType>
+    ensures { option_map reference_tree result ≡ reference_type_at (views lexemes.entry) }
+{
+    match word_at(lexemes) {
+        Some(word) => reference_of(word),
+        None => None,
+    }
+}
+
+/// The type of a result, where one comes next.
+pub fn result_type(lexemes: Cursor<'_>) -> Option<ResultType>
+    ensures { option_map result_tree result ≡ result_type_at (views lexemes.entry) }
+{
+    match word_at(lexemes) {
+        Some(word) => result_of(word),
+        None => None,
+    }
+}
+
+/// The type of an element, where one comes next.
+pub fn element_type(lexemes: Cursor<'_>) -> Option<ElementType>
+    ensures { option_map element_tree result ≡ element_type_at (views lexemes.entry) }
+{
+    match word_at(lexemes) {
+        Some(word) => element_of(word),
+        None => None,
+    }
+}
+
+/// The type of a parameter, where one comes next.
+pub fn parameter_type(lexemes: Cursor<'_>) -> Option<ParameterType>
+    ensures { option_map parameter_type_tree result ≡ parameter_type_at (views lexemes.entry) }
+{
+    match word_at(lexemes) {
+        Some(word) => parameter_of(word),
+        None => None,
+    }
+}
+
+/// The type of a variable, where one comes next.
+pub fn variable_type(lexemes: Cursor<'_>) -> Option<VariableType>
+    ensures { option_map variable_type_tree result ≡ variable_type_at (views lexemes.entry) }
+{
+    match word_at(lexemes) {
+        Some(word) => variable_of(word),
+        None => None,
+    }
+}

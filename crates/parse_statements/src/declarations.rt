@@ -1,0 +1,180 @@
+//! Declarations of variables (ISO/IEC 9899:1999, 6.7).
+
+ghost use Rattle.std.specs.Prelude.{◌≡◌, ◌≤◌};
+ghost use Rattle.syntax.specs.Views.{element_tree, variable_type_tree, stmt_tree};
+ghost use Rattle.parse_lexemes.specs.Results.{Gives};
+ghost use Rattle.parse_lexemes.specs.Lexemes.{views};
+ghost use Rattle.parse_statements.specs.Steps.{array_head_at};
+ghost use Rattle.parse_statements.specs.Reading.{zeros_at, array_at, is_array, after_element, after_variable, after_const, declared_at, starts_declaration};
+
+use parse_expressions::{expect_two, setting};
+use parse_lexemes::{
+    Cursor, Fixed, ParseFault, element_type, expect, line_at, name_at, number_at, rest_of,
+    starts_with, variable_type,
+};
+use scan::{Mark, Word};
+use std::alloc::Global;
+use syntax::{ElementType, Form, Name, Stmt, VariableType};
+
+/// How many elements a local array may have.
+const ELEMENTS: u32 = 1024;
+
+/// What comes after the zeros of a local array.
+#[tactic(auto, using(crate::proofs::Regrouped::zeros_are))]
+fn zeros(lexemes: Cursor<'_>) -> Result<Cursor<'_>, ParseFault>
+    ensures { Gives (λ x. views x) result (zeros_at (views lexemes.entry)) }
+{
+    let rest = expect_two(
+        Fixed::Mark(Mark::Assign),
+        Fixed::Mark(Mark::OpenBrace),
+        lexemes,
+    )?;
+    let (_, rest) = number_at(0, 0, rest)?;
+    expect_two(
+        Fixed::Mark(Mark::CloseBrace),
+        Fixed::Mark(Mark::Semicolon),
+        rest,
+    )
+}
+
+/// The name and the size of a local array, in its brackets.
+#[inline]
+#[tactic(auto, unfolding(crate::specs::Steps::array_head_at))]
+fn array_head(lexemes: Cursor<'_>) -> Result<(&[u8], u32, Cursor<'_>), ParseFault>
+    ensures { Gives (λ x. (x.0.now, x.1, views x.2)) result (array_head_at (views lexemes.entry)) }
+{
+    let (name, rest) = name_at(lexemes)?;
+    let rest = expect(Fixed::Mark(Mark::OpenBracket), rest)?;
+    let (size, rest) = number_at(1, ELEMENTS, rest)?;
+    match expect(Fixed::Mark(Mark::CloseBracket), rest) {
+        Ok(rest) => Ok((name, size, rest)),
+        Err(fault) => Err(fault),
+    }
+}
+
+/// The name, the size and the zeros of a local array.
+#[tactic(auto, using(crate::proofs::Regrouped::array_is))]
+fn array(
+    alloc: Global,
+    line: usize,
+    element: ElementType,
+    lexemes: Cursor<'_>,
+) -> Result<(Stmt, Cursor<'_>), ParseFault>
+    ensures { Gives (λ x. (stmt_tree x.0, views x.1)) result (array_at line (element_tree element) (views lexemes.entry)) }
+{
+    let (name, size, rest) = array_head(lexemes)?;
+    let rest = zeros(rest)?;
+    let Ok(name) = Name::new(alloc, name) else {
+        return Err(ParseFault::Memory);
+    };
+    let form = Form::DeclareArray(element, name, size);
+    Ok((Stmt { line, form }, rest))
+}
+
+/// Whether an array is declared after an element's type, of which `jint` alone is a variable's too.
+fn is_array(element: ElementType, lexemes: Cursor<'_>) -> bool
+    ensures { result ≡ is_array (element_tree element) (views lexemes.entry) }
+{
+    match element {
+        ElementType::Jint => starts_with(Fixed::Mark(Mark::OpenBracket), rest_of(lexemes)),
+        ElementType::Jshort | ElementType::Jbyte | ElementType::Jchar => true,
+    }
+}
+
+/// What comes after an element's type.
+#[tactic(auto, unfolding(crate::specs::Reading::after_element, crate::specs::Reading::after_variable))]
+fn after_element(
+    alloc: Global,
+    room: u32,
+    line: usize,
+    element: ElementType,
+    lexemes: Cursor<'_>,
+) -> Result<(Stmt, Cursor<'_>), ParseFault>
+    requires { room ≤ 32 }
+    ensures { Gives (λ x. (stmt_tree x.0, views x.1)) result (after_element room line (element_tree element) (views lexemes.entry)) }
+{
+    if starts_with(Fixed::Mark(Mark::Star), lexemes) {
+        return match setting(alloc, room, rest_of(lexemes)) {
+            Ok((name, right, rest)) => {
+                let form = Form::DeclareBuffer(element, name, right);
+                Ok((Stmt { line, form }, rest))
+            }
+            Err(fault) => Err(fault),
+        };
+    }
+    if is_array(element, lexemes) {
+        return array(alloc, line, element, lexemes);
+    }
+    after_variable(alloc, room, line, VariableType::Jint, lexemes)
+}
+
+/// What comes after another variable's type.
+#[tactic(auto, unfolding(crate::specs::Reading::after_variable))]
+fn after_variable(
+    alloc: Global,
+    room: u32,
+    line: usize,
+    kind: VariableType,
+    lexemes: Cursor<'_>,
+) -> Result<(Stmt, Cursor<'_>), ParseFault>
+    requires { room ≤ 32 }
+    ensures { Gives (λ x. (stmt_tree x.0, views x.1)) result (after_variable room line (variable_type_tree kind) (views lexemes.entry)) }
+{
+    match setting(alloc, room, lexemes) {
+        Ok((name, right, rest)) => {
+            let form = Form::Declare(kind, name, right);
+            Ok((Stmt { line, form }, rest))
+        }
+        Err(fault) => Err(fault),
+    }
+}
+
+/// What comes after `const`.
+#[tactic(auto, using(crate::proofs::Regrouped::const_is))]
+fn after_const(
+    alloc: Global,
+    room: u32,
+    line: usize,
+    lexemes: Cursor<'_>,
+) -> Result<(Stmt, Cursor<'_>), ParseFault>
+    requires { room ≤ 32 }
+    ensures { Gives (λ x. (stmt_tree x.0, views x.1)) result (after_const room line (views lexemes.entry)) }
+{
+    let rest = expect_two(Fixed::Word(Word::Jchar), Fixed::Mark(Mark::Star), lexemes)?;
+    match setting(alloc, room, rest) {
+        Ok((name, right, rest)) => {
+            let form = Form::DeclareChars(name, right);
+            Ok((Stmt { line, form }, rest))
+        }
+        Err(fault) => Err(fault),
+    }
+}
+
+/// A declaration.
+#[tactic(auto, unfolding(crate::specs::Reading::declared_at))]
+pub(crate) fn declared(
+    alloc: Global,
+    room: u32,
+    lexemes: Cursor<'_>,
+) -> Result<(Stmt, Cursor<'_>), ParseFault>
+    requires { room ≤ 32 }
+    ensures { Gives (λ x. (stmt_tree x.0, views x.1)) result (declared_at room (views lexemes.entry)) }
+{
+    let line = line_at(lexemes);
+    if let Some(element) = element_type(lexemes) {
+        return after_element(alloc, room, line, element, rest_of(lexemes));
+    }
+    if let Some(kind) = variable_type(lexemes) {
+        return after_variable(alloc, room, line, kind, rest_of(lexemes));
+    }
+    after_const(alloc, room, line, rest_of(lexemes))
+}
+
+/// Whether a declaration comes next.
+pub(crate) fn starts_declaration(lexemes: Cursor<'_>) -> bool
+    ensures { result ≡ starts_declaration (views lexemes.entry) }
+{
+    element_type(lexemes).is_some()
+        || variable_type(lexemes).is_some()
+        || starts_with(Fixed::Word(Word::Const), lexemes)
+}

@@ -1,0 +1,300 @@
+//! Statements and blocks (ISO/IEC 9899:1999, 6.8).
+
+ghost use Rattle.std.specs.Prelude.{◌≡◌, ◌≤◌, ℕ, Result, IfOk, IfSome};
+ghost use Rattle.std.specs.Option.{option_map};
+ghost use Rattle.syntax.specs.Views.{expr_tree, test_tree, stmt_tree, block_tree};
+ghost use Rattle.parse_lexemes.specs.declared.fault.ParseFault.{ParseFault};
+ghost use Rattle.parse_lexemes.specs.Results.{Gives};
+ghost use Rattle.parse_lexemes.specs.Lexemes.{views};
+ghost use Rattle.parse_expressions.specs.Steps.{made_of, two};
+ghost use Rattle.parse_statements.specs.Steps.{ReadTest, WaysRead, OtherRead, BlockRead, head_view, nested_head_at, starts_nested, takes_other, nested_made, nested_of, both_of, second_of, other_at, ways_at};
+ghost use Rattle.parse_statements.specs.Reading.{simple_at, inner, if_test_at, while_test_at, is_return, statement_at, block_at};
+
+use crate::declarations::{declared, starts_declaration};
+use crate::plain::{parenthesized, plain};
+use parse_expressions::{expect_two, test};
+use parse_lexemes::{
+    Cursor, Fault, Fixed, ParseFault, expect, fault_at, line_at, rest_of, starts_with, unexpected,
+};
+use scan::{Mark, Word};
+use std::alloc::Global;
+use syntax::{Block, Expr, Form, Stmt, Test};
+
+/// A statement, how many more names may be declared after it, and what comes after it.
+type ReadStmt<'t> = (Stmt, usize, Cursor<'t>);
+
+/// A block, how many more names may be declared after it, and what comes after it.
+pub type ReadBlock<'t> = (Block, usize, Cursor<'t>);
+
+/// The second block of an `if`, where it has one, how many more names may be declared after it, and what comes after it.
+type ReadOther<'t> = (Option<Block>, usize, Cursor<'t>);
+
+/// Both blocks of an `if`, how many more names may be declared after them, and what comes after them.
+type ReadWays<'t> = (Block, Option<Block>, usize, Cursor<'t>);
+
+/// What comes in a statement before its first block.
+#[derive(Drop)]
+enum Head {
+    If(Test),
+    While(Expr),
+}
+
+/// A statement without a block, where `free` more names may be declared.
+#[tactic(auto, unfolding(crate::specs::Reading::simple_at))]
+fn simple(
+    alloc: Global,
+    room: u32,
+    free: usize,
+    lexemes: Cursor<'_>,
+) -> Result<ReadStmt<'_>, ParseFault>
+    requires { room ≤ 32 }
+    ensures { Gives (λ x. (stmt_tree x.0, x.1, views x.2)) result (simple_at room free (views lexemes.entry)) }
+{
+    if starts_declaration(lexemes) {
+        if free == 0 {
+            return Err(fault_at(Fault::TooMany, lexemes));
+        }
+        return match declared(alloc, room, lexemes) {
+            Ok((stmt, rest)) => Ok((stmt, free - 1, rest)),
+            Err(fault) => Err(fault),
+        };
+    }
+    match plain(alloc, room, lexemes) {
+        Ok((stmt, rest)) => Ok((stmt, free, rest)),
+        Err(fault) => Err(fault),
+    }
+}
+
+/// Whether a statement is a return, which ends its block.
+fn is_return(stmt: &Stmt) -> bool
+    ensures { result ≡ is_return (stmt_tree stmt.now) }
+{
+    matches!(stmt.form, Form::Return(_))
+}
+
+/// A test, and what comes after its parenthesis and the brace of a block.
+#[inline]
+fn tested(test: Test, lexemes: Cursor<'_>) -> Result<(Test, Cursor<'_>), ParseFault>
+    ensures { Gives (λ x. (test_tree x.0, views x.1)) result (made_of {B = ReadTest} (two (Fixed.Mark Mark.CloseParen) (Fixed.Mark Mark.OpenBrace) (views lexemes.entry)) (λ after. (test_tree test, after))) }
+{
+    let paren = Fixed::Mark(Mark::CloseParen);
+    match expect_two(paren, Fixed::Mark(Mark::OpenBrace), lexemes) {
+        Ok(rest) => Ok((test, rest)),
+        Err(fault) => Err(fault),
+    }
+}
+
+/// What an `if` tests, in its parentheses, and what comes after the brace of its block.
+#[tactic(auto, using(crate::proofs::Regrouped::if_test_is))]
+fn if_test(alloc: Global, room: u32, lexemes: Cursor<'_>) -> Result<(Test, Cursor<'_>), ParseFault>
+    requires { room ≤ 32 }
+    ensures { Gives (λ x. (test_tree x.0, views x.1)) result (if_test_at room (views lexemes.entry)) }
+{
+    let rest = expect(Fixed::Mark(Mark::OpenParen), lexemes)?;
+    let (test, rest) = test(alloc, room, rest)?;
+    tested(test, rest)
+}
+
+/// What a `while` tests, in its parentheses, and what comes after the brace of its block.
+#[tactic(auto, unfolding(crate::specs::Reading::while_test_at, crate::specs::Steps::parenthesized_at))]
+fn while_test(
+    alloc: Global,
+    room: u32,
+    lexemes: Cursor<'_>,
+) -> Result<(Expr, Cursor<'_>), ParseFault>
+    requires { room ≤ 32 }
+    ensures { Gives (λ x. (expr_tree x.0, views x.1)) result (while_test_at room (views lexemes.entry)) }
+{
+    parenthesized(alloc, room, Fixed::Mark(Mark::OpenBrace), lexemes)
+}
+
+/// How a statement with blocks begins, up to the brace of the first, where there is room for blocks, and what comes after that.
+#[tactic(auto, unfolding(crate::specs::Steps::nested_head_at))]
+fn nested_head(
+    alloc: Global,
+    room: u32,
+    lexemes: Cursor<'_>,
+) -> Result<Option<(Head, Cursor<'_>)>, ParseFault>
+    requires { room ≤ 32 }
+    ensures some { IfOk result (λ x. IfSome x (λ _. 1 ≤ room)) }
+    ensures gives { Gives (option_map (λ x. (head_view x.0, views x.1))) result (nested_head_at room (views lexemes.entry)) }
+{
+    if room == 0 && starts_nested(lexemes) {
+        return Err(fault_at(Fault::TooHigh, lexemes));
+    }
+    if starts_with(Fixed::Word(Word::If), lexemes) {
+        return match if_test(alloc, room, rest_of(lexemes)) {
+            Ok((test, rest)) => Ok(Some((Head::If(test), rest))),
+            Err(fault) => Err(fault),
+        };
+    }
+    if starts_with(Fixed::Word(Word::While), lexemes) {
+        return match while_test(alloc, room, rest_of(lexemes)) {
+            Ok((test, rest)) => Ok(Some((Head::While(test), rest))),
+            Err(fault) => Err(fault),
+        };
+    }
+    Ok(None)
+}
+
+/// Whether a statement with blocks begins.
+fn starts_nested(lexemes: Cursor<'_>) -> bool
+    ensures { result ≡ starts_nested (views lexemes.entry) }
+{
+    starts_with(Fixed::Word(Word::If), lexemes) || starts_with(Fixed::Word(Word::While), lexemes)
+}
+
+/// Whether a second block may come after the first.
+#[inline]
+fn takes_other(head: &Head) -> bool
+    ensures { result ≡ takes_other (head_view head.now) }
+{
+    matches!(head, Head::If(_))
+}
+
+/// A statement of its blocks.
+#[inline]
+fn nested_form(head: Head, body: Block, other: Option<Block>) -> Form
+    ensures { (line : ℕ) → stmt_tree (record { line = line; form = result }) ≡ nested_made line (head_view head) (block_tree body) (option_map block_tree other) }
+{
+    match head {
+        Head::While(test) => Form::While(test, body),
+        Head::If(test) => match other {
+            None => Form::If(test, body),
+            Some(other) => Form::IfElse(test, body, other),
+        },
+    }
+}
+
+/// A statement of this line, with the blocks that were read after its head.
+#[inline]
+fn nested<'t>(
+    line: usize,
+    head: Head,
+    ways: Result<ReadWays<'t>, ParseFault>,
+) -> Result<ReadStmt<'t>, ParseFault>
+    ensures { (read : Result WaysRead ParseFault) → Gives (λ x. (block_tree x.0, option_map block_tree x.1, x.2, views x.3)) ways.entry read → Gives (λ x. (stmt_tree x.0, x.1, views x.2)) result (nested_of line (head_view head) read) }
+{
+    match ways {
+        Ok((body, other, free, rest)) => {
+            let form = nested_form(head, body, other);
+            Ok((Stmt { line, form }, free, rest))
+        }
+        Err(fault) => Err(fault),
+    }
+}
+
+/// The first block, and what was read after it.
+#[inline]
+fn both<'t>(
+    body: Block,
+    other: Result<ReadOther<'t>, ParseFault>,
+) -> Result<ReadWays<'t>, ParseFault>
+    ensures { (read : Result OtherRead ParseFault) → Gives (λ x. (option_map block_tree x.0, x.1, views x.2)) other.entry read → Gives (λ x. (block_tree x.0, option_map block_tree x.1, x.2, views x.3)) result (both_of (block_tree body) read) }
+{
+    match other {
+        Ok((other, free, rest)) => Ok((body, other, free, rest)),
+        Err(fault) => Err(fault),
+    }
+}
+
+/// The blocks of a statement, of which `otherwise` says whether there may be a second one.
+#[cycle(blocks)]
+fn ways(
+    alloc: Global,
+    room: u32,
+    free: usize,
+    otherwise: bool,
+    lexemes: Cursor<'_>,
+) -> Result<ReadWays<'_>, ParseFault>
+    requires some { 1 ≤ room }
+    requires bound { room ≤ 32 }
+    ensures { Gives (λ x. (block_tree x.0, option_map block_tree x.1, x.2, views x.3)) result (ways_at (inner room) free otherwise (views lexemes.entry)) }
+{
+    let (body, left, rest) = block(alloc, room - 1, free, lexemes)?;
+    let other = other_block(alloc, room, left, otherwise, rest);
+    both(body, other)
+}
+
+/// A block that was read as the second one.
+#[inline]
+fn second(read: Result<ReadBlock<'_>, ParseFault>) -> Result<ReadOther<'_>, ParseFault>
+    ensures { (from : Result BlockRead ParseFault) → Gives (λ x. (block_tree x.0, x.1, views x.2)) read.entry from → Gives (λ x. (option_map block_tree x.0, x.1, views x.2)) result (second_of from) }
+{
+    match read {
+        Ok((other, free, rest)) => Ok((Some(other), free, rest)),
+        Err(fault) => Err(fault),
+    }
+}
+
+/// The second block, where there may be one and `else` comes next.
+#[cycle(blocks)]
+#[tactic(auto, unfolding(crate::specs::Steps::other_at))]
+fn other_block(
+    alloc: Global,
+    room: u32,
+    free: usize,
+    otherwise: bool,
+    lexemes: Cursor<'_>,
+) -> Result<ReadOther<'_>, ParseFault>
+    requires some { 1 ≤ room }
+    requires bound { room ≤ 32 }
+    ensures { Gives (λ x. (option_map block_tree x.0, x.1, views x.2)) result (other_at (inner room) free otherwise (views lexemes.entry)) }
+{
+    if !otherwise || !starts_with(Fixed::Word(Word::Else), lexemes) {
+        return Ok((None, free, lexemes));
+    }
+    let rest = expect(Fixed::Mark(Mark::OpenBrace), rest_of(lexemes))?;
+    second(block(alloc, room - 1, free, rest))
+}
+
+/// A statement, where `free` more names may be declared.
+#[cycle(blocks)]
+fn statement(
+    alloc: Global,
+    room: u32,
+    free: usize,
+    lexemes: Cursor<'_>,
+) -> Result<ReadStmt<'_>, ParseFault>
+    requires { room ≤ 32 }
+    ensures { Gives (λ x. (stmt_tree x.0, x.1, views x.2)) result (statement_at room free (views lexemes.entry)) }
+{
+    let Some((head, rest)) = nested_head(alloc, room, lexemes)? else {
+        return simple(alloc, room, free, lexemes);
+    };
+    let ways = ways(alloc, room, free, takes_other(&head), rest);
+    nested(line_at(lexemes), head, ways)
+}
+
+/// Statements up to the closing brace, where `names` more names may be declared.
+#[cycle(blocks)]
+pub fn block(
+    alloc: Global,
+    room: u32,
+    names: usize,
+    lexemes: Cursor<'_>,
+) -> Result<ReadBlock<'_>, ParseFault>
+    requires { room ≤ 32 }
+    ensures { Gives (λ x. (block_tree x.0, x.1, views x.2)) result (block_at room names (views lexemes.entry)) }
+{
+    let mut statements = Vec::new(alloc);
+    let mut rest = lexemes;
+    let mut free = names;
+    let mut returned = false;
+    'statements: while !starts_with(Fixed::Mark(Mark::CloseBrace), rest) {
+        if returned {
+            return Err(unexpected(rest));
+        }
+        let (stmt, left, after) = statement(alloc, room, free, rest)?;
+        returned = is_return(&stmt);
+        free = left;
+        statements.push(stmt)?;
+        rest = after;
+    }
+    let end_line = line_at(rest);
+    let block = Block {
+        statements,
+        end_line,
+    };
+    Ok((block, free, rest_of(rest)))
+}

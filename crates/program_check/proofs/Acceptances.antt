@@ -1,0 +1,27 @@
+-- A pass refuses the text of an accepted program for want of memory alone.
+use Rattle.std.proofs.Common.{◌≡◌, List, ℕ, IsTrue, Ok, refl, subst}
+use Rattle.syntax.specs.Tree.{SourceUnit}
+use Rattle.parse_lexemes.specs.declared.fault.ParseFault.{ParseFault}
+use Rattle.parse_lexemes.specs.declared.fault.ParseFault.TheVariants as parsing
+use Rattle.parse_lexemes.specs.Results.{Fails}
+use Rattle.type_rules.specs.BuiltCalls.{calls_are_built}
+use Rattle.type_rules.specs.SortRules.{IsSorted}
+use Rattle.region_rules.specs.Regions.{HasRegions}
+use Rattle.program_check.specs.declared.fault.RunError.TheVariants.{Memory}
+use Rattle.program_check.specs.Errors.{of_parse}
+use Rattle.program_check.specs.Programs.{IsProgram}
+
+pub parse_accepts : (unit : SourceUnit) (f : ParseFault) → Fails f (Ok unit) → of_parse f ≡ Memory
+parse_accepts unit parsing.Memory h = refl
+parse_accepts unit (parsing.Found fault line) h = absurd (cc h)
+
+-- what the unit that was found keeps, where it is that of the program
+module _ (text : List ℕ) (unit found : SourceUnit) (p : IsProgram text unit) (same : unit ≡ found) where
+  pub is_sorted : IsSorted found
+  is_sorted = subst IsSorted same p.sorted
+
+  pub has_built_calls : IsTrue (calls_are_built found)
+  has_built_calls = subst (λ (u : SourceUnit). IsTrue (calls_are_built u)) same p.calls
+
+  pub has_regions : HasRegions found
+  has_regions = subst HasRegions same p.regions

@@ -1,0 +1,42 @@
+-- The fault of a pass is one that the text earns.
+use Rattle.std.proofs.Common.{◌≡◌, List, ℕ, Some, IsTrue}
+use Rattle.syntax.specs.Tree.{SourceUnit}
+use Rattle.scan.specs.declared.token.Token.{Token}
+use Rattle.scan.specs.declared.fault.ScanFault.{ScanFault}
+use Rattle.scan.specs.declared.fault.ScanFault.TheVariants as scanning
+use Rattle.scan.specs.Spelling.{Spells}
+use Rattle.scan.specs.Faults.{IsFirstFault}
+use Rattle.parse_lexemes.specs.declared.fault.ParseFault.{ParseFault}
+use Rattle.parse_lexemes.specs.declared.fault.ParseFault.TheVariants as parsing
+use Rattle.parse_lexemes.specs.Lexemes.{lexemes}
+use Rattle.parse.specs.Reading.{unit_at}
+use Rattle.parse_lexemes.specs.Results.{Fails}
+use Rattle.parse.specs.Spelling.{SpellsUnit}
+use Rattle.types.specs.declared.fault.TypeFault.{TypeFault}
+use Rattle.types.specs.declared.fault.TypeFault.TheVariants as sorting
+use Rattle.types.specs.Faults.{IfBroken, fault_of, rule_of}
+use Rattle.type_rules.specs.BuiltCalls.{calls_are_built, first_refused}
+use Rattle.type_rules.specs.SortRules.{IsSorted}
+use Rattle.regions.specs.declared.fault.CheckFault.{CheckFault}
+use Rattle.regions.specs.declared.fault.CheckFault.TheVariants as region_checking
+use Rattle.region_rules.specs.FirstFaults.{IsFirstRegionFault}
+use Rattle.regions.specs.Findings as findings
+use Rattle.program_check.specs.Errors.{of_scan, of_parse, of_types, of_regions}
+use Rattle.program_check.specs.Passes.{IsRefusal}
+use Rattle.program_check.specs.Programs.{by_scan, by_parse, by_sorts, by_regions}
+
+pub scan_refusal : (text : List ℕ) (f : ScanFault) → IsFirstFault text f → IsRefusal text (of_scan f)
+scan_refusal text scanning.Memory h = tt
+scan_refusal text (scanning.Found fault line) h = by_scan fault line h
+
+pub parse_refusal : (text : List ℕ) (tokens : List Token) (f : ParseFault) → Spells text tokens → Fails f (unit_at (lexemes text 1 tokens)) → IsRefusal text (of_parse f)
+parse_refusal text tokens parsing.Memory s h = tt
+parse_refusal text tokens (parsing.Found fault line) s h = by_parse tokens fault line s h
+
+pub types_refusal : (text : List ℕ) (unit : SourceUnit) (f : TypeFault) → SpellsUnit text unit → IfBroken f (λ g. first_refused unit ≡ Some (fault_of g)) → IsRefusal text (of_types f)
+types_refusal text unit sorting.Memory s h = tt
+types_refusal text unit (sorting.Broken fault) s h = by_sorts unit (rule_of fault.rule) fault.line s h
+
+pub regions_refusal : (text : List ℕ) (unit : SourceUnit) (f : CheckFault) → SpellsUnit text unit → IsSorted unit → IsTrue (calls_are_built unit) → findings.IfBroken f (λ g. IsFirstRegionFault (findings.rule_of g.rule) g.line unit) → IsRefusal text (of_regions f)
+regions_refusal text unit region_checking.Memory s t b h = tt
+regions_refusal text unit (region_checking.Broken fault) s t b h = by_regions unit (findings.rule_of fault.rule) fault.line s t b h

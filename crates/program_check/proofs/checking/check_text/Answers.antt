@@ -1,0 +1,27 @@
+use Rattle.std.proofs.Common.{◌∙◌, sym, true, false, ◌≡◌}
+use Rattle.syntax.specs.Views.{unit_tree}
+use Rattle.lower.specs.declared.fault.LowerFault.TheVariants as lowering
+use Rattle.program_check.proofs.CheckLemmas.{refused_pass, refused_length, length_alone, memory_alone}
+use Rattle.program_check.proofs.checking.check_text.Goals as goal
+
+pub returns-in-Err-clause-check : goal.returns-in-Err-clause-check
+returns-in-Err-clause-check c = refused_pass c.args.program_text.now c.in-Err.error c.in-Err.ensures.fault
+
+pub returns-then-has_long_function-clause-check : goal.returns-then-has_long_function-clause-check
+returns-then-has_long_function-clause-check c =
+    rw c.of_lower.ensures (refused_length c.args.program_text.now (unit_tree c.in-Ok.checked) lowering.TooLong c.in-Ok.ensures.program (λ e. sym c.has_long_function.ensures ∙ c.if-has_long_function.true))
+
+pub returns-then-has_long_function-clause-accepted : goal.returns-then-has_long_function-clause-accepted
+returns-then-has_long_function-clause-accepted c = λ p. rw c.of_lower.ensures (length_alone lowering.TooLong)
+
+pub returns-then-has_long_function-clause-passes : goal.returns-then-has_long_function-clause-passes
+returns-then-has_long_function-clause-passes c = λ p.
+    c.of_lower.ensures
+    ∙ memory_alone c.args.program_text.now (unit_tree c.in-Ok.checked) lowering.TooLong p (c.in-Ok.ensures.only p.unit p.of_program) (λ e. sym c.has_long_function.ensures ∙ c.if-has_long_function.true)
+
+pub returns-clause-check : goal.returns-clause-check
+returns-clause-check c = record {
+  unit = unit_tree c.in-Ok.checked;
+  of_program = c.in-Ok.ensures.program;
+  short = λ long. let f : true ≡ false = sym long ∙ (sym c.has_long_function.ensures ∙ c.if-has_long_function.false) in absurd cc;
+}

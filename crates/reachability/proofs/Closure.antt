@@ -1,0 +1,136 @@
+-- The loop that follows what waits.
+use Rattle.std.proofs.Common.{◌≡◌, ℕ, zero, suc, ◌<◌, Bool, true, List, [], ◌∷◌, ◌++◌, length, get_or, Option, Some, refl, sym, ap, ◌∙◌, subst, arith, ⊎_elim, inl, inr, ◌⊎◌}
+use Rattle.std.specs.Prelude.{slice_get, Result, Ok, Err, OnOk, OnErr}
+use Rattle.std.specs.List.{Contains}
+use Rattle.std.proofs.lemmas.List.Elements.{Contains-push, Contains-append_left, Contains-push_cases}
+use Rattle.reachability.specs.Reach.{IsReached, IsClosed}
+use Rattle.reachability.specs.Reach.IsReached.{Root, Referred}
+use Rattle.reachability.specs.Marks.{is_marked, Adds, IsFollowed, WaitsFor, AreReached}
+
+-- ---- what waits
+
+none_listed : (x : ℕ) → Contains [] x → ⊥
+none_listed x c = let within : c.0 < 0 = c.1 in absurd (omega arith)
+
+pub waits_added : (P : ℕ → Type 0) (ms : List Bool) (xs : List ℕ) (ns : List Bool) (ys : List ℕ) → WaitsFor ms xs → Adds P ms xs ns ys → WaitsFor ns ys
+waits_added P ms xs ns ys h g = record {
+  marked = λ x c. ⊎_elim
+      (λ (k : Contains xs x). g.stays x (h.marked x k))
+      (λ (k : P x × (is_marked ns x ≡ true)). k.1)
+      (g.ours x c);
+  waits = λ x m. ⊎_elim
+      (λ (k : is_marked ms x ≡ true). g.listed x (h.waits x k))
+      (λ (k : P x × Contains ys x). k.1)
+      (g.fresh x m);
+}
+
+-- ---- the loop
+
+pub record IsMarking (references : ℕ → List (Option ℕ)) (roots ms : List Bool) (xs : List ℕ) : Type 0 where
+  pub count : length ms ≡ length roots
+  pub sound : (x : ℕ) → is_marked ms x ≡ true → IsReached references (λ r. is_marked roots r ≡ true) x
+  pub waits : (x : ℕ) → Contains xs x → is_marked ms x ≡ true
+  pub closed : (x : ℕ) → is_marked ms x ≡ true → Contains xs x ⊎ IsFollowed references ms x
+  pub from_roots : (x : ℕ) → is_marked roots x ≡ true → is_marked ms x ≡ true
+
+pub marking_start : (references : ℕ → List (Option ℕ)) (ms : List Bool) (xs : List ℕ) → WaitsFor ms xs → IsMarking references ms ms xs
+marking_start references ms xs h = record {
+  count = refl;
+  sound = λ x m. Root x m;
+  waits = h.marked;
+  closed = λ x m. inl (h.waits x m);
+  from_roots = λ x m. m;
+}
+
+pub marking_step : (references : ℕ → List (Option ℕ)) (roots ms : List Bool) (xs ys : List ℕ) (a : ℕ) (ns : List Bool) (zs : List ℕ) → IsMarking references roots ms xs → xs ≡ ys ++ a ∷ [] → Adds (λ q. Contains (references a) (Some q)) ms ys ns zs → IsFollowed references ns a → IsMarking references roots ns zs
+marking_step references roots ms xs ys a ns zs h e g followed =
+    let here : IsReached references (λ r. is_marked roots r ≡ true) a = h.sound a (h.waits a (subst (λ (l : List ℕ). Contains l a) (sym e) (Contains-push ys a))) in
+    let before : (x : ℕ) → Contains ys x → Contains xs x = λ x c. subst (λ (l : List ℕ). Contains l x) (sym e) (Contains-append_left ys (a ∷ []) x c) in
+    record {
+      count = g.count ∙ h.count;
+      sound = λ x m. ⊎_elim
+          (λ (k : is_marked ms x ≡ true). h.sound x k)
+          (λ (k : Contains (references a) (Some x) × Contains zs x). Referred a x here k.0)
+          (g.fresh x m);
+      waits = λ x c. ⊎_elim
+          (λ (k : Contains ys x). g.stays x (h.waits x (before x k)))
+          (λ (k : Contains (references a) (Some x) × (is_marked ns x ≡ true)). k.1)
+          (g.ours x c);
+      closed = λ x m. ⊎_elim
+          (λ (k : is_marked ms x ≡ true). ⊎_elim
+          (λ (c : Contains xs x). ⊎_elim
+          (λ (d : Contains ys x). inl (g.listed x d))
+          (λ (d : a ≡ x). inr (subst (IsFollowed references ns) d followed))
+          (Contains-push_cases ys a x (subst (λ (l : List ℕ). Contains l x) e c)))
+          (λ (c : IsFollowed references ms x). inr (λ b r. g.stays b (c b r)))
+          (h.closed x k))
+          (λ (k : Contains (references a) (Some x) × Contains zs x). inl k.1)
+          (g.fresh x m);
+      from_roots = λ x c. g.stays x (h.from_roots x c);
+    }
+
+all_marked : (references : ℕ → List (Option ℕ)) (roots ms : List Bool) → IsMarking references roots ms [] → (p : ℕ) → IsReached references (λ r. is_marked roots r ≡ true) p → is_marked ms p ≡ true
+all_marked references roots ms h p (Root x c) = h.from_roots x c
+all_marked references roots ms h p (Referred x q k r) =
+    ⊎_elim
+    (λ (c : Contains [] x). absurd (none_listed x c))
+    (λ (c : IsFollowed references ms x). c q r)
+    (h.closed x (all_marked references roots ms h x k))
+
+pub marking_end : (references : ℕ → List (Option ℕ)) (roots ms : List Bool) (xs : List ℕ) → IsMarking references roots ms xs → xs ≡ [] → AreReached references roots ms
+marking_end references roots ms xs h e =
+    let none : IsMarking references roots ms [] = subst (IsMarking references roots ms) e h in
+    record {
+      count = h.count;
+      sound = h.sound;
+      complete = all_marked references roots ms none;
+    }
+
+pub nothing_left : (xs : List ℕ) → length xs ≡ 0 → xs ≡ []
+nothing_left [] e = refl
+nothing_left (x ∷ xs) e = absurd (omega arith)
+
+-- what is reached is a place
+pub places_reached : (references : ℕ → List (Option ℕ)) (IsRoot IsPlace : ℕ → Type 0) → IsClosed IsPlace references → ((p : ℕ) → IsRoot p → IsPlace p) → (p : ℕ) → IsReached references IsRoot p → IsPlace p
+places_reached references IsRoot IsPlace closed roots p (Root x c) = roots x c
+places_reached references IsRoot IsPlace closed roots p (Referred x q k r) = closed x q (places_reached references IsRoot IsPlace closed roots x k) r
+
+-- ---- values by place
+
+pub get_within : {X : Type 0} (xs : List X) (k : ℕ) (x : X) → slice_get xs k ≡ Some x → k < length xs
+get_within [] k x e = absurd (cc)
+get_within (y ∷ xs) zero x e = omega arith
+get_within (y ∷ xs) (suc k) x e = let rest : k < length xs = get_within xs k x e in omega arith
+
+get_or_get : {X : Type 0} (xs : List X) (k : ℕ) (x : X) → slice_get xs k ≡ Some x → get_or xs k x ≡ x
+get_or_get [] k x e = absurd (cc)
+get_or_get (y ∷ xs) zero x e = cc
+get_or_get (y ∷ xs) (suc k) x e = get_or_get xs k x e
+
+get_there : {X : Type 0} (xs : List X) (k : ℕ) (x : X) → k < length xs → slice_get xs k ≡ Some (get_or xs k x)
+get_there [] k x l = absurd (omega arith)
+get_there (y ∷ xs) zero x l = refl
+get_there (y ∷ xs) (suc k) x l = get_there xs k x (omega arith)
+
+pub contains-get : {X : Type 0} (xs : List X) (k : ℕ) (x : X) → slice_get xs k ≡ Some x → Contains xs x
+contains-get xs k x e = (k, get_within xs k x e, get_or_get xs k x e)
+
+pub get-contains : {X : Type 0} (xs : List X) (x : X) (c : Contains xs x) → slice_get xs c.0 ≡ Some x
+get-contains {X = X} xs x c = get_there xs c.0 x c.1 ∙ ap (λ (y : X). Some y) c.2
+
+pub one_target : (x y : ℕ) (xs : List (Option ℕ)) (k : ℕ) → slice_get xs k ≡ Some (Some x) → slice_get xs k ≡ Some (Some y) → x ≡ y
+one_target x y xs k e f = cc
+
+pub no_target : (x : ℕ) (o : Option ℕ) (xs : List (Option ℕ)) (k : ℕ) → slice_get xs k ≡ Some o → slice_get xs k ≡ Some (Some x) → o ≡ Some x
+no_target x o xs k e f = cc
+
+-- what is read doesn't depend on the default
+pub read_there : (xs : List Bool) (i : ℕ) (d e : Bool) → i < length xs → get_or xs i d ≡ get_or xs i e
+read_there [] i d e h = absurd (omega arith)
+read_there (x ∷ xs) zero d e h = refl
+read_there (x ∷ xs) (suc i) d e h = read_there xs i d e (omega arith)
+
+-- a root that is added waits, and where none is added all is as it was
+pub waits_after : {T E : Type 0} (r : Result T E) (P : ℕ → Type 0) (ms : List Bool) (xs : List ℕ) (ns : List Bool) (ys : List ℕ) → WaitsFor ms xs → OnOk r (Adds P ms xs ns ys) → OnErr r (ns ≡ ms) → OnErr r (ys ≡ xs) → WaitsFor ns ys
+waits_after (Ok t) P ms xs ns ys h adds e f = waits_added P ms xs ns ys h adds
+waits_after (Err t) P ms xs ns ys h adds e f = rw (e, f) h

@@ -1,0 +1,6 @@
+use Rattle.std.proofs.Common.{◌≡◌, ◌-◌, ◌++◌, length}
+use Rattle.replay_objects.proofs.FrameLemmas.{references_from}
+use Rattle.replay_objects.proofs.frame.add_references.Given as goal
+
+abbrev pub invariant-loop-done : goal.invariant-loop-done
+invariant-loop-done l = l.names.items ≡ l.fn.names.items ++ references_from l.frames (length l.frames - l.done)

@@ -1,0 +1,166 @@
+//! The objects that all threads share.
+
+ghost use Rattle.std.specs.Prelude.{◌≡◌, ◌<◌, ◌^◌, ◌++◌, ◌∷◌, [], IfOk, IfSome, length, map, slice_set};
+ghost use Rattle.std.specs.Option.{option_map};
+ghost use Rattle.semantics.specs.Heap.{object_at, class_of, value_at, values_of, with_value_at};
+ghost use Rattle.replay_objects.specs.Stores.{object_view};
+ghost use Rattle.semantics.specs.Views.{object_value_view};
+
+use semantics::{ObjectValue, Objects};
+use std::alloc::{AllocError, Global};
+use std::marker::Model;
+
+/// An object: the number of its class, and its values.
+#[derive(Drop)]
+pub(crate) struct Object {
+    pub(crate) class: usize,
+    pub(crate) values: Vec<ObjectValue>,
+}
+
+/// The objects, seen as the heap of the definitions. Each goes by its name, its number in the order in which they are made,
+/// counted from 1.
+#[derive(Drop)]
+pub struct Store {
+    objects: Vec<Object>,
+}
+
+impl Model for Store {
+    ghost use Rattle.std.specs.Prelude.{map};
+    ghost use Rattle.semantics.specs.Heap.{Heap};
+    ghost use Rattle.replay_objects.specs.Stores.{object_view, AreShort};
+
+    ghost Value = { Heap };
+
+    ghost view = { λ s. map object_view s.objects.items };
+
+    ghost invariant = { λ s. AreShort s.objects.items };
+}
+
+impl Objects for Store {
+    ghost heap = { λ s. s };
+
+    fn len(&self) -> usize {
+        self.objects.len()
+    }
+
+    fn class_of(&self, name: usize) -> usize {
+        Store::class_of(self, name)
+    }
+
+    fn count(&self, name: usize) -> usize {
+        self.values_of(name).len()
+    }
+
+    fn value(&self, name: usize, index: usize) -> ObjectValue {
+        self.values_of(name)[index]
+    }
+}
+
+impl Store {
+    /// The store of no objects.
+    pub fn new(alloc: Global) -> Store
+        ensures { result ≡ [] }
+    {
+        Store {
+            objects: Vec::new(alloc),
+        }
+    }
+
+    /// The number of objects.
+    pub fn len(&self) -> usize
+        ensures len { result ≡ length self.now }
+        ensures few { result < 2 ^ 63 }
+    {
+        self.objects.len()
+    }
+
+    /// The object of a name.
+    fn object(&self, name: usize) -> Option<&Object>
+        ensures view { option_map (λ o. object_view o.now) result ≡ object_at self.now name }
+        ensures short { IfSome result (λ o. length o.now.values.items < 2 ^ 31) }
+    {
+        if name == 0 {
+            return None;
+        }
+        if self.objects.len() < name {
+            return None;
+        }
+        Some(&self.objects[name - 1])
+    }
+
+    /// The number of an object's class; 0 where there is no object of this name.
+    pub fn class_of(&self, name: usize) -> usize
+        ensures { result ≡ class_of self.now name }
+    {
+        match self.object(name) {
+            Some(object) => object.class,
+            None => 0,
+        }
+    }
+
+    /// An object's fields in the order of its class's layout, the elements of an array, or the units of a string; none where
+    /// there is no object of this name.
+    pub fn values_of(&self, name: usize) -> &[ObjectValue]
+        ensures values { map object_value_view result.now ≡ values_of self.now name }
+        ensures short { length result.now < 2 ^ 31 }
+    {
+        match self.object(name) {
+            Some(object) => &object.values,
+            None => &[],
+        }
+    }
+
+    /// The value at a place of an object, counted from 0; the number 0 where there is none.
+    pub fn value_at(&self, name: usize, place: usize) -> ObjectValue
+        ensures { object_value_view result ≡ value_at self.now name place }
+    {
+        match self.values_of(name).get(place) {
+            Some(value) => *value,
+            None => ObjectValue::Number(0),
+        }
+    }
+
+    /// Puts a value into an object, if it has the place. The name is 0 in no accepted program: by the definitions the first
+    /// object is then left without a class and values.
+    pub fn set(&mut self, name: usize, place: usize, value: ObjectValue)
+        ensures { self.new ≡ with_value_at self.old name place (object_value_view value) }
+    {
+        let count = self.objects.len();
+        if name > count || count == 0 {
+            return;
+        }
+        if name == 0 {
+            empty(&mut self.objects[0]);
+        } else {
+            put_value(&mut self.objects[name - 1], place, value);
+        }
+    }
+
+    /// Makes the next object.
+    pub fn add(&mut self, class: usize, values: Vec<ObjectValue>) -> Result<(), AllocError>
+        requires { length values.items < 2 ^ 31 }
+        ensures { IfOk result (λ _. self.new ≡ self.old ++ record { class = class; values = map object_value_view values.items } ∷ []) }
+    {
+        self.objects.push(Object { class, values })?;
+        Ok(())
+    }
+}
+
+/// Takes an object's class and values away.
+fn empty(object: &mut Object)
+    ensures view { object_view object.new ≡ record { class = 0; values = [] } }
+    ensures length { length object.new.values.items ≡ 0 }
+{
+    object.class = 0;
+    object.values.clear();
+}
+
+/// Puts a value into an object, if it has the place.
+fn put_value(object: &mut Object, place: usize, value: ObjectValue)
+    ensures view { object_view object.new ≡ record { class = (object_view object.old).class; values = slice_set (object_view object.old).values place (object_value_view value) } }
+    ensures length { length object.new.values.items ≡ length object.old.values.items }
+{
+    if place < object.values.len() {
+        object.values[place] = value;
+    }
+}

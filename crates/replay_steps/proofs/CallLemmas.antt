@@ -1,0 +1,328 @@
+-- What a call in memory does is the call's step.
+use Rattle.std.proofs.Common.{◌≡◌, ℕ, Bool, true, false, List, [], ◌∷◌, ◌++◌, Option, Some, None, refl, sym, ap, ◌∙◌, append-nil}
+use Rattle.std.specs.Prelude.{ℤ, pos, negsuc, drop, nat_le, if◌then◌else◌, is_some}
+use Rattle.std.specs.Option.{option_to_list}
+use Rattle.base.specs.Bytes.{Identifier, lookup}
+use Rattle.base.specs.Element.{ElementType}
+use Rattle.class_rules.specs.BuiltIns.{no_class_def_found_error, no_such_field_error}
+use Rattle.class_rules.specs.Class.{Classes}
+use Rattle.class_rules.specs.Fields.{FieldId}
+use Rattle.jni.specs.Access.{ArrayView}
+use Rattle.jni.specs.JniFunction.{is_built_function, JniFunction, FindClass, NewGlobalRef, DeleteLocalRef, DeleteGlobalRef, EnsureLocalCapacity, PushLocalFrame, GetFieldID, GetStaticFieldID, prototype, NewObjectArray, GetBuffer, Throw, ThrowNew}
+use Rattle.jni.specs.Prototype.{ResultKind, NewLocal}
+use Rattle.semantics.specs.Arguments.{Actual, reference_given, variable_given}
+use Rattle.semantics.specs.CallEffects.{CallResult, NoResult, ReferenceResult, CallEffect, Leaves, delete_global_effect, delete_local_effect, ensure_effect, found_class_effect, found_field_effect, level_of, out_of_memory, push_effect, refuses_frames, with_capacity, without_local}
+use Rattle.semantics.specs.CallStep.{after_call, after_refusal, call_step, checked, completed, failure, is_zero, makes_objects, put, received, target_element, tell_copy}
+use Rattle.semantics.specs.CallTable.{call_effect, go_together}
+use Rattle.semantics.specs.Checks.{call_trap}
+use Rattle.semantics.specs.Effect.{tasks_after}
+use Rattle.semantics.specs.Heap.{Heap, next_name}
+use Rattle.semantics.specs.Object.{Object, Reference}
+use Rattle.semantics.specs.World.{fresh_object}
+use Rattle.semantics.specs.Task.{Task}
+use Rattle.semantics.specs.Thread.{Frame, Thread, Shared, BuffersInUse, Trapped, Advance, Advances, capacities}
+use Rattle.semantics.specs.ThreadStep.{with_tasks}
+use Rattle.semantics.specs.Value.{Trap}
+use Rattle.semantics.specs.Variable.{Variable, Variables}
+use Rattle.replay_terms.specs.declared.given.Given.{Given}
+use Rattle.replay_terms.specs.declared.given.Given.TheVariants as given
+use Rattle.replay_tasks.specs.declared.outcome.Outcome.{Outcome}
+use Rattle.replay_tasks.specs.declared.outcome.Outcome.TheVariants as outcome
+use Rattle.replay_tasks.specs.declared.outcome.Purpose.{Purpose as PurposeInMemory}
+use Rattle.replay_tasks.specs.declared.outcome.Purpose.TheVariants as purposes
+use Rattle.replay_tasks.specs.declared.outcome.Target.TheVariants as target
+use Rattle.replay_tasks.specs.declared.task.Task.{Task as TaskInMemory}
+use Rattle.replay_terms.specs.declared.trap.Trap.{Trap as TrapInMemory}
+use Rattle.replay_calls.specs.Answers.{Answer, Gives, Writes, Makes, Raises, Ensures, Pushes, RefusesFrames, Pops, DeletesLocal, MakesGlobal, DeletesGlobal, effect_as, frames_after, frames_with, given_after, makes_object, pending_after, shared_after, without_global, zero_result}
+use Rattle.replay_terms.specs.Views.{given_view, Contents, trap_view, variables_view}
+use Rattle.replay_steps.specs.Calls.{MakesCall}
+use Rattle.replay_calls.specs.Checked.{fit_together, trap_found}
+use Rattle.replay_objects.specs.Frames.{new_frame}
+use Rattle.replay_tasks.specs.Outcomes.{outcome_for, purpose_view}
+use Rattle.replay_steps.specs.Steps.{Scene, Sees, left_by, scene_with}
+use Rattle.replay_tasks.specs.Tasks.{task_view}
+use Rattle.replay_calls.specs.WorkedOut.{ensured, found_class, found_field, global_deleted, local_deleted, made_global, pushed, worked_out}
+use Rattle.replay_steps.proofs.TaskLemmas.{same_thread}
+
+-- ---- checks
+
+module _ (classes : Classes) (heap : Heap) (buffer : ElementType) (args : List Actual) where
+  -- the arguments go together
+  together : (f : JniFunction) → is_built_function f ≡ true → go_together classes heap buffer args f ≡ fit_together classes heap args f
+  unfolding go_together
+  together NewObjectArray built = absurd (cc)
+  together (GetBuffer ArrayView) built = absurd (cc)
+  together Throw built = absurd (cc)
+  together ThrowNew built = absurd (cc)
+  together f built = refl
+
+-- the trap of a call is the one that was found
+trap_is : (classes : Classes) (heap : Heap) (buffer : ElementType) (args : List Actual) (f : JniFunction) (t : Thread) → is_built_function f ≡ true
+    → call_trap classes heap t buffer f args ≡ trap_found classes heap t.frames (is_some t.pending) f args
+unfolding call_trap
+trap_is classes heap buffer args f t built = rw (together classes heap buffer args f built) refl
+
+-- ---- effects
+
+module _ (classes : Classes) (in_use : BuffersInUse) (k : ℕ) (s : Shared) (t : Thread) (args : List Actual) where
+  class_found : (o : Option ℕ) → found_class_effect s t no_class_def_found_error o ≡ effect_as classes s t (found_class o)
+  class_found None = refl
+  class_found (Some c) = refl
+
+  field_found : (o : Option FieldId) → found_field_effect s t no_such_field_error o ≡ effect_as classes s t (found_field o)
+  field_found None = refl
+  field_found (Some f) = refl
+
+  fitting : (b : Bool) (a : Answer) → (if b then effect_as classes s t a else refuses_frames classes s t) ≡ effect_as classes s t (if b then a else RefusesFrames)
+  fitting true a = refl
+  fitting false a = refl
+
+  ensures : (n : ℤ) → ensure_effect classes s t n ≡ effect_as classes s t (ensured t.frames n)
+  ensures (pos n) = fitting (nat_le (capacities (with_capacity n t.frames)) 1024) (Ensures n)
+  ensures (negsuc n) = refl
+
+  pushes : (n : ℤ) → push_effect classes s t n ≡ effect_as classes s t (pushed t.frames n)
+  pushes (pos n) = fitting (nat_le (capacities (new_frame n ∷ t.frames)) 1024) (Pushes n)
+  pushes (negsuc n) = refl
+
+  deletes_local : (v : Option Variable) (r : Reference) → delete_local_effect s t v r ≡ effect_as classes s t (local_deleted (level_of v) r)
+  deletes_local v None = refl
+  deletes_local v (Some n) = refl
+
+  makes_global : (r : Reference) → Leaves [] (record s { globals = option_to_list r ++ s.globals }) t (ReferenceResult r) ≡ effect_as classes s t (made_global r)
+  makes_global None = refl
+  makes_global (Some n) = refl
+
+  deletes_global : (x : Identifier) (r : Reference) → delete_global_effect s t x r ≡ effect_as classes s t (global_deleted x r)
+  deletes_global x None = refl
+  deletes_global x (Some n) = refl
+
+  -- what is worked out is the effect
+  effects : (f : JniFunction) → is_built_function f ≡ true → call_effect classes in_use k s t args f ≡ effect_as classes s t (worked_out classes s.heap t.variables t.frames args f)
+  unfolding call_effect
+  effects FindClass built = class_found _
+  effects NewGlobalRef built = makes_global _
+  effects DeleteLocalRef built = deletes_local (lookup (variable_given args 0) t.variables) (reference_given args 0)
+  effects DeleteGlobalRef built = deletes_global _ _
+  effects EnsureLocalCapacity built = ensures _
+  effects PushLocalFrame built = pushes _
+  effects GetFieldID built = field_found _
+  effects GetStaticFieldID built = field_found _
+  effects f built = cc
+
+-- ---- what a call leaves
+
+-- none of these gives a buffer
+not_told : (x : Identifier) (g : Given) (vs : Variables) → tell_copy x (given_view g) vs ≡ vs
+not_told [] g vs = refl
+not_told (b ∷ x) given.Nothing vs = refl
+not_told (b ∷ x) given.Null vs = refl
+not_told (b ∷ x) (given.Number z) vs = refl
+not_told (b ∷ x) (given.Flag c) vs = refl
+not_told (b ∷ x) (given.Reference r) vs = refl
+not_told (b ∷ x) (given.Field f) vs = refl
+
+-- a thread with these frames and this pending exception
+abbrev in_frames : Thread → List Frame → Reference → Thread
+in_frames t frames pending = record t { frames = frames; pending = pending }
+
+-- the thread before a call
+as_it_is : (t : Thread) (frames : List Frame) (pending : Reference) → t.frames ≡ frames → t.pending ≡ pending → t ≡ in_frames t frames pending
+as_it_is t frames pending framed is =
+    ap (λ (fs : List Frame). let u : Thread = record t { frames = fs } in u) framed
+    ∙ ap (λ (r : Reference). let u : Thread = record t { frames = frames; pending = r } in u) is
+
+-- its variables are as they were
+in_variables : (k : ℕ) (s : Shared) (t : Thread) (vs : Contents) (frames : List Frame) (pending : Reference) (rest : List Task) (took : Outcome) (new : TaskInMemory) → t.variables ≡ variables_view vs
+    → left_by k s (in_frames t frames pending) rest took new ≡ left_by k s (record t { variables = variables_view vs; frames = frames; pending = pending }) rest took new
+in_variables k s t vs frames pending rest took new same = ap (λ (us : Variables). let u : Thread = record t { variables = us; frames = frames; pending = pending } in left_by k s u rest took new) same
+
+-- the result goes into the current frame
+in_received : (kind : ResultKind) (g : Given) (t : Thread) (frames : List Frame) (pending : Reference) → received kind (given_view g) (in_frames t frames pending) ≡ in_frames t (frames_with kind (given_view g) frames) pending
+in_received NewLocal given.Nothing t frames pending = refl
+in_received NewLocal given.Null t frames pending = refl
+in_received NewLocal (given.Number z) t frames pending = refl
+in_received NewLocal (given.Flag b) t frames pending = refl
+in_received NewLocal (given.Reference None) t frames pending = refl
+in_received NewLocal (given.Reference (Some n)) t frames pending = refl
+in_received NewLocal (given.Field f) t frames pending = refl
+in_received kind g t frames pending = refl
+
+-- a failure leaves the frames alone
+failed_frames : (kind : ResultKind) (frames : List Frame) → frames_with kind (failure kind) frames ≡ frames
+failed_frames NewLocal frames = refl
+failed_frames kind frames = refl
+
+-- whether an effect makes objects
+makes_alike : (classes : Classes) (s : Shared) (t : Thread) (a : Answer) → makes_objects (effect_as classes s t a) ≡ makes_object a
+makes_alike classes s t (Gives g) = refl
+makes_alike classes s t (Writes n i v) = refl
+makes_alike classes s t (Makes c) = refl
+makes_alike classes s t (Raises c) = refl
+makes_alike classes s t (Ensures n) = refl
+makes_alike classes s t (Pushes n) = refl
+makes_alike classes s t RefusesFrames = refl
+makes_alike classes s t (Pops r) = refl
+makes_alike classes s t (DeletesLocal l n) = refl
+makes_alike classes s t (MakesGlobal n) = refl
+makes_alike classes s t (DeletesGlobal x n) = refl
+
+module _ (classes : Classes) (in_use : BuffersInUse) (k : ℕ) (s : Shared) (t : Thread) (line : ℕ) (purpose : PurposeInMemory) (f : JniFunction) (args : List Actual) (rest : List Task) (frames : List Frame) (pending : Reference) where
+  abbrev kind : ResultKind
+  kind = (prototype f).result
+
+  -- the thread before the call
+  abbrev caller : Thread
+  caller = in_frames t frames pending
+
+  -- what goes where it belongs
+  abbrev completes : List Object → Shared → Thread → CallResult → Advance
+  completes made s' u c = completed classes in_use k s caller line (purpose_view line purpose) f args rest made s' u c
+
+  by_purpose : (p : PurposeInMemory) (s' : Shared) (fs : List Frame) (r : Reference) (g : Given) (new : TaskInMemory)
+      → put (purpose_view line p) (given_view g) s' (with_tasks (in_frames t fs r) (tasks_after line (purpose_view line p) (is_zero (given_view g)) ++ rest)) ≡ left_by k s' (in_frames t fs r) rest (outcome_for line p g) new
+  by_purpose (purposes.Put (target.Declared t x)) s' fs r g new = refl
+  by_purpose (purposes.Put (target.Assigned x)) s' fs r g new = refl
+  by_purpose (purposes.Put target.Dropped) s' fs r g new = refl
+  by_purpose (purposes.Test b other) s' fs r g new = refl
+
+  finished : (made : List Object) (s' : Shared) (fs : List Frame) (r : Reference) (c : CallResult) (g : Given) (new : TaskInMemory) → given_view g ≡ c
+      → completes made s' (in_frames t fs r) c ≡ left_by k (record s' { heap = s'.heap ++ made }) (in_frames t (frames_with kind (given_view g) fs) r) rest (outcome_for line purpose g) new
+  finished made s' fs r c g new same =
+      let after : Shared = record s' { heap = s'.heap ++ made } in
+      let todo : List Task = tasks_after line (purpose_view line purpose) (is_zero (given_view g)) ++ rest in
+      ap (completes made s' (in_frames t fs r)) (sym same)
+      ∙ ap (λ (w : Thread). let u : Thread = record w { tasks = Some todo; variables = tell_copy (variable_given args 1) (given_view g) t.variables } in put (purpose_view line purpose) (given_view g) after u) (in_received kind g t fs r)
+      ∙ ap (λ (vs : Variables). let u : Thread = record (in_frames t (frames_with kind (given_view g) fs) r) { tasks = Some todo; variables = vs } in put (purpose_view line purpose) (given_view g) after u) (not_told (variable_given args 1) g t.variables)
+      ∙ by_purpose purpose after (frames_with kind (given_view g) fs) r g new
+
+  -- the same where no object is made
+  plain : (s' : Shared) (fs : List Frame) (r : Reference) (c : CallResult) (g : Given) (new : TaskInMemory) → given_view g ≡ c
+      → completes [] s' (in_frames t fs r) c ≡ left_by k s' (in_frames t (frames_with kind (given_view g) fs) r) rest (outcome_for line purpose g) new
+  plain s' fs r c g new same =
+      finished [] s' fs r c g new same
+      ∙ ap (λ (heap : Heap). let after : Shared = record s' { heap = heap } in left_by k after (in_frames t (frames_with kind (given_view g) fs) r) rest (outcome_for line purpose g) new) (append-nil s'.heap)
+
+  -- so it is after each answer
+  answered : (a : Answer) (g : Given) (new : TaskInMemory) → given_view g ≡ given_after s.heap kind a
+      → after_call classes in_use k s caller line (purpose_view line purpose) f args rest (effect_as classes s caller a)
+      ≡ left_by k (shared_after classes s a) (in_frames t (frames_with kind (given_view g) (frames_after frames a)) (pending_after classes s.heap pending a)) rest (outcome_for line purpose g) new
+  answered (Gives c) g new same = plain s frames pending c g new same
+  answered (Writes n i v) g new same = plain (shared_after classes s (Writes n i v)) frames pending NoResult g new same
+  answered (Makes c) g new same = finished (fresh_object classes c ∷ []) s frames pending (ReferenceResult (Some (next_name s.heap))) g new same
+  answered (Raises c) g new same = finished (fresh_object classes c ∷ []) s frames (Some (next_name s.heap)) (failure kind) g new same
+  answered (Ensures n) g new same = plain s (with_capacity n frames) pending zero_result g new same
+  answered (Pushes n) g new same = plain s (new_frame n ∷ frames) pending zero_result g new same
+  answered RefusesFrames g new same = plain s frames (Some (out_of_memory classes)) (given_after s.heap kind RefusesFrames) g new same
+  answered (Pops r) g new same = plain s (drop 1 frames) pending (ReferenceResult r) g new same
+  answered (DeletesLocal l n) g new same = plain s (without_local l n frames) pending NoResult g new same
+  answered (MakesGlobal n) g new same = plain (shared_after classes s (MakesGlobal n)) frames pending (ReferenceResult (Some n)) g new same
+  answered (DeletesGlobal x n) g new same = plain (without_global x n s) frames pending NoResult g new same
+
+  -- and where its object is refused
+  refused_is : (g : Given) (new : TaskInMemory) → given_view g ≡ failure kind
+      → after_refusal classes in_use k s caller line (purpose_view line purpose) f args rest true ≡ left_by k s (in_frames t frames (Some (out_of_memory classes))) rest (outcome_for line purpose g) new
+  refused_is g new same =
+      plain s frames (Some (out_of_memory classes)) (failure kind) g new same
+      ∙ ap (λ (fs : List Frame). left_by k s (in_frames t fs (Some (out_of_memory classes))) rest (outcome_for line purpose g) new) (ap (λ (c : CallResult). frames_with kind c frames) same ∙ failed_frames kind frames)
+
+-- ---- the call of a function that is built
+
+module _ (classes : Classes) (in_use : BuffersInUse) (k : ℕ) (s : Shared) (vs : Contents) (frames : List Frame) (pending : Reference) (line : ℕ) (purpose : PurposeInMemory) (f : JniFunction) (args : List Actual) (built : is_built_function f ≡ true) where
+  abbrev scene : Scene
+  scene = scene_with classes in_use k s vs frames pending
+
+  abbrev trap : Option Trap
+  trap = trap_found classes s.heap frames (is_some pending) f args
+
+  abbrev told : Answer
+  told = worked_out classes s.heap (variables_view vs) frames args f
+
+  module _ (t : Thread) (rest : List Task) (sees : Sees scene t) where
+    abbrev calls : Thread
+    calls = in_frames t frames pending
+
+    abbrev by_effect : Bool → CallEffect → Advance
+    by_effect false effect = after_call classes in_use k s calls line (purpose_view line purpose) f args rest effect
+    by_effect true effect = after_refusal classes in_use k s calls line (purpose_view line purpose) f args rest (makes_objects effect)
+
+    abbrev checks : Option Trap → CallEffect
+    checks o = checked o (call_effect classes in_use k s calls args f)
+
+    steps : (refused : Bool) → call_step classes in_use k s calls line (purpose_view line purpose) f args rest refused ≡ by_effect refused (checks (call_trap classes s.heap calls (target_element t.variables (purpose_view line purpose)) f args))
+    steps false = refl
+    steps true = refl
+
+    by_trap : (refused : Bool) → call_step classes in_use k s t line (purpose_view line purpose) f args rest refused ≡ by_effect refused (checks trap)
+    by_trap refused =
+        ap (λ (u : Thread). call_step classes in_use k s u line (purpose_view line purpose) f args rest refused) (as_it_is t frames pending sees.frames sees.pending)
+        ∙ steps refused
+        ∙ ap (λ (o : Option Trap). by_effect refused (checks o)) (trap_is classes s.heap (target_element t.variables (purpose_view line purpose)) args f calls built)
+
+    passed : (refused : Bool) → trap ≡ None → call_step classes in_use k s t line (purpose_view line purpose) f args rest refused ≡ by_effect refused (effect_as classes s calls told)
+    passed refused none =
+        by_trap refused
+        ∙ ap (λ (o : Option Trap). by_effect refused (checks o)) none
+        ∙ ap (by_effect refused) (effects classes in_use k s calls args f built ∙ ap (λ (us : Variables). effect_as classes s calls (worked_out classes s.heap us frames args f)) sees.variables)
+
+  -- a trap
+  call_traps : (found : TrapInMemory) → trap ≡ Some (trap_view found) → MakesCall false scene line purpose f args (outcome.Trapped found line) scene
+  call_traps found some = λ t rest new sees has.
+      by_trap t rest sees false
+      ∙ ap (λ (o : Option Trap). by_effect t rest sees false (checks t rest sees o)) some
+      ∙ ap (λ (u : Thread). Advances s u (Trapped (trap_view found) line)) (same_thread (in_frames t frames pending) (task_view new ∷ rest) has)
+      ∙ in_variables k s t vs frames pending rest (outcome.Trapped found line) new sees.variables
+
+  -- a call that traps has no object that can be refused
+  trap_refuses : (found : Trap) → trap ≡ Some found → MakesCall true scene line purpose f args outcome.Impossible scene
+  trap_refuses found some = λ t rest new sees has.
+      by_trap t rest sees true
+      ∙ ap (λ (o : Option Trap). by_effect t rest sees true (checks t rest sees o)) some
+
+  -- so it is, refused or not
+  pub call_stopped : (refused : Bool) (found : TrapInMemory) → trap ≡ Some (trap_view found)
+      → MakesCall refused scene line purpose f args (if refused then outcome.Impossible else outcome.Trapped found line) scene
+  call_stopped true found some = trap_refuses (trap_view found) some
+  call_stopped false found some = call_traps found some
+
+  module _ (none : trap ≡ None) where
+    -- the call is made
+    pub call_made : (a : Answer) (g : Given) → a ≡ told → given_view g ≡ given_after s.heap (prototype f).result a
+        → MakesCall false scene line purpose f args (outcome_for line purpose g)
+        (scene_with classes in_use k (shared_after classes s a) vs (frames_with (prototype f).result (given_view g) (frames_after frames a)) (pending_after classes s.heap pending a))
+    call_made a g same given = λ t rest new sees has.
+        passed t rest sees false none
+        ∙ ap (λ (b : Answer). by_effect t rest sees false (effect_as classes s (in_frames t frames pending) b)) (sym same)
+        ∙ answered classes in_use k s t line purpose f args rest frames pending a g new given
+        ∙ in_variables k (shared_after classes s a) t vs (frames_with (prototype f).result (given_view g) (frames_after frames a)) (pending_after classes s.heap pending a) rest (outcome_for line purpose g) new sees.variables
+
+    by_makes : (a : Answer) (b : Bool) → makes_object a ≡ b → a ≡ told → (t : Thread) (rest : List Task) → Sees scene t
+        → call_step classes in_use k s t line (purpose_view line purpose) f args rest true ≡ after_refusal classes in_use k s (in_frames t frames pending) line (purpose_view line purpose) f args rest b
+    by_makes a b makes same = λ t rest sees.
+        passed t rest sees true none
+        ∙ ap (λ (c : Answer). by_effect t rest sees true (effect_as classes s (in_frames t frames pending) c)) (sym same)
+        ∙ ap (after_refusal classes in_use k s (in_frames t frames pending) line (purpose_view line purpose) f args rest) (makes_alike classes s (in_frames t frames pending) a ∙ makes)
+
+    -- it makes no object that can be refused
+    pub none_refused : (a : Answer) → a ≡ told → makes_object a ≡ false → MakesCall true scene line purpose f args outcome.Impossible scene
+    none_refused a same makes = λ t rest new sees has. by_makes a false makes same t rest sees
+
+    -- its object is refused
+    pub object_refused : (a : Answer) (g : Given) → a ≡ told → makes_object a ≡ true → given_view g ≡ failure (prototype f).result
+        → MakesCall true scene line purpose f args (outcome_for line purpose g) (scene_with classes in_use k s vs frames (Some (out_of_memory classes)))
+    object_refused a g same makes failed = λ t rest new sees has.
+        by_makes a true makes same t rest sees
+        ∙ refused_is classes in_use k s t line purpose f args rest frames pending g new failed
+        ∙ in_variables k s t vs frames (Some (out_of_memory classes)) rest (outcome_for line purpose g) new sees.variables
+
+    -- the same, by what it leaves
+    pub call_made_so : (refused : Bool) (a : Answer) (g : Given) (kind : ResultKind) (s' : Shared) (between frames' : List Frame) (pending' : Reference) (took : Outcome) → refused ≡ false → a ≡ told → kind ≡ (prototype f).result
+        → given_view g ≡ given_after s.heap kind a → s' ≡ shared_after classes s a → between ≡ frames_after frames a → frames' ≡ frames_with kind (given_view g) between → pending' ≡ pending_after classes s.heap pending a → took ≡ outcome_for line purpose g
+        → MakesCall refused scene line purpose f args took (scene_with classes in_use k s' vs frames' pending')
+    call_made_so refused a g kind s' between frames' pending' took possible same is given left changed framed pended is_for =
+        rw (possible, left, framed, changed, pended, is, is_for) (call_made a g same (given ∙ ap (λ (k : ResultKind). given_after s.heap k a) is))
+
+    pub object_refused_so : (refused : Bool) (a : Answer) (g : Given) (kind : ResultKind) (pending' : Reference) (took : Outcome) → refused ≡ true → a ≡ told → makes_object a ≡ true → kind ≡ (prototype f).result
+        → given_view g ≡ failure kind → pending' ≡ Some (out_of_memory classes) → took ≡ outcome_for line purpose g → MakesCall refused scene line purpose f args took (scene_with classes in_use k s vs frames pending')
+    object_refused_so refused a g kind pending' took marked same makes is failed pended is_for =
+        rw (marked, pended, is_for) (object_refused a g same makes (failed ∙ ap failure is))

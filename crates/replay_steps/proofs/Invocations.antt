@@ -1,0 +1,189 @@
+-- The step of a call in memory, up to the call's own step and with it.
+use Rattle.std.proofs.Common.{◌≡◌, ℕ, zero, suc, ◌+◌, ◌<◌, Bool, true, false, List, [], ◌∷◌, length, map, Option, Some, None, nat_lt, slice_get, refl, sym, ap, ◌∙◌, subst, arith}
+use Rattle.std.specs.Prelude.{is_some, slice_set}
+use Rattle.std.proofs.lemmas.Bool.Decides.{nat_tests}
+use Rattle.class_rules.specs.Class.{Classes}
+use Rattle.jni.specs.Table.{function_value}
+use Rattle.semantics.specs.Arguments.{Actual, actuals}
+use Rattle.semantics.specs.Effect.{Becomes, Calls, effect_of, goes_on, is_ready, reduce_first, reduce_number, is_given}
+use Rattle.semantics.specs.Sight.{Sight}
+use Rattle.semantics.specs.Task as source
+use Rattle.semantics.specs.Term as terms
+use Rattle.semantics.specs.Term.{reduce}
+use Rattle.semantics.specs.Thread.{Thread, Shared, sight_of}
+use Rattle.semantics.specs.ThreadStep.{after_effect, after_refused_effect}
+use Rattle.semantics.specs.Value.{Outcome as Outcomes, outcome_map}
+use Rattle.replay_tasks.specs.declared.outcome.Outcome.{Outcome}
+use Rattle.replay_tasks.specs.declared.task.Invocation.{Invocation}
+use Rattle.replay_terms.specs.declared.operand.Operand.{Operand}
+use Rattle.replay_terms.specs.declared.operand.Operand.TheVariants as operands
+use Rattle.replay_tasks.specs.declared.task.Task.TheVariants as task
+use Rattle.replay_terms.specs.declared.reduction.Reduction.{Reduction}
+use Rattle.replay_terms.specs.declared.reduction.Reduction.TheVariants as reduction
+use Rattle.replay_terms.specs.declared.term.Term.{Term}
+use Rattle.replay_terms.specs.declared.term.Term.TheVariants as term
+use Rattle.replay_terms.specs.declared.value.Value.{Value}
+use Rattle.replay_steps.specs.Calls.{MakesCall, MakesInvocation, ReducesFirst, ReducesOne}
+use Rattle.replay_tasks.specs.Outcomes.{purpose_view}
+use Rattle.replay_calls.specs.Shares.{sight_in}
+use Rattle.replay_tasks.specs.Effects.{HasEffect, reduced}
+use Rattle.replay_steps.specs.Steps.{Scene, Sees, Does}
+use Rattle.replay_terms.specs.Views.{operand_view, Contents, term_view, Reduces}
+use Rattle.replay_tasks.specs.Tasks.{task_view}
+use Rattle.replay_steps.proofs.TaskLemmas.{sees_so}
+
+-- ---- the first number that isn't worked out
+
+first_given : (sight : Sight) (o : Operand) (rest : List source.Operand) → is_given (operand_view o) ≡ true → reduce_first sight (operand_view o ∷ rest) ≡ outcome_map (λ os. operand_view o ∷ os) (reduce_first sight rest)
+first_given sight (operands.Given a) rest given = refl
+first_given sight (operands.Number (term.Done v)) rest given = refl
+first_given sight (operands.Number (term.Number n unsigned)) rest given = absurd (cc)
+first_given sight (operands.Number (term.Named c)) rest given = absurd (cc)
+first_given sight (operands.Number (term.Read x)) rest given = absurd (cc)
+first_given sight (operands.Number (term.Element' x p i)) rest given = absurd (cc)
+first_given sight (operands.Number (term.IsNull wanted x)) rest given = absurd (cc)
+first_given sight (operands.Number (term.Prefix' op p t)) rest given = absurd (cc)
+first_given sight (operands.Number (term.And' p s q t)) rest given = absurd (cc)
+first_given sight (operands.Number (term.Or' p s q t)) rest given = absurd (cc)
+first_given sight (operands.Number (term.Binary' op p s q t)) rest given = absurd (cc)
+
+-- a number that has no value yet
+pub record IsOpen (u : terms.Term) : Type 0 where
+  pub unready : is_given (source.NumberOperand u) ≡ false
+  pub reduces : (rest : List source.Operand) (step : Outcomes terms.Term) (further : Outcomes (List source.Operand)) → reduce_number u rest step further ≡ outcome_map (λ (w : terms.Term). source.NumberOperand w ∷ rest) step
+
+is_open : (t : Term) → ((v : Value) → t ≡ term.Done v → ⊥) → IsOpen (term_view t)
+is_open (term.Done v) none = absurd (none v refl)
+is_open (term.Number n unsigned) none = record { unready = refl; reduces = λ rest step further. refl }
+is_open (term.Named c) none = record { unready = refl; reduces = λ rest step further. refl }
+is_open (term.Read x) none = record { unready = refl; reduces = λ rest step further. refl }
+is_open (term.Element' x p i) none = record { unready = refl; reduces = λ rest step further. refl }
+is_open (term.IsNull wanted x) none = record { unready = refl; reduces = λ rest step further. refl }
+is_open (term.Prefix' op p t) none = record { unready = refl; reduces = λ rest step further. refl }
+is_open (term.And' p s q t) none = record { unready = refl; reduces = λ rest step further. refl }
+is_open (term.Or' p s q t) none = record { unready = refl; reduces = λ rest step further. refl }
+is_open (term.Binary' op p s q t) none = record { unready = refl; reduces = λ rest step further. refl }
+
+-- the first n are worked out
+abbrev pub AreGiven : List Operand → ℕ → Type 0
+AreGiven os n = (i : ℕ) (o : Operand) → i < n → slice_get os i ≡ Some o → is_given (operand_view o) ≡ true
+
+pub given_more : (os : List Operand) (n : ℕ) (o : Operand) → slice_get os n ≡ Some o → is_given (operand_view o) ≡ true → AreGiven os n → AreGiven os (n + 1)
+given_more os n o at given before = λ i p low there. by_place i p low there (nat_lt i n) refl
+  where
+    by_place : (i : ℕ) (p : Operand) → i < n + 1 → slice_get os i ≡ Some p → (b : Bool) → nat_lt i n ≡ b → is_given (operand_view p) ≡ true
+    by_place i p low there true is = before i p (grind (arith, nat_tests, is)) there
+    by_place i p low there false is =
+        let last : i ≡ n = grind (arith, nat_tests, is, low) in
+        let same : Some o ≡ Some p = sym at ∙ ap (slice_get os) (sym last) ∙ there in
+        let equal : o ≡ p = cc in
+        ap (λ (q : Operand). is_given (operand_view q)) (sym equal) ∙ given
+
+-- an element in its own place
+set_same : {A : Type 0} (xs : List A) (n : ℕ) (x : A) → slice_get xs n ≡ Some x → slice_set xs n x ≡ xs
+set_same [] n x at = refl
+set_same (y ∷ xs) zero x at = let same : y ≡ x = cc in ap (λ z. z ∷ xs) (sym same)
+set_same (y ∷ xs) (suc n) x at = ap (λ zs. y ∷ zs) (set_same xs n x at)
+
+module _ (sight : Sight) where
+  -- what comes before it stays
+  pub after_given : (o : Operand) (old new : List Operand) (took : Option Reduction) → is_given (operand_view o) ≡ true → ReducesFirst sight old took new → ReducesFirst sight (o ∷ old) took (o ∷ new)
+  after_given o old new None given h = (rw (given, h.0) refl, ap (λ (os : List Operand). o ∷ os) h.1)
+  after_given o old new (Some reduction.Reduced) given h =
+      (rw (given, h.0) refl, first_given sight o (map operand_view old) given ∙ ap (outcome_map (λ os. operand_view o ∷ os)) h.1)
+  after_given o old new (Some (reduction.Trapped trap)) given h =
+      (rw (given, h.0) refl, first_given sight o (map operand_view old) given ∙ ap (outcome_map (λ os. operand_view o ∷ os)) h.1, ap (λ (os : List Operand). o ∷ os) h.2)
+  after_given o old new (Some reduction.Stuck) given h =
+      (rw (given, h.0) refl, first_given sight o (map operand_view old) given ∙ ap (outcome_map (λ os. operand_view o ∷ os)) h.1)
+
+  -- it takes its step
+  pub takes_first : (t t' : Term) (rest : List Operand) (took : Reduction) → ((v : Value) → t ≡ term.Done v → ⊥) → Reduces sight t took t' → ReducesFirst sight (operands.Number t ∷ rest) (Some took) (operands.Number t' ∷ rest)
+  takes_first t t' rest reduction.Reduced none h =
+      let o = is_open t none in
+      (rw o.unready refl, o.reduces (map operand_view rest) (reduce sight (term_view t)) (reduce_first sight (map operand_view rest)) ∙ ap (outcome_map (λ (w : terms.Term). source.NumberOperand w ∷ map operand_view rest)) h)
+  takes_first t t' rest (reduction.Trapped trap) none h =
+      let o = is_open t none in (
+        rw o.unready refl,
+        o.reduces (map operand_view rest) (reduce sight (term_view t)) (reduce_first sight (map operand_view rest)) ∙ ap (outcome_map (λ (w : terms.Term). source.NumberOperand w ∷ map operand_view rest)) h.0,
+        ap (λ (u : Term). operands.Number u ∷ rest) h.1,
+      )
+  takes_first t t' rest reduction.Stuck none h =
+      let o = is_open t none in
+      (rw o.unready refl, o.reduces (map operand_view rest) (reduce sight (term_view t)) (reduce_first sight (map operand_view rest)) ∙ ap (outcome_map (λ (w : terms.Term). source.NumberOperand w ∷ map operand_view rest)) h)
+
+  -- the one after them takes its step
+  pub first_in : (os : List Operand) (n : ℕ) (o o' : Operand) (took : Reduction) → slice_get os n ≡ Some o → AreGiven os n → ReducesOne sight o (Some took) o' → ReducesFirst sight os (Some took) (slice_set os n o')
+  first_in [] n o o' took at given h = absurd (cc)
+  first_in (p ∷ os) zero o o' took at given h = let same : p ≡ o = cc in subst (λ (q : Operand). ReducesFirst sight (q ∷ os) (Some took) (o' ∷ os)) (sym same) (h os)
+  first_in (p ∷ os) (suc n) o o' took at given h = after_given p os (slice_set os n o') (Some took) (given 0 p (omega arith) refl) (first_in os n o o' took at (λ i q low there. given (suc i) q (omega arith) there) h)
+
+  pub first_step : (os : List Operand) (n : ℕ) (o o' : Operand) (took : Option Reduction) → is_some took ≡ true → slice_get os n ≡ Some o → AreGiven os n → ReducesOne sight o took o' → ReducesFirst sight os took (slice_set os n o')
+  first_step os n o o' None some at given h = absurd (cc)
+  first_step os n o o' (Some r) some at given h = first_in os n o o' r at given h
+
+  -- or is worked out already
+  pub none_step : (os : List Operand) (n : ℕ) (o o' : Operand) (took : Option Reduction) → is_some took ≡ false → slice_get os n ≡ Some o → AreGiven os n → ReducesOne sight o took o' → (slice_set os n o' ≡ os) × AreGiven os (n + 1)
+  none_step os n o o' None none at given h = (ap (slice_set os n) h.1 ∙ set_same os n o at, given_more os n o at h.0 given)
+  none_step os n o o' (Some r) none at given h = absurd (cc)
+
+  -- or each is worked out
+  pub none_first : (os : List Operand) → AreGiven os (length os) → ReducesFirst sight os None os
+  none_first [] given = (refl, refl)
+  none_first (p ∷ os) given = after_given p os os None (given 0 p (omega arith) refl) (none_first os (λ i q low there. given (suc i) q (omega arith) there))
+
+  -- ---- the step of a call
+
+  module _ (i i' : Invocation) (line : i'.line ≡ i.line) (purpose : i'.purpose ≡ i.purpose) (function : i'.function ≡ i.function) where
+    abbrev whole : List source.Operand → source.Task
+    whole os = source.Invoke i.line (purpose_view i.line i.purpose) (function_value i.function) os
+
+    abbrev before : List source.Operand
+    before = map operand_view i.operands.items
+
+    pub same_call : (os : List source.Operand) → map operand_view i'.operands.items ≡ os → task_view (task.Invoke i') ≡ whole os
+    same_call os same = rw (line, purpose, function, same) refl
+
+    goes : is_ready before ≡ false → effect_of sight (task_view (task.Invoke i)) ≡ goes_on i.line whole (reduce_first sight before)
+    goes unready = rw unready refl
+
+    -- a number takes its step
+    pub number_reduces : (took : Reduction) → ReducesFirst sight i.operands.items (Some took) i'.operands.items → HasEffect sight (task.Invoke i) (reduced i.line took) (task.Invoke i')
+    number_reduces reduction.Reduced h = goes h.0 ∙ ap (goes_on i.line whole) h.1 ∙ ap (λ (u : source.Task). Becomes (u ∷ [])) (sym (same_call (map operand_view i'.operands.items) refl))
+    number_reduces (reduction.Trapped trap) h = (goes h.0 ∙ ap (goes_on i.line whole) h.1, same_call before (ap (map operand_view) h.2))
+    number_reduces reduction.Stuck h = goes h.0 ∙ ap (goes_on i.line whole) h.1
+
+-- ---- with its object refused, or not
+
+module _ (scene : Scene) where
+  abbrev classes : Classes
+  classes = scene.classes
+
+  abbrev s : Shared
+  s = scene.shared
+
+  abbrev variables : Contents
+  variables = scene.variables
+
+  module _ (i i' : Invocation) (scene' : Scene) (same : task_view (task.Invoke i') ≡ task_view (task.Invoke i)) (ready : is_ready (map operand_view i.operands.items) ≡ true)
+      (args : List Actual) (looked_up : args ≡ actuals (sight_in s variables) (function_value i.function) (map operand_view i.operands.items)) where
+    calls : (t : Thread) → Sees scene t → effect_of (sight_of s t) (task_view (task.Invoke i)) ≡ Calls i.line (purpose_view i.line i.purpose) (function_value i.function) args
+    calls t sees =
+        ap (λ (sight : Sight). effect_of sight (task_view (task.Invoke i))) (sees_so scene t sees)
+        ∙ rw (ready, looked_up) refl
+
+    -- the call's own step is the step of the task
+    pub call_does : (refused : Bool) (took : Outcome) → MakesCall refused scene i.line i.purpose (function_value i.function) args took scene' → Does refused scene (task.Invoke i) took scene' (task.Invoke i')
+    call_does false took makes = λ other t rest sees has.
+        ap (after_effect classes scene.in_use scene.thread s t rest) (calls t sees)
+        ∙ makes t rest (task.Invoke i') sees (has ∙ ap (λ (u : source.Task). let o : Option (List source.Task) = Some (u ∷ rest) in o) (sym same))
+    call_does true took makes = λ other t rest sees has.
+        ap (after_refused_effect classes scene.in_use scene.thread s t rest) (calls t sees)
+        ∙ makes t rest (task.Invoke i') sees (has ∙ ap (λ (u : source.Task). let o : Option (List source.Task) = Some (u ∷ rest) in o) (sym same))
+
+  -- an invocation that is made is the step of the task that its numbers were worked out of
+  pub invocation_does : (i i' : Invocation) (scene' : Scene) → i'.line ≡ i.line → i'.purpose ≡ i.purpose → i'.function ≡ i.function → i'.operands.items ≡ i.operands.items → is_ready (map operand_view i.operands.items) ≡ true
+      → (refused : Bool) (took : Outcome) → MakesInvocation refused scene i' took scene' → Does refused scene (task.Invoke i) took scene' (task.Invoke i')
+  invocation_does i i' scene' line purpose function operands ready refused took makes =
+      let before = map operand_view i.operands.items in
+      let same = same_call (sight_in s variables) i i' line purpose function before (ap (map operand_view) operands) in
+      call_does i i' scene' same ready (actuals (sight_in s variables) (function_value i.function) before) refl refused took (rw (line, purpose, function, operands) at makes)

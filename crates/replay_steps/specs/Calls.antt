@@ -1,0 +1,58 @@
+-- What a call in memory does.
+use Rattle.std.specs.Prelude.{◌≡◌, ℕ, Bool, true, false, List, ◌∷◌, map, Option, Some, None, is_some}
+use Rattle.jni.specs.JniFunction.{JniFunction, is_built_function}
+use Rattle.jni.specs.Table.{function_value}
+use Rattle.semantics.specs.Arguments.{Actual, actuals}
+use Rattle.semantics.specs.CallStep.{call_step}
+use Rattle.semantics.specs.Effect.{is_given, is_ready, reduce_first}
+use Rattle.semantics.specs.Sight.{Sight}
+use Rattle.semantics.specs.Task.{Task}
+use Rattle.semantics.specs.Thread.{Thread}
+use Rattle.semantics.specs.Value.{Gives, Traps, Stuck}
+use Rattle.replay_tasks.specs.declared.outcome.Outcome.{Outcome}
+use Rattle.replay_tasks.specs.declared.outcome.Purpose.{Purpose as PurposeInMemory}
+use Rattle.replay_tasks.specs.declared.task.Invocation.{Invocation}
+use Rattle.replay_terms.specs.declared.operand.Operand.{Operand}
+use Rattle.replay_tasks.specs.declared.task.Task.{Task as TaskInMemory}
+use Rattle.replay_terms.specs.declared.reduction.Reduction.{Reduction as ReductionInMemory}
+use Rattle.replay_terms.specs.declared.reduction.Reduction.TheVariants as reduction
+use Rattle.replay_tasks.specs.Outcomes.{purpose_view}
+use Rattle.replay_calls.specs.Answers.{Answer}
+use Rattle.replay_calls.specs.Checked.{trap_found}
+use Rattle.replay_calls.specs.WorkedOut.{worked_out}
+use Rattle.replay_steps.specs.Steps.{Scene, Sees, in_scene, left_by}
+use Rattle.replay_terms.specs.Views.{operand_view, trap_view, variables_view}
+use Rattle.replay_calls.specs.Shares.{sight_in}
+use Rattle.replay_tasks.specs.Tasks.{task_view}
+
+-- Where this can be seen, each number is worked out already, or what was done is the step of the first that isn't.
+abbrev pub ReducesFirst : Sight → List Operand → Option ReductionInMemory → List Operand → Type 0
+ReducesFirst sight old None new = (is_ready (map operand_view old) ≡ true) × (new ≡ old)
+ReducesFirst sight old (Some reduction.Reduced) new = (is_ready (map operand_view old) ≡ false) × (reduce_first sight (map operand_view old) ≡ Gives (map operand_view new))
+ReducesFirst sight old (Some (reduction.Trapped trap)) new =
+    (is_ready (map operand_view old) ≡ false) × (reduce_first sight (map operand_view old) ≡ Traps (trap_view trap)) × (new ≡ old)
+ReducesFirst sight old (Some reduction.Stuck) new = (is_ready (map operand_view old) ≡ false) × (reduce_first sight (map operand_view old) ≡ Stuck)
+
+-- the same of one of them, with others after it
+abbrev pub ReducesOne : Sight → Operand → Option ReductionInMemory → Operand → Type 0
+ReducesOne sight old None new = (is_given (operand_view old) ≡ true) × (new ≡ old)
+ReducesOne sight old (Some took) new = (rest : List Operand) → ReducesFirst sight (old ∷ rest) (Some took) (new ∷ rest)
+
+-- What was done is the call's own step, for each thread of the scene before it, or what it does with its object refused. It leaves
+-- the scene after it.
+abbrev pub MakesCall : (refused : Bool) → Scene → (line : ℕ) → PurposeInMemory → JniFunction → List Actual → Outcome → Scene → Type 0
+MakesCall refused before line purpose f args took after =
+    (t : Thread) (rest : List Task) (new : TaskInMemory) → Sees before t → t.tasks ≡ Some (task_view new ∷ rest)
+    → call_step before.classes before.in_use before.thread before.shared t line (purpose_view line purpose) f args rest refused ≡ left_by before.thread after.shared (in_scene t after) rest took new
+
+-- the same for an invocation, whose arguments are looked up before it
+abbrev pub MakesInvocation : (refused : Bool) → Scene → Invocation → Outcome → Scene → Type 0
+MakesInvocation refused before i took after =
+    MakesCall refused before i.line i.purpose (function_value i.function) (actuals (sight_in before.shared before.variables) (function_value i.function) (map operand_view i.operands.items)) took after
+
+-- A call of this function, with these arguments, passes the checks in this scene, and this is its answer.
+abbrev pub HasAnswer : Scene → JniFunction → List Actual → Answer → Type 0
+HasAnswer scene f args a =
+    (is_built_function f ≡ true)
+    × (trap_found scene.classes scene.shared.heap scene.frames (is_some scene.pending) f args ≡ None)
+    × (a ≡ worked_out scene.classes scene.shared.heap (variables_view scene.variables) scene.frames args f)

@@ -1,0 +1,68 @@
+-- What a step of a task does.
+use Rattle.std.specs.Prelude.{◌≡◌, ℕ, Bool, List, [], ◌∷◌, ◌++◌, Some}
+use Rattle.syntax.specs.Tree.{SourceUnit}
+use Rattle.syntax.specs.Views.{block_tree}
+use Rattle.class_rules.specs.Class.{Classes}
+use Rattle.semantics.specs.Activation.{return_step}
+use Rattle.semantics.specs.Object.{Reference}
+use Rattle.semantics.specs.Task.{Task, Branch}
+use Rattle.semantics.specs.Term.{Done}
+use Rattle.semantics.specs.Value.{Truth}
+use Rattle.semantics.specs.Thread.{Frame, Thread, Shared, BuffersInUse, Quiet, PrintedNumber, Trapped, Advance, Advances, NoAdvance}
+use Rattle.semantics.specs.ThreadStep.{step_within, with_tasks}
+use Rattle.replay_steps.specs.declared.activation.Locals.{Locals}
+use Rattle.replay_steps.specs.declared.turn.Turn.{Turn}
+use Rattle.replay_steps.specs.Turns.{in_use_view}
+use Rattle.replay_tasks.specs.declared.outcome.Outcome.{Outcome}
+use Rattle.replay_tasks.specs.declared.outcome.Outcome.TheVariants as outcome
+use Rattle.replay_tasks.specs.declared.task.Task.{Task as TaskInMemory}
+use Rattle.replay_tasks.specs.Outcomes.{else_tree, variable_step}
+use Rattle.replay_tasks.specs.Tasks.{task_view, end_view, statements_in, tasks_of_statements}
+use Rattle.replay_terms.specs.Views.{Contents, variables_view, trap_view}
+
+-- what a step of a call in progress depends on, but its tasks: it is this thread's, and the buffers of all threads together take what
+-- is in use
+pub record Scene : Type 0 where
+  pub classes : Classes
+  pub in_use : BuffersInUse
+  pub thread : ℕ
+  pub shared : Shared
+  pub variables : Contents
+  pub frames : List Frame
+  pub pending : Reference
+
+abbrev pub scene_with : Classes → BuffersInUse → (thread : ℕ) → Shared → Contents → List Frame → Reference → Scene
+scene_with classes in_use thread s vs frames pending = record { classes = classes; in_use = in_use; thread = thread; shared = s; variables = vs; frames = frames; pending = pending }
+
+-- the same at a turn
+abbrev pub scene_of : Turn → Shared → Locals → Reference → Scene
+scene_of turn s locals pending = scene_with turn.classes.now (in_use_view turn.in_use) turn.thread s locals.variables locals.frames pending
+
+-- a thread has these variables, these frames and this pending exception
+pub record Sees (scene : Scene) (t : Thread) : Type 0 where
+  pub variables : t.variables ≡ variables_view scene.variables
+  pub frames : t.frames ≡ scene.frames
+  pub pending : t.pending ≡ scene.pending
+
+-- a thread so that it has them
+abbrev pub in_scene : Thread → Scene → Thread
+in_scene t scene = record t { variables = variables_view scene.variables; frames = scene.frames; pending = scene.pending }
+
+-- what a step leaves of thread k that has this task and then the rest to do
+abbrev pub left_by : (k : ℕ) → Shared → Thread → List Task → Outcome → TaskInMemory → Advance
+left_by k s t rest outcome.Stays new = Advances s (with_tasks t (task_view new ∷ rest)) Quiet
+left_by k s t rest (outcome.Printed z) new = Advances s (with_tasks t rest) (PrintedNumber z)
+left_by k s t rest (outcome.Enters block e) new = Advances s (with_tasks t ((tasks_of_statements (statements_in block) ++ end_view e ∷ []) ++ rest)) Quiet
+left_by k s t rest outcome.Ends new = Advances s (with_tasks t rest) Quiet
+left_by k s t rest (outcome.Tests line zero b other) new = Advances s (with_tasks t (Branch line (Done (Truth zero)) (block_tree b.now) (else_tree line other) ∷ rest)) Quiet
+left_by k s t rest outcome.Returned new = return_step k s t
+left_by k s t rest (outcome.Trapped trap line) new = Advances s (with_tasks t (task_view new ∷ rest)) (Trapped (trap_view trap) line)
+left_by k s t rest outcome.Impossible new = NoAdvance
+left_by k s t rest took new = variable_step took s (with_tasks t rest)
+
+-- What a step in memory did is what the task's step does to each thread whose first task it is, or what it does with its object
+-- refused.
+abbrev pub Does : (refused : Bool) → Scene → TaskInMemory → Outcome → Scene → TaskInMemory → Type 0
+Does refused before old took after new =
+    (unit : SourceUnit) (t : Thread) (rest : List Task) → Sees before t → t.tasks ≡ Some (task_view old ∷ rest)
+    → step_within unit before.classes before.in_use before.thread before.shared t refused (Some (task_view old ∷ rest)) ≡ left_by before.thread after.shared (in_scene t after) rest took new

@@ -1,0 +1,329 @@
+//! Activations: calls in progress.
+
+ghost use Rattle.std.specs.Prelude.{◌≡◌, IfOk, IsSome, Some, None, []};
+ghost use Rattle.class_rules.specs.Grown.{IsGrown};
+ghost use Rattle.semantics.specs.Task.{tasks_of};
+ghost use Rattle.replay_steps.specs.Activations.{tasks_left, IsAtStatement, IsInRange, AreSet, IsApplied, HasBegun, HasTurned, StepsTask, Advances};
+ghost use Rattle.replay_steps.specs.Steps.{Scene, scene_of};
+ghost use Rattle.replay_calls.specs.Shares.{shared_view};
+ghost use Rattle.syntax.specs.Views.{expr_tree, block_tree};
+ghost use Rattle.replay_tasks.specs.declared.outcome.Outcome.TheVariants as outcome;
+ghost use Rattle.replay_tasks.specs.Tasks.{branch_task, statements_in, BlockInRange, ExprInRange, StatementInRange, StatementsInRange, OutcomeInRange};
+ghost use Rattle.replay_terms.specs.declared.term.Term.TheVariants as term;
+ghost use Rattle.replay_terms.specs.declared.value.Value.TheVariants as value;
+
+use crate::step::step;
+use crate::turn::Turn;
+use replay_calls::Shared;
+use replay_objects::Frames;
+use replay_tasks::{Choice, End, Outcome, Statements, Task, loop_task, set_variables, task_of};
+use replay_terms::{Statics, Term, Value, Variables};
+use std::alloc::{AllocError, Global};
+use std::mem;
+use syntax::{Block, Expr, Stmt};
+
+/// What is still to do around a block: what comes at the block's end, and the statements after it.
+#[derive(Drop)]
+pub struct Outer<'a> {
+    pub end: End<'a>,
+    pub rest: Statements<'a>,
+}
+
+/// What is still to do of a call in progress: the task that is begun, the statements after it in its block, and what is to do
+/// around the block, the outermost first. A step begins what comes next, so where no task is begun the block is done.
+pub struct Work<'a> {
+    pub task: Option<Task<'a>>,
+    pub rest: Statements<'a>,
+    pub outer: Vec<Outer<'a>>,
+}
+
+// Written out, and not derived, so that crates above needn't prove it again.
+impl Drop for Work<'_> {
+    fn drop(self) {
+        let Work { task, rest, outer } = self;
+        drop(task);
+        drop(rest);
+        drop(outer);
+    }
+}
+
+/// The variables of a call in progress, in the order in which they came to be, and its frames of local references.
+pub struct Locals<'a> {
+    pub variables: Variables<'a>,
+    pub frames: Frames,
+}
+
+// Written out, as above.
+impl Drop for Locals<'_> {
+    fn drop(self) {
+        let Locals { variables, frames } = self;
+        drop(variables);
+        drop(frames);
+    }
+}
+
+/// A call in progress.
+pub struct Activation<'a> {
+    pub work: Work<'a>,
+    pub locals: Locals<'a>,
+}
+
+// Written out, as above.
+impl Drop for Activation<'_> {
+    fn drop(self) {
+        let Activation { work, locals } = self;
+        drop(work);
+        drop(locals);
+    }
+}
+
+/// Puts a task in the place of the one that is begun.
+fn put_task<'a>(place: &mut Option<Task<'a>>, task: Option<Task<'a>>)
+    ensures { place.new ≡ task.entry }
+{
+    drop(mem::replace(place, task));
+}
+
+/// Begins a statement in the place of the task that is begun.
+#[inline]
+fn begin_statement<'a>(
+    alloc: Global,
+    place: &mut Option<Task<'a>>,
+    statement: &'a Stmt,
+) -> Result<(), AllocError>
+    requires { StatementInRange statement.now }
+    ensures { IfOk result (λ _. HasBegun statement.entry.now place.new) }
+{
+    let task = task_of(alloc, statement)?;
+    put_task(place, Some(task));
+    Ok(())
+}
+
+/// Begins the block's next statement, where none is begun.
+fn begin<'a>(alloc: Global, work: &mut Work<'a>) -> Result<(), AllocError>
+    requires { IsInRange work.old }
+    ensures tasks { IfOk result (λ _. tasks_left work.new ≡ tasks_left work.old) }
+    ensures range { IfOk result (λ _. IsInRange work.new) }
+    ensures next { IfOk result (λ _. work.new.task ≡ None → work.new.rest ≡ []) }
+{
+    if work.task.is_some() {
+        return Ok(());
+    }
+    let Some(first) = work.rest.first() else {
+        return Ok(());
+    };
+    begin_statement(alloc, &mut work.task, first)?;
+    work.rest.skip_first();
+    Ok(())
+}
+
+/// What is to do of a call of a function with this body, whose first statement is begun.
+pub fn work_of<'a>(alloc: Global, body: &'a Block) -> Result<Work<'a>, AllocError>
+    requires { StatementsInRange (statements_in (Some body)) }
+    ensures tasks { IfOk result (λ w. tasks_left w ≡ tasks_of (block_tree body.entry.now)) }
+    ensures range { IfOk result IsAtStatement }
+{
+    let mut work = Work {
+        task: None,
+        rest: Statements::of(Some(body)),
+        outer: Vec::new(alloc),
+    };
+    begin(alloc, &mut work)?;
+    Ok(work)
+}
+
+/// Begins a loop's next turn in the place of the task that is begun: its test comes first.
+#[inline]
+fn begin_turn<'a>(
+    alloc: Global,
+    place: &mut Option<Task<'a>>,
+    line: usize,
+    test: &'a Expr,
+    body: &'a Block,
+) -> Result<(), AllocError>
+    requires test { ExprInRange (expr_tree test.now) }
+    requires body { BlockInRange (block_tree body.now) }
+    ensures { IfOk result (λ _. HasTurned line test.entry.now body.entry.now place.new) }
+{
+    let task = loop_task(alloc, line, test, body)?;
+    put_task(place, Some(task));
+    Ok(())
+}
+
+/// Begins the way that a call's answer decides in the place of the task that is begun.
+#[inline]
+fn begin_branch<'a>(
+    place: &mut Option<Task<'a>>,
+    line: usize,
+    zero: bool,
+    block: &'a Block,
+    otherwise: Option<&'a Block>,
+)
+    ensures { place.new ≡ Some (branch_task line (term.Done (value.Truth zero)) block.entry otherwise.entry) }
+{
+    let test = Term::Done(Value::Truth(zero));
+    let choice = Choice {
+        line,
+        test,
+        block,
+        otherwise,
+    };
+    put_task(place, Some(Task::Branch(choice)));
+}
+
+/// Goes on after a block whose statements are all done: after an `if`, or with its loop's test.
+fn leave_block<'a>(turn: Turn<'a>, work: &mut Work<'a>) -> Result<Outcome<'a>, AllocError>
+    requires range { IsInRange work.old }
+    requires task { work.old.task ≡ None }
+    requires rest { work.old.rest ≡ [] }
+    ensures step { IfOk result (λ o. (scene : Scene) → Advances turn.entry.refused scene work.old o scene work.new) }
+    ensures range { IfOk result (λ _. IsInRange work.new) }
+{
+    if turn.refused {
+        return Ok(Outcome::Impossible);
+    }
+    let Some(outer) = work.outer.pop() else {
+        return Ok(Outcome::Impossible);
+    };
+    let Outer { end, rest } = outer;
+    work.rest = rest;
+    match end {
+        End::If => Ok(Outcome::Ends),
+        End::Turn(line, test, body) => {
+            begin_turn(turn.alloc, &mut work.task, line, test, body)?;
+            Ok(Outcome::Stays)
+        }
+    }
+}
+
+/// Begins a block, with what comes at its end.
+#[inline]
+fn enter_block<'a>(
+    work: &mut Work<'a>,
+    block: Option<&'a Block>,
+    end: End<'a>,
+) -> Result<(), AllocError>
+    ensures { IfOk result (λ _. AreSet work.old (outcome.Enters block.entry end.entry) work.new) }
+{
+    let rest = mem::replace(&mut work.rest, Statements::of(block));
+    work.outer.push(Outer { end, rest })?;
+    put_task(&mut work.task, None);
+    Ok(())
+}
+
+/// Does what a step did to the tasks.
+fn set_tasks<'a>(work: &mut Work<'a>, outcome: Outcome<'a>) -> Result<(), AllocError>
+    ensures { IfOk result (λ _. AreSet work.old outcome.entry work.new) }
+{
+    match outcome {
+        Outcome::Stays | Outcome::Returned | Outcome::Trapped(_, _) | Outcome::Impossible => {}
+        Outcome::Enters(block, end) => enter_block(work, block, end)?,
+        Outcome::Printed(_) | Outcome::Sets(_, _) | Outcome::SetsNull(_) => {
+            put_task(&mut work.task, None);
+        }
+        Outcome::Gives(_, _) | Outcome::SetsElement(_, _, _) => {
+            put_task(&mut work.task, None);
+        }
+        Outcome::Tests(line, zero, block, otherwise) => {
+            begin_branch(&mut work.task, line, zero, block, otherwise);
+        }
+        Outcome::Makes(_, _, _) | Outcome::Ends => put_task(&mut work.task, None),
+    }
+    Ok(())
+}
+
+/// Does what a step did to the variables, the statics and the tasks; false where it isn't possible.
+#[inline]
+fn apply<'a>(
+    alloc: Global,
+    statics: &mut Statics<'a>,
+    activation: &mut Activation<'a>,
+    outcome: Outcome<'a>,
+) -> Result<bool, AllocError>
+    ensures { IfOk result (λ possible. IsApplied statics.old activation.old outcome.entry possible statics.new activation.new) }
+{
+    let locals = &mut activation.locals;
+    let frames = locals.frames.len();
+    if !set_variables(alloc, statics, frames, &mut locals.variables, outcome)? {
+        return Ok(false);
+    }
+    set_tasks(&mut activation.work, outcome)?;
+    Ok(true)
+}
+
+/// Lets the task that is begun take its next step.
+#[inline(always)]
+fn step_task<'a>(
+    turn: Turn<'a>,
+    shared: &mut Shared<'a>,
+    pending: &mut Option<usize>,
+    activation: &mut Activation<'a>,
+) -> Result<Outcome<'a>, AllocError>
+    requires range { IsInRange activation.old.work }
+    requires begun { IsSome activation.old.work.task }
+    requires grown { IsGrown turn.classes.now }
+    ensures step { IfOk result (λ o. StepsTask turn.entry.refused (scene_of turn.entry (shared_view shared.old) activation.old.locals pending.old) activation.old.work o (scene_of turn.entry (shared_view shared.new) activation.new.locals pending.new) activation.new.work) }
+    ensures range { IfOk result OutcomeInRange }
+{
+    let Some(task) = &mut activation.work.task else {
+        unreachable!()
+    };
+    step(turn, shared, pending, &mut activation.locals, task)
+}
+
+/// Lets a call whose task is begun take its next step, or the same with its object refused.
+#[inline(always)]
+fn go_on<'a>(
+    turn: Turn<'a>,
+    shared: &mut Shared<'a>,
+    pending: &mut Option<usize>,
+    activation: &mut Activation<'a>,
+) -> Result<Outcome<'a>, AllocError>
+    requires range { IsInRange activation.old.work }
+    requires begun { IsSome activation.old.work.task }
+    requires grown { IsGrown turn.classes.now }
+    ensures step { IfOk result (λ o. Advances turn.entry.refused (scene_of turn.entry (shared_view shared.old) activation.old.locals pending.old) activation.old.work o (scene_of turn.entry (shared_view shared.new) activation.new.locals pending.new) activation.new.work) }
+    ensures range { IfOk result (λ _. IsInRange activation.new.work) }
+{
+    let outcome = step_task(turn, shared, pending, activation)?;
+    if !apply(turn.alloc, &mut shared.statics, activation, outcome)? {
+        return Ok(Outcome::Impossible);
+    }
+    Ok(outcome)
+}
+
+/// Lets a call take its next step with its task, or with the end of the block.
+#[inline(always)]
+fn take_step<'a>(
+    turn: Turn<'a>,
+    shared: &mut Shared<'a>,
+    pending: &mut Option<usize>,
+    activation: &mut Activation<'a>,
+) -> Result<Outcome<'a>, AllocError>
+    requires range { IsAtStatement activation.old.work }
+    requires grown { IsGrown turn.classes.now }
+    ensures step { IfOk result (λ o. Advances turn.entry.refused (scene_of turn.entry (shared_view shared.old) activation.old.locals pending.old) activation.old.work o (scene_of turn.entry (shared_view shared.new) activation.new.locals pending.new) activation.new.work) }
+    ensures range { IfOk result (λ _. IsInRange activation.new.work) }
+{
+    if activation.work.task.is_none() {
+        return leave_block(turn, &mut activation.work);
+    }
+    go_on(turn, shared, pending, activation)
+}
+
+/// Lets a call take its next step, or the same with its object refused, and begins what comes next.
+pub fn advance<'a>(
+    turn: Turn<'a>,
+    shared: &mut Shared<'a>,
+    pending: &mut Option<usize>,
+    activation: &mut Activation<'a>,
+) -> Result<Outcome<'a>, AllocError>
+    requires range { IsAtStatement activation.old.work }
+    requires grown { IsGrown turn.classes.now }
+    ensures step { IfOk result (λ o. Advances turn.entry.refused (scene_of turn.entry (shared_view shared.old) activation.old.locals pending.old) activation.old.work o (scene_of turn.entry (shared_view shared.new) activation.new.locals pending.new) activation.new.work) }
+    ensures range { IfOk result (λ _. IsAtStatement activation.new.work) }
+{
+    let outcome = take_step(turn, shared, pending, activation)?;
+    begin(turn.alloc, &mut activation.work)?;
+    Ok(outcome)
+}

@@ -1,0 +1,275 @@
+//! Calls of functions of the JNI (JNI Specification, chapter 4).
+
+ghost use Rattle.std.specs.Prelude.{◌≡◌, IfOk, IsTrue, List, None, if◌then◌else◌, is_some, map, true, false};
+ghost use Rattle.std.specs.Option.{option_map};
+ghost use Rattle.class_rules.specs.Grown.{IsGrown};
+ghost use Rattle.jni.specs.JniFunction.{is_built_function};
+ghost use Rattle.jni.specs.Table.{function_value};
+ghost use Rattle.replay_tasks.specs.declared.outcome.Outcome.TheVariants as outcome;
+ghost use Rattle.replay_tasks.specs.declared.task.Task.TheVariants as task;
+ghost use Rattle.semantics.specs.Arguments.{Actual as ActualOfCall};
+ghost use Rattle.semantics.specs.Thread.{Shared as SharedOfThreads};
+ghost use Rattle.replay_calls.specs.Actuals.{actual_view};
+ghost use Rattle.replay_calls.specs.Answers.{FitsFrames, answer_view};
+ghost use Rattle.replay_calls.specs.Checked.{trap_found};
+ghost use Rattle.replay_steps.specs.Calls.{HasAnswer, MakesCall, MakesInvocation, ReducesFirst, ReducesOne};
+ghost use Rattle.replay_tasks.specs.Outcomes.{outcome_for};
+ghost use Rattle.replay_steps.specs.declared.activation.Locals.{Locals as LocalsInMemory};
+ghost use Rattle.replay_steps.specs.Steps.{Does, scene_of};
+ghost use Rattle.replay_calls.specs.Shares.{shared_view, sight_in};
+ghost use Rattle.replay_tasks.specs.Tasks.{OperandInRange, OperandsInRange, OutcomeInRange, PurposeInRange};
+ghost use Rattle.replay_terms.specs.Views.{trap_view};
+
+use crate::activation::Locals;
+use crate::turn::Turn;
+use classes::table::ClassTable;
+use replay_calls::actual::{Actual, actuals};
+use replay_calls::carry_out::{carry_out, makes_object, put_local, refuse};
+use replay_calls::check::check;
+use replay_calls::{Answer, Shared, work_out};
+use replay_objects::Frames;
+use replay_tasks::{Invocation, Outcome, Purpose, reduced};
+use replay_terms::{Given, Operand, Reduction, Term, Trap, Variables, is_zero, reduce};
+use std::alloc::AllocError;
+
+/// The step of a call: the first of its numbers that isn't worked out takes a step, or else the call is made. With its object
+/// refused it is possible only where it makes one.
+pub(crate) fn invoke<'a>(
+    turn: Turn<'a>,
+    shared: &mut Shared<'a>,
+    pending: &mut Option<usize>,
+    locals: &mut Locals<'a>,
+    i: &mut Invocation<'a>,
+) -> Result<Outcome<'a>, AllocError>
+    requires numbers { OperandsInRange i.old.operands.items }
+    requires built { IsTrue (is_built_function (function_value i.old.function)) }
+    requires ways { PurposeInRange i.old.purpose }
+    requires grown { IsGrown turn.classes.now }
+    ensures step { IfOk result (λ o. Does turn.entry.refused (scene_of turn.entry (shared_view shared.old) locals.old pending.old) (task.Invoke i.old) o (scene_of turn.entry (shared_view shared.new) locals.new pending.new) (task.Invoke i.new)) }
+    ensures numbers { IfOk result (λ _. OperandsInRange i.new.operands.items) }
+    ensures function { i.new.function ≡ i.old.function }
+    ensures purpose { i.new.purpose ≡ i.old.purpose }
+    ensures range { IfOk result OutcomeInRange }
+{
+    let line = i.line;
+    if let Some(reduction) = reduce_number(shared, &locals.variables, i) {
+        return Ok(unless_refused(turn.refused, reduced(line, reduction)));
+    }
+    make_call(turn, shared, pending, locals, i)
+}
+
+/// The step of a call whose numbers are worked out: its arguments are looked up, and it is made.
+#[inline]
+fn make_call<'a>(
+    turn: Turn<'a>,
+    shared: &mut Shared<'a>,
+    pending: &mut Option<usize>,
+    locals: &mut Locals<'a>,
+    i: &Invocation<'a>,
+) -> Result<Outcome<'a>, AllocError>
+    requires built { IsTrue (is_built_function (function_value i.now.function)) }
+    requires ways { PurposeInRange i.now.purpose }
+    requires grown { IsGrown turn.classes.now }
+    ensures step { IfOk result (λ o. MakesInvocation turn.entry.refused (scene_of turn.entry (shared_view shared.old) locals.old pending.old) i.entry.now o (scene_of turn.entry (shared_view shared.new) locals.new pending.new)) }
+    ensures range { IfOk result OutcomeInRange }
+{
+    let actuals = actuals(
+        turn.alloc,
+        shared,
+        &locals.variables,
+        i.function,
+        &i.operands,
+    )?;
+    call(turn, shared, pending, locals, i, &actuals)
+}
+
+/// Lets the first number of a call that isn't worked out take a step; none where each is.
+fn reduce_number(
+    shared: &Shared<'_>,
+    variables: &Variables<'_>,
+    i: &mut Invocation<'_>,
+) -> Option<Reduction>
+    requires { OperandsInRange i.old.operands.items }
+    ensures step { ReducesFirst (sight_in (shared_view shared.now) variables.now) i.old.operands.items result i.new.operands.items }
+    ensures numbers { OperandsInRange i.new.operands.items }
+    ensures line { i.new.line ≡ i.old.line }
+    ensures purpose { i.new.purpose ≡ i.old.purpose }
+    ensures function { i.new.function ≡ i.old.function }
+{
+    reduce_first(shared, variables, &mut i.operands)
+}
+
+/// Lets the first of these numbers that isn't worked out take a step; none where each is.
+fn reduce_first(
+    shared: &Shared<'_>,
+    variables: &Variables<'_>,
+    operands: &mut [Operand<'_>],
+) -> Option<Reduction>
+    requires { OperandsInRange operands.old }
+    ensures step { ReducesFirst (sight_in (shared_view shared.now) variables.now) operands.old result operands.new }
+    ensures numbers { OperandsInRange operands.new }
+{
+    for place in 0..operands.len() {
+        let reduction = reduce_one(shared, variables, &mut operands[place]);
+        if reduction.is_some() {
+            return reduction;
+        }
+    }
+    None
+}
+
+/// Lets a number that isn't worked out take a step; none where there is nothing to work out.
+fn reduce_one(
+    shared: &Shared<'_>,
+    variables: &Variables<'_>,
+    operand: &mut Operand<'_>,
+) -> Option<Reduction>
+    requires { OperandInRange operand.old }
+    ensures step { ReducesOne (sight_in (shared_view shared.now) variables.now) operand.old result operand.new }
+    ensures numbers { OperandInRange operand.new }
+{
+    match operand {
+        Operand::Given(_) => None,
+        Operand::Number(t) => match t {
+            Term::Done(_) => None,
+            t => Some(reduce(&shared.store, &shared.statics, variables, t)),
+        },
+    }
+}
+
+/// What a call does with what it gave, in a statement of this line.
+fn outcome_for<'a>(line: usize, purpose: Purpose<'a>, given: Given<'a>) -> Outcome<'a>
+    requires { PurposeInRange purpose }
+    ensures step { result ≡ outcome_for line purpose.entry given.entry }
+    ensures range { OutcomeInRange result }
+{
+    match purpose {
+        Purpose::Put(target) => Outcome::Gives(target, given),
+        Purpose::Test(block, otherwise) => {
+            Outcome::Tests(line, is_zero(given), block, otherwise)
+        }
+    }
+}
+
+/// What a step did that makes no object: with an object refused it isn't possible.
+#[inline]
+pub(crate) fn unless_refused<'a>(refused: bool, took: Outcome<'a>) -> Outcome<'a>
+    requires { OutcomeInRange took }
+    ensures step { result ≡ (if refused then outcome.Impossible else took.entry) }
+    ensures range { OutcomeInRange result }
+{
+    if refused {
+        return Outcome::Impossible;
+    }
+    took
+}
+
+/// The trap of a call, if a check of it fails.
+#[inline]
+fn trap_of(
+    classes: &ClassTable,
+    shared: &Shared<'_>,
+    frames: &Frames,
+    pending: &Option<usize>,
+    i: &Invocation<'_>,
+    actuals: &[Actual<'_>],
+) -> Option<Trap>
+    ensures { option_map trap_view result ≡ trap_found classes.now shared.now.store frames.now (is_some pending.now) (function_value i.now.function) (map actual_view actuals.now) }
+{
+    let is_pending = pending.is_some();
+    check(
+        classes,
+        &shared.store,
+        frames,
+        is_pending,
+        i.function,
+        actuals,
+    )
+}
+
+/// The call's own step: what is checked, and what is done.
+fn call<'a>(
+    turn: Turn<'a>,
+    shared: &mut Shared<'a>,
+    pending: &mut Option<usize>,
+    locals: &mut Locals<'a>,
+    i: &Invocation<'a>,
+    actuals: &[Actual<'a>],
+) -> Result<Outcome<'a>, AllocError>
+    requires built { IsTrue (is_built_function (function_value i.now.function)) }
+    requires ways { PurposeInRange i.now.purpose }
+    requires grown { IsGrown turn.classes.now }
+    ensures step { IfOk result (λ o. MakesCall turn.entry.refused (scene_of turn.entry (shared_view shared.old) locals.old pending.old) i.entry.now.line i.entry.now.purpose (function_value i.entry.now.function) (map actual_view actuals.entry.now) o
+        (scene_of turn.entry (shared_view shared.new) locals.new pending.new)) }
+    ensures range { IfOk result OutcomeInRange }
+{
+    if let Some(trap) = trap_of(turn.classes, shared, &locals.frames, pending, i, actuals) {
+        return Ok(unless_refused(turn.refused, Outcome::Trapped(trap, i.line)));
+    }
+    let answer = work_out(
+        turn.classes,
+        &shared.store,
+        &locals.variables,
+        &locals.frames,
+        i.function,
+        actuals,
+    );
+    if turn.refused {
+        return Ok(refuse_object(turn, pending, i, answer));
+    }
+    complete(turn, shared, pending, locals, i, answer)
+}
+
+/// What a call does whose object is refused: it fails if its answer makes one, and else isn't possible.
+#[inline]
+fn refuse_object<'a>(
+    turn: Turn<'a>,
+    pending: &mut Option<usize>,
+    i: &Invocation<'a>,
+    answer: Answer<'_>,
+) -> Outcome<'a>
+    requires { PurposeInRange i.now.purpose }
+    ensures step { (s : SharedOfThreads) (locals : LocalsInMemory) (args : List ActualOfCall)
+        → HasAnswer (scene_of turn.entry s locals pending.old) (function_value i.now.function) args (answer_view answer.entry)
+        → MakesCall true (scene_of turn.entry s locals pending.old) i.now.line i.now.purpose (function_value i.now.function) args result (scene_of turn.entry s locals pending.new) }
+    ensures range { OutcomeInRange result }
+{
+    if !makes_object(answer) {
+        return Outcome::Impossible;
+    }
+    let given = refuse(turn.classes, pending, i.function.prototype().result);
+    outcome_for(i.line, i.purpose, given)
+}
+
+/// What a call does by its answer, with no object refused.
+#[inline]
+fn complete<'a>(
+    turn: Turn<'a>,
+    shared: &mut Shared<'a>,
+    pending: &mut Option<usize>,
+    locals: &mut Locals<'a>,
+    i: &Invocation<'a>,
+    answer: Answer<'a>,
+) -> Result<Outcome<'a>, AllocError>
+    requires ways { PurposeInRange i.now.purpose }
+    requires fits { FitsFrames locals.old.frames (answer_view answer) }
+    ensures step { (args : List ActualOfCall)
+        → HasAnswer (scene_of turn.entry (shared_view shared.old) locals.old pending.old) (function_value i.now.function) args (answer_view answer.entry)
+        → IfOk result (λ o. MakesCall false (scene_of turn.entry (shared_view shared.old) locals.old pending.old) i.now.line i.now.purpose (function_value i.now.function) args o
+        (scene_of turn.entry (shared_view shared.new) locals.new pending.new)) }
+    ensures range { IfOk result OutcomeInRange }
+{
+    let kind = i.function.prototype().result;
+    let frames = &mut locals.frames;
+    let given = carry_out(
+        turn.alloc,
+        turn.classes,
+        shared,
+        frames,
+        pending,
+        kind,
+        answer,
+    )?;
+    put_local(frames, kind, given)?;
+    Ok(outcome_for(i.line, i.purpose, given))
+}

@@ -1,0 +1,74 @@
+-- What a step of a task does to the variables.
+use Rattle.std.specs.Prelude.{◌≡◌, ℕ, true, false, Bool, pos, length, replicate, Option, Some, None}
+use Rattle.std.specs.Borrow.{Bor}
+use Rattle.base.specs.Bytes.{lookup}
+use Rattle.syntax.specs.declared.stmt.Block.{Block as BlockInMemory}
+use Rattle.syntax.specs.Tree.{Block, End}
+use Rattle.syntax.specs.Views.{block_tree, element_tree}
+use Rattle.semantics.specs.CallEffects.{NullResult}
+use Rattle.semantics.specs.CallStep.{put, is_zero}
+use Rattle.semantics.specs.Task.{VariableKind, ScalarKind, ReferenceKind, FieldKind, BufferKind, Target, Declared, Assigned, Tested, Dropped}
+use Rattle.semantics.specs.Thread.{Thread, Shared, Quiet, Advance, Advances, NoAdvance}
+use Rattle.semantics.specs.ThreadStep.{set_variable, set_element}
+use Rattle.semantics.specs.Variable.{Scalar, LocalArray, Statics}
+use Rattle.replay_tasks.specs.declared.outcome.Outcome.{Outcome}
+use Rattle.replay_tasks.specs.declared.outcome.Outcome.TheVariants as outcome
+use Rattle.replay_tasks.specs.declared.outcome.Target.{Target as TargetInMemory}
+use Rattle.replay_tasks.specs.declared.outcome.Target.TheVariants as target
+use Rattle.replay_terms.specs.declared.given.Given.{Given}
+use Rattle.replay_tasks.specs.declared.outcome.Purpose.{Purpose as PurposeInMemory}
+use Rattle.replay_tasks.specs.declared.outcome.Purpose.TheVariants as purpose
+use Rattle.replay_tasks.specs.declared.outcome.VariableKind.{VariableKind as KindInMemory}
+use Rattle.replay_tasks.specs.declared.outcome.VariableKind.TheVariants as kind
+use Rattle.replay_terms.specs.Views.{given_view, Contents, value_view, variables_view}
+
+abbrev pub kind_view : KindInMemory → VariableKind
+kind_view kind.Number = ScalarKind
+kind_view kind.Reference = ReferenceKind
+kind_view kind.Field = FieldKind
+kind_view (kind.Buffer T) = BufferKind (element_tree T)
+
+abbrev pub target_view : TargetInMemory → Target
+target_view (target.Declared kind x) = Declared (kind_view kind) x.now
+target_view (target.Assigned x) = Assigned x.now
+target_view target.Dropped = Dropped
+
+-- the block of an `else`, which may be missing in an `if` of this line
+abbrev pub else_tree : ℕ → Option (Bor BlockInMemory) → Block
+else_tree line None = End line
+else_tree line (Some b) = block_tree b.now
+
+-- the purpose of a call's result, in a statement of this line
+abbrev pub purpose_view : ℕ → PurposeInMemory → Target
+purpose_view line (purpose.Put to) = target_view to
+purpose_view line (purpose.Test b other) = Tested (block_tree b.now) (else_tree line other)
+
+-- what a call does with what it gave
+abbrev pub outcome_for : ℕ → PurposeInMemory → Given → Outcome
+outcome_for line (purpose.Put to) g = outcome.Gives to g
+outcome_for line (purpose.Test b other) g = outcome.Tests line (is_zero (given_view g)) b other
+
+-- what a step does that sets a variable, and else nothing
+abbrev pub variable_step : Outcome → Shared → Thread → Advance
+variable_step (outcome.Sets x v) s t = set_variable s t x.now (Scalar (value_view v))
+variable_step (outcome.SetsNull to) s t = put (target_view to) NullResult s t
+variable_step (outcome.Gives to g) s t = put (target_view to) (given_view g) s t
+variable_step (outcome.SetsElement x i z) s t = set_element s t x.now i z (lookup x.now t.variables)
+variable_step (outcome.Makes T x n) s t = set_variable s t x.now (LocalArray (element_tree T) (replicate n (pos 0)))
+variable_step took s t = Advances s t Quiet
+
+-- a thread with this number of frames has these variables, and these are the statics
+pub record Holds (count : ℕ) (ss : Statics) (vs : Contents) (s : Shared) (t : Thread) : Type 0 where
+  pub variables : t.variables ≡ variables_view vs
+  pub frames : length t.frames ≡ count
+  pub statics : s.statics ≡ ss
+
+-- a step leaves each such thread with the new variables, and these statics
+abbrev pub LeavesVariables : ℕ → Statics → Contents → (Shared → Thread → Advance) → Statics → Contents → Type 0
+LeavesVariables frames ss old step ss' new =
+    (s : Shared) (t : Thread) → Holds frames ss old s t → step s t ≡ Advances (record s { statics = ss' }) (record t { variables = variables_view new }) Quiet
+
+-- the same if it is possible
+abbrev pub LeavesIf : ℕ → Statics → Contents → (Shared → Thread → Advance) → (possible : Bool) → Statics → Contents → Type 0
+LeavesIf frames ss old step true ss' new = LeavesVariables frames ss old step ss' new
+LeavesIf frames ss old step false ss' new = (s : Shared) (t : Thread) → Holds frames ss old s t → step s t ≡ NoAdvance

@@ -1,0 +1,89 @@
+//! What a step of a task does.
+
+ghost use Rattle.std.specs.Prelude.{◌≡◌};
+ghost use Rattle.syntax.specs.Views.{variable_type_tree};
+ghost use Rattle.semantics.specs.Task.{kind_of};
+ghost use Rattle.replay_tasks.specs.Outcomes.{kind_view};
+
+use replay_terms::{Given, Trap, Value};
+use syntax::{Block, ElementType, Expr, Name, VariableType};
+
+/// What a declaration makes.
+#[derive(Clone, Copy)]
+pub enum VariableKind {
+    Number,
+    Reference,
+    Field,
+    Buffer(ElementType),
+}
+
+/// Where the result of a call or NULL goes.
+#[derive(Clone, Copy)]
+pub enum Target<'a> {
+    /// A new variable.
+    Declared(VariableKind, &'a Name),
+    /// A variable that is there, or a static.
+    Assigned(&'a Name),
+    Dropped,
+}
+
+/// What the result of a call is for.
+#[derive(Clone, Copy)]
+pub enum Purpose<'a> {
+    /// It goes there.
+    Put(Target<'a>),
+    /// It is the test of an `if`, with its two ways.
+    Test(&'a Block, Option<&'a Block>),
+}
+
+/// What comes at the end of a block, after its statements.
+#[derive(Clone, Copy)]
+pub enum End<'a> {
+    /// The end of an `if`.
+    If,
+    /// The end of a turn, with the loop's line, test and body.
+    Turn(usize, &'a Expr, &'a Block),
+}
+
+/// What a step of a task did.
+#[derive(Clone, Copy)]
+pub enum Outcome<'a> {
+    /// A part of it was reduced.
+    Stays,
+    /// It is over, and this number was printed.
+    Printed(i32),
+    /// It is over, and the variable has this value.
+    Sets(&'a Name, Value),
+    /// It is over, and NULL goes there.
+    SetsNull(Target<'a>),
+    /// It is over, and what a call gave goes there.
+    Gives(Target<'a>, Given<'a>),
+    /// It is over, and the `if` of this line has its test, whether a call gave 0, and its two ways.
+    Tests(usize, bool, &'a Block, Option<&'a Block>),
+    /// It is over, and the element has this number, converted to its type.
+    SetsElement(&'a Name, usize, i32),
+    /// It is over, and there is an array of this many zeros.
+    Makes(ElementType, &'a Name, u32),
+    /// It is over, and the statements of this block are to do, up to this end; none where an `else` is missing.
+    Enters(Option<&'a Block>, End<'a>),
+    /// It is over: a way of an `if` has ended, or a loop.
+    Ends,
+    /// The call is over.
+    Returned,
+    /// The machine stops, by a statement of this line.
+    Trapped(Trap, usize),
+    /// It can take no step.
+    Impossible,
+}
+
+/// What a declaration of this type makes.
+pub(crate) fn kind_of(t: VariableType) -> VariableKind
+    ensures { kind_view result ≡ kind_of (variable_type_tree t) }
+{
+    match t {
+        VariableType::Uint32 | VariableType::Jint => VariableKind::Number,
+        VariableType::Jsize | VariableType::Jboolean => VariableKind::Number,
+        VariableType::JfieldId => VariableKind::Field,
+        VariableType::Reference(_) => VariableKind::Reference,
+    }
+}

@@ -1,0 +1,362 @@
+//! Tasks: statements that are begun.
+
+ghost use Rattle.std.specs.Prelude.{◌≡◌, ◌++◌, IfOk, IsTrue, map, zip};
+ghost use Rattle.std.specs.List.{list_all};
+ghost use Rattle.jni.specs.Table.{parameter_value};
+ghost use Rattle.syntax.specs.Views.{argument_tree, call_tree, stmt_tree, expr_tree, right_side_tree, test_tree, block_tree};
+ghost use Rattle.syntax.specs.Limits.{numbers_in_range};
+ghost use Rattle.syntax.specs.Parts.{argument_expressions};
+ghost use Rattle.type_rules.specs.BuiltCalls.{is_built_call};
+ghost use Rattle.semantics.specs.Task.{Declared, Loop, Print, ReturnValue, SetElement, set_task, right_side_task, if_task, task_of, call_task, operand};
+ghost use Rattle.semantics.specs.Term.{term_of};
+ghost use Rattle.replay_tasks.specs.Outcomes.{else_tree, kind_view, purpose_view, target_view};
+ghost use Rattle.replay_terms.specs.Views.{operand_view};
+ghost use Rattle.replay_tasks.specs.Tasks.{task_view, ArgumentsInRange, OperandInRange, OperandsInRange, ExprInRange, RightSideInRange, TestInRange, BlockInRange, PurposeInRange, ElseInRange, StatementInRange, TaskInRange, IsControl};
+
+use crate::outcome::{Purpose, Target, VariableKind, kind_of};
+use jni::{JniFunction, ParameterKind, function_named};
+use replay_terms::{Operand, Term, term_of};
+use std::alloc::{AllocError, Global};
+use syntax::{
+    Argument, Block, Call, Constant, ElementType, Expr, Form, Name, RightSide, Stmt, Test,
+};
+
+/// A call that is to do.
+#[derive(Drop)]
+pub struct Invocation<'a> {
+    pub line: usize,
+    pub purpose: Purpose<'a>,
+    pub function: JniFunction,
+    /// The arguments after `env`.
+    pub operands: Vec<Operand<'a>>,
+}
+
+/// An `if`, with its test's term and its two ways.
+#[derive(Drop)]
+pub struct Choice<'a> {
+    pub line: usize,
+    pub test: Term<'a>,
+    pub block: &'a Block,
+    pub otherwise: Option<&'a Block>,
+}
+
+/// An expression whose value is printed or returned.
+#[derive(Drop)]
+pub struct Evaluation<'a> {
+    pub line: usize,
+    pub term: Term<'a>,
+}
+
+/// A value for a variable.
+#[derive(Drop)]
+pub struct Assignment<'a> {
+    pub line: usize,
+    pub name: &'a Name,
+    pub term: Term<'a>,
+}
+
+/// A loop, with its test, the test's term, and the body.
+#[derive(Drop)]
+pub struct Iteration<'a> {
+    pub line: usize,
+    pub test: &'a Expr,
+    pub term: Term<'a>,
+    pub body: &'a Block,
+}
+
+/// A number for an element of an array, after the element's index.
+#[derive(Drop)]
+pub struct ElementAssignment<'a> {
+    pub line: usize,
+    pub name: &'a Name,
+    pub index: Term<'a>,
+    pub number: Term<'a>,
+}
+
+/// A statement still to do, with its line.
+pub enum Task<'a> {
+    Print(Evaluation<'a>),
+    Set(Assignment<'a>),
+    SetElement(ElementAssignment<'a>),
+    SetNull(Target<'a>),
+    MakeArray(ElementType, &'a Name, u32),
+    Invoke(Invocation<'a>),
+    Branch(Choice<'a>),
+    Loop(Iteration<'a>),
+    Return,
+    ReturnValue(Evaluation<'a>),
+}
+
+// Written out, and not derived, so that crates above needn't prove it again.
+impl Drop for Task<'_> {
+    fn drop(self) {
+        match self {
+            Task::Print(e) | Task::ReturnValue(e) => drop(e),
+            Task::Set(a) => drop(a),
+            Task::SetElement(a) => drop(a),
+            Task::Invoke(i) => drop(i),
+            Task::Branch(c) => drop(c),
+            Task::Loop(i) => drop(i),
+            Task::SetNull(_) | Task::MakeArray(_, _, _) | Task::Return => {}
+        }
+    }
+}
+
+/// The task that gives a variable the value of an expression.
+fn value_task<'a>(
+    alloc: Global,
+    line: usize,
+    target: Target<'a>,
+    name: &'a Name,
+    e: &'a Expr,
+) -> Result<Task<'a>, AllocError>
+    requires { ExprInRange (expr_tree e.now) }
+    ensures view { IfOk result (λ t. task_view t ≡ set_task line (target_view target.entry) name.entry.now (expr_tree e.entry.now)) }
+    ensures range { IfOk result TaskInRange }
+{
+    if let Expr::Named(Constant::Null) = e {
+        return Ok(Task::SetNull(target));
+    }
+    let term = term_of(alloc, e)?;
+    Ok(Task::Set(Assignment { line, name, term }))
+}
+
+/// The task of a call, of a function that is there.
+fn call_task<'a>(
+    alloc: Global,
+    line: usize,
+    purpose: Purpose<'a>,
+    call: &'a Call,
+) -> Result<Task<'a>, AllocError>
+    requires numbers { ArgumentsInRange (call_tree call.now).arguments }
+    requires ways { PurposeInRange purpose }
+    requires built { IsTrue (is_built_call (call_tree call.now)) }
+    ensures view { IfOk result (λ t. task_view t ≡ call_task line (purpose_view line purpose.entry) (call_tree call.entry.now)) }
+    ensures range { IfOk result TaskInRange }
+{
+    let function = function_named(call.function.as_bytes()).unwrap();
+    let mut operands = Vec::new(alloc);
+    let parameters = function.prototype().parameters;
+    push_operands(alloc, &mut operands, parameters, &call.arguments)?;
+    Ok(Task::Invoke(Invocation {
+        line,
+        purpose,
+        function,
+        operands,
+    }))
+}
+
+/// Adds the operands of these arguments, each for its parameter.
+fn push_operands<'a>(
+    alloc: Global,
+    operands: &mut Vec<Operand<'a>>,
+    parameters: &[ParameterKind],
+    arguments: &'a [Argument],
+) -> Result<(), AllocError>
+    requires numbers { ArgumentsInRange (map argument_tree arguments.now) }
+    requires range { OperandsInRange operands.old.items }
+    ensures view { IfOk result (λ _. map operand_view operands.new.items ≡ map operand_view operands.old.items
+        ++ map operand (zip (map parameter_value parameters.entry.now) (map argument_tree arguments.entry.now))) }
+    ensures range { IfOk result (λ _. OperandsInRange operands.new.items) }
+{
+    match parameters {
+        [] => Ok(()),
+        [parameter, parameters @ ..] => match arguments {
+            [] => Ok(()),
+            [argument, arguments @ ..] => {
+                operands.push(operand_of(alloc, *parameter, argument)?)?;
+                push_operands(alloc, operands, parameters, arguments)
+            }
+        },
+    }
+}
+
+/// An argument before the call's first step.
+fn operand_of<'a>(
+    alloc: Global,
+    parameter: ParameterKind,
+    argument: &'a Argument,
+) -> Result<Operand<'a>, AllocError>
+    requires { IsTrue (list_all numbers_in_range (argument_expressions (argument_tree argument.now))) }
+    ensures view { IfOk result (λ o. operand_view o ≡ operand (parameter_value parameter, argument_tree argument.entry.now)) }
+    ensures range { IfOk result OperandInRange }
+{
+    match parameter {
+        ParameterKind::IntNumber => match argument {
+            Argument::Value(e) => Ok(Operand::Number(term_of(alloc, e)?)),
+            Argument::Text(_) | Argument::AddressOf(_) => Ok(Operand::Given(argument)),
+        },
+        _ => Ok(Operand::Given(argument)),
+    }
+}
+
+/// The task that sets a variable.
+fn set_task<'a>(
+    alloc: Global,
+    line: usize,
+    target: Target<'a>,
+    name: &'a Name,
+    right: &'a RightSide,
+) -> Result<Task<'a>, AllocError>
+    requires { RightSideInRange (right_side_tree right.now) }
+    ensures view { IfOk result (λ t. task_view t ≡ right_side_task line (target_view target.entry) name.entry.now (right_side_tree right.entry.now)) }
+    ensures range { IfOk result TaskInRange }
+{
+    match right {
+        RightSide::Expr(e) => value_task(alloc, line, target, name, e),
+        RightSide::Call(call) => call_task(alloc, line, Purpose::Put(target), call),
+    }
+}
+
+/// The task of an `if`.
+fn if_task<'a>(
+    alloc: Global,
+    line: usize,
+    test: &'a Test,
+    block: &'a Block,
+    otherwise: Option<&'a Block>,
+) -> Result<Task<'a>, AllocError>
+    requires test { TestInRange (test_tree test.now) }
+    requires block { BlockInRange (block_tree block.now) }
+    requires otherwise { ElseInRange otherwise }
+    ensures view { IfOk result (λ t. task_view t ≡ if_task line (test_tree test.entry.now) (block_tree block.entry.now) (else_tree line otherwise.entry)) }
+    ensures range { IfOk result TaskInRange }
+{
+    match test {
+        Test::Expr(e) => Ok(Task::Branch(Choice {
+            line,
+            test: term_of(alloc, e)?,
+            block,
+            otherwise,
+        })),
+        Test::Call(call) => call_task(alloc, line, Purpose::Test(block, otherwise), call),
+    }
+}
+
+/// The task that a declaration begins as.
+fn declaration<'a>(
+    alloc: Global,
+    line: usize,
+    kind: VariableKind,
+    name: &'a Name,
+    right: &'a RightSide,
+) -> Result<Task<'a>, AllocError>
+    requires { RightSideInRange (right_side_tree right.now) }
+    ensures view { IfOk result (λ t. task_view t ≡ right_side_task line (Declared (kind_view kind) name.entry.now) name.entry.now (right_side_tree right.entry.now)) }
+    ensures range { IfOk result TaskInRange }
+{
+    set_task(alloc, line, Target::Declared(kind, name), name, right)
+}
+
+/// The task that sets an element.
+fn element_task<'a>(
+    alloc: Global,
+    line: usize,
+    name: &'a Name,
+    index: &'a Expr,
+    e: &'a Expr,
+) -> Result<Task<'a>, AllocError>
+    requires index { ExprInRange (expr_tree index.now) }
+    requires number { ExprInRange (expr_tree e.now) }
+    ensures view { IfOk result (λ t. task_view t ≡ SetElement line name.entry.now (term_of (expr_tree index.entry.now)) (term_of (expr_tree e.entry.now))) }
+    ensures range { IfOk result TaskInRange }
+{
+    let index = term_of(alloc, index)?;
+    let number = term_of(alloc, e)?;
+    Ok(Task::SetElement(ElementAssignment {
+        line,
+        name,
+        index,
+        number,
+    }))
+}
+
+/// The task that prints a number.
+fn print_task<'a>(alloc: Global, line: usize, e: &'a Expr) -> Result<Task<'a>, AllocError>
+    requires { ExprInRange (expr_tree e.now) }
+    ensures view { IfOk result (λ t. task_view t ≡ Print line (term_of (expr_tree e.entry.now))) }
+    ensures range { IfOk result TaskInRange }
+{
+    let term = term_of(alloc, e)?;
+    Ok(Task::Print(Evaluation { line, term }))
+}
+
+/// The task of a loop.
+pub fn loop_task<'a>(
+    alloc: Global,
+    line: usize,
+    test: &'a Expr,
+    body: &'a Block,
+) -> Result<Task<'a>, AllocError>
+    requires test { ExprInRange (expr_tree test.now) }
+    requires body { BlockInRange (block_tree body.now) }
+    ensures view { IfOk result (λ t. task_view t ≡ Loop line (expr_tree test.entry.now) (term_of (expr_tree test.entry.now)) (block_tree body.entry.now)) }
+    ensures range { IfOk result TaskInRange }
+{
+    let term = term_of(alloc, test)?;
+    Ok(Task::Loop(Iteration {
+        line,
+        test,
+        term,
+        body,
+    }))
+}
+
+/// The task that returns a value.
+fn return_task<'a>(alloc: Global, line: usize, e: &'a Expr) -> Result<Task<'a>, AllocError>
+    requires { ExprInRange (expr_tree e.now) }
+    ensures view { IfOk result (λ t. task_view t ≡ ReturnValue line (term_of (expr_tree e.entry.now))) }
+    ensures range { IfOk result TaskInRange }
+{
+    let term = term_of(alloc, e)?;
+    Ok(Task::ReturnValue(Evaluation { line, term }))
+}
+
+/// The task that a statement begins as.
+pub fn task_of(alloc: Global, s: &Stmt) -> Result<Task<'_>, AllocError>
+    requires { StatementInRange s.now }
+    ensures view { IfOk result (λ t. task_view t ≡ task_of (stmt_tree s.now)) }
+    ensures range { IfOk result TaskInRange }
+{
+    let line = s.line;
+    match &s.form {
+        Form::Declare(t, x, right) => declaration(alloc, line, kind_of(*t), x, right),
+        Form::DeclareBuffer(t, x, right) => {
+            declaration(alloc, line, VariableKind::Buffer(*t), x, right)
+        }
+        Form::DeclareChars(x, right) => {
+            declaration(
+                alloc,
+                line,
+                VariableKind::Buffer(ElementType::Jchar),
+                x,
+                right,
+            )
+        }
+        Form::DeclareArray(t, x, size) => Ok(Task::MakeArray(*t, x, *size)),
+        Form::Assign(x, right) => set_task(alloc, line, Target::Assigned(x), x, right),
+        Form::AssignElement(x, i, e) => element_task(alloc, line, x, i, e),
+        Form::Perform(call) => call_task(alloc, line, Purpose::Put(Target::Dropped), call),
+        _ => control_task(alloc, s),
+    }
+}
+
+/// The task of a statement that prints, branches, loops or returns.
+#[inline]
+fn control_task(alloc: Global, s: &Stmt) -> Result<Task<'_>, AllocError>
+    requires numbers { StatementInRange s.now }
+    requires control { IsControl s.now.form }
+    ensures view { IfOk result (λ t. task_view t ≡ task_of (stmt_tree s.now)) }
+    ensures range { IfOk result TaskInRange }
+{
+    let line = s.line;
+    match &s.form {
+        Form::PutJint(e) => print_task(alloc, line, e),
+        Form::If(test, block) => if_task(alloc, line, test, block, None),
+        Form::IfElse(test, block, other) => if_task(alloc, line, test, block, Some(other)),
+        Form::While(test, body) => loop_task(alloc, line, test, body),
+        Form::Return(None) => Ok(Task::Return),
+        Form::Return(Some(e)) => return_task(alloc, line, e),
+        _ => unreachable!(),
+    }
+}

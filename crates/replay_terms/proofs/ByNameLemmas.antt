@@ -1,0 +1,60 @@
+-- Values by name that lie in a hash map: a value is looked up and assigned at the place of its name.
+use Rattle.std.proofs.Common.{◌≡◌, ℕ, Bool, true, false, cond, List, [], ◌∷◌, map, position, Option, Some, None, Result, Ok, Err, OnOk, is_some, is_err, refl, sym, ap, ◌∙◌, Bor}
+use Rattle.std.specs.Option.{option_map, option_copied}
+use Rattle.std.specs.Str.{bytes_eq}
+use Rattle.std.specs.Map as maps
+use Rattle.std.proofs.lemmas.Slice.Eq.{bytes_eq-Decides}
+use Rattle.base.specs.Bytes.{Identifier, ByName, lookup}
+use Rattle.indexmap.specs.IndexMap.{insert_entry, set_value_at}
+use Rattle.indexmap.proofs.MapLemmas.{Found-position, insert_entry-first}
+use Rattle.semantics.specs.Variable.{assign}
+use Rattle.replay_terms.specs.Views.{by_name}
+
+-- keys are equal where their names are
+abbrev pub same_key : Bor Identifier → Bor Identifier → Bool
+same_key k l = bytes_eq k.now l.now
+
+-- what holds of an answer that is no error
+pub on_ok : {X Y : Type 0} (r : Result X Y) (P : Type 0) → OnOk r P → is_err r ≡ false → P
+on_ok (Ok x) P p h = p
+on_ok (Err y) P p h = absurd (cc)
+
+nothing : {V : Type 0} (o : Option V) → is_some o ≡ false → o ≡ None
+nothing None none = refl
+nothing (Some v) none = absurd (cc)
+
+module _ {V A : Type 0} (value_of : V → A) where
+  abbrev pub values : List (Bor Identifier × V) → ByName A
+  values es = map (λ (v : Identifier × V). (v.0, value_of v.1)) (by_name es)
+
+  -- what is behind a reference that was looked up
+  pub read : (r : Option (Bor V)) → option_map (λ v. value_of v.now) r ≡ option_map value_of (option_copied r)
+  read None = refl
+  read (Some v) = refl
+
+  -- the value of a name is that of its key
+  pub looked_up : (x : Identifier) (es : List (Bor Identifier × V)) → option_map value_of (maps.lookup (λ k. bytes_eq x k.now) es) ≡ lookup x (values es)
+  looked_up x [] = refl
+  looked_up x (e ∷ es) = first (bytes_eq x e.0.now) (looked_up x es)
+    where
+      first : (b : Bool) → option_map value_of (maps.lookup (λ k. bytes_eq x k.now) es) ≡ lookup x (values es) → option_map value_of (cond b (Some e.1) (maps.lookup (λ k. bytes_eq x k.now) es)) ≡ cond b (Some (value_of e.1)) (lookup x (values es))
+      first true further = refl
+      first false further = further
+
+  -- a name that is no key has no value
+  pub missing : (x : Identifier) (es : List (Bor Identifier × V)) → is_some (maps.lookup (λ k. bytes_eq x k.now) es) ≡ false → lookup x (values es) ≡ None
+  missing x es none = sym (looked_up x es) ∙ ap (option_map value_of) (nothing (maps.lookup (λ k. bytes_eq x k.now) es) none)
+
+  -- what is inserted is assigned
+  pub inserted : (k : Bor Identifier) (v : V) (es : List (Bor Identifier × V)) → values (insert_entry same_key es k v) ≡ assign k.now (value_of v) (values es)
+  inserted k v [] = refl
+  inserted k v (e ∷ es) = first (same_key k e.0) refl (inserted k v es)
+    where
+      first : (b : Bool) → same_key k e.0 ≡ b → values (insert_entry same_key es k v) ≡ assign k.now (value_of v) (values es)
+          → values (cond b ((e.0, v) ∷ es) (e ∷ insert_entry same_key es k v)) ≡ cond b ((k.now, value_of v) ∷ values es) ((e.0.now, value_of e.1) ∷ assign k.now (value_of v) (values es))
+      first true same further = ap (λ (x : Identifier). (x, value_of v) ∷ values es) (sym ((bytes_eq-Decides k.now e.0.now).0 same))
+      first false other further = ap (λ (l : ByName A). (e.0.now, value_of e.1) ∷ l) further
+
+  -- what is written at the place of a name is assigned
+  pub written_there : (k : Bor Identifier) (v : V) (es : List (Bor Identifier × V)) (i : ℕ) → position (same_key k) (maps.keys_of es) ≡ Some i → values (set_value_at es i v) ≡ assign k.now (value_of v) (values es)
+  written_there k v es i at = ap values (sym (insert_entry-first same_key k v es i (Found-position (same_key k) es i at).first)) ∙ inserted k v es

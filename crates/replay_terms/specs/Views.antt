@@ -1,0 +1,235 @@
+-- Values, terms and variables that lie in memory, as those of the language.
+use Rattle.std.specs.Prelude.{◌≡◌, ◌<◌, ℕ, ℤ, Bool, true, false, not, List, [], ◌∷◌, map, slice_get, slice_set, Option, Some, None}
+use Rattle.std.specs.Option.{option_map}
+use Rattle.std.specs.Borrow.{Bor}
+use Rattle.base.specs.Bytes.{Identifier, ByName, lookup}
+use Rattle.base.specs.Element.{ElementType}
+use Rattle.syntax.specs.Tree.{BinaryOp}
+use Rattle.syntax.specs.Views.{argument_tree, constant_tree, element_tree, prefix_tree, binary_tree}
+use Rattle.syntax.specs.Limits.{number_limit}
+use Rattle.classes.specs.FieldViews.{field_id_view}
+use Rattle.semantics.specs.CallEffects.{CallResult, NoResult, NullResult, ScalarResult, ReferenceResult, FieldResult}
+use Rattle.semantics.specs.Sight.{Sight, in_range}
+use Rattle.semantics.specs.Task.{Operand, NumberOperand}
+use Rattle.semantics.specs.Task as task
+use Rattle.semantics.specs.Term.{Term, Done, Number, Named, Read, Element, IsNull, Prefix, And, Or, Binary, Reduction, binary_term, done, reduce}
+use Rattle.semantics.specs.Value.{Value, Word, Int, Flag, Truth, Trap, DivisionByZero, ShiftTooFar, OutOfRange, NullReference, ExceptionPending, WrongObject, DeletedReference, NoCapacity, Outcome, Gives, Traps, Stuck, outcome_then, outcome_map, convert}
+use Rattle.semantics.specs.Variable.{Variable, Scalar, LocalRef, FieldHandle, Elements, LocalArray, NoBuffer, Copy, View, StaticReference, Empty, Live, Deleted, Variables, Statics, assign}
+use Rattle.replay_terms.specs.declared.given.Given.{Given}
+use Rattle.replay_terms.specs.declared.given.Given.TheVariants as given
+use Rattle.replay_terms.specs.declared.operand.Operand.{Operand as OperandInMemory}
+use Rattle.replay_terms.specs.declared.operand.Operand.TheVariants as operand
+use Rattle.replay_terms.specs.declared.reduction.Reduction.{Reduction as ReductionInMemory}
+use Rattle.replay_terms.specs.declared.reduction.Reduction.TheVariants as reduction
+use Rattle.replay_terms.specs.declared.sight.Indexed.{Indexed}
+use Rattle.replay_terms.specs.declared.sight.Indexed.TheVariants as indexed
+use Rattle.replay_terms.specs.declared.statics.StaticReference.{StaticReference as HeldInMemory}
+use Rattle.replay_terms.specs.declared.statics.StaticReference.TheVariants as held
+use Rattle.replay_terms.specs.declared.trap.Trap.{Trap as TrapInMemory}
+use Rattle.replay_terms.specs.declared.trap.Trap.TheVariants as trap
+use Rattle.replay_terms.specs.declared.value.Evaluated.{Evaluated}
+use Rattle.replay_terms.specs.declared.value.Evaluated.TheVariants as evaluated
+use Rattle.replay_terms.specs.declared.value.Value.{Value as ValueInMemory}
+use Rattle.replay_terms.specs.declared.value.Value.TheVariants as value
+use Rattle.replay_terms.specs.declared.term.Term.{Term as TermInMemory}
+use Rattle.replay_terms.specs.declared.term.Term.TheVariants as term
+use Rattle.replay_terms.specs.declared.variable.Content.{Content}
+use Rattle.replay_terms.specs.declared.variable.Content.TheVariants as content
+
+abbrev pub trap_view : TrapInMemory → Trap
+trap_view trap.DivisionByZero = DivisionByZero
+trap_view trap.ShiftTooFar = ShiftTooFar
+trap_view trap.OutOfRange = OutOfRange
+trap_view trap.NullReference = NullReference
+trap_view trap.ExceptionPending = ExceptionPending
+trap_view trap.WrongObject = WrongObject
+trap_view trap.DeletedReference = DeletedReference
+trap_view trap.NoCapacity = NoCapacity
+
+abbrev pub value_view : ValueInMemory → Value
+value_view (value.Word n) = Word n
+value_view (value.Int z) = Int z
+value_view (value.Flag b) = Flag b
+value_view (value.Truth b) = Truth b
+
+abbrev pub evaluated_view : Evaluated → Outcome Value
+evaluated_view (evaluated.Gives v) = Gives (value_view v)
+evaluated_view (evaluated.Traps trap) = Traps (trap_view trap)
+evaluated_view evaluated.Stuck = Stuck
+
+abbrev pub indexed_view : Indexed → Outcome ℕ
+indexed_view (indexed.At i) = Gives i
+indexed_view (indexed.Traps trap) = Traps (trap_view trap)
+indexed_view indexed.Stuck = Stuck
+
+-- ---- variables
+
+abbrev pub content_view : Content → Variable
+content_view (content.Number v) = Scalar (value_view v)
+content_view (content.Reference level r) = LocalRef level r
+content_view (content.Field f) = FieldHandle (option_map field_id_view f)
+content_view (content.Buffer T) = Elements (element_tree T) NoBuffer
+content_view (content.Array T numbers) = LocalArray (element_tree T) numbers.items
+
+-- the entries of a hash map, by name
+abbrev pub by_name : {A : Type 0} → List (Bor Identifier × A) → ByName A
+by_name entries = map (λ e. (e.0.now, e.1)) entries
+
+-- what variables hold in memory
+abbrev pub Contents : Type 0
+Contents = ByName Content
+
+abbrev pub variable_view : Identifier × Content → Identifier × Variable
+variable_view v = (v.0, content_view v.1)
+
+abbrev pub variables_view : Contents → Variables
+variables_view vs = map variable_view vs
+
+-- what a static holds
+abbrev pub held_view : HeldInMemory → StaticReference
+held_view held.Empty = Empty
+held_view (held.Live n) = Live n
+held_view held.Deleted = Deleted
+
+abbrev pub static_view : Identifier × HeldInMemory → Identifier × StaticReference
+static_view s = (s.0, held_view s.1)
+
+abbrev pub statics_view : ByName HeldInMemory → Statics
+statics_view ss = map static_view ss
+
+-- the values with those of a list at their names, one after another
+abbrev pub assign_all : {A : Type 0} → ByName A → ByName A → ByName A
+assign_all [] values = values
+assign_all ((x, v) ∷ more) values = assign_all more (assign x v values)
+
+-- what is there, or nothing fits
+abbrev pub if_there : {A : Type 0} → Option A → Outcome A
+if_there (Some a) = Gives a
+if_there None = Stuck
+
+-- an index within the range of these numbers
+abbrev pub place_in : Outcome (List ℤ) → Outcome ℕ → Outcome ℕ
+place_in numbers i = outcome_then (λ n. outcome_map (λ (z : ℤ). n) (outcome_then (λ (zs : List ℤ). in_range (slice_get zs n)) numbers)) i
+
+-- an array with a number, converted to its type, at an index; no other variable has elements today
+abbrev pub written : ℕ → ℤ → Variable → Option Variable
+written i z (LocalArray T zs) = Some (LocalArray T (slice_set zs i (convert T z)))
+written i z v = None
+
+-- the array of a name has this number, converted to its type, at this index
+pub record IsWritten (old : Variables) (x : Identifier) (i : ℕ) (z : ℤ) (new : Variables) : Type 0 where
+  pub kind : ElementType
+  pub numbers : List ℤ
+  pub there : lookup x old ≡ Some (LocalArray kind numbers)
+  pub set : new ≡ assign x (LocalArray kind (slice_set numbers i (convert kind z))) old
+
+-- it is no variable whose elements can be written
+abbrev pub HasNoElements : Option Variable → Type 0
+HasNoElements (Some (LocalArray kind numbers)) = ⊥
+HasNoElements (Some (Elements kind (Copy n numbers))) = ⊥
+HasNoElements (Some (Elements kind (View n))) = ⊥
+HasNoElements v = Unit {0}
+
+-- an element was written, or the variable has none
+abbrev pub WritesElement : Variables → Identifier → ℕ → ℤ → (done : Bool) → Variables → Type 0
+WritesElement old x i z true new = IsWritten old x i z new
+WritesElement old x i z false new = HasNoElements (lookup x old)
+
+-- ---- terms
+
+abbrev pub term_view : TermInMemory → Term
+term_view (term.Done v) = Done (value_view v)
+term_view (term.Number n unsigned) = Number n unsigned
+term_view (term.Named c) = Named (constant_tree c)
+term_view (term.Read x) = Read x.now
+term_view (term.Element' x p i) = Element x.now (term_view i)
+term_view (term.IsNull wanted x) = IsNull wanted x.now
+term_view (term.Prefix' op p t) = Prefix (prefix_tree op) (term_view t)
+term_view (term.And' p s q t) = And (term_view s) (term_view t)
+term_view (term.Or' p s q t) = Or (term_view s) (term_view t)
+term_view (term.Binary' op p s q t) = Binary (binary_tree op) (term_view s) (term_view t)
+
+-- each number that has no value yet is in the range of its type
+abbrev pub NumbersInRange : TermInMemory → Type 0
+NumbersInRange (term.Done v) = Unit {0}
+NumbersInRange (term.Number n unsigned) = n < number_limit unsigned
+NumbersInRange (term.Named c) = Unit {0}
+NumbersInRange (term.Read x) = Unit {0}
+NumbersInRange (term.Element' x p i) = NumbersInRange i
+NumbersInRange (term.IsNull wanted x) = Unit {0}
+NumbersInRange (term.Prefix' op p t) = NumbersInRange t
+NumbersInRange (term.And' p s q t) = NumbersInRange s × NumbersInRange t
+NumbersInRange (term.Or' p s q t) = NumbersInRange s × NumbersInRange t
+NumbersInRange (term.Binary' op p s q t) = NumbersInRange s × NumbersInRange t
+
+-- an operator with this tested name compares it with NULL
+abbrev pub ComparesNull : (wanted : Bool) → Identifier → BinaryOp → (tested : Option Identifier) → Type 0
+ComparesNull wanted x op tested = (s t : Term) → binary_term op tested s t ≡ IsNull wanted x
+
+-- ---- the step of a term
+
+-- the other truth
+abbrev pub negated : Outcome Value → Outcome Value
+negated (Gives (Truth b)) = Gives (Truth (not b))
+negated o = o
+
+-- what the left side of `&&` or `||` decides, or else the right side
+abbrev pub decided : Option Evaluated → (right : Term) → Reduction
+decided None right = Gives right
+decided (Some e) right = done (evaluated_view e)
+
+-- it has no parts that take steps
+abbrev pub IsLeaf : TermInMemory → Type 0
+IsLeaf (term.Number n unsigned) = Unit {0}
+IsLeaf (term.Named c) = Unit {0}
+IsLeaf (term.Read x) = Unit {0}
+IsLeaf (term.IsNull wanted x) = Unit {0}
+IsLeaf (term.Done v) = Unit {0}
+IsLeaf t = ⊥
+
+-- its parts that take steps have their values
+abbrev pub IsValue : TermInMemory → Type 0
+IsValue (term.Done v) = Unit {0}
+IsValue t = ⊥
+
+abbrev pub HasValues : TermInMemory → Type 0
+HasValues (term.Element' x p i) = IsValue i
+HasValues (term.Prefix' op p t) = IsValue t
+HasValues (term.And' p s q t) = IsValue s
+HasValues (term.Or' p s q t) = IsValue s
+HasValues (term.Binary' op p s q t) = IsValue s × IsValue t
+HasValues t = Unit {0}
+
+-- the right side of `&&` or `||`
+abbrev pub right_side : Term → Term
+right_side (And s t) = t
+right_side (Or s t) = t
+right_side t = t
+
+-- the value takes the place of a term, if there is one
+abbrev pub IsReplaced : TermInMemory → Evaluated → ReductionInMemory → TermInMemory → Type 0
+IsReplaced old (evaluated.Gives v) took new = (took ≡ reduction.Reduced) × (new ≡ term.Done v)
+IsReplaced old (evaluated.Traps trap) took new = (took ≡ reduction.Trapped trap) × (new ≡ old)
+IsReplaced old evaluated.Stuck took new = (took ≡ reduction.Stuck) × (new ≡ old)
+
+-- where this can be seen, what a step in memory did is what a step of the language does
+abbrev pub Reduces : Sight → TermInMemory → ReductionInMemory → TermInMemory → Type 0
+Reduces sight old reduction.Reduced new = reduce sight (term_view old) ≡ Gives (term_view new)
+Reduces sight old (reduction.Trapped trap) new = (reduce sight (term_view old) ≡ Traps (trap_view trap)) × (new ≡ old)
+Reduces sight old reduction.Stuck new = reduce sight (term_view old) ≡ Stuck
+
+-- ---- calls
+
+-- an argument of a call before the call's own step
+abbrev pub operand_view : OperandInMemory → Operand
+operand_view (operand.Number t) = NumberOperand (term_view t)
+operand_view (operand.Given a) = task.Given (argument_tree a.now)
+
+-- what a call gives
+abbrev pub given_view : Given → CallResult
+given_view given.Nothing = NoResult
+given_view given.Null = NullResult
+given_view (given.Number z) = ScalarResult (Int z)
+given_view (given.Flag b) = ScalarResult (Flag b)
+given_view (given.Reference r) = ReferenceResult r
+given_view (given.Field f) = FieldResult (option_map field_id_view f)

@@ -1,0 +1,37 @@
+//! What calls of the JNI give.
+
+ghost use Rattle.std.specs.Prelude.{◌≡◌};
+ghost use Rattle.semantics.specs.CallStep.{is_zero, static_result};
+ghost use Rattle.replay_terms.specs.Views.{given_view, held_view};
+
+use crate::statics::StaticReference;
+use classes::fields::FieldId;
+
+/// What a call gives.
+#[derive(Clone, Copy)]
+pub enum Given<'a> {
+    Nothing,
+    Null,
+    Number(i32),
+    Flag(bool),
+    /// NULL or an object, by its name.
+    Reference(Option<usize>),
+    Field(Option<FieldId<'a>>),
+}
+
+/// Whether it is 0.
+pub fn is_zero(given: Given<'_>) -> bool
+    ensures { result ≡ is_zero (given_view given.entry) }
+{
+    matches!(given, Given::Number(0))
+}
+
+/// What a static holds of it.
+pub fn static_result(given: Given<'_>) -> StaticReference
+    ensures { held_view result ≡ static_result (given_view given.entry) }
+{
+    match given {
+        Given::Reference(Some(name)) => StaticReference::Live(name),
+        _ => StaticReference::Empty,
+    }
+}

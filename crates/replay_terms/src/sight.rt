@@ -1,0 +1,188 @@
+//! What can be seen in the variables and the statics.
+
+ghost use Rattle.std.specs.Prelude.{◌≡◌, slice_get};
+ghost use Rattle.std.specs.Option.{option_map};
+ghost use Rattle.base.specs.Bytes.{lookup};
+ghost use Rattle.semantics.specs.Heap.{Heap};
+ghost use Rattle.semantics.specs.Sight.{scalar, seen, elements_of, in_range, variable_is_null, holds_null};
+ghost use Rattle.semantics.specs.Term.{IsNull, done, index_of, element_value, reduce};
+ghost use Rattle.semantics.specs.Value.{outcome_map, outcome_then, Int, Truth};
+ghost use Rattle.semantics.specs.Variable.{Statics};
+ghost use Rattle.replay_terms.specs.Views.{value_view, evaluated_view, indexed_view, content_view, variables_view, if_there, negated, place_in};
+
+use crate::statics::{Statics, is_empty};
+use crate::trap::Trap;
+use crate::value::{Evaluated, Value, truth};
+use crate::variable::{Content, Variables};
+use semantics::Objects;
+use syntax::Name;
+
+/// The value of a number variable.
+pub fn number_in(variables: &Variables<'_>, name: &Name) -> Evaluated
+    ensures { evaluated_view result ≡ scalar (lookup name.now (variables_view variables.now)) }
+{
+    match variables.content_of(name) {
+        None => Evaluated::Stuck,
+        Some(content) => match content {
+            Content::Number(value) => Evaluated::Gives(*value),
+            Content::Reference(_, _)
+            | Content::Field(_)
+            | Content::Buffer(_)
+            | Content::Array(_, _) => Evaluated::Stuck,
+        },
+    }
+}
+
+/// Whether a variable holds NULL, as a truth.
+fn is_null(content: &Content<'_>) -> Evaluated
+    ensures { evaluated_view result ≡ outcome_map Truth (variable_is_null (content_view content.now)) }
+{
+    match content {
+        Content::Reference(_, object) => truth(object.is_none()),
+        Content::Field(field) => truth(field.is_none()),
+        Content::Buffer(_) => truth(true),
+        Content::Number(_) | Content::Array(_, _) => Evaluated::Stuck,
+    }
+}
+
+/// The other truth.
+fn negated(value: Evaluated) -> Evaluated
+    ensures { evaluated_view result ≡ negated (evaluated_view value) }
+{
+    match value {
+        Evaluated::Gives(Value::Truth(b)) => truth(!b),
+        Evaluated::Gives(Value::Word(_) | Value::Int(_) | Value::Flag(_)) => value,
+        Evaluated::Traps(_) | Evaluated::Stuck => value,
+    }
+}
+
+/// Whether a variable or a static holds NULL, as a truth.
+fn null_of(statics: &Statics<'_>, variables: &Variables<'_>, name: &Name) -> Evaluated
+    ensures { evaluated_view result ≡ outcome_map Truth (holds_null (lookup name.now (variables_view variables.now)) (lookup name.now (statics.now))) }
+{
+    match variables.content_of(name) {
+        Some(content) => is_null(content),
+        None => match statics.held(name) {
+            Some(held) => truth(is_empty(held)),
+            None => Evaluated::Stuck,
+        },
+    }
+}
+
+/// Whether a variable or a static holds NULL, or, where that isn't wanted, whether it doesn't.
+#[tactic(auto, using(crate::proofs::SightLemmas::null_rules))]
+pub(crate) fn null_value(
+    statics: &Statics<'_>,
+    variables: &Variables<'_>,
+    wanted: bool,
+    name: &Name,
+) -> Evaluated
+    ensures { (heap : Heap) → reduce (seen (variables_view variables.now) (statics.now) heap) (IsNull wanted name.now) ≡ done (evaluated_view result) }
+{
+    let null = null_of(statics, variables, name);
+    if wanted { null } else { negated(null) }
+}
+
+/// The place of an element.
+#[derive(Clone, Copy)]
+pub enum Indexed {
+    At(usize),
+    Traps(Trap),
+    /// Nothing fits, as in no accepted program.
+    Stuck,
+}
+
+/// The index that a value is.
+fn index_of(v: Value) -> Indexed
+    ensures { indexed_view result ≡ index_of (value_view v) }
+{
+    match v {
+        Value::Word(n) => Indexed::At(n as usize),
+        Value::Int(z) => {
+            if z < 0 {
+                Indexed::Traps(Trap::OutOfRange)
+            } else {
+                Indexed::At(z as usize)
+            }
+        }
+        Value::Flag(_) | Value::Truth(_) => Indexed::Stuck,
+    }
+}
+
+/// The numbers of the array of this name. No variable shows those of an object today.
+fn numbers_in<'v, O: Objects>(
+    _objects: &O,
+    variables: &'v Variables<'_>,
+    name: &Name,
+) -> Option<&'v [i32]>
+    ensures { if_there (option_map (λ n. n.now) result) ≡ elements_of (O.heap _objects.now) (lookup name.now (variables_view variables.now)) }
+{
+    match variables.content_of(name) {
+        None => None,
+        Some(content) => match content {
+            Content::Array(_, numbers) => Some(numbers.as_slice()),
+            Content::Number(_) | Content::Reference(_, _) => None,
+            Content::Field(_) | Content::Buffer(_) => None,
+        },
+    }
+}
+
+/// The place of an element of the array of this name.
+#[tactic(auto, using(crate::proofs::SightLemmas::place_rules))]
+pub fn place_in<O: Objects>(
+    objects: &O,
+    variables: &Variables<'_>,
+    name: &Name,
+    v: Value,
+) -> Indexed
+    ensures { indexed_view result ≡ place_in (elements_of (O.heap objects.now) (lookup name.now (variables_view variables.now))) (index_of (value_view v)) }
+{
+    match index_of(v) {
+        Indexed::At(i) => match numbers_in(objects, variables, name) {
+            None => Indexed::Stuck,
+            Some(numbers) => {
+                if i < numbers.len() {
+                    Indexed::At(i)
+                } else {
+                    Indexed::Traps(Trap::OutOfRange)
+                }
+            }
+        },
+        Indexed::Traps(trap) => Indexed::Traps(trap),
+        Indexed::Stuck => Indexed::Stuck,
+    }
+}
+
+/// The element at a place of the array of this name.
+fn element_at<O: Objects>(
+    objects: &O,
+    variables: &Variables<'_>,
+    name: &Name,
+    i: usize,
+) -> Evaluated
+    ensures { evaluated_view result ≡ outcome_map Int (outcome_then (λ zs. in_range (slice_get zs i)) (elements_of (O.heap objects.now) (lookup name.now (variables_view variables.now)))) }
+{
+    match numbers_in(objects, variables, name) {
+        None => Evaluated::Stuck,
+        Some(numbers) => match numbers.get(i) {
+            Some(number) => Evaluated::Gives(Value::Int(*number)),
+            None => Evaluated::Traps(Trap::OutOfRange),
+        },
+    }
+}
+
+/// An element of the array of this name.
+pub(crate) fn element_in<O: Objects>(
+    objects: &O,
+    variables: &Variables<'_>,
+    name: &Name,
+    v: Value,
+) -> Evaluated
+    ensures { (statics : Statics) → evaluated_view result ≡ element_value (seen (variables_view variables.now) statics (O.heap objects.now)) name.now (value_view v) }
+{
+    match index_of(v) {
+        Indexed::At(i) => element_at(objects, variables, name, i),
+        Indexed::Traps(trap) => Evaluated::Traps(trap),
+        Indexed::Stuck => Evaluated::Stuck,
+    }
+}

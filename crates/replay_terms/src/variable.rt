@@ -1,0 +1,129 @@
+//! The variables of a call in progress.
+
+ghost use Rattle.std.specs.Prelude.{◌≡◌, [], IfOk, Some, None, pos, replicate, slice_set, if◌then◌else◌};
+ghost use Rattle.std.specs.Option.{option_map};
+ghost use Rattle.base.specs.Bytes.{lookup};
+ghost use Rattle.syntax.specs.Views.{element_tree};
+ghost use Rattle.semantics.specs.Value.{convert};
+ghost use Rattle.semantics.specs.Variable.{assign};
+ghost use Rattle.replay_terms.specs.Views.{content_view, variables_view, written, WritesElement};
+
+use crate::value::{Value, convert};
+use classes::fields::FieldId;
+use indexmap::IndexMap;
+use std::alloc::{AllocError, Global};
+use std::marker::Model;
+use syntax::{ElementType, Name};
+
+/// What a variable holds.
+#[derive(Drop)]
+pub enum Content<'a> {
+    Number(Value),
+    /// A local reference: its level, the number of frames at its declaration, and NULL or an object, by its name.
+    Reference(usize, Option<usize>),
+    /// A field ID: NULL, or a field or static.
+    Field(Option<FieldId<'a>>),
+    /// A buffer, which is NULL: no function gives another today.
+    Buffer(ElementType),
+    /// A local array.
+    Array(ElementType, Vec<i32>),
+}
+
+/// The variables of a call in progress, in the order in which they came to be, seen as a list of what each holds by its name. A
+/// name is found in constant time.
+pub struct Variables<'a> {
+    contents: IndexMap<&'a [u8], Content<'a>>,
+}
+
+// Written out, and not derived, so that a crate above drops them by a call and doesn't prove it anew.
+impl Drop for Variables<'_> {
+    fn drop(self) {
+        let Variables { contents } = self;
+        drop(contents);
+    }
+}
+
+impl<'a> Model for Variables<'a> {
+    ghost use Rattle.replay_terms.specs.Views.{Contents, by_name};
+
+    ghost Value = { Contents };
+
+    ghost view = { λ v. by_name v.contents.entries };
+}
+
+impl<'a> Variables<'a> {
+    /// No variables.
+    pub fn new(alloc: Global) -> Variables<'a>
+        ensures { result ≡ [] }
+    {
+        Variables {
+            contents: IndexMap::new(alloc),
+        }
+    }
+
+    /// What the variable of this name holds.
+    pub fn content_of(&self, name: &Name) -> Option<&Content<'a>>
+        ensures { option_map (λ c. content_view c.now) result ≡ lookup name.now (variables_view self.now) }
+    {
+        self.content_named(name.as_bytes())
+    }
+
+    /// The same, by a name that may be none of the unit's.
+    pub fn content_named(&self, name: &[u8]) -> Option<&Content<'a>>
+        ensures { option_map (λ c. content_view c.now) result ≡ lookup name.now (variables_view self.now) }
+    {
+        self.contents.get(name)
+    }
+
+    /// Sets the variable of this name. Where there is none, it is new and comes last.
+    pub fn set(&mut self, name: &'a Name, content: Content<'a>) -> Result<(), AllocError>
+        ensures { IfOk result (λ _. variables_view self.new ≡ assign name.now (content_view content.entry) (variables_view self.old)) }
+    {
+        if self.contents.insert(name.as_bytes(), content).is_err() {
+            return Err(AllocError);
+        }
+        Ok(())
+    }
+
+    /// Writes an element of the array of this name, if it is one.
+    pub fn write(&mut self, name: &Name, index: usize, number: i32) -> bool
+        ensures { WritesElement (variables_view self.old) name.now index number result (variables_view self.new) }
+    {
+        match self.contents.get_index_of(name.as_bytes()) {
+            Some(place) => write_content(&mut self.contents[place], index, number),
+            None => false,
+        }
+    }
+}
+
+/// `size` zeros.
+pub fn zeros(alloc: Global, size: u32) -> Result<Vec<i32>, AllocError>
+    ensures { IfOk result (λ numbers. numbers.items ≡ replicate size (pos 0)) }
+{
+    let mut numbers = Vec::new(alloc);
+    numbers.resize(size as usize, 0)?;
+    Ok(numbers)
+}
+
+/// Writes an element that is there, converted to its type.
+fn write(kind: ElementType, numbers: &mut [i32], index: usize, number: i32)
+    ensures { numbers.new ≡ slice_set numbers.old index (convert (element_tree kind) number) }
+{
+    if index < numbers.len() {
+        numbers[index] = convert(kind, number);
+    }
+}
+
+/// Writes an element of what a variable holds; false where it is no array.
+fn write_content(content: &mut Content<'_>, index: usize, number: i32) -> bool
+    ensures { written index number (content_view content.old) ≡ if result then Some (content_view content.new) else None }
+{
+    match content {
+        Content::Array(kind, numbers) => {
+            write(*kind, numbers, index, number);
+            true
+        }
+        Content::Number(_) | Content::Reference(_, _) => false,
+        Content::Field(_) | Content::Buffer(_) => false,
+    }
+}

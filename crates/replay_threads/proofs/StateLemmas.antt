@@ -1,0 +1,297 @@
+-- What an entry does to the state that a state in memory stands for.
+use Rattle.std.proofs.Common.{◌≡◌, ℕ, zero, suc, ◌+◌, ◌<◌, ◌≤◌, Bool, true, false, cond, List, [], ◌∷◌, ◌++◌, length, map, Option, Some, None, refl, sym, ap, ◌∙◌, subst, arith}
+use Rattle.std.specs.Prelude.{slice_get, slice_set, sum_by, flat_map, ◌&&◌, not, is_none, ◌==◌}
+use Rattle.std.proofs.lemmas.List.Concat.{flat_map-cons}
+use Rattle.std.proofs.lemmas.List.Sums.{sum_by-cons}
+use Rattle.base.specs.Bytes.{Identifier}
+use Rattle.semantics.specs.Variable.{Variable, Variables, copied_length, viewed}
+use Rattle.replay_steps.specs.declared.activation.Activation.{Activation}
+use Rattle.std.specs.List.{enumerate_from}
+use Rattle.std.specs.Borrow.{Bor}
+use Rattle.std.specs.Option.{option_map, is_some}
+use Rattle.syntax.specs.Tree.{SourceUnit}
+use Rattle.class_rules.specs.Class.{Classes}
+use Rattle.semantics.specs.declared.journal.Entry.TheVariants as entry
+use Rattle.semantics.specs.declared.printed.Printed.{Printed}
+use Rattle.semantics.specs.Report.{ShownRow, ThreadStanding, HasTrapped}
+use Rattle.report.specs.Shown.{report_with}
+use Rattle.report.specs.ThreadStatus.{standing_view}
+use Rattle.semantics.specs.World.{World}
+use Rattle.semantics.specs.Value.{trap_number}
+use Rattle.report.specs.declared.thread_status.ThreadStatus.{ThreadStatus}
+use Rattle.semantics.specs.ReportOf.{report, standing_by_ending, standing_of}
+use Rattle.replay_calls.specs.Shares.{shared_view}
+use Rattle.semantics.specs.State.{State, thread_at, set_thread, copied, in_use, with_event, advanced}
+use Rattle.semantics.specs.Step.{world_step, can_step, step_of, is_blocked, is_live, is_unfinished, is_waiting}
+use Rattle.semantics.specs.Thread.{BuffersInUse, copied_by, viewed_by, Ending, Thread, Shared, Unfinished, Ended, Uncaught, Quiet, PrintedNumber, Trapped, Advance}
+use Rattle.semantics.specs.ThreadStep.{thread_step}
+use Rattle.semantics.proofs.StepLaws.{Steps, steps, step-thread}
+use Rattle.replay_threads.specs.declared.state.State.{State as StateInMemory}
+use Rattle.replay_threads.specs.declared.thread.Thread.{Thread as ThreadInMemory}
+use Rattle.replay_threads.specs.declared.thread.Step.{Step}
+use Rattle.replay_threads.specs.declared.thread.Step.TheVariants as step
+use Rattle.replay_threads.specs.declared.state.Stop.{Stop as StopInMemory}
+use Rattle.replay_terms.specs.Views.{trap_view}
+use Rattle.replay_threads.specs.States.{ThreadsStand, AreInRange, Stands, variables_of, copied_in, viewed_in, in_use_by, stop_view, printed_after, stop_after, is_possible, Leads, standing_in, standings_in}
+use Rattle.replay_threads.specs.Threads.{ThreadStands, WorkInRange, WorkStands, ending_view, StepIs, TakesStep}
+use Rattle.replay_threads.proofs.PlainTasks.{waits_none}
+
+-- ---- one thread of several
+
+module _ (unit : SourceUnit) (classes : Classes) where
+  pub record Found (t : ThreadInMemory) (ss : List Thread) (i : ℕ) : Type 0 where
+    pub source : Thread
+    pub is : slice_get ss i ≡ Some source
+    pub stands : ThreadStands unit classes t source
+
+  pub found : (ts : List ThreadInMemory) (ss : List Thread) (i : ℕ) (t : ThreadInMemory) → ThreadsStand unit classes ts ss → slice_get ts i ≡ Some t → Found t ss i
+  found [] [] i t h e = absurd (cc)
+  found [] (s ∷ ss) i t h e = absurd h
+  found (x ∷ ts) [] i t h e = absurd h
+  found (x ∷ ts) (s ∷ ss) zero t h e = record { source = s; is = refl; stands = let same : x ≡ t = cc in subst (λ y. ThreadStands unit classes y s) same h.0 }
+  found (x ∷ ts) (s ∷ ss) (suc i) t h e = let f = found ts ss i t h.1 e in record { source = f.source; is = f.is; stands = f.stands }
+
+  -- a thread of the language has one in memory
+  pub stood_for : (ts : List ThreadInMemory) (ss : List Thread) (i : ℕ) (s : Thread) → ThreadsStand unit classes ts ss → AreInRange ts → slice_get ss i ≡ Some s → (t : ThreadInMemory) × ThreadStands unit classes t s × WorkInRange t.activation
+  stood_for [] [] i s h r e = absurd (cc)
+  stood_for [] (x ∷ ss) i s h r e = absurd h
+  stood_for (t ∷ ts) [] i s h r e = absurd h
+  stood_for (t ∷ ts) (x ∷ ss) zero s h r e = (t, let same : x ≡ s = cc in subst (λ y. ThreadStands unit classes t y) same h.0, r.0)
+  stood_for (t ∷ ts) (x ∷ ss) (suc i) s h r e = stood_for ts ss i s h.1 r.1 e
+
+  pub missing : (ts : List ThreadInMemory) (ss : List Thread) (i : ℕ) → ThreadsStand unit classes ts ss → length ts ≤ i → slice_get ss i ≡ None
+  missing [] [] i h p = refl
+  missing [] (s ∷ ss) i h p = absurd h
+  missing (t ∷ ts) [] i h p = absurd h
+  missing (t ∷ ts) (s ∷ ss) zero h p = absurd (omega arith)
+  missing (t ∷ ts) (s ∷ ss) (suc i) h p = missing ts ss i h.1 (omega arith)
+
+  changed : (ts : List ThreadInMemory) (ss : List Thread) (i : ℕ) (t : ThreadInMemory) (s : Thread) → ThreadsStand unit classes ts ss → ThreadStands unit classes t s → ThreadsStand unit classes (slice_set ts i t) (slice_set ss i s)
+  changed [] [] i t s h a = tt
+  changed [] (y ∷ ss) i t s h a = absurd h
+  changed (x ∷ ts) [] i t s h a = absurd h
+  changed (x ∷ ts) (y ∷ ss) zero t s h a = (a, h.1)
+  changed (x ∷ ts) (y ∷ ss) (suc i) t s h a = (h.0, changed ts ss i t s h.1 a)
+
+  -- ---- buffers
+
+  variables_same : (o : Option Activation) (s : Thread) → WorkStands o s → variables_of o ≡ s.variables
+  variables_same None s h = sym h.0
+  variables_same (Some a) s h = sym h.0
+
+  copied_same : (ts : List ThreadInMemory) (ss : List Thread) → ThreadsStand unit classes ts ss → sum_by copied_in ts ≡ sum_by copied_by ss
+  copied_same [] [] h = refl
+  copied_same [] (s ∷ ss) h = absurd h
+  copied_same (t ∷ ts) [] h = absurd h
+  copied_same (t ∷ ts) (s ∷ ss) h =
+      sum_by-cons copied_in t ts
+      ∙ ap (λ (vs : Variables). sum_by (λ (v : Identifier × Variable). copied_length v.1) vs + sum_by copied_in ts) (variables_same t.activation s (h.0).work)
+      ∙ ap (λ n. copied_by s + n) (copied_same ts ss h.1)
+      ∙ sym (sum_by-cons copied_by s ss)
+
+  viewed_same : (ts : List ThreadInMemory) (ss : List Thread) → ThreadsStand unit classes ts ss → flat_map viewed_in ts ≡ flat_map viewed_by ss
+  viewed_same [] [] h = refl
+  viewed_same [] (s ∷ ss) h = absurd h
+  viewed_same (t ∷ ts) [] h = absurd h
+  viewed_same (t ∷ ts) (s ∷ ss) h =
+      flat_map-cons viewed_in t ts
+      ∙ ap (λ (vs : Variables). flat_map (λ (v : Identifier × Variable). viewed v.1) vs ++ flat_map viewed_in ts) (variables_same t.activation s (h.0).work)
+      ∙ ap (λ (l : List ℕ). viewed_by s ++ l) (viewed_same ts ss h.1)
+      ∙ sym (flat_map-cons viewed_by s ss)
+
+-- what the buffers of all threads take is what they take in memory
+pub in_use_same : (unit : SourceUnit) (w : World) (m : StateInMemory) (s : State) → Stands unit w m s → in_use_by m.threads.items ≡ in_use s
+in_use_same unit w m s h =
+    ap (λ n. let u : BuffersInUse = record { copied = n; views = length (flat_map viewed_in m.threads.items) } in u) (copied_same unit w.classes m.threads.items s.threads h.threads)
+    ∙ ap (λ (l : List ℕ). let u : BuffersInUse = record { copied = copied s; views = length l } in u) (viewed_same unit w.classes m.threads.items s.threads h.threads)
+
+-- the work of one thread is in range
+pub range_at : (ts : List ThreadInMemory) (i : ℕ) (t : ThreadInMemory) → AreInRange ts → slice_get ts i ≡ Some t → WorkInRange t.activation
+range_at [] i t h e = absurd (cc)
+range_at (x ∷ ts) zero t h e = let same : x ≡ t = cc in subst (λ (y : ThreadInMemory). WorkInRange y.activation) same h.0
+range_at (x ∷ ts) (suc i) t h e = range_at ts i t h.1 e
+
+pub range_set : (ts : List ThreadInMemory) (i : ℕ) (t : ThreadInMemory) → AreInRange ts → WorkInRange t.activation → AreInRange (slice_set ts i t)
+range_set [] i t h a = tt
+range_set (x ∷ ts) zero t h a = (a, h.1)
+range_set (x ∷ ts) (suc i) t h a = (h.0, range_set ts i t h.1 a)
+
+-- ---- entries
+
+none_both : {A : Type 0} (b : Bool) (o : Option A) → o ≡ None → cond b o None ≡ None
+none_both true o e = e
+none_both false o e = refl
+
+none_else : {A : Type 0} (b : Bool) (o : Option A) → b ≡ false → cond b o None ≡ None
+none_else true o e = absurd (cc)
+none_else false o e = refl
+
+middle_fails : (a b c : Bool) → b ≡ false → (a && b && c) ≡ false
+middle_fails true true c e = absurd (cc)
+middle_fails true false c e = refl
+middle_fails false b c e = refl
+
+is_live_so : (e : Ending) → is_unfinished e ≡ true → e ≡ Unfinished
+is_live_so Unfinished h = refl
+is_live_so Ended h = absurd (cc)
+is_live_so (Uncaught c) h = absurd (cc)
+
+module _ (unit : SourceUnit) (w : World) (m : StateInMemory) (s : State) (h : Stands unit w m s) (range : AreInRange m.threads.items) where
+  stop_is : (o : Option StopInMemory) → is_some o ≡ true → is_none (option_map stop_view o) ≡ false
+  stop_is None e = absurd (cc)
+  stop_is (Some stop) e = refl
+
+  first_fails : (a b c : Bool) → a ≡ false → (a && b && c) ≡ false
+  first_fails true b c e = absurd (cc)
+  first_fails false b c e = refl
+
+  -- a machine that has stopped takes no step
+  pub stopped : (k : ℕ) (refused : Bool) → is_some m.stop ≡ true → world_step unit w.classes s (entry.Step k refused) ≡ None
+  unfolding world_step
+  stopped k refused is =
+      let over : is_none s.stop ≡ false = ap is_none h.stop ∙ stop_is m.stop is in
+      none_else (can_step w.classes s k) (step_of unit w.classes s k refused (thread_at s k))
+      (first_fails (is_none s.stop) (is_live (thread_at s k)) (not (is_blocked w.classes s k)) over)
+
+  not_stopped : (o : Option StopInMemory) → is_some o ≡ false → option_map stop_view o ≡ None
+  not_stopped None e = refl
+  not_stopped (Some stop) e = absurd (cc)
+
+  -- a thread that isn't there
+  pub not_there : (k : ℕ) (refused : Bool) → thread_at s k ≡ None → world_step unit w.classes s (entry.Step k refused) ≡ None
+  unfolding world_step
+  not_there k refused none = none_both (can_step w.classes s k) (step_of unit w.classes s k refused (thread_at s k)) (ap (step_of unit w.classes s k refused) none)
+
+  pub past_the_end : (k : ℕ) (refused : Bool) → length m.threads.items < k → world_step unit w.classes s (entry.Step k refused) ≡ None
+  past_the_end zero refused past = absurd (omega (arith, past))
+  past_the_end (suc i) refused past = not_there (suc i) refused (missing unit w.classes m.threads.items s.threads i h.threads (omega (arith, past)))
+
+  -- a thread that has ended
+  pub ended : (k : ℕ) (refused : Bool) (i : ℕ) (t : ThreadInMemory) → k ≡ suc i → slice_get m.threads.items i ≡ Some t → is_unfinished (ending_view t.ending) ≡ false → world_step unit w.classes s (entry.Step k refused) ≡ None
+  unfolding world_step
+  ended k refused i t counted at over =
+      let f = found unit w.classes m.threads.items s.threads i t h.threads at in
+      let dead : is_live (thread_at s k) ≡ false = ap (λ k. is_live (thread_at s k)) counted ∙ ap is_live f.is ∙ ap is_unfinished f.stands.ending ∙ over in
+      none_else (can_step w.classes s k) (step_of unit w.classes s k refused (thread_at s k))
+      (middle_fails (is_none s.stop) (is_live (thread_at s k)) (not (is_blocked w.classes s k)) dead)
+
+  -- no thread waits
+  waiting_none : (k : ℕ) (o : Option Thread) → thread_at s k ≡ o → is_waiting w.classes k s.shared o ≡ false
+  waiting_none k None there = refl
+  waiting_none zero (Some x) there = absurd (cc)
+  waiting_none (suc i) (Some x) there =
+      let t = stood_for unit w.classes m.threads.items s.threads i x h.threads range there in
+      waits_none unit w.classes s.shared (suc i) t.0 x t.1 t.2
+
+  blocked_none : (k : ℕ) → is_blocked w.classes s k ≡ false
+  blocked_none k = waiting_none k (thread_at s k) refl
+
+  module _ (i : ℕ) (t after : ThreadInMemory) (at : slice_get m.threads.items i ≡ Some t) (live : is_unfinished (ending_view t.ending) ≡ true) (runs : is_some m.stop ≡ false)
+      (new : StateInMemory) (world : new.world ≡ m.world) (threads : new.threads.items ≡ slice_set m.threads.items i after) (refused : Bool) where
+    the_thread : Found unit w.classes t s.threads i
+    the_thread = found unit w.classes m.threads.items s.threads i t h.threads at
+
+    unended : the_thread.source.ending ≡ Unfinished
+    unended = the_thread.stands.ending ∙ is_live_so (ending_view t.ending) live
+
+    steps_here : Steps w.classes s (suc i) the_thread.source
+    steps_here = steps w.classes s (suc i) the_thread.source (h.stop ∙ not_stopped m.stop runs) the_thread.is unended (waits_none unit w.classes s.shared (suc i) t the_thread.source the_thread.stands (range_at m.threads.items i t range at))
+
+    abbrev after_it : Shared
+    after_it = shared_view new.shared
+
+    the_step : Advance
+    the_step = thread_step unit w.classes (in_use s) (suc i) (shared_view m.shared) the_thread.source refused
+
+    step_is : world_step unit w.classes s (entry.Step (suc i) refused) ≡ advanced s (suc i) (thread_step unit w.classes (in_use s) (suc i) (shared_view m.shared) the_thread.source refused)
+    step_is =
+        step-thread unit w.classes s (suc i) the_thread.source refused steps_here
+        ∙ ap (λ (x : Shared). advanced s (suc i) (thread_step unit w.classes (in_use s) (suc i) x the_thread.source refused)) h.shared
+
+    all_stand : (next : Thread) → ThreadStands unit w.classes after next → ThreadsStand unit w.classes new.threads.items (slice_set s.threads i next)
+    all_stand next stands = rw threads (changed unit w.classes m.threads.items s.threads i after next h.threads stands)
+
+    same_world : w ≡ new.world.now
+    same_world = h.world ∙ ap (λ (b : Bor World). b.now) (sym world)
+
+    same_stop : (o : Option StopInMemory) → new.stop ≡ o → o ≡ m.stop → s.stop ≡ option_map stop_view new.stop
+    same_stop o is same = h.stop ∙ ap (option_map stop_view) (sym (is ∙ same))
+
+    by_step : (took : Step) → StepIs unit w.classes after_it after took (thread_step unit w.classes (in_use s) (suc i) (shared_view m.shared) the_thread.source refused) → new.printed.items ≡ printed_after m.printed.items (suc i) took
+        → new.stop ≡ stop_after m.stop (suc i) took → Leads unit w s (entry.Step (suc i) refused) new (is_possible took)
+    by_step step.Quiet l printed stop = (
+      with_event (record s { shared = after_it; threads = set_thread s.threads (suc i) l.next }) (suc i) Quiet,
+      step_is ∙ ap (advanced s (suc i)) l.advances,
+      record { world = same_world; shared = refl; threads = all_stand l.next l.stands; printed = h.printed ∙ sym printed; stop = same_stop m.stop stop refl },
+    )
+    by_step (step.Printed z) l printed stop = (
+      with_event (record s { shared = after_it; threads = set_thread s.threads (suc i) l.next }) (suc i) (PrintedNumber z),
+      step_is ∙ ap (advanced s (suc i)) l.advances,
+      record {
+        world = same_world;
+        shared = refl;
+        threads = all_stand l.next l.stands;
+        printed = ap (λ (ps : List Printed). ps ++ record { thread = suc i; number = z } ∷ []) h.printed ∙ sym printed;
+        stop = same_stop m.stop stop refl;
+      },
+    )
+    by_step (step.Trapped trap line) l printed stop = (
+      with_event (record s { shared = after_it; threads = set_thread s.threads (suc i) l.next }) (suc i) (Trapped (trap_view trap) line),
+      step_is ∙ ap (advanced s (suc i)) l.advances,
+      record { world = same_world; shared = refl; threads = all_stand l.next l.stands; printed = h.printed ∙ sym printed; stop = ap (option_map stop_view) (sym stop) },
+    )
+    by_step step.Impossible l printed stop = step_is ∙ ap (advanced s (suc i)) l
+
+    takes_at : (took : Step) → TakesStep unit w.classes (in_use s) (suc i) refused (shared_view m.shared) t took (shared_view new.shared) after → new.printed.items ≡ printed_after m.printed.items (suc i) took → new.stop ≡ stop_after m.stop (suc i) took
+        → Leads unit w s (entry.Step (suc i) refused) new (is_possible took)
+    takes_at took step printed stop = by_step took (step the_thread.source the_thread.stands unended) printed stop
+
+  -- an entry is possible as far as its thread's step is
+  pub takes : (k : ℕ) (refused : Bool) (i : ℕ) (t after : ThreadInMemory) (took : Step) (new : StateInMemory) → k ≡ suc i → slice_get m.threads.items i ≡ Some t → is_unfinished (ending_view t.ending) ≡ true
+      → is_some m.stop ≡ false → TakesStep unit w.classes (in_use s) k refused (shared_view m.shared) t took (shared_view new.shared) after → new.world ≡ m.world → new.threads.items ≡ slice_set m.threads.items i after
+      → new.printed.items ≡ printed_after m.printed.items k took → new.stop ≡ stop_after m.stop k took
+      → Leads unit w s (entry.Step k refused) new (is_possible took)
+  takes k refused i t after took new counted at live runs step world threads printed stop =
+      subst (λ n. Leads unit w s (entry.Step n refused) new (is_possible took)) (sym counted)
+      (takes_at i t after at live runs new world threads refused took (subst (λ n. TakesStep unit w.classes (in_use s) n refused (shared_view m.shared) t took (shared_view new.shared) after) counted step) (printed ∙ ap (λ k. printed_after m.printed.items k took) counted) (stop ∙ ap (λ k. stop_after m.stop k took) counted))
+
+  -- ---- the report
+
+  ending_same : (k : ℕ) (t : ThreadInMemory) (x : Thread) → ThreadStands unit w.classes t x → standing_by_ending w.classes (is_blocked w.classes s k) x.ending ≡ standing_by_ending w.classes false (ending_view t.ending)
+  ending_same k t x stands =
+      ap (λ b. standing_by_ending w.classes b x.ending) (blocked_none k)
+      ∙ ap (standing_by_ending w.classes false) stands.ending
+
+  standing_same : (k : ℕ) (t : ThreadInMemory) (x : Thread) → ThreadStands unit w.classes t x → standing_of w.classes s k x s.stop ≡ standing_in w.classes m.stop (k, t)
+  standing_same k t x stands = ap (standing_of w.classes s k x) h.stop ∙ by_stop m.stop
+    where
+      by_thread : (stop : StopInMemory) (b : Bool)
+          → cond b (HasTrapped (trap_number (trap_view stop.trap)) stop.line) (standing_by_ending w.classes (is_blocked w.classes s k) x.ending)
+          ≡ cond b (HasTrapped (trap_number (trap_view stop.trap)) stop.line) (standing_by_ending w.classes false (ending_view t.ending))
+      by_thread stop true = refl
+      by_thread stop false = ending_same k t x stands
+
+      by_stop : (o : Option StopInMemory) → standing_of w.classes s k x (option_map stop_view o) ≡ standing_in w.classes o (k, t)
+      by_stop None = ending_same k t x stands
+      by_stop (Some stop) = by_thread stop (stop.thread == k)
+
+  standings_same : (n : ℕ) (ts : List ThreadInMemory) (ss : List Thread) → ThreadsStand unit w.classes ts ss
+      → map (λ (t : ℕ × Thread). standing_of w.classes s t.0 t.1 s.stop) (enumerate_from n ss) ≡ map (standing_in w.classes m.stop) (enumerate_from n ts)
+  standings_same n [] [] stands = refl
+  standings_same n [] (x ∷ ss) stands = absurd stands
+  standings_same n (t ∷ ts) [] stands = absurd stands
+  standings_same n (t ∷ ts) (x ∷ ss) stands =
+      let first : standing_of w.classes s n x s.stop ≡ standing_in w.classes m.stop (n, t) = standing_same n t x stands.0 in
+      let rest = standings_same (n + 1) ts ss stands.1 in
+      ap (λ (y : ThreadStanding). y ∷ map (λ (t : ℕ × Thread). standing_of w.classes s t.0 t.1 s.stop) (enumerate_from (n + 1) ss)) first
+      ∙ ap (λ (ys : List ThreadStanding). standing_in w.classes m.stop (n, t) ∷ ys) rest
+
+  standings_are : (T : Classes) → w.classes ≡ T → map (standing_in w.classes m.stop) (enumerate_from 1 m.threads.items) ≡ map (standing_in T m.stop) (enumerate_from 1 m.threads.items)
+  standings_are T same = ap (λ (U : Classes). map (standing_in U m.stop) (enumerate_from 1 m.threads.items)) same
+
+  -- the report of the state is written from the state in memory
+  pub report_same : (standings : List ThreadStatus) (rows : List ShownRow) → map standing_view standings ≡ standings_in m → rows ≡ (report w s).objects → report w s ≡ report_with m.printed.items standings rows
+  unfolding report
+  report_same standings rows is shows =
+      let stood = standings_same 1 m.threads.items s.threads h.threads ∙ standings_are m.world.now.classes (ap (λ (v : World). v.classes) h.world) ∙ sym is in
+      rw (shows, stood, h.printed) refl

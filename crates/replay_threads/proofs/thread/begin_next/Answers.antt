@@ -1,0 +1,33 @@
+use Rattle.std.proofs.Common.{◌∷◌, List, [], map, ap, sym, ◌∙◌, Some, zip, rules}
+use Rattle.syntax.specs.Views.{unit_tree, function_tree}
+use Rattle.semantics.specs.Object.{ObjectValue}
+use Rattle.std.specs.Prelude.{filter_map}
+use Rattle.semantics.specs.Activation.{parameter_variables, named_object, entry_frame}
+use Rattle.semantics.specs.Thread.{Frame}
+use Rattle.semantics.specs.Variable.{LocalRef}
+use Rattle.world_values.specs.Views.{object_value_view}
+use Rattle.replay_threads.proofs.NamesOnce.{entry_once}
+use Rattle.replay_tasks.proofs.RangeLemmas.{body_in_range}
+use Rattle.replay_threads.proofs.thread.begin_next.Goals as goal
+
+pub begin_call-requires : goal.begin_call-requires
+begin_call-requires c = body_in_range c.args.functions.now c.args.call.now.function c.in-Some.found.function.now c.requires.tree c.requires.calls (search rules)
+
+pub returns-in_ok-begin_call-in-Ok-Some : goal.returns-in_ok-begin_call-in-Ok-Some
+returns-in_ok-begin_call-in-Ok-Some c =
+    let begun = c.in_ok-begin_call-in-Ok-Some.ensures in
+    let f = c.in-Some.found.function.now in
+    let class = c.in-Ok-Some.class in
+    let given = map object_value_view c.arguments.result.now in
+    record {
+      function = function_tree f;
+      found = search rules;
+      class = class;
+      its_class = sym (rw c.in-Ok-Some.field-0-is at c.in-Ok-Some.ensures);
+      activation = begun.activation;
+      is = begun.is;
+      tasks = begun.tasks;
+      variables = begun.variables ∙ entry_once (unit_tree c.args.functions.now) c.requires.sorted c.args.call.now.function (function_tree f) (search rules) class given ∙ ap (λ (vs : List ObjectValue). (f.class_name, LocalRef 1 (Some class)) ∷ parameter_variables (zip (function_tree f).parameters vs)) c.arguments.ensures;
+      frames = begun.frames ∙ ap (λ (vs : List ObjectValue). let frame : Frame = entry_frame (class ∷ filter_map named_object vs) in frame ∷ []) c.arguments.ensures;
+      range = begun.range;
+    }

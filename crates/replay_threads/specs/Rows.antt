@@ -1,0 +1,18 @@
+-- What the threads of a replay refer to.
+use Rattle.std.specs.Prelude.{ℕ, List, [], ◌++◌, Option, None, Some}
+use Rattle.std.specs.Option.{option_to_list}
+use Rattle.replay_steps.specs.declared.activation.Activation.{Activation}
+use Rattle.replay_objects.specs.Frames.{references_in}
+use Rattle.replay_threads.specs.declared.thread.Thread.{Thread}
+
+abbrev pub pending_names : Option ℕ → List ℕ
+pending_names pending = option_to_list pending
+
+-- the names in the frames of the call in progress, if there is one
+abbrev pub activation_names : Option Activation → List ℕ
+activation_names None = []
+activation_names (Some a) = references_in a.locals.frames
+
+-- the same, and that of the pending exception
+abbrev pub thread_names : Thread → List ℕ
+thread_names t = activation_names t.activation ++ pending_names t.pending

@@ -1,0 +1,125 @@
+-- States that lie in memory, as those of the language, and what an entry does to one.
+use Rattle.std.specs.Prelude.{◌≡◌, ℕ, ◌+◌, ◌<◌, length, slice_get, sum_by, flat_map, is_some, Bool, true, false, List, [], ◌∷◌, ◌++◌, map, Option, Some, None}
+use Rattle.std.specs.List.{enumerate_from}
+use Rattle.std.specs.Option.{option_map}
+use Rattle.syntax.specs.Tree.{SourceUnit}
+use Rattle.class_rules.specs.Class.{Classes}
+use Rattle.semantics.specs.declared.journal.Entry.{Entry}
+use Rattle.semantics.specs.declared.journal.Entry.TheVariants as entry
+use Rattle.semantics.specs.declared.printed.Printed.{Printed}
+use Rattle.semantics.specs.Report.{ThreadStanding}
+use Rattle.semantics.specs.World.{World}
+use Rattle.semantics.specs.Thread.{Thread, BuffersInUse}
+use Rattle.semantics.specs.Variable.{Variable, Variables, copied_length, viewed}
+use Rattle.base.specs.Bytes.{Identifier}
+use Rattle.replay_steps.specs.declared.activation.Activation.{Activation}
+use Rattle.semantics.specs.State.{State, Stop}
+use Rattle.semantics.specs.Step.{world_step, is_unfinished}
+use Rattle.semantics.specs.ReportOf.{standing_at}
+use Rattle.replay_threads.specs.declared.thread.Thread.{Thread as ThreadInMemory}
+use Rattle.replay_threads.specs.declared.thread.Step.{Step}
+use Rattle.replay_threads.specs.declared.thread.Step.TheVariants as step
+use Rattle.replay_threads.specs.declared.state.State.{State as StateInMemory}
+use Rattle.replay_threads.specs.declared.state.Stop.{Stop as StopInMemory}
+use Rattle.replay_terms.specs.Views.{trap_view, variables_view}
+use Rattle.replay_threads.specs.Threads.{ThreadStands, WorkInRange, ending_view}
+use Rattle.replay_calls.specs.Shares.{shared_view}
+
+-- each thread in memory stands for the one of the same number
+abbrev pub ThreadsStand : SourceUnit → Classes → List ThreadInMemory → List Thread → Type 0
+ThreadsStand unit classes [] [] = Unit {0}
+ThreadsStand unit classes (t ∷ ts) (s ∷ ss) = ThreadStands unit classes t s × ThreadsStand unit classes ts ss
+ThreadsStand unit classes ts ss = ⊥
+
+-- what is known of the calls in progress, as they stand in an accepted program
+abbrev pub AreInRange : List ThreadInMemory → Type 0
+AreInRange [] = Unit {0}
+AreInRange (t ∷ ts) = WorkInRange t.activation × AreInRange ts
+
+abbrev pub stop_view : StopInMemory → Stop
+stop_view stop = record { thread = stop.thread; trap = trap_view stop.trap; line = stop.line }
+
+-- a state in memory stands for one of the language, in the world that it began in
+pub record Stands (unit : SourceUnit) (w : World) (m : StateInMemory) (s : State) : Type 0 where
+  pub world : w ≡ m.world.now
+  pub shared : s.shared ≡ shared_view m.shared
+  pub threads : ThreadsStand unit w.classes m.threads.items s.threads
+  pub printed : s.printed ≡ m.printed.items
+  pub stop : s.stop ≡ option_map stop_view m.stop
+
+-- ---- entries
+
+-- the numbers printed after a step of thread k
+abbrev pub printed_after : List Printed → ℕ → Step → List Printed
+printed_after printed k (step.Printed z) = printed ++ record { thread = k; number = z } ∷ []
+printed_after printed k took = printed
+
+-- the trap that stopped the machine, after it
+abbrev pub stop_after : Option StopInMemory → ℕ → Step → Option StopInMemory
+stop_after stop k (step.Trapped trap line) = Some (record { thread = k; trap = trap; line = line })
+stop_after stop k took = stop
+
+-- what a step of thread k did is written down, and nothing else
+pub record IsNoted (old : StateInMemory) (k : ℕ) (took : Step) (new : StateInMemory) : Type 0 where
+  pub world : new.world ≡ old.world
+  pub shared : new.shared ≡ old.shared
+  pub threads : new.threads ≡ old.threads
+  pub printed : new.printed.items ≡ printed_after old.printed.items k took
+  pub stop : new.stop ≡ stop_after old.stop k took
+
+-- the step was possible
+abbrev pub is_possible : Step → Bool
+is_possible step.Impossible = false
+is_possible took = true
+
+-- an entry is possible and leaves this, or is not possible
+abbrev pub Leads : SourceUnit → World → State → Entry → StateInMemory → (possible : Bool) → Type 0
+Leads unit w s e new true = (next : State) × (world_step unit w.classes s e ≡ Some next) × Stands unit w new next
+Leads unit w s e new false = world_step unit w.classes s e ≡ None
+
+-- the same in each state that it stands for
+abbrev pub TakesEntry : SourceUnit → StateInMemory → Entry → (possible : Bool) → StateInMemory → Type 0
+TakesEntry unit old e possible new = (w : World) (s : State) → Stands unit w old s → Leads unit w s e new possible
+
+-- thread k is at this place, and can step
+pub record IsLiveAt (m : StateInMemory) (k place : ℕ) : Type 0 where
+  pub counted : k ≡ place + 1
+  pub there : place < length m.threads.items
+  pub live : (t : ThreadInMemory) → slice_get m.threads.items place ≡ Some t → is_unfinished (ending_view t.ending) ≡ true
+  pub runs : is_some m.stop ≡ false
+
+-- no step of thread k is possible
+abbrev pub TakesNone : StateInMemory → ℕ → Type 0
+TakesNone m k = (unit : SourceUnit) (refused : Bool) → TakesEntry unit m (entry.Step k refused) false m
+
+-- ---- buffers
+
+abbrev pub variables_of : Option Activation → Variables
+variables_of None = []
+variables_of (Some a) = variables_view a.locals.variables
+
+-- the variables of the call in progress
+abbrev pub variables_in : ThreadInMemory → Variables
+variables_in t = variables_of t.activation
+
+-- the lengths of its copied lists together
+abbrev pub copied_in : ThreadInMemory → ℕ
+copied_in t = sum_by (λ (v : Identifier × Variable). copied_length v.1) (variables_in t)
+
+-- the objects of its views
+abbrev pub viewed_in : ThreadInMemory → List ℕ
+viewed_in t = flat_map (λ (v : Identifier × Variable). viewed v.1) (variables_in t)
+
+-- what the buffers of all threads together take
+abbrev pub in_use_by : List ThreadInMemory → BuffersInUse
+in_use_by ts = record { copied = sum_by copied_in ts; views = length (flat_map viewed_in ts) }
+
+-- ---- the report
+
+-- the standing of thread k
+abbrev pub standing_in : Classes → Option StopInMemory → ℕ × ThreadInMemory → ThreadStanding
+standing_in classes stop (k, t) = standing_at classes false (option_map stop_view stop) k (ending_view t.ending)
+
+-- the standings of all threads
+abbrev pub standings_in : StateInMemory → List ThreadStanding
+standings_in m = map (standing_in m.world.now.classes m.stop) (enumerate_from 1 m.threads.items)

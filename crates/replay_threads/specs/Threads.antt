@@ -1,0 +1,137 @@
+-- Threads that lie in memory, as those of the language, and what a step of one does.
+use Rattle.std.specs.Prelude.{◌≡◌, ℕ, Bool, true, false, List, [], ◌∷◌, map, filter_map, zip, Option, Some, None, IsTrue}
+use Rattle.std.specs.List.{list_all}
+use Rattle.syntax.specs.declared.unit.Function.{Function}
+use Rattle.syntax.specs.Tree.{SourceUnit, Function as FunctionOfUnit}
+use Rattle.syntax.specs.Views.{function_tree}
+use Rattle.class_rules.specs.Class.{Classes}
+use Rattle.semantics.specs.Object.{ObjectValue, Number, Refers}
+use Rattle.semantics.specs.Activation.{parameter_variables, function_at, class_of_function, entered_function, named_object, entry_frame, ending_after, calls_after}
+use Rattle.semantics.specs.Heap.{Heap}
+use Rattle.semantics.specs.Load.{call_loads}
+use Rattle.semantics.specs.World.{Invocation}
+use Rattle.semantics.specs.Task.{Task, tasks_of}
+use Rattle.semantics.specs.Thread.{Ending, Unfinished, Ended, Uncaught, Thread, Shared, BuffersInUse, Event, Quiet, PrintedNumber, Trapped, Advance, Advances, NoAdvance}
+use Rattle.semantics.specs.ThreadStep.{thread_step}
+use Rattle.semantics.specs.Value.{Int}
+use Rattle.semantics.specs.Variable.{Variable, Scalar, LocalRef}
+use Rattle.replay_steps.specs.declared.activation.Activation.{Activation}
+use Rattle.replay_tasks.specs.declared.outcome.Outcome.{Outcome}
+use Rattle.replay_tasks.specs.declared.outcome.Outcome.TheVariants as outcome
+use Rattle.replay_threads.specs.declared.thread.Thread.{Thread as ThreadInMemory}
+use Rattle.replay_threads.specs.declared.thread.Ending.{Ending as EndingInMemory}
+use Rattle.replay_threads.specs.declared.thread.Ending.TheVariants as ending
+use Rattle.replay_threads.specs.declared.thread.Step.{Step}
+use Rattle.replay_threads.specs.declared.thread.Step.TheVariants as step
+use Rattle.replay_steps.specs.Activations.{tasks_left, IsAtStatement}
+use Rattle.replay_steps.specs.declared.turn.Turn.{Turn}
+use Rattle.replay_steps.specs.Turns.{in_use_view}
+use Rattle.replay_terms.specs.Views.{assign_all, variables_view, trap_view}
+use Rattle.semantics.specs.declared.object_value.ObjectValue.{ObjectValue as ObjectValueInMemory}
+use Rattle.world_values.specs.Views.{object_value_view}
+
+-- the tasks of the call in progress, if there is one
+abbrev pub tasks_in : Option Activation → Option (List Task)
+tasks_in None = None
+tasks_in (Some a) = Some (tasks_left a.work)
+
+-- what the call in progress has beside its tasks; where there is none, there is nothing
+abbrev pub WorkStands : Option Activation → Thread → Type 0
+WorkStands None s = (s.variables ≡ []) × (s.frames ≡ [])
+WorkStands (Some a) s = (s.variables ≡ variables_view a.locals.variables) × (s.frames ≡ a.locals.frames)
+
+abbrev pub WorkInRange : Option Activation → Type 0
+WorkInRange None = Unit {0}
+WorkInRange (Some a) = IsAtStatement a.work
+
+abbrev pub ending_view : EndingInMemory → Ending
+ending_view ending.Unfinished = Unfinished
+ending_view ending.Ended = Ended
+ending_view (ending.Uncaught class) = Uncaught class
+
+-- what a parameter with this argument holds
+abbrev pub argument_content : ObjectValue → Variable
+argument_content (Number z) = Scalar (Int z)
+argument_content (Refers r) = LocalRef 1 r
+
+-- a call in progress at its beginning, of a function whose native method is of this class
+pub record IsBegun (f : Function) (class : ℕ) (arguments : List ObjectValueInMemory) (o : Option Activation) : Type 0 where
+  pub activation : Activation
+  pub is : o ≡ Some activation
+  pub tasks : tasks_left activation.work ≡ tasks_of (function_tree f).body
+  pub range : IsAtStatement activation.work
+  pub variables : variables_view activation.locals.variables ≡ assign_all ((f.class_name, LocalRef 1 (Some class)) ∷ parameter_variables (zip (function_tree f).parameters (map object_value_view arguments))) []
+  pub frames : activation.locals.frames ≡ entry_frame (class ∷ filter_map named_object (map object_value_view arguments)) ∷ []
+
+-- a call in progress is this one at its beginning
+pub record IsEntered (unit : SourceUnit) (classes : Classes) (call : Invocation) (o : Option Activation) : Type 0 where
+  pub function : FunctionOfUnit
+  pub found : function_at unit call.function ≡ Some function
+  pub class : ℕ
+  pub its_class : class_of_function classes function ≡ Some class
+  pub activation : Activation
+  pub is : o ≡ Some activation
+  pub tasks : tasks_left activation.work ≡ tasks_of function.body
+  pub variables : variables_view activation.locals.variables ≡ (function.class_name, LocalRef 1 (Some class)) ∷ parameter_variables (zip function.parameters call.arguments)
+  pub frames : activation.locals.frames ≡ entry_frame (class ∷ filter_map named_object call.arguments) ∷ []
+  pub range : IsAtStatement activation.work
+
+-- no thread can enter this call
+abbrev pub HasNoEntry : SourceUnit → Classes → Invocation → Type 0
+HasNoEntry unit classes call = (s : Thread) (rest : List Invocation) → entered_function classes s call rest (function_at unit call.function) ≡ None
+
+-- this call was begun in a place, or cannot begin
+abbrev pub BeginsNext : SourceUnit → Classes → Invocation → (begun : Bool) → (old new : Option Activation) → Type 0
+BeginsNext unit classes call true old new = IsEntered unit classes call new
+BeginsNext unit classes call false old new = (new ≡ old) × HasNoEntry unit classes call
+
+-- what others see of what a call in progress did
+abbrev pub step_of : Outcome → Step
+step_of (outcome.Printed z) = step.Printed z
+step_of (outcome.Trapped trap line) = step.Trapped trap line
+step_of outcome.Impossible = step.Impossible
+step_of took = step.Quiet
+
+-- its call in progress was left
+pub record HasLeft (store : Heap) (old new : ThreadInMemory) : Type 0 where
+  pub activation : new.activation ≡ None
+  pub pending : new.pending ≡ None
+  pub ending : ending_view new.ending ≡ ending_after store old.pending old.calls.now
+  pub calls : new.calls.now ≡ calls_after (ending_view new.ending) old.calls.now
+
+-- what others see of what a call in progress did, which was left if it returned
+abbrev pub EndsStep : Heap → ThreadInMemory → Outcome → Step → ThreadInMemory → Type 0
+EndsStep store old outcome.Returned took new = (took ≡ step.Quiet) × HasLeft store old new
+EndsStep store old o took new = (took ≡ step_of o) × (new ≡ old)
+
+-- a thread in memory stands for one of the language
+pub record ThreadStands (unit : SourceUnit) (classes : Classes) (t : ThreadInMemory) (s : Thread) : Type 0 where
+  pub calls : s.calls ≡ t.calls.now
+  pub loads : IsTrue (list_all (call_loads unit classes) t.calls.now)
+  pub tasks : s.tasks ≡ tasks_in t.activation
+  pub work : WorkStands t.activation s
+  pub pending : s.pending ≡ t.pending
+  pub ending : s.ending ≡ ending_view t.ending
+
+-- a step leaves the thread so, and all threads this to share
+pub record Leaves (unit : SourceUnit) (classes : Classes) (shared : Shared) (t : ThreadInMemory) (event : Event) (advance : Advance) : Type 0 where
+  pub next : Thread
+  pub advances : advance ≡ Advances shared next event
+  pub stands : ThreadStands unit classes t next
+
+-- what a step in memory did is the thread's step
+abbrev pub StepIs : SourceUnit → Classes → Shared → ThreadInMemory → Step → Advance → Type 0
+StepIs unit classes shared t step.Quiet advance = Leaves unit classes shared t Quiet advance
+StepIs unit classes shared t (step.Printed z) advance = Leaves unit classes shared t (PrintedNumber z) advance
+StepIs unit classes shared t (step.Trapped trap line) advance = Leaves unit classes shared t (Trapped (trap_view trap) line) advance
+StepIs unit classes shared t step.Impossible advance = advance ≡ NoAdvance
+
+-- The same for each thread that it stands for, with this to share before and after it, or what the step does with its object
+-- refused. It is thread k, and the buffers of all threads together take what is in use.
+abbrev pub TakesStep : SourceUnit → Classes → BuffersInUse → (k : ℕ) → (refused : Bool) → Shared → ThreadInMemory → Step → Shared → ThreadInMemory → Type 0
+TakesStep unit classes in_use k refused shared old took after new =
+    (s : Thread) → ThreadStands unit classes old s → s.ending ≡ Unfinished → StepIs unit classes after new took (thread_step unit classes in_use k shared s refused)
+
+-- the same at a turn
+abbrev pub TakesTurn : SourceUnit → Turn → Shared → ThreadInMemory → Step → Shared → ThreadInMemory → Type 0
+TakesTurn unit turn shared old took after new = TakesStep unit turn.classes.now (in_use_view turn.in_use) turn.thread turn.refused shared old took after new

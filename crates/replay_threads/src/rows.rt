@@ -1,0 +1,64 @@
+//! What threads refer to, for a report.
+
+ghost use Rattle.std.specs.Prelude.{◌≡◌, ◌++◌, IfOk, flat_map};
+ghost use Rattle.replay_threads.specs.Rows.{activation_names, pending_names, thread_names};
+
+use crate::thread::Thread;
+use replay_objects::Names;
+use replay_steps::Activation;
+use std::alloc::{AllocError, Global};
+
+/// The names of the objects that global references and threads refer to, in the order of the definitions.
+pub fn root_names(
+    alloc: Global,
+    globals: &Names,
+    threads: &[Thread<'_>],
+) -> Result<Vec<usize>, AllocError>
+    ensures { IfOk result (λ names. names.items ≡ globals.now ++ flat_map thread_names threads.now) }
+{
+    let mut names = Vec::new(alloc);
+    globals.add_to(&mut names)?;
+    add_threads(&mut names, threads)?;
+    Ok(names)
+}
+
+/// Adds the names of the objects in the frames of threads, and of their pending exceptions.
+fn add_threads(names: &mut Vec<usize>, threads: &[Thread<'_>]) -> Result<(), AllocError>
+    ensures { IfOk result (λ _. names.new.items ≡ names.old.items ++ flat_map thread_names threads.now) }
+{
+    for thread in threads {
+        push_thread(names, thread)?;
+    }
+    Ok(())
+}
+
+/// Adds the names of a thread.
+fn push_thread(names: &mut Vec<usize>, thread: &Thread<'_>) -> Result<(), AllocError>
+    ensures { IfOk result (λ _. names.new.items ≡ names.old.items ++ thread_names thread.now) }
+{
+    push_call(names, &thread.activation)?;
+    push_pending(names, thread.pending)
+}
+
+/// Adds the names of the call in progress, if there is one.
+fn push_call(names: &mut Vec<usize>, activation: &Option<Activation<'_>>) -> Result<(), AllocError>
+    ensures { IfOk result (λ _. names.new.items ≡ names.old.items ++ activation_names activation.now) }
+{
+    match activation {
+        None => Ok(()),
+        Some(activation) => activation.locals.frames.add_to(names),
+    }
+}
+
+/// Adds the name of a pending exception.
+fn push_pending(names: &mut Vec<usize>, pending: Option<usize>) -> Result<(), AllocError>
+    ensures { IfOk result (λ _. names.new.items ≡ names.old.items ++ pending_names pending) }
+{
+    match pending {
+        None => Ok(()),
+        Some(name) => {
+            names.push(name)?;
+            Ok(())
+        }
+    }
+}

@@ -1,0 +1,236 @@
+//! The state of a replay, and what an entry does to it.
+
+ghost use Rattle.std.specs.Prelude.{◌≡◌, [], IfOk, IfSome, IfNone, IsTrue, false, map};
+ghost use Rattle.std.specs.List.{enumerate_from};
+ghost use Rattle.syntax.specs.Limits.{IsTree};
+ghost use Rattle.syntax.specs.Views.{unit_tree};
+ghost use Rattle.type_rules.specs.BuiltCalls.{calls_are_built};
+ghost use Rattle.type_rules.specs.SortRules.{IsSorted};
+ghost use Rattle.semantics.specs.declared.journal.Entry.TheVariants as journal;
+ghost use Rattle.replay_threads.specs.States.{AreInRange, IsLiveAt, TakesEntry, TakesNone, IsNoted, in_use_by, is_possible, standing_in, standings_in};
+ghost use Rattle.replay_steps.specs.Turns.{in_use_view};
+ghost use Rattle.replay_threads.specs.Threads.{ending_view};
+ghost use Rattle.report.specs.ThreadStatus.{standing_view};
+ghost use Rattle.semantics.specs.ReportOf.{standing_by_ending};
+
+use crate::thread::{Ending, Step, Thread, is_unfinished, take_step};
+use classes::table::ClassTable;
+use functions::Functions;
+use replay_calls::Shared;
+use replay_steps::{BuffersInUse, Turn};
+use replay_terms::{Trap, trap_number};
+use report::ThreadStatus;
+use semantics::{Entry, Printed};
+use std::alloc::{AllocError, Global};
+use world_values::World;
+
+/// The trap that stopped the machine.
+#[derive(Clone, Copy)]
+pub struct Stop {
+    /// The thread's number, from 1.
+    pub thread: u8,
+    pub trap: Trap,
+    /// The line of the statement.
+    pub line: usize,
+}
+
+/// The threads, the world that they began in, what they share, what they printed, and the trap that stopped them.
+pub struct State<'a> {
+    pub world: &'a World,
+    pub shared: Shared<'a>,
+    pub threads: Vec<Thread<'a>>,
+    pub printed: Vec<Printed>,
+    pub stop: Option<Stop>,
+}
+
+impl Drop for State<'_> {
+    fn drop(self) {
+        let State {
+            world: _,
+            shared,
+            threads,
+            printed,
+            stop: _,
+        } = self;
+        drop(shared);
+        drop(threads);
+        drop(printed);
+    }
+}
+
+/// Writes down what thread `k` did; false where it could do nothing.
+fn note(state: &mut State<'_>, k: u8, step: Step) -> Result<bool, AllocError>
+    ensures possible { IfOk result (λ possible. possible ≡ is_possible step) }
+    ensures noted { IfOk result (λ _. IsNoted state.old k step state.new) }
+{
+    match step {
+        Step::Quiet => Ok(true),
+        Step::Printed(number) => {
+            state.printed.push(Printed { thread: k, number })?;
+            Ok(true)
+        }
+        Step::Trapped(trap, line) => {
+            state.stop = Some(Stop {
+                thread: k,
+                trap,
+                line,
+            });
+            Ok(true)
+        }
+        Step::Impossible => Ok(false),
+    }
+}
+
+/// The place of thread `k` if it can step: the machine hasn't stopped, and the thread is there and has not ended.
+#[inline]
+fn place_of(state: &State<'_>, k: u8) -> Option<usize>
+    requires { AreInRange state.now.threads.items }
+    ensures some { IfSome result (IsLiveAt state.now k) }
+    ensures none { IfNone result (TakesNone state.now k) }
+{
+    if state.stop.is_some() {
+        return None;
+    }
+    let number = usize::from(k);
+    if number == 0 {
+        return None;
+    }
+    if state.threads.len() < number {
+        return None;
+    }
+    if is_unfinished(state.threads[number - 1].ending) {
+        Some(number - 1)
+    } else {
+        None
+    }
+}
+
+/// What the buffers of all threads take together. No variable of theirs has a copy or a view today.
+fn buffers_in_use(_threads: &[Thread<'_>]) -> BuffersInUse
+    ensures { in_use_view result ≡ in_use_by _threads.now }
+{
+    BuffersInUse {
+        copied: 0,
+        views: 0,
+    }
+}
+
+/// Takes the step of thread `k`, which is at this place and can step, its allocation refused or not; false where the step isn't
+/// possible.
+#[inline]
+fn take_turn<'a>(
+    alloc: Global,
+    functions: &Functions<'a>,
+    state: &mut State<'a>,
+    k: u8,
+    place: usize,
+    refused: bool,
+) -> Result<bool, AllocError>
+    requires tree { IsTree (unit_tree functions.now) }
+    requires sorted { IsSorted (unit_tree functions.now) }
+    requires calls { IsTrue (calls_are_built (unit_tree functions.now)) }
+    requires range { AreInRange state.old.threads.items }
+    requires live { IsLiveAt state.old k place }
+    ensures step { IfOk result (λ possible. TakesEntry (unit_tree functions.now) state.old (journal.Step k refused) possible state.new) }
+    ensures range { IfOk result (λ _. AreInRange state.new.threads.items) }
+{
+    let turn = Turn {
+        alloc,
+        classes: state.world.classes(),
+        thread: k,
+        in_use: buffers_in_use(&state.threads),
+        refused,
+    };
+    let thread = &mut state.threads[place];
+    match take_step(functions, state.world, turn, &mut state.shared, thread) {
+        Ok(step) => note(state, k, step),
+        Err(error) => Err(error),
+    }
+}
+
+/// Takes an entry; false where it isn't possible.
+pub fn take_entry<'a>(
+    alloc: Global,
+    functions: &Functions<'a>,
+    state: &mut State<'a>,
+    entry: Entry,
+) -> Result<bool, AllocError>
+    requires tree { IsTree (unit_tree functions.now) }
+    requires sorted { IsSorted (unit_tree functions.now) }
+    requires calls { IsTrue (calls_are_built (unit_tree functions.now)) }
+    requires range { AreInRange state.old.threads.items }
+    ensures step { IfOk result (λ possible. TakesEntry (unit_tree functions.now) state.old entry possible state.new) }
+    ensures range { IfOk result (λ _. AreInRange state.new.threads.items) }
+{
+    let Entry::Step { thread, refused } = entry;
+    match place_of(state, thread) {
+        Some(place) => take_turn(alloc, functions, state, thread, place, refused),
+        None => Ok(false),
+    }
+}
+
+/// The status of a thread that didn't trap. None waits.
+fn standing_by(classes: &ClassTable, ending: Ending) -> ThreadStatus<'_>
+    ensures { standing_view result ≡ standing_by_ending classes.now false (ending_view ending) }
+{
+    match ending {
+        Ending::Unfinished => ThreadStatus::Running,
+        Ending::Ended => ThreadStatus::Ended,
+        Ending::Uncaught(class) => ThreadStatus::Uncaught(classes.name(class)),
+    }
+}
+
+/// The status of thread `k`.
+fn standing_of<'c>(
+    classes: &'c ClassTable,
+    stop: Option<Stop>,
+    k: usize,
+    thread: &Thread<'_>,
+) -> ThreadStatus<'c>
+    ensures { standing_view result ≡ standing_in classes.now stop (k, thread.now) }
+{
+    if let Some(stop) = stop {
+        if usize::from(stop.thread) == k {
+            return ThreadStatus::Trapped(trap_number(stop.trap), stop.line);
+        }
+    }
+    standing_by(classes, thread.ending)
+}
+
+/// Puts the statuses of threads, in their order, into an empty list.
+fn add_standings<'a>(
+    standings: &mut Vec<ThreadStatus<'a>>,
+    classes: &'a ClassTable,
+    stop: Option<Stop>,
+    threads: &[Thread<'_>],
+) -> Result<(), AllocError>
+    requires { standings.old.items ≡ [] }
+    ensures { IfOk result (λ _. map standing_view standings.new.items ≡ map (standing_in classes.entry.now stop) (enumerate_from 1 threads.now)) }
+{
+    let mut k = 0;
+    for thread in threads {
+        k += 1;
+        match standings.push(standing_of(classes, stop, k, thread)) {
+            Ok(()) => {}
+            Err(_) => return Err(AllocError),
+        }
+    }
+    Ok(())
+}
+
+/// The statuses of the threads.
+pub fn standings_of<'a>(
+    alloc: Global,
+    state: &State<'a>,
+) -> Result<Vec<ThreadStatus<'a>>, AllocError>
+    ensures { IfOk result (λ standings. map standing_view standings.items ≡ standings_in state.now) }
+{
+    let mut standings = Vec::new(alloc);
+    add_standings(
+        &mut standings,
+        state.world.classes(),
+        state.stop,
+        &state.threads,
+    )?;
+    Ok(standings)
+}

@@ -1,0 +1,343 @@
+//! Threads: calls in progress and to come.
+
+ghost use Rattle.std.specs.Prelude.{◌≡◌, ◌++◌, ◌∷◌, [], IfOk, IsTrue, Some, None, filter_map, map, zip};
+ghost use Rattle.syntax.specs.Limits.{IsTree};
+ghost use Rattle.syntax.specs.Views.{function_tree, parameter_tree, unit_tree};
+ghost use Rattle.type_rules.specs.BuiltCalls.{calls_are_built};
+ghost use Rattle.type_rules.specs.SortRules.{IsSorted};
+ghost use Rattle.world_values.specs.Views.{object_value_view};
+ghost use Rattle.semantics.specs.Activation.{parameter_variables, class_of_function, named_object, entry_frame, ending_after};
+ghost use Rattle.semantics.specs.Step.{is_unfinished};
+ghost use Rattle.semantics.specs.Thread.{Shared as SharedOfThreads};
+ghost use Rattle.semantics.specs.Variable.{LocalRef};
+ghost use Rattle.class_rules.specs.Grown.{IsGrown};
+ghost use Rattle.replay_threads.specs.Threads.{argument_content, ending_view, BeginsNext, IsBegun, EndsStep, HasLeft, TakesTurn, WorkInRange, step_of};
+ghost use Rattle.replay_tasks.specs.Tasks.{StatementsInRange};
+ghost use Rattle.syntax.specs.declared.stmt.Block.{out-Block};
+ghost use Rattle.replay_calls.specs.Shares.{shared_view};
+ghost use Rattle.replay_terms.specs.Views.{assign_all, content_view, variables_view};
+
+use class_rules::mangling::unmangle;
+use functions::Functions;
+use replay_calls::Shared;
+use replay_objects::{Frames, Names, Store};
+use replay_steps::{Activation, Locals, Turn, advance, work_of};
+use replay_tasks::Outcome;
+use replay_terms::{Content, Trap, Value, Variables};
+use std::alloc::{AllocError, Global};
+use syntax::{Function, Parameter};
+use world_values::{Call, ObjectValue, World};
+
+/// How a thread has ended, if it has.
+#[derive(Clone, Copy)]
+pub enum Ending {
+    Unfinished,
+    Ended,
+    /// Its call returned with an exception of the class of this number pending.
+    Uncaught(usize),
+}
+
+/// Whether a thread has not ended.
+pub(crate) fn is_unfinished(ending: Ending) -> bool
+    ensures { result ≡ is_unfinished (ending_view ending) }
+{
+    match ending {
+        Ending::Unfinished => true,
+        Ending::Ended | Ending::Uncaught(_) => false,
+    }
+}
+
+/// A thread: the calls to come, the one in progress, the pending exception, and how it has ended.
+pub struct Thread<'a> {
+    pub calls: &'a [Call],
+    pub activation: Option<Activation<'a>>,
+    pub pending: Option<usize>,
+    pub ending: Ending,
+}
+
+// Written out, and not derived, so that crates above needn't prove it again.
+impl Drop for Thread<'_> {
+    fn drop(self) {
+        let Thread {
+            calls: _,
+            activation,
+            pending: _,
+            ending: _,
+        } = self;
+        drop(activation);
+    }
+}
+
+/// What a step of a thread did.
+#[derive(Clone, Copy)]
+pub(crate) enum Step {
+    Quiet,
+    Printed(i32),
+    /// The machine stops, by a statement of this line.
+    Trapped(Trap, usize),
+    /// It is not possible.
+    Impossible,
+}
+
+/// What a parameter holds at first.
+fn content_of<'a>(argument: ObjectValue) -> Content<'a>
+    ensures { content_view result ≡ argument_content (object_value_view argument) }
+{
+    match argument {
+        ObjectValue::Number(z) => Content::Number(Value::Int(z)),
+        ObjectValue::Reference(reference) => Content::Reference(1, reference),
+    }
+}
+
+/// Adds the variables of parameters, each with its argument.
+fn add_parameters<'a>(
+    variables: &mut Variables<'a>,
+    parameters: &'a [Parameter],
+    arguments: &[ObjectValue],
+) -> Result<(), AllocError>
+    ensures { IfOk result (λ _. variables_view variables.new
+        ≡ assign_all (parameter_variables (zip (map parameter_tree parameters.entry.now) (map object_value_view arguments.entry.now))) (variables_view variables.old)) }
+{
+    match parameters {
+        [] => Ok(()),
+        [parameter, parameters @ ..] => match arguments {
+            [] => Ok(()),
+            [argument, arguments @ ..] => {
+                variables.set(&parameter.name, content_of(*argument))?;
+                add_parameters(variables, parameters, arguments)
+            }
+        },
+    }
+}
+
+/// The number of the class whose native method a function is.
+pub fn class_of(
+    alloc: Global,
+    world: &World,
+    function: &Function,
+) -> Result<Option<usize>, AllocError>
+    ensures { IfOk result (λ class. class ≡ class_of_function world.now.classes (function_tree function.now)) }
+{
+    match unmangle(alloc, function.name.as_bytes())? {
+        Some(native) => Ok(world.classes().find(&native.class)),
+        None => Ok(None),
+    }
+}
+
+/// The variables with which a call begins: the class, and the parameters. In an accepted unit no two have one name.
+fn entry_variables<'a>(
+    alloc: Global,
+    function: &'a Function,
+    class: usize,
+    arguments: &[ObjectValue],
+) -> Result<Variables<'a>, AllocError>
+    ensures { IfOk result (λ variables. variables_view variables
+        ≡ assign_all ((function.entry.now.class_name, LocalRef 1 (Some class)) ∷ parameter_variables (zip (function_tree function.entry.now).parameters (map object_value_view arguments.now))) []) }
+{
+    let mut variables = Variables::new(alloc);
+    variables.set(&function.class_name, Content::Reference(1, Some(class)))?;
+    add_parameters(&mut variables, &function.parameters, arguments)?;
+    Ok(variables)
+}
+
+/// Puts those of the arguments that are objects among local references, the first argument last.
+fn add_references(references: &mut Names, arguments: &[ObjectValue]) -> Result<(), AllocError>
+    ensures { IfOk result (λ _. references.new ≡ filter_map named_object (map object_value_view arguments.entry.now) ++ references.old) }
+{
+    match arguments {
+        [] => Ok(()),
+        [argument, arguments @ ..] => {
+            add_references(references, arguments)?;
+            if let ObjectValue::Reference(Some(object)) = argument {
+                references.push(*object)?;
+            }
+            Ok(())
+        }
+    }
+}
+
+/// The frame with which a call begins: the class and the arguments that are objects, and room for 16 more (JNI Specification,
+/// chapter 4, "EnsureLocalCapacity").
+fn entry_frames(
+    alloc: Global,
+    class: usize,
+    arguments: &[ObjectValue],
+) -> Result<Frames, AllocError>
+    ensures { IfOk result (λ frames. frames ≡ entry_frame (class ∷ filter_map named_object (map object_value_view arguments.now)) ∷ []) }
+{
+    let mut references = Names::new(alloc);
+    add_references(&mut references, arguments)?;
+    references.push(class)?;
+    let capacity = references.len() + 16;
+    Frames::new(alloc, capacity, references)
+}
+
+/// Puts a call, or none, in the place of the one in progress.
+fn put_activation<'a>(place: &mut Option<Activation<'a>>, activation: Option<Activation<'a>>)
+    ensures { place.new ≡ activation.entry }
+{
+    *place = activation;
+}
+
+/// Begins the call of a function of this class, in the place of the call in progress.
+#[inline]
+fn begin_call<'a>(
+    alloc: Global,
+    place: &mut Option<Activation<'a>>,
+    function: &'a Function,
+    class: usize,
+    arguments: &[ObjectValue],
+) -> Result<(), AllocError>
+    requires { StatementsInRange (out-Block function.now.body).statements.items }
+    ensures { IfOk result (λ _. IsBegun function.entry.now class arguments.now place.new) }
+{
+    let work = work_of(alloc, &function.body)?;
+    let variables = entry_variables(alloc, function, class, arguments)?;
+    let frames = entry_frames(alloc, class, arguments)?;
+    let locals = Locals { variables, frames };
+    let activation = Activation { work, locals };
+    put_activation(place, Some(activation));
+    Ok(())
+}
+
+/// Begins this call in the place of the one in progress; false where its function or the function's class is unknown.
+#[inline]
+fn begin_next<'a>(
+    alloc: Global,
+    functions: &Functions<'a>,
+    world: &World,
+    call: &Call,
+    place: &mut Option<Activation<'a>>,
+) -> Result<bool, AllocError>
+    requires tree { IsTree (unit_tree functions.now) }
+    requires sorted { IsSorted (unit_tree functions.now) }
+    requires calls { IsTrue (calls_are_built (unit_tree functions.now)) }
+    ensures { IfOk result (λ begun. BeginsNext (unit_tree functions.now) world.now.classes call.now begun place.old place.new) }
+{
+    let Some(found) = functions.find(call.function()) else {
+        return Ok(false);
+    };
+    match class_of(alloc, world, found.function) {
+        Ok(Some(class)) => {
+            begin_call(alloc, place, found.function, class, call.arguments())?;
+            Ok(true)
+        }
+        Ok(None) => Ok(false),
+        Err(error) => Err(error),
+    }
+}
+
+/// Enters the next call.
+fn enter<'a>(
+    functions: &Functions<'a>,
+    world: &World,
+    turn: Turn<'a>,
+    thread: &mut Thread<'a>,
+) -> Result<Step, AllocError>
+    requires tree { IsTree (unit_tree functions.now) }
+    requires sorted { IsSorted (unit_tree functions.now) }
+    requires calls { IsTrue (calls_are_built (unit_tree functions.now)) }
+    requires classes { turn.classes.now ≡ world.now.classes }
+    requires idle { thread.old.activation ≡ None }
+    ensures step { IfOk result (λ took. (shared : SharedOfThreads) → TakesTurn (unit_tree functions.now) turn.entry shared thread.old took shared thread.new) }
+    ensures range { IfOk result (λ _. WorkInRange thread.new.activation) }
+{
+    // An entry makes no object that could be refused.
+    if turn.refused {
+        return Ok(Step::Impossible);
+    }
+    let Some((call, rest)) = thread.calls.split_first() else {
+        return Ok(Step::Impossible);
+    };
+    match begin_next(turn.alloc, functions, world, call, &mut thread.activation) {
+        Ok(true) => {
+            thread.calls = rest;
+            Ok(Step::Quiet)
+        }
+        Ok(false) => Ok(Step::Impossible),
+        Err(error) => Err(error),
+    }
+}
+
+/// What others see of what a call in progress did.
+fn step_of(outcome: Outcome<'_>) -> Step
+    ensures { result ≡ step_of outcome.entry }
+{
+    match outcome {
+        Outcome::Stays | Outcome::Sets(_, _) | Outcome::SetsNull(_) => Step::Quiet,
+        Outcome::Gives(_, _) | Outcome::SetsElement(_, _, _) => Step::Quiet,
+        Outcome::Tests(_, _, _, _) | Outcome::Makes(_, _, _) => Step::Quiet,
+        Outcome::Enters(_, _) => Step::Quiet,
+        Outcome::Ends | Outcome::Returned => Step::Quiet,
+        Outcome::Printed(z) => Step::Printed(z),
+        Outcome::Trapped(trap, line) => Step::Trapped(trap, line),
+        Outcome::Impossible => Step::Impossible,
+    }
+}
+
+/// The ending of a thread after its call, with this exception pending and these calls to come.
+fn ending_after(store: &Store, pending: Option<usize>, calls: &[Call]) -> Ending
+    ensures { ending_view result ≡ ending_after store.now pending calls.now }
+{
+    match pending {
+        Some(exception) => Ending::Uncaught(store.class_of(exception)),
+        None => match calls {
+            [] => Ending::Ended,
+            [_, ..] => Ending::Unfinished,
+        },
+    }
+}
+
+/// Ends the call in progress. With an exception pending, or no call to come, the thread has ended.
+fn leave(store: &Store, thread: &mut Thread<'_>)
+    ensures { HasLeft store.now thread.old thread.new }
+{
+    let ending = ending_after(store, thread.pending, thread.calls);
+    put_activation(&mut thread.activation, None);
+    thread.pending = None;
+    thread.ending = ending;
+    match ending {
+        Ending::Unfinished => {}
+        Ending::Ended | Ending::Uncaught(_) => thread.calls = &[],
+    }
+}
+
+/// Leaves the call in progress if it returned. Tells what others see of what it did.
+#[inline]
+fn end_step(store: &Store, thread: &mut Thread<'_>, outcome: Outcome<'_>) -> Step
+    ensures { EndsStep store.now thread.old outcome.entry result thread.new }
+{
+    match outcome {
+        Outcome::Returned => {
+            leave(store, thread);
+            Step::Quiet
+        }
+        outcome => step_of(outcome),
+    }
+}
+
+/// Lets a thread that has not ended take its next step, or the same with its object refused.
+pub(crate) fn take_step<'a>(
+    functions: &Functions<'a>,
+    world: &'a World,
+    turn: Turn<'a>,
+    shared: &mut Shared<'a>,
+    thread: &mut Thread<'a>,
+) -> Result<Step, AllocError>
+    requires tree { IsTree (unit_tree functions.now) }
+    requires sorted { IsSorted (unit_tree functions.now) }
+    requires calls { IsTrue (calls_are_built (unit_tree functions.now)) }
+    requires classes { turn.classes.now ≡ world.now.classes }
+    requires grown { IsGrown turn.classes.now }
+    requires range { WorkInRange thread.old.activation }
+    ensures step { IfOk result (λ took. TakesTurn (unit_tree functions.now) turn.entry (shared_view shared.old) thread.old took (shared_view shared.new) thread.new) }
+    ensures range { IfOk result (λ _. WorkInRange thread.new.activation) }
+{
+    let Some(activation) = &mut thread.activation else {
+        return enter(functions, world, turn, thread);
+    };
+    match advance(turn, shared, &mut thread.pending, activation) {
+        Ok(outcome) => Ok(end_step(&shared.store, thread, outcome)),
+        Err(error) => Err(error),
+    }
+}

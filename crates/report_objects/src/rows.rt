@@ -1,0 +1,103 @@
+//! The rows.
+
+ghost use Rattle.std.specs.Prelude.{◌≡◌, ◌+◌, ◌<◌, length, IfOk};
+ghost use Rattle.report.specs.Shown.{row_lines};
+ghost use Rattle.report.specs.Sink.{CanFail, Writes};
+ghost use Rattle.report_objects.specs.Rows.{marked_rows, AreReported};
+
+use crate::names::Names;
+use crate::roots::marked_roots;
+use crate::row::put_row;
+use classes::table::ClassTable;
+use report::{Rows, Sink, SinkFailed};
+use semantics::Objects;
+use std::alloc::{AllocError, Global};
+use std::marker::Model;
+
+/// The rows of the objects that can still be reached. Putting them asks for no memory.
+#[derive(Drop)]
+pub struct ReachedRows<'a, O: Objects> {
+    classes: &'a ClassTable,
+    objects: &'a O,
+    /// Whether an object can be reached, by its name.
+    reached: Vec<bool>,
+    /// The name of the first object that is shown.
+    first: usize,
+    /// After the last name.
+    end: usize,
+}
+
+impl<'a, O: Objects> Model for ReachedRows<'a, O> {
+    ghost use Rattle.std.specs.Prelude.{◌≡◌, ◌+◌, ◌<◌, List, length};
+    ghost use Rattle.semantics.specs.Report.{ShownRow};
+    ghost use Rattle.report_objects.specs.Rows.{marked_rows as rows_marked};
+
+    ghost Value = { List ShownRow };
+
+    ghost view = { λ r. rows_marked r.classes.now (O.heap r.objects.now) r.reached.items r.first r.end };
+
+    ghost invariant = { λ r. (0 < r.first) × (r.end ≡ length (O.heap r.objects.now) + 1) × (length r.reached.items ≡ r.end) };
+}
+
+impl<'a, O: Objects> Rows for ReachedRows<'a, O> {
+    ghost rows = { λ r. r };
+
+    fn put<S: Sink>(&self, sink: &mut S) -> Result<(), SinkFailed> {
+        put_rows(
+            sink,
+            self.classes,
+            self.objects,
+            &self.reached,
+            self.first,
+            self.end,
+        )
+    }
+}
+
+/// The rows of the objects that can be reached from the objects made at load, which have the first names, and from
+/// these. A name of no object is no root.
+///
+/// Its time is proportional to the number of objects and the values of those that are reached.
+pub fn reached_rows<'a, O: Objects>(
+    alloc: Global,
+    classes: &'a ClassTable,
+    objects: &'a O,
+    loaded: usize,
+    names: &[usize],
+) -> Result<ReachedRows<'a, O>, AllocError>
+    ensures { IfOk result (AreReported classes.now (O.heap objects.now) loaded names.now) }
+{
+    let count = objects.len();
+    let roots = marked_roots(alloc, count, loaded, names)?;
+    let reached = roots.close(&Names { objects })?;
+    Ok(ReachedRows {
+        classes,
+        objects,
+        reached,
+        first: classes.len() + 2,
+        end: count + 1,
+    })
+}
+
+/// Puts the rows of the marked objects.
+fn put_rows<O: Objects, S: Sink>(
+    sink: &mut S,
+    classes: &ClassTable,
+    objects: &O,
+    reached: &[bool],
+    first: usize,
+    end: usize,
+) -> Result<(), SinkFailed>
+    requires can_fail { CanFail (S.written sink.old) }
+    requires first { 0 < first }
+    requires end { end ≡ length (O.heap objects.now) + 1 }
+    requires marks { length reached.now ≡ end }
+    ensures { Writes (S.written sink.old) (S.written sink.new) result (row_lines (marked_rows classes.now (O.heap objects.now) reached.now first end)) }
+{
+    for name in first..end {
+        if reached[name] {
+            put_row(sink, classes, objects, name)?;
+        }
+    }
+    Ok(())
+}

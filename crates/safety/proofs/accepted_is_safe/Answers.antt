@@ -1,5 +1,0 @@
-use Rattle.safety.proofs.FunctionGives.{unit_is_safe}
-use Rattle.safety.proofs.accepted_is_safe.Goals as goal
-
-pub returns : goal.returns
-returns c = unit_is_safe

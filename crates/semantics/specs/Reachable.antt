@@ -1,0 +1,90 @@
+-- Which objects can still be reached, and how many cells they take.
+use Rattle.std.specs.Prelude.{◌≡◌, ℕ, zero, suc, ◌+◌, Bool, cond, ◌==◌, List, [], ◌∷◌, ◌++◌, map, length, filter, filter_map, flat_map, sum_by, Contains}
+use Rattle.std.specs.Option.{option_to_list}
+use Rattle.std.specs.List.{list_any}
+use Rattle.semantics.specs.World.{World}
+use Rattle.semantics.specs.Heap.{Heap, reference_in, values_of}
+use Rattle.semantics.specs.State.{State, views}
+use Rattle.semantics.specs.Thread.{Frame, Thread, Monitor}
+use Rattle.semantics.specs.Object.{object_size}
+
+-- the numbers from one on, n of them
+abbrev pub from_one : ℕ → List ℕ
+from_one zero = []
+from_one (suc n) = from_one n ++ suc n ∷ []
+
+-- the names in the frames of a thread, and its pending exception
+abbrev pub thread_roots : Thread → List ℕ
+thread_roots t = flat_map (λ (f : Frame). f.references) t.frames ++ option_to_list t.pending
+
+-- how many objects are made at load: they stay
+abbrev pub loaded_count : World → ℕ
+loaded_count w = length w.classes + 1 + length w.objects
+
+-- the objects made at load, global references, references in frames, pending exceptions, owned monitors and views
+abbrev pub roots : World → State → List ℕ
+roots w s =
+    from_one (loaded_count w)
+    ++ s.shared.globals
+    ++ flat_map thread_roots s.threads
+    ++ map (λ (m : Monitor). m.object) s.shared.monitors
+    ++ views s
+
+-- the names among an object's values
+abbrev pub references_of : Heap → ℕ → List ℕ
+references_of heap n = filter_map reference_in (values_of heap n)
+
+-- the name of an object that has been made
+abbrev pub IsName : Heap → ℕ → Type 0
+IsName heap n = Contains (from_one (length heap)) n
+
+-- an object is reachable that is a root, or that a reachable object refers to
+pub data Reachable (w : World) (s : State) : ℕ → Type 0 where
+  FromRoot : (n : ℕ) → IsName s.shared.heap n → Contains (roots w s) n → Reachable w s n
+  FromObject : (m n : ℕ) → Reachable w s m → IsName s.shared.heap n → Contains (references_of s.shared.heap m) n → Reachable w s n
+
+-- ---- the same, computed
+
+-- whether a name is among these
+abbrev pub is_in : List ℕ → ℕ → Bool
+is_in names n = list_any (λ m. m == n) names
+
+-- the names of the heap that are among these, in rising order
+abbrev pub rising : Heap → List ℕ → List ℕ
+rising heap names = filter (is_in names) (from_one (length heap))
+
+-- these and the objects that they refer to
+abbrev pub grown : Heap → List ℕ → List ℕ
+grown heap names = rising heap (names ++ flat_map (references_of heap) names)
+
+-- grown so often, or until nothing is added
+abbrev pub closed : ℕ → Heap → List ℕ → List ℕ
+closed zero heap names = names
+closed (suc n) heap names =
+    let more = grown heap names in
+    let further = closed n heap more in
+    cond (length more == length names) names further
+
+-- the names of the reachable objects, in rising order
+abbrev pub reachable : World → State → List ℕ
+reachable w s = closed (length s.shared.heap) s.shared.heap (rising s.shared.heap (roots w s))
+
+-- the list has exactly the reachable objects, once each and in rising order
+pub record ListsReachable (w : World) (s : State) (names : List ℕ) : Type 0 where
+  pub sound : (n : ℕ) → Contains names n → Reachable w s n
+  pub complete : (n : ℕ) → Reachable w s n → Contains names n
+  pub in_order : names ≡ rising s.shared.heap names
+
+-- the computed list is the set of the reachable objects
+abbrev pub ReachableIsComputed : Type 0
+ReachableIsComputed = (w : World) (s : State) → ListsReachable w s (reachable w s)
+
+-- ---- cells
+
+-- the size of an object in cells
+abbrev pub size_at : Heap → ℕ → ℕ
+size_at heap n = object_size (length (values_of heap n))
+
+-- the cells of the reachable objects together
+abbrev pub live_size : World → State → ℕ
+live_size w s = sum_by (size_at s.shared.heap) (reachable w s)

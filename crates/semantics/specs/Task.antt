@@ -1,0 +1,101 @@
+-- What a thread has still to do of its call: statements, of which the first may be begun (ISO/IEC 9899:1999, 6.8).
+use Rattle.std.specs.Prelude.{ℕ, List, [], ◌∷◌, Option, Some, None, zip, map}
+use Rattle.syntax.specs.Tree as tree
+use Rattle.base.specs.Bytes.{Identifier}
+use Rattle.base.specs.Element.{ElementType, JChar}
+use Rattle.syntax.specs.Tree.{Null, Expr, Argument, RightSide, FromExpr, FromCall, Call, Test, TestExpr, TestCall, VariableType, JFieldId, Stmt, Block, End, Next}
+use Rattle.jni.specs.JniFunction.{JniFunction, prototype, function_named}
+use Rattle.jni.specs.Prototype.{ParameterKind, IntNumber}
+use Rattle.semantics.specs.Term.{Term, term_of}
+
+-- what a declaration makes
+pub data VariableKind : Type 0 where
+  ScalarKind ReferenceKind FieldKind : VariableKind
+  BufferKind : ElementType → VariableKind
+
+-- where the result of a call or a NULL goes: a new variable, one that is there or a static, the test of an `if`
+-- (whether it is 0), or nowhere
+pub data Target : Type 0 where
+  Declared : VariableKind → Identifier → Target
+  Assigned : Identifier → Target
+  Tested : (then' else' : Block) → Target
+  Dropped : Target
+
+-- an argument of a call: a number on the way to its value, or one that is looked up in the call's own step
+pub data Operand : Type 0 where
+  NumberOperand : Term → Operand
+  Given : Argument → Operand
+
+-- each with its line, where a trap can come from it
+pub data Task : Type 0 where
+  SetScalar : (line : ℕ) → Identifier → Term → Task
+  SetElement : (line : ℕ) → Identifier → (index value : Term) → Task
+  SetNull : Target → Task
+  MakeArray : ElementType → Identifier → (size : ℕ) → Task
+  Invoke : (line : ℕ) → Target → JniFunction → List Operand → Task
+  Print : (line : ℕ) → Term → Task
+  Branch : (line : ℕ) → Term → (then' else' : Block) → Task
+  EndIf : Task
+  -- the test is kept, so that the loop can be restored at the end of a turn
+  Loop : (line : ℕ) → (test : Expr) → Term → (body : Block) → Task
+  EndTurn : (line : ℕ) → (test : Expr) → (body : Block) → Task
+  Return : Task
+  ReturnValue : (line : ℕ) → Term → Task
+  -- a call of an unknown function, as in no accepted program
+  Impossible : Task
+
+-- an argument before the call's first step
+abbrev pub operand : ParameterKind × Argument → Operand
+operand (IntNumber, Argument.Value e) = NumberOperand (term_of e)
+operand (p, a) = Given a
+
+-- a call of a function, if it is known
+abbrev pub invocation : ℕ → Target → Call → Option JniFunction → Task
+invocation line target call None = Impossible
+invocation line target call (Some f) = Invoke line target f (map operand (zip (prototype f).parameters call.arguments))
+
+-- a call
+abbrev pub call_task : ℕ → Target → Call → Task
+call_task line target call = invocation line target call (function_named call.function)
+
+-- what `type name = ..` makes
+abbrev pub kind_of : VariableType → VariableKind
+kind_of (tree.ReferenceVariable type) = ReferenceKind
+kind_of JFieldId = FieldKind
+kind_of type = ScalarKind
+
+-- a value for a variable: NULL, or a number that is worked out first
+abbrev pub set_task : ℕ → Target → Identifier → Expr → Task
+set_task line target x (tree.Named Null) = SetNull target
+set_task line target x e = SetScalar line x (term_of e)
+
+-- a value or a call for a variable
+abbrev pub right_side_task : ℕ → Target → Identifier → RightSide → Task
+right_side_task line target x (FromExpr e) = set_task line target x e
+right_side_task line target x (FromCall call) = call_task line target call
+
+-- an `if`, with its two ways
+abbrev pub if_task : ℕ → Test → Block → Block → Task
+if_task line (TestExpr e) then' else' = Branch line (term_of e) then' else'
+if_task line (TestCall call) then' else' = call_task line (Tested then' else') call
+
+-- a statement before its first step
+abbrev pub task_of : Stmt → Task
+task_of (tree.Declare line type x right) = right_side_task line (Declared (kind_of type) x) x right
+task_of (tree.DeclareBuffer line kind x right) = right_side_task line (Declared (BufferKind kind) x) x right
+task_of (tree.DeclareChars line x right) = right_side_task line (Declared (BufferKind JChar) x) x right
+task_of (tree.DeclareArray line kind x n) = MakeArray kind x n
+task_of (tree.Assign line x right) = right_side_task line (Assigned x) x right
+task_of (tree.AssignElement line x i e) = SetElement line x (term_of i) (term_of e)
+task_of (tree.Perform line call) = call_task line Dropped call
+task_of (tree.PutJint line e) = Print line (term_of e)
+task_of (tree.If line test then') = if_task line test then' (End line)
+task_of (tree.IfElse line test then' else') = if_task line test then' else'
+task_of (tree.While line test body) = Loop line test (term_of test) body
+task_of (tree.Return line) = Return
+task_of (tree.ReturnValue line e) = ReturnValue line (term_of e)
+
+-- the statements of a block in their order
+abbrev pub tasks_of : Block → List Task
+tasks_of (End line) = []
+tasks_of (Next s rest) = task_of s ∷ tasks_of rest

@@ -1,0 +1,13 @@
+-- The values of objects as they are held in memory, and the names of objects there.
+use Rattle.std.specs.Prelude.{ℕ, ◌<◌, ◌≤◌}
+use Rattle.semantics.specs.declared.object_value.ObjectValue.{ObjectValue as InMemory}
+use Rattle.semantics.specs.declared.object_value.ObjectValue.TheVariants as held
+use Rattle.semantics.specs.Object.{ObjectValue, Number, Refers}
+
+abbrev pub object_value_view : InMemory → ObjectValue
+object_value_view (held.Number z) = Number z
+object_value_view (held.Reference r) = Refers r
+
+-- the name of one of this number of objects
+abbrev pub IsWithin : (count : ℕ) → ℕ → Type 0
+IsWithin count n = (0 < n) × (n ≤ count)

@@ -1,0 +1,34 @@
+//! Objects by name.
+
+ghost use Rattle.std.specs.Prelude.{◌≡◌, ◌<◌, ◌^◌, Some, length, slice_get};
+ghost use Rattle.semantics.specs.Heap.{Heap, class_of, values_of};
+ghost use Rattle.semantics.specs.Views.{object_value_view, IsWithin};
+
+use crate::object_value::ObjectValue;
+
+/// Objects that go by their names, their numbers in the order in which they were made, counted from 1.
+pub trait Objects {
+    /// The heap of the definitions that they stand for.
+    ghost heap: { Self → Heap };
+
+    /// The number of objects.
+    fn len(&self) -> usize
+        ensures len { result ≡ length (heap self.now) }
+        ensures few { result < 2 ^ 63 };
+
+    /// The number of an object's class.
+    fn class_of(&self, name: usize) -> usize
+        requires { IsWithin (length (heap self.now)) name }
+        ensures { result ≡ class_of (heap self.now) name };
+
+    /// The number of an object's values.
+    fn count(&self, name: usize) -> usize
+        requires { IsWithin (length (heap self.now)) name }
+        ensures { result ≡ length (values_of (heap self.now) name) };
+
+    /// A value of an object.
+    fn value(&self, name: usize, index: usize) -> ObjectValue
+        requires name { IsWithin (length (heap self.now)) name }
+        requires index { index < length (values_of (heap self.now) name) }
+        ensures { slice_get (values_of (heap self.now) name) index ≡ Some (object_value_view result) };
+}

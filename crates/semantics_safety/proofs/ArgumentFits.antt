@@ -1,0 +1,258 @@
+-- The arguments of a call that fit by the rules of sorts, and whose names may be used, are operands that fit.
+use Rattle.std.proofs.Common.{◌≡◌, ℕ, Bool, true, false, not, ◌&&◌, ◌||◌, List, [], ◌∷◌, ◌++◌, map, length, Option, Some, None, refl, sym, ap, ◌∙◌}
+use Rattle.std.specs.Prelude.{flat_map, zip}
+use Rattle.std.specs.List.{list_any}
+use Rattle.std.proofs.lemmas.Grind.{flat_map-append}
+use Rattle.base.specs.Bytes.{Identifier}
+use Rattle.base.specs.Element.{ElementType, JInt, JShort, JByte, JChar, same_element}
+use Rattle.syntax.specs.Parts.{names_in, elements_in, argument_expressions}
+use Rattle.syntax.specs.Tree.{Null, Expr, Number, Named, Variable, Element, Prefix, Binary, Paren, Argument, Value, Text, AddressOf}
+use Rattle.jni.specs.Access.{Access, ElementsCopy, ArrayView, CharsCopy, CharsView}
+use Rattle.jni.specs.Prototype.{ParameterKind, Nullable, NonNull, ClassObject, AnyArray, ObjectArray, StringObject, NumberArray, LocalVariable, StaticVariable, FieldID, IntNumber, TextBytes, ArrayVariable, BufferVariable, Mode, IsCopy}
+use Rattle.type_rules.specs.Sorts.{Sort, Jint, Flag, Ref, Global, Buffer, Array, sort_in, sort_of, is_jint, is_flag, is_ref, is_global, is_reference, is_field, is_array_of, is_buffer_for, is_null, name_sort, argument_fits, arguments_fit}
+use Rattle.type_rules.specs.Sorts as sort
+use Rattle.type_rules.specs.SortRules.{is_mode, is_mode_parameter, modes_fit}
+use Rattle.region_rules.specs.RegionRules.{is_dead, is_untested, is_free}
+use Rattle.region_rules.specs.RegionStates.{RegionState, state_of}
+use Rattle.semantics.specs.Task.{operand}
+use Rattle.semantics_safety.specs.Points.{Point, ReferenceFits, ReferenceArgumentFits, GivenFits, OperandFits, OperandsFit}
+use Rattle.semantics_safety.proofs.ExpressionFits.{AreStated, MayRead, is_live, usable_if, expression_fits}
+
+-- ---- expressions together
+
+-- the expressions use no dead reference and no free buffer, and read an element of no untested one
+pub record MayReadAll (regions : RegionState) (es : List Expr) : Type 0 where
+  pub alive : list_any (λ x. is_dead (state_of regions x)) (flat_map names_in es) ≡ false
+  pub unfree : list_any (λ x. is_free (state_of regions x)) (flat_map names_in es) ≡ false
+  pub tested : list_any (λ x. is_untested (state_of regions x)) (flat_map elements_in es) ≡ false
+
+neither : (a b : Bool) → (a || b) ≡ false → (a ≡ false) × (b ≡ false)
+neither true b h = absurd (cc)
+neither false b h = (refl, h)
+
+any_append : (p : Identifier → Bool) (xs ys : List Identifier) → list_any p (xs ++ ys) ≡ false → (list_any p xs ≡ false) × (list_any p ys ≡ false)
+any_append p [] ys h = (refl, h)
+any_append p (x ∷ xs) ys h =
+    let both = neither (p x) (list_any p (xs ++ ys)) h in
+    let later = any_append p xs ys both.1 in
+    (ap (λ (b : Bool). b || list_any p xs) both.0 ∙ later.0, later.1)
+
+-- the first of them, and the others
+pub first_read : (regions : RegionState) (e : Expr) (es : List Expr) → MayReadAll regions (e ∷ es) → MayRead regions e × MayReadAll regions es
+first_read regions e es h =
+    let alive = any_append (λ x. is_dead (state_of regions x)) (names_in e) (flat_map names_in es) h.alive in
+    let unfree = any_append (λ x. is_free (state_of regions x)) (names_in e) (flat_map names_in es) h.unfree in
+    let tested = any_append (λ x. is_untested (state_of regions x)) (elements_in e) (flat_map elements_in es) h.tested in
+    (record { alive = alive.0; unfree = unfree.0; tested = tested.0 }, record { alive = alive.1; unfree = unfree.1; tested = tested.1 })
+
+parts_read : (p : Identifier → Bool) (f : Expr → List Identifier) (xs ys : List Expr) → list_any p (flat_map f (xs ++ ys)) ≡ false → (list_any p (flat_map f xs) ≡ false) × (list_any p (flat_map f ys) ≡ false)
+parts_read p f xs ys h = any_append p (flat_map f xs) (flat_map f ys) (ap (list_any p) (sym (flat_map-append f xs ys)) ∙ h)
+
+pub both_read : (regions : RegionState) (xs ys : List Expr) → MayReadAll regions (xs ++ ys) → MayReadAll regions xs × MayReadAll regions ys
+both_read regions xs ys h =
+    let alive = parts_read (λ x. is_dead (state_of regions x)) names_in xs ys h.alive in
+    let unfree = parts_read (λ x. is_free (state_of regions x)) names_in xs ys h.unfree in
+    let tested = parts_read (λ x. is_untested (state_of regions x)) elements_in xs ys h.tested in
+    (record { alive = alive.0; unfree = unfree.0; tested = tested.0 }, record { alive = alive.1; unfree = unfree.1; tested = tested.1 })
+
+-- ---- the tests, turned round
+
+both_so : (a b : Bool) → (a && b) ≡ true → (a ≡ true) × (b ≡ true)
+both_so true b h = (refl, h)
+both_so false b h = absurd (cc)
+
+pub is_a_jint : (o : Option Sort) → is_jint o ≡ true → o ≡ Some Jint
+is_a_jint (Some Jint) h = refl
+is_a_jint o h = absurd (cc)
+
+pub is_a_flag : (o : Option Sort) → is_flag o ≡ true → o ≡ Some Flag
+is_a_flag (Some Flag) h = refl
+is_a_flag o h = absurd (cc)
+
+pub is_a_ref : (o : Option Sort) → is_ref o ≡ true → o ≡ Some Ref
+is_a_ref (Some Ref) h = refl
+is_a_ref o h = absurd (cc)
+
+pub is_a_global : (o : Option Sort) → is_global o ≡ true → o ≡ Some Global
+is_a_global (Some Global) h = refl
+is_a_global o h = absurd (cc)
+
+pub is_a_field : (o : Option Sort) → is_field o ≡ true → o ≡ Some sort.FieldId
+is_a_field (Some sort.FieldId) h = refl
+is_a_field o h = absurd (cc)
+
+pub element_same : (t u : ElementType) → same_element t u ≡ true → u ≡ t
+element_same JInt JInt h = refl
+element_same JShort JShort h = refl
+element_same JByte JByte h = refl
+element_same JChar JChar h = refl
+element_same t u h = absurd (cc)
+
+array_of : (t : ElementType) (o : Option Sort) → is_array_of t o ≡ true → (size : ℕ) × (o ≡ Some (Array t size))
+array_of t (Some (Array u size)) h = (size, ap (λ (v : ElementType). Some (Array v size)) (element_same t u h))
+array_of t o h = absurd (cc)
+
+pub buffer_for : (access : Access) (o : Option Sort) → is_buffer_for access o ≡ true → (t : ElementType) × (writable : Bool) × (o ≡ Some (Buffer t writable))
+buffer_for (ElementsCopy t) (Some (Buffer u true)) h = (u, true, refl)
+buffer_for ArrayView (Some (Buffer u true)) h = (u, true, refl)
+buffer_for CharsCopy (Some (Buffer u false)) h = (u, false, refl)
+buffer_for CharsView (Some (Buffer u false)) h = (u, false, refl)
+buffer_for access o h = absurd (cc)
+
+-- ---- one argument
+
+-- the buffer that an argument is was tested
+abbrev pub BufferTested : Point → ParameterKind → Argument → Type 0
+BufferTested p (BufferVariable access) (Value (Variable x)) = is_untested (state_of p.regions x) ≡ false
+BufferTested p parameter a = Unit {0}
+
+-- a mode is one
+abbrev IsRightMode : ParameterKind → Argument → Type 0
+IsRightMode parameter a = (not (is_mode_parameter parameter) || is_mode a) ≡ true
+
+module _ (p : Point) (stated : AreStated p) where
+  reference_fits : (x : Identifier) (o : Option Sort) → sort_in p.names x ≡ o → is_reference o ≡ true → is_dead (state_of p.regions x) ≡ false → ReferenceFits p x o
+  reference_fits x (Some Ref) e h alive = is_live p stated x e alive
+  reference_fits x (Some Global) e h alive = tt
+  reference_fits x o e h alive = absurd (cc)
+
+  alive_name : (x : Identifier) → MayReadAll p.regions (Variable x ∷ []) → is_dead (state_of p.regions x) ≡ false
+  alive_name x h = (neither (is_dead (state_of p.regions x)) false h.alive).0
+
+  unfree_name : (x : Identifier) → MayReadAll p.regions (Variable x ∷ []) → is_free (state_of p.regions x) ≡ false
+  unfree_name x h = (neither (is_free (state_of p.regions x)) false h.unfree).0
+
+  -- NULL or a reference
+  null_or_reference : (e : Expr) → (is_null e || is_reference (name_sort p.names e)) ≡ true → MayReadAll p.regions (e ∷ []) → ReferenceArgumentFits p (Value e)
+  null_or_reference (Named Null) h read = tt
+  null_or_reference (Variable x) h read = reference_fits x (sort_in p.names x) refl h (alive_name x read)
+  null_or_reference e h read = absurd (cc)
+
+  reference_argument : (a : Argument) → argument_fits p.names Nullable a ≡ true → MayReadAll p.regions (argument_expressions a) → ReferenceArgumentFits p a
+  reference_argument (Value e) h read = null_or_reference e h read
+  reference_argument (Text t) h read = absurd (cc)
+  reference_argument (AddressOf x) h read = absurd (cc)
+
+  mode_argument : (a : Argument) → IsRightMode Mode a → GivenFits p Mode a
+  mode_argument (Value (Number n unsigned)) h = tt
+  mode_argument (Value (Named c)) h = tt
+  mode_argument a h = absurd (cc)
+
+  local_argument : (a : Argument) → argument_fits p.names LocalVariable a ≡ true → MayReadAll p.regions (argument_expressions a) → GivenFits p LocalVariable a
+  local_argument (Value (Variable x)) h read = is_live p stated x (is_a_ref (sort_in p.names x) h) (alive_name x read)
+  local_argument a h read = absurd (cc)
+
+  static_argument : (a : Argument) → argument_fits p.names StaticVariable a ≡ true → GivenFits p StaticVariable a
+  static_argument (Value (Variable x)) h = is_a_global (sort_in p.names x) h
+  static_argument a h = absurd (cc)
+
+  field_argument : (a : Argument) → argument_fits p.names FieldID a ≡ true → GivenFits p FieldID a
+  field_argument (Value (Named c)) h = tt
+  field_argument (Value (Variable x)) h = is_a_field (sort_in p.names x) h
+  field_argument a h = absurd (cc)
+
+  array_argument : (t : ElementType) (a : Argument) → argument_fits p.names (ArrayVariable t) a ≡ true → GivenFits p (ArrayVariable t) a
+  array_argument t (Value (Variable x)) h = array_of t (sort_in p.names x) h
+  array_argument t a h = absurd (cc)
+
+  no_access : (access : Access) → is_buffer_for access None ≡ true → ⊥
+  no_access (ElementsCopy t) h = cc
+  no_access ArrayView h = cc
+  no_access CharsCopy h = cc
+  no_access CharsView h = cc
+
+  buffer_argument : (access : Access) (a : Argument) → argument_fits p.names (BufferVariable access) a ≡ true → MayReadAll p.regions (argument_expressions a) → BufferTested p (BufferVariable access) a → GivenFits p (BufferVariable access) a
+  buffer_argument access (Value (Variable x)) h read tested =
+      let is = buffer_for access (sort_in p.names x) h in
+      let found = stated.buffer x is.0 is.1 is.2 in
+      usable_if p x found.0 found.1 (unfree_name x read) tested
+  buffer_argument access (Value (Number n unsigned)) h read tested = absurd (no_access access h)
+  buffer_argument access (Value (Named c)) h read tested = absurd (no_access access h)
+  buffer_argument access (Value (Element x i)) h read tested = absurd (no_access access h)
+  buffer_argument access (Value (Prefix op e)) h read tested = absurd (no_access access h)
+  buffer_argument access (Value (Binary op e d)) h read tested = absurd (no_access access h)
+  buffer_argument access (Value (Paren e)) h read tested = absurd (no_access access h)
+  buffer_argument access (Text t) h read tested = absurd (cc)
+  buffer_argument access (AddressOf x) h read tested = absurd (cc)
+
+  copy_argument : (a : Argument) → argument_fits p.names IsCopy a ≡ true → GivenFits p IsCopy a
+  copy_argument (Value (Named c)) h = tt
+  copy_argument (AddressOf x) h = is_a_flag (sort_in p.names x) h
+  copy_argument a h = absurd (cc)
+
+  text_argument : (a : Argument) → argument_fits p.names TextBytes a ≡ true → GivenFits p TextBytes a
+  text_argument (Text t) h = tt
+  text_argument a h = absurd (cc)
+
+  number_argument : (a : Argument) → argument_fits p.names IntNumber a ≡ true → MayReadAll p.regions (argument_expressions a) → OperandFits p IntNumber (operand (IntNumber, a))
+  number_argument (Value e) h read = expression_fits p stated e Jint (first_read p.regions e [] read).0 (is_a_jint (sort_of p.names e) h) tt
+  number_argument (Text t) h read = absurd (cc)
+  number_argument (AddressOf x) h read = absurd (cc)
+
+  argument_is : (parameter : ParameterKind) (a : Argument) → argument_fits p.names parameter a ≡ true → IsRightMode parameter a → MayReadAll p.regions (argument_expressions a) → BufferTested p parameter a → OperandFits p parameter (operand (parameter, a))
+  argument_is Nullable a h mode read tested = reference_argument a h read
+  argument_is NonNull a h mode read tested = reference_argument a (same_as_nullable a h) read
+    where
+      same_as_nullable : (a : Argument) → argument_fits p.names NonNull a ≡ true → argument_fits p.names Nullable a ≡ true
+      same_as_nullable (Value e) h = h
+      same_as_nullable (Text t) h = h
+      same_as_nullable (AddressOf x) h = h
+  argument_is ClassObject a h mode read tested = reference_argument a (same_as_nullable a h) read
+    where
+      same_as_nullable : (a : Argument) → argument_fits p.names ClassObject a ≡ true → argument_fits p.names Nullable a ≡ true
+      same_as_nullable (Value e) h = h
+      same_as_nullable (Text t) h = h
+      same_as_nullable (AddressOf x) h = h
+  argument_is AnyArray a h mode read tested = reference_argument a (same_as_nullable a h) read
+    where
+      same_as_nullable : (a : Argument) → argument_fits p.names AnyArray a ≡ true → argument_fits p.names Nullable a ≡ true
+      same_as_nullable (Value e) h = h
+      same_as_nullable (Text t) h = h
+      same_as_nullable (AddressOf x) h = h
+  argument_is ObjectArray a h mode read tested = reference_argument a (same_as_nullable a h) read
+    where
+      same_as_nullable : (a : Argument) → argument_fits p.names ObjectArray a ≡ true → argument_fits p.names Nullable a ≡ true
+      same_as_nullable (Value e) h = h
+      same_as_nullable (Text t) h = h
+      same_as_nullable (AddressOf x) h = h
+  argument_is StringObject a h mode read tested = reference_argument a (same_as_nullable a h) read
+    where
+      same_as_nullable : (a : Argument) → argument_fits p.names StringObject a ≡ true → argument_fits p.names Nullable a ≡ true
+      same_as_nullable (Value e) h = h
+      same_as_nullable (Text t) h = h
+      same_as_nullable (AddressOf x) h = h
+  argument_is (NumberArray u) a h mode read tested = reference_argument a (same_as_nullable a h) read
+    where
+      same_as_nullable : (a : Argument) → argument_fits p.names (NumberArray u) a ≡ true → argument_fits p.names Nullable a ≡ true
+      same_as_nullable (Value e) h = h
+      same_as_nullable (Text t) h = h
+      same_as_nullable (AddressOf x) h = h
+  argument_is LocalVariable a h mode read tested = local_argument a h read
+  argument_is StaticVariable a h mode read tested = static_argument a h
+  argument_is FieldID a h mode read tested = field_argument a h
+  argument_is IntNumber a h mode read tested = number_argument a h read
+  argument_is TextBytes a h mode read tested = text_argument a h
+  argument_is (ArrayVariable t) a h mode read tested = array_argument t a h
+  argument_is (BufferVariable access) a h mode read tested = buffer_argument access a h read tested
+  argument_is Mode a h mode read tested = mode_argument a mode
+  argument_is IsCopy a h mode read tested = copy_argument a h
+
+  -- ---- all arguments
+
+  -- each buffer was tested
+  abbrev pub BuffersTested : List ParameterKind → List Argument → Type 0
+  BuffersTested [] arguments = Unit {0}
+  BuffersTested (parameter ∷ parameters) [] = Unit {0}
+  BuffersTested (parameter ∷ parameters) (a ∷ arguments) = BufferTested p parameter a × BuffersTested parameters arguments
+
+  pub operands_fit : (parameters : List ParameterKind) (arguments : List Argument) → length arguments ≡ length parameters → arguments_fit p.names parameters arguments ≡ true → modes_fit parameters arguments ≡ true
+      → MayReadAll p.regions (flat_map argument_expressions arguments) → BuffersTested parameters arguments → OperandsFit p parameters (map operand (zip parameters arguments))
+  operands_fit [] [] count fit modes read tested = tt
+  operands_fit [] (a ∷ arguments) count fit modes read tested = absurd (cc)
+  operands_fit (parameter ∷ parameters) [] count fit modes read tested = absurd (cc)
+  operands_fit (parameter ∷ parameters) (a ∷ arguments) count fit modes read tested =
+      let fits = both_so (argument_fits p.names parameter a) (arguments_fit p.names parameters arguments) fit in
+      let right = both_so (not (is_mode_parameter parameter) || is_mode a) (modes_fit parameters arguments) modes in
+      let reads = both_read p.regions (argument_expressions a) (flat_map argument_expressions arguments) read in
+      let later : length arguments ≡ length parameters = cc in
+      (argument_is parameter a fits.0 right.0 reads.0 tested.0, operands_fit parameters arguments later fits.1 right.1 reads.1 tested.1)

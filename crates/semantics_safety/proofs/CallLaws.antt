@@ -1,0 +1,58 @@
+-- The step of each call of the JNI keeps what holds of its thread, and so does each step within a call.
+use Rattle.std.proofs.Common.{◌≡◌, ℕ, false, List, ◌∷◌, Some, sym, subst, length}
+use Rattle.class_rules.specs.Class.{Classes}
+use Rattle.syntax.specs.Tree.{SourceUnit}
+use Rattle.jni.specs.JniFunction.{JniFunction, DeleteLocalRef, DeleteGlobalRef, PushLocalFrame, PopLocalFrame, GetArrayRegion, GetStringRegion, GetBuffer, ReleaseBuffer}
+use Rattle.semantics.specs.Arguments.{Actual, actuals}
+use Rattle.semantics.specs.CallStep.{call_step}
+use Rattle.semantics.specs.Effect.{Effect, Becomes, Sets, SetsNull, SetsElement, MakesArray, Prints, Calls, Returns, TrapsAt, NoEffect, effect_of}
+use Rattle.semantics.specs.Task.{Task, Target, Operand, Invoke}
+use Rattle.semantics.specs.Thread.{Thread, Shared, BuffersInUse, sight_of}
+use Rattle.semantics.specs.ThreadStep.{after_effect, step_within}
+use Rattle.semantics_safety.proofs.OwnerLaws.{LandsBy, plain_by}
+use Rattle.semantics_safety.specs.Owners.{Owners}
+use Rattle.semantics_safety.specs.Points.{Point}
+use Rattle.semantics_safety.specs.Stands.{Goes, Stands}
+use Rattle.semantics_safety.specs.Wanted.{Runs, GoesOn}
+use Rattle.semantics_safety.specs.Follows.{Follows}
+use Rattle.semantics_safety.proofs.ChangeCalls.{delete_global_lands, array_region_lands, string_region_lands}
+use Rattle.semantics_safety.proofs.EffectLaws.{effect_follows}
+use Rattle.semantics_safety.proofs.FrameCalls.{delete_lands, push_lands, pop_lands}
+use Rattle.semantics_safety.proofs.GetCalls.{get_lands}
+use Rattle.semantics_safety.proofs.NullLaws.{null_lands}
+use Rattle.semantics_safety.proofs.QuietSteps.{call_lands}
+use Rattle.semantics_safety.proofs.ReleaseCalls.{release_lands}
+use Rattle.semantics_safety.proofs.StepLaws.{plain_lands}
+
+module _ (classes : Classes) (in_use : BuffersInUse) (k : ℕ) (s : Shared) (t : Thread) (line : ℕ) (rest : List Task) (p : Point) {own : Owners} (stands : Stands own s.statics t.variables t.frames p) (whole : Goes own s.statics t t.tasks) where
+  -- the step of a call, by its function
+  pub each_call_lands : (f : JniFunction) (target : Target) (operands : List Operand) (args : List Actual) → args ≡ actuals (sight_of s t) f operands → Runs (Invoke line target f operands) (GoesOn rest) p → LandsBy (Calls line target f args) (length t.frames) own s.statics (call_step classes in_use k s t line target f args rest false)
+  each_call_lands DeleteLocalRef target operands args is runs =
+      subst (λ (l : List Actual). LandsBy (Calls line target DeleteLocalRef l) (length t.frames) own s.statics (call_step classes in_use k s t line target DeleteLocalRef l rest false)) (sym is) (delete_lands classes in_use k s t line rest p stands whole target operands runs)
+  each_call_lands PushLocalFrame target operands args is runs = push_lands classes in_use k s t line rest p stands whole target operands args runs
+  each_call_lands PopLocalFrame target operands args is runs = pop_lands classes in_use k s t line rest p stands whole target operands args runs
+  each_call_lands DeleteGlobalRef target operands args is runs = delete_global_lands classes in_use k s t line rest p stands whole target operands args runs
+  each_call_lands (GetArrayRegion u) target operands args is runs = array_region_lands classes in_use k s t line rest p stands whole u target operands args is runs
+  each_call_lands GetStringRegion target operands args is runs = string_region_lands classes in_use k s t line rest p stands whole target operands args is runs
+  each_call_lands (GetBuffer access) target operands args is runs =
+      subst (λ (l : List Actual). LandsBy (Calls line target (GetBuffer access) l) (length t.frames) own s.statics (call_step classes in_use k s t line target (GetBuffer access) l rest false)) (sym is) (get_lands classes in_use k s t line rest p stands whole access target operands runs)
+  each_call_lands (ReleaseBuffer access) target operands args is runs =
+      subst (λ (l : List Actual). LandsBy (Calls line target (ReleaseBuffer access) l) (length t.frames) own s.statics (call_step classes in_use k s t line target (ReleaseBuffer access) l rest false)) (sym is) (release_lands classes in_use k s t line rest p stands whole access target operands runs)
+  each_call_lands f target operands args is runs = call_lands classes in_use k s t line f args rest p stands tt whole target operands runs
+
+module _ (unit : SourceUnit) (classes : Classes) (in_use : BuffersInUse) (k : ℕ) (s : Shared) (t : Thread) (task : Task) (rest : List Task) (p : Point) {own : Owners} (stands : Stands own s.statics t.variables t.frames p) (runs : Runs task (GoesOn rest) p) (whole : Goes own s.statics t t.tasks) where
+  each_lands : (e : Effect) → Follows own (sight_of s t) s.statics t.variables t.frames p rest e → LandsBy e (length t.frames) own s.statics (after_effect classes in_use k s t rest e)
+  each_lands (Calls line target f args) (operands, is, ready, r) = each_call_lands classes in_use k s t line rest p stands whole f target operands args is r
+  each_lands (SetsNull target) h = plain_by (SetsNull target) tt (length t.frames) own s.statics (after_effect classes in_use k s t rest (SetsNull target)) (null_lands classes in_use k s t rest p stands target h)
+  each_lands (Becomes tasks) h = plain_by (Becomes tasks) tt (length t.frames) own s.statics (after_effect classes in_use k s t rest (Becomes tasks)) (plain_lands classes in_use k s t rest p stands (sight_of s t) (Becomes tasks) tt whole h)
+  each_lands (Sets x v) h = plain_by (Sets x v) tt (length t.frames) own s.statics (after_effect classes in_use k s t rest (Sets x v)) (plain_lands classes in_use k s t rest p stands (sight_of s t) (Sets x v) tt whole h)
+  each_lands (SetsElement x i z) h = plain_by (SetsElement x i z) tt (length t.frames) own s.statics (after_effect classes in_use k s t rest (SetsElement x i z)) (plain_lands classes in_use k s t rest p stands (sight_of s t) (SetsElement x i z) tt whole h)
+  each_lands (MakesArray u x size) h = plain_by (MakesArray u x size) tt (length t.frames) own s.statics (after_effect classes in_use k s t rest (MakesArray u x size)) (plain_lands classes in_use k s t rest p stands (sight_of s t) (MakesArray u x size) tt whole h)
+  each_lands (Prints z) h = plain_by (Prints z) tt (length t.frames) own s.statics (after_effect classes in_use k s t rest (Prints z)) (plain_lands classes in_use k s t rest p stands (sight_of s t) (Prints z) tt whole h)
+  each_lands Returns h = plain_by Returns tt (length t.frames) own s.statics (after_effect classes in_use k s t rest Returns) (plain_lands classes in_use k s t rest p stands (sight_of s t) Returns tt whole h)
+  each_lands (TrapsAt trap line) h = plain_by (TrapsAt trap line) tt (length t.frames) own s.statics (after_effect classes in_use k s t rest (TrapsAt trap line)) (plain_lands classes in_use k s t rest p stands (sight_of s t) (TrapsAt trap line) tt whole h)
+  each_lands NoEffect h = absurd h
+
+  -- each step within a call, unmarked, leads to a point again, and is possible
+  pub each_step_lands : LandsBy (effect_of (sight_of s t) task) (length t.frames) own s.statics (step_within unit classes in_use k s t false (Some (task ∷ rest)))
+  each_step_lands = each_lands (effect_of (sight_of s t) task) (effect_follows s.heap s.statics t.variables t.frames p stands rest task runs)

@@ -1,0 +1,250 @@
+-- An expression that has a sort, and whose names are neither dead, free nor untested, is a term with that sort.
+use Rattle.std.proofs.Common.{◌≡◌, ℕ, ◌⊎◌, inl, inr, Bool, true, false, ◌&&◌, ◌||◌, List, ◌++◌, Option, Some, None, refl, sym, ap, ◌∙◌, subst, if◌then◌else◌}
+use Rattle.std.specs.List.{list_any}
+use Rattle.std.specs.Option.{option_or}
+use Rattle.std.proofs.lemmas.List.Folds.{list_any-append}
+use Rattle.base.specs.Bytes.{Identifier}
+use Rattle.base.specs.Element.{ElementType}
+use Rattle.syntax.specs.Parts.{null_tested, names_in, elements_in}
+use Rattle.syntax.specs.Tree.{Constant, True, False, Null, PrefixOp, LogicalNot, Complement, ToWord, ToInt, BinaryOp, LogicalOr, LogicalAnd, Equal, NotEqual, Expr, Number, Named, Variable, Element, Prefix, Binary, Paren}
+use Rattle.type_rules.specs.Sorts.{Sort, Word, Jint, Flag, Truth, Ref, Global, Buffer, Array, OperatorGroup, Logic, Equality, Order, OnWords, group, binary_sort, prefix_sort, is_castable, is_index, has_elements, is_nullable, constant_sort, null_test_sort, sort_in, sort_of}
+use Rattle.type_rules.specs.Sorts as sort
+use Rattle.region_rules.specs.RegionRules.{is_dead, is_untested, is_free}
+use Rattle.region_rules.specs.RegionStates.{RegionState, BufferState, Free, Untested, Usable, ReferenceAt, BufferIn, state_of}
+use Rattle.semantics.specs.Term as term
+use Rattle.semantics.specs.Term.{Term, binary_term, term_of}
+use Rattle.semantics_safety.specs.Points.{Point, IsLive, IsUsable, NullTestFits, ElementsFit, IsNumberSort, IsIndexSort, OperatorFits, HasSort}
+
+-- ---- what is given of the names
+
+-- a reference and a buffer have a state, and no name is a truth
+pub record AreStated (p : Point) : Type 0 where
+  pub no_truth : (x : Identifier) → sort_in p.names x ≡ Some Truth → ⊥
+  pub reference : (x : Identifier) → sort_in p.names x ≡ Some Ref → (level : ℕ) × (live : Bool) × (state_of p.regions x ≡ Some (ReferenceAt level live))
+  pub buffer : (x : Identifier) (t : ElementType) (writable : Bool) → sort_in p.names x ≡ Some (Buffer t writable) → (b : BufferState) × (state_of p.regions x ≡ Some (BufferIn b))
+
+-- an expression uses no dead reference and no free buffer, and reads an element of no untested one
+pub record MayRead (regions : RegionState) (e : Expr) : Type 0 where
+  pub alive : list_any (λ x. is_dead (state_of regions x)) (names_in e) ≡ false
+  pub unfree : list_any (λ x. is_free (state_of regions x)) (names_in e) ≡ false
+  pub tested : list_any (λ x. is_untested (state_of regions x)) (elements_in e) ≡ false
+
+-- the sorts that an expression is worked out to
+abbrev pub IsValueSort : Sort → Type 0
+IsValueSort Word = Unit {0}
+IsValueSort Jint = Unit {0}
+IsValueSort Flag = Unit {0}
+IsValueSort Truth = Unit {0}
+IsValueSort s = ⊥
+
+-- ---- names by their states
+
+neither : (a b : Bool) → (a || b) ≡ false → (a ≡ false) × (b ≡ false)
+neither true b h = absurd (cc)
+neither false b h = (refl, h)
+
+none_of_both : (p : Identifier → Bool) (xs ys : List Identifier) → list_any p (xs ++ ys) ≡ false → (list_any p xs ≡ false) × (list_any p ys ≡ false)
+none_of_both p xs ys h = neither (list_any p xs) (list_any p ys) (sym (list_any-append p xs ys) ∙ h)
+
+-- both operands may be read
+pub operands_read : (regions : RegionState) (op : BinaryOp) (a b : Expr) → MayRead regions (Binary op a b) → MayRead regions a × MayRead regions b
+operands_read regions op a b h =
+    let alive = none_of_both (λ x. is_dead (state_of regions x)) (names_in a) (names_in b) h.alive in
+    let unfree = none_of_both (λ x. is_free (state_of regions x)) (names_in a) (names_in b) h.unfree in
+    let tested = none_of_both (λ x. is_untested (state_of regions x)) (elements_in a) (elements_in b) h.tested in
+    (record { alive = alive.0; unfree = unfree.0; tested = tested.0 }, record { alive = alive.1; unfree = unfree.1; tested = tested.1 })
+
+index_read : (regions : RegionState) (x : Identifier) (i : Expr) → MayRead regions (Element x i) → MayRead regions i
+index_read regions x i h = record {
+  alive = (neither (is_dead (state_of regions x)) (list_any (λ y. is_dead (state_of regions y)) (names_in i)) h.alive).1;
+  unfree = (neither (is_free (state_of regions x)) (list_any (λ y. is_free (state_of regions y)) (names_in i)) h.unfree).1;
+  tested = (neither (is_untested (state_of regions x)) (list_any (λ y. is_untested (state_of regions y)) (elements_in i)) h.tested).1;
+}
+
+-- a reference that isn't dead is live
+pub live_if : (regions : RegionState) (x : Identifier) (level : ℕ) (live : Bool) → state_of regions x ≡ Some (ReferenceAt level live) → is_dead (state_of regions x) ≡ false → state_of regions x ≡ Some (ReferenceAt level true)
+live_if regions x level true e h = e
+live_if regions x level false e h = absurd (let dead : is_dead (state_of regions x) ≡ true = ap is_dead e in let c : true ≡ false = sym dead ∙ h in cc)
+
+-- a buffer that is neither free nor untested is usable
+pub usable_if : (p : Point) (x : Identifier) (b : BufferState) → state_of p.regions x ≡ Some (BufferIn b) → is_free (state_of p.regions x) ≡ false → is_untested (state_of p.regions x) ≡ false → IsUsable p x
+usable_if p x (Usable access a) e free untested = (access, a, e)
+usable_if p x Free e free untested = absurd (let there : is_free (state_of p.regions x) ≡ true = ap is_free e in let c : true ≡ false = sym there ∙ free in cc)
+usable_if p x (Untested access a) e free untested = absurd (let there : is_untested (state_of p.regions x) ≡ true = ap is_untested e in let c : true ≡ false = sym there ∙ untested in cc)
+
+pub is_live : (p : Point) → AreStated p → (x : Identifier) → sort_in p.names x ≡ Some Ref → is_dead (state_of p.regions x) ≡ false → IsLive p x
+is_live p stated x e h = let found = stated.reference x e in (found.0, live_if p.regions x found.0 found.1 found.2 h)
+
+-- ---- the rules of sorts, turned round
+
+given : {A : Type 0} (b : Bool) (a s : A) → (if b then Some a else None) ≡ Some s → (b ≡ true) × (s ≡ a)
+given true a s h = (refl, cc)
+given false a s h = absurd (cc)
+
+both_so : (a b : Bool) → (a && b) ≡ true → (a ≡ true) × (b ≡ true)
+both_so true b h = (refl, h)
+both_so false b h = absurd (cc)
+
+castable : (o : Option Sort) → is_castable o ≡ true → (r : Sort) × (o ≡ Some r) × IsNumberSort r
+castable (Some Word) h = (Word, refl, tt)
+castable (Some Jint) h = (Jint, refl, tt)
+castable (Some Flag) h = (Flag, refl, tt)
+castable o h = absurd (cc)
+
+pub indexed : (o : Option Sort) → is_index o ≡ true → (r : Sort) × (o ≡ Some r) × IsIndexSort r
+indexed (Some Word) h = (Word, refl, tt)
+indexed (Some Jint) h = (Jint, refl, tt)
+indexed o h = absurd (cc)
+
+operands : (g : OperatorGroup) (a b : Option Sort) (s : Sort) → binary_sort g a b ≡ Some s → (r : Sort) × (a ≡ Some r) × (b ≡ Some r) × IsValueSort r × ((g ≡ Logic) × (r ≡ Truth) × (s ≡ Truth) ⊎ OperatorFits g r s)
+operands Logic (Some Truth) (Some Truth) s h = (Truth, refl, refl, tt, inl (refl, refl, cc))
+operands Equality (Some Word) (Some Word) s h = (Word, refl, refl, tt, inr (tt, cc))
+operands Equality (Some Jint) (Some Jint) s h = (Jint, refl, refl, tt, inr (tt, cc))
+operands Equality (Some Flag) (Some Flag) s h = (Flag, refl, refl, tt, inr (tt, cc))
+operands Order (Some Word) (Some Word) s h = (Word, refl, refl, tt, inr (tt, cc))
+operands Order (Some Jint) (Some Jint) s h = (Jint, refl, refl, tt, inr (tt, cc))
+operands OnWords (Some Word) (Some Word) s h = (Word, refl, refl, tt, inr (refl, cc))
+operands g a b s h = absurd (cc)
+
+pub number_is_value : (s : Sort) → IsNumberSort s → IsValueSort s
+number_is_value Word h = tt
+number_is_value Jint h = tt
+number_is_value Flag h = tt
+number_is_value s h = absurd h
+
+pub index_is_value : (s : Sort) → IsIndexSort s → IsValueSort s
+index_is_value Word h = tt
+index_is_value Jint h = tt
+index_is_value s h = absurd h
+
+-- no null test, or one of a name
+pub null_cases : (op : BinaryOp) (a b : Expr) → (null_tested (Binary op a b) ≡ None) ⊎ ((x : Identifier) × (a ≡ Variable x) × (b ≡ Named Null) × ((op ≡ Equal) ⊎ (op ≡ NotEqual)))
+null_cases Equal (Variable x) (Named Null) = inr (x, refl, refl, inl refl)
+null_cases NotEqual (Variable x) (Named Null) = inr (x, refl, refl, inr refl)
+null_cases op a b = inl refl
+
+none_right : (g : OperatorGroup) (o : Option Sort) → binary_sort g o None ≡ None
+none_right Logic (Some Truth) = refl
+none_right Equality (Some Word) = refl
+none_right Equality (Some Jint) = refl
+none_right Equality (Some Flag) = refl
+none_right Order (Some Word) = refl
+none_right Order (Some Jint) = refl
+none_right OnWords (Some Word) = refl
+none_right g o = refl
+
+or_none : (o : Option Sort) → option_or o None ≡ o
+or_none None = refl
+or_none (Some s) = refl
+
+-- ---- terms
+
+module _ (p : Point) (stated : AreStated p) where
+  -- a term has each value sort that its expression has
+  abbrev HasSorts : Term → Option Sort → Type 0
+  HasSorts t o = (r : Sort) → o ≡ Some r → IsValueSort r → HasSort p t r
+
+  constant_fits : (c : Constant) (s : Sort) → constant_sort c ≡ Some s → HasSort p (term.Named c) s
+  constant_fits True s h = cc
+  constant_fits False s h = cc
+  constant_fits c s h = absurd (cc)
+
+  nullable_fits : (x : Identifier) (o : Option Sort) → sort_in p.names x ≡ o → is_nullable o ≡ true → is_dead (state_of p.regions x) ≡ false → NullTestFits p x o
+  nullable_fits x (Some Ref) e h alive = is_live p stated x e alive
+  nullable_fits x (Some Global) e h alive = tt
+  nullable_fits x (Some sort.FieldId) e h alive = tt
+  nullable_fits x (Some (Buffer t writable)) e h alive = tt
+  nullable_fits x o e h alive = absurd (cc)
+
+  null_fits : (x : Identifier) (s : Sort) (g : OperatorGroup) → option_or (if is_nullable (sort_in p.names x) then Some Truth else None) (binary_sort g (sort_in p.names x) None) ≡ Some s → is_dead (state_of p.regions x) ≡ false
+      → NullTestFits p x (sort_in p.names x) × (s ≡ Truth)
+  null_fits x s g h alive =
+      let o : Option Sort = sort_in p.names x in
+      let test : Option Sort = if is_nullable o then Some Truth else None in
+      let e : (if is_nullable o then Some Truth else None) ≡ Some s = sym (or_none test) ∙ ap (option_or test) (sym (none_right g o)) ∙ h in
+      let passed = given (is_nullable o) Truth s e in
+      (nullable_fits x o refl passed.0 alive, passed.1)
+
+  null_test_fits : (x : Identifier) (op : BinaryOp) (s : Sort) → (op ≡ Equal) ⊎ (op ≡ NotEqual) → is_dead (state_of p.regions x) ≡ false → sort_of p.names (Binary op (Variable x) (Named Null)) ≡ Some s → HasSort p (term_of (Binary op (Variable x) (Named Null))) s
+  null_test_fits x op s (inl e) alive =
+      subst (λ (o : BinaryOp). sort_of p.names (Binary o (Variable x) (Named Null)) ≡ Some s → HasSort p (term_of (Binary o (Variable x) (Named Null))) s) (sym e) (λ h. null_fits x s Equality h alive)
+  null_test_fits x op s (inr e) alive =
+      subst (λ (o : BinaryOp). sort_of p.names (Binary o (Variable x) (Named Null)) ≡ Some s → HasSort p (term_of (Binary o (Variable x) (Named Null))) s) (sym e) (λ h. null_fits x s Equality h alive)
+
+  prefix_fits : (op : PrefixOp) (o : Option Sort) (s : Sort) (t : Term) → prefix_sort op o ≡ Some s → HasSorts t o → HasSort p (term.Prefix op t) s
+  prefix_fits LogicalNot (Some Truth) s t h sorts = (Truth, (refl, cc), sorts Truth refl tt)
+  prefix_fits Complement (Some Word) s t h sorts = (Word, (refl, cc), sorts Word refl tt)
+  prefix_fits ToWord o s t h sorts =
+      let passed = given (is_castable o) Word s h in
+      let r = castable o passed.0 in
+      (r.0, (r.2, passed.1), sorts r.0 r.1 (number_is_value r.0 r.2))
+  prefix_fits ToInt o s t h sorts =
+      let passed = given (is_castable o) Jint s h in
+      let r = castable o passed.0 in
+      (r.0, (r.2, passed.1), sorts r.0 r.1 (number_is_value r.0 r.2))
+  prefix_fits op o s t h sorts = absurd (cc)
+
+  -- what elements are read of, or written to
+  pub elements_fit : (x : Identifier) (o : Option Sort) → sort_in p.names x ≡ o → has_elements o ≡ true → is_free (state_of p.regions x) ≡ false → is_untested (state_of p.regions x) ≡ false → ElementsFit p x o
+  elements_fit x (Some (Buffer t writable)) e h free untested = let found = stated.buffer x t writable e in usable_if p x found.0 found.1 free untested
+  elements_fit x (Some (Array t size)) e h free untested = tt
+  elements_fit x o e h free untested = absurd (cc)
+
+  element_fits : (x : Identifier) (o : Option Sort) (s : Sort) (t : Term) → (if has_elements (sort_in p.names x) && is_index o then Some Jint else None) ≡ Some s → is_free (state_of p.regions x) ≡ false → is_untested (state_of p.regions x) ≡ false → HasSorts t o
+      → HasSort p (term.Element x t) s
+  element_fits x o s t h free untested sorts =
+      let passed = given (has_elements (sort_in p.names x) && is_index o) Jint s h in
+      let both = both_so (has_elements (sort_in p.names x)) (is_index o) passed.0 in
+      let r = indexed o both.1 in
+      (elements_fit x (sort_in p.names x) refl both.0 free untested, (r.0, r.2, sorts r.0 r.1 (index_is_value r.0 r.2)), passed.1)
+
+  operator_fits : (op : BinaryOp) (r s : Sort) (a b : Term) → HasSort p a r → HasSort p b r → ((group op ≡ Logic) × (r ≡ Truth) × (s ≡ Truth) ⊎ OperatorFits (group op) r s) → HasSort p (binary_term op None a b) s
+  operator_fits LogicalOr r s a b h k (inl l) = (subst (HasSort p a) l.1 h, subst (HasSort p b) l.1 k, l.2)
+  operator_fits LogicalOr r s a b h k (inr fits) = absurd fits
+  operator_fits LogicalAnd r s a b h k (inl l) = (subst (HasSort p a) l.1 h, subst (HasSort p b) l.1 k, l.2)
+  operator_fits LogicalAnd r s a b h k (inr fits) = absurd fits
+  operator_fits op r s a b h k (inl l) = absurd (let e = l.0 in cc)
+  operator_fits op r s a b h k (inr fits) = (r, fits, h, k)
+
+  binary_fits : (op : BinaryOp) (o o' : Option Sort) (s : Sort) (a b : Term) → binary_sort (group op) o o' ≡ Some s → HasSorts a o → HasSorts b o' → HasSort p (binary_term op None a b) s
+  binary_fits op o o' s a b h sorts sorts' =
+      let r = operands (group op) o o' s h in
+      operator_fits op r.0 s a b (sorts r.0 r.1 r.3) (sorts' r.0 r.2 r.3) r.4
+
+  -- what has operands, by whether it is a null test
+  operation_fits : (op : BinaryOp) (a b : Expr) (s : Sort) → sort_of p.names (Binary op a b) ≡ Some s → MayRead p.regions a → HasSorts (term_of a) (sort_of p.names a) → HasSorts (term_of b) (sort_of p.names b) → HasSort p (term_of (Binary op a b)) s
+  operation_fits op a b s h read sorts sorts' =
+      let scope = p.names in
+      elim (null_cases op a b) [
+        | inl none ↦
+            let plain : binary_sort (group op) (sort_of scope a) (sort_of scope b) ≡ Some s = sym (ap (λ (n : Option Identifier). option_or (null_test_sort scope n) (binary_sort (group op) (sort_of scope a) (sort_of scope b))) none) ∙ h in
+            subst (λ (n : Option Identifier). HasSort p (binary_term op n (term_of a) (term_of b)) s) (sym none) (binary_fits op (sort_of scope a) (sort_of scope b) s (term_of a) (term_of b) plain sorts sorts')
+        | inr test ↦
+            let there : MayRead p.regions (Variable test.0) = subst (MayRead p.regions) test.1 read in
+            let alive = (neither (is_dead (state_of p.regions test.0)) false there.alive).0 in
+            subst (λ (c : Expr). sort_of scope (Binary op c b) ≡ Some s → HasSort p (term_of (Binary op c b)) s) (sym test.1)
+            (subst (λ (d : Expr). sort_of scope (Binary op (Variable test.0) d) ≡ Some s → HasSort p (term_of (Binary op (Variable test.0) d)) s) (sym test.2) (null_test_fits test.0 op s test.3 alive)) h
+      ]
+
+  variable_fits : (x : Identifier) (s : Sort) → sort_in p.names x ≡ Some s → IsValueSort s → IsNumberSort s
+  variable_fits x Word h v = tt
+  variable_fits x Jint h v = tt
+  variable_fits x Flag h v = tt
+  variable_fits x Truth h v = absurd (stated.no_truth x h)
+  variable_fits x s h v = absurd v
+
+  -- an expression of a value's sort is a term of that sort
+  pub expression_fits : (e : Expr) (s : Sort) → MayRead p.regions e → sort_of p.names e ≡ Some s → IsValueSort s → HasSort p (term_of e) s
+  expression_fits (Number n unsigned) s read h v = cc
+  expression_fits (Named c) s read h v = constant_fits c s h
+  expression_fits (Variable x) s read h v = (h, variable_fits x s h v)
+  expression_fits (Element x i) s read h v =
+      element_fits x (sort_of p.names i) s (term_of i) h (neither (is_free (state_of p.regions x)) (list_any (λ y. is_free (state_of p.regions y)) (names_in i)) read.unfree).0
+      (neither (is_untested (state_of p.regions x)) (list_any (λ y. is_untested (state_of p.regions y)) (elements_in i)) read.tested).0
+      (λ r e w. expression_fits i r (index_read p.regions x i read) e w)
+  expression_fits (Prefix op a) s read h v =
+      prefix_fits op (sort_of p.names a) s (term_of a) h (λ r e w. expression_fits a r (record { alive = read.alive; unfree = read.unfree; tested = read.tested }) e w)
+  expression_fits (Binary op a b) s read h v =
+      let both = operands_read p.regions op a b read in
+      operation_fits op a b s h both.0 (λ r e w. expression_fits a r both.0 e w) (λ r e w. expression_fits b r both.1 e w)
+  expression_fits (Paren a) s read h v = expression_fits a s (record { alive = read.alive; unfree = read.unfree; tested = read.tested }) h v

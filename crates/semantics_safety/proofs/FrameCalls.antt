@@ -1,0 +1,199 @@
+-- The steps of the calls that end a reference, or begin or end a frame.
+use Rattle.std.proofs.Common.{◌≡◌, ℕ, ◌+◌, ◌≤◌, arith, Bool, true, false, ◌&&◌, inl, inr, List, [], ◌∷◌, length, Option, Some, None, refl, sym, ap, ◌∙◌, subst, if◌then◌else◌, ◌++◌}
+use Rattle.std.specs.Prelude.{ℤ, pos, negsuc, nat_le, drop, ◌==◌}
+use Rattle.std.proofs.lemmas.Bool.{cond_both}
+use Rattle.base.specs.Bytes.{Identifier, lookup}
+use Rattle.syntax.specs.Tree as tree
+use Rattle.syntax.specs.Tree.{Block}
+use Rattle.class_rules.specs.Class.{Classes}
+use Rattle.jni.specs.JniFunction.{DeleteLocalRef, PushLocalFrame, PopLocalFrame}
+use Rattle.jni.specs.Prototype.{NewLocal, GivesInt, GivesNothing, LocalVariable}
+use Rattle.region_rules.specs.RegionStates as states
+use Rattle.region_rules.specs.RegionStates.{ReferenceAt, state_of, with_changed, killed, after_pop, get_of}
+use Rattle.semantics.specs.Arguments.{Actual, ReferenceActual, actuals, reference_in_actual, reference_given, number_given, variable_given}
+use Rattle.semantics.specs.CallEffects.{ScalarResult, ReferenceResult, NoResult, CallEffect, Leaves, delete_local_effect, push_effect, without_local}
+use Rattle.semantics.specs.CallStep.{trap_of_call, target_element, checked, after_call, call_step, is_zero, completed, received, tell_copy}
+use Rattle.semantics.specs.CallTable.{call_effect}
+use Rattle.semantics.specs.Object.{Reference}
+use Rattle.semantics.specs.Sight.{held_reference}
+use Rattle.semantics.specs.Task.{Task, Target, Declared, Assigned, Tested, Dropped, Operand, Given, Invoke, Branch}
+use Rattle.semantics.specs.Term.{Done}
+use Rattle.semantics.specs.Thread.{Thread, Shared, BuffersInUse, capacities, sight_of}
+use Rattle.semantics.specs.Value.{Int, Truth, Trap}
+use Rattle.semantics.specs.Variable.{Variable, LocalRef, Variables}
+use Rattle.semantics.specs.Effect.{Calls, tasks_after}
+use Rattle.std.specs.Str.{bytes_eq}
+use Rattle.semantics_safety.proofs.OwnerLaws.{LandsBy, quiet_by, stands_with}
+use Rattle.semantics_safety.specs.Owners.{Owners, left_by, other_than}
+use Rattle.semantics_safety.specs.Points.{Point, OperandsFit}
+use Rattle.semantics_safety.specs.StepSafe.{references_at}
+use Rattle.semantics_safety.specs.Stands.{copies, Goes, Stands}
+use Rattle.semantics_safety.specs.Wanted.{Outside, Runs, RunsBlock, ResultGoes, GoesOn, IsTrueNow, IsFalseNow, call_seen, at}
+use Rattle.semantics_safety.proofs.FrameLaws.{one_if, same_number, level_there, no_references, copies_deleted, deleted_length}
+use Rattle.semantics_safety.proofs.KilledLaws.{fewer, killed_owners, stands_killed, killed_owned}
+use Rattle.semantics_safety.proofs.PoppedLaws.{stands_popped, stands_pushed, popped_owned}
+use Rattle.semantics_safety.proofs.QuietLaws.{Gives, Plainly, ALocal, IsNoTest, told, given_lands}
+use Rattle.semantics_safety.proofs.QuietSteps.{has_frame, has_room}
+use Rattle.semantics_safety.proofs.ResultLaws.{AnInt, NullLocal, NoResultThere}
+
+module _ (classes : Classes) (in_use : BuffersInUse) (k : ℕ) (s : Shared) (t : Thread) (line : ℕ) (rest : List Task) (p : Point) {own : Owners} (stands : Stands own s.statics t.variables t.frames p) (whole : Goes own s.statics t t.tasks) where
+  -- ---- a reference is deleted
+
+  -- its level has a frame
+  level_within : (x : Identifier) (level n : ℕ) → state_of p.regions x ≡ Some (ReferenceAt level true) → lookup x t.variables ≡ Some (LocalRef level (Some n)) → level ≤ length t.frames
+  level_within x level n e h = elim (level_there level t.frames) [
+    | inl there ↦ there
+    | inr past ↦
+        let owned = killed_owners t.variables x level n level n p.regions.variables e h in
+        let one : one_if (level == level && n == n) ≡ 1 = ap (λ (b : Bool). one_if (b && n == n)) (same_number level) ∙ ap one_if (same_number n) in
+        let enough = stands.backed level n in
+        let none : copies (references_at level t.frames) n ≡ 0 = ap (λ (l : List ℕ). copies l n) (no_references level t.frames past) in
+        absurd (omega (arith, owned, one, enough, none))
+  ]
+
+  -- the owners without this one
+  abbrev without_own : Identifier → Owners
+  without_own x y = if bytes_eq y x then None else own y
+
+  left_deleted : (x : Identifier) (args : List Actual) → x ≡ variable_given args 0 → (y : Identifier) → without_own x y ≡ left_by DeleteLocalRef args (length t.frames) own y
+  left_deleted x args is y = ap (λ (z : Identifier). if bytes_eq y z then None else own y) is
+
+  deleted : (x : Identifier) (level : ℕ) (r : Reference) (target : Target) (args : List Actual) (get : _) → IsNoTest target → state_of p.regions x ≡ Some (ReferenceAt level true) → lookup x t.variables ≡ Some (LocalRef level r)
+      → ResultGoes target GivesNothing get (GoesOn rest) (at p (with_changed p.regions x killed)) → x ≡ variable_given args 0
+      → LandsBy (Calls line target DeleteLocalRef args) (length t.frames) own s.statics (after_call classes in_use k s t line target DeleteLocalRef args rest (delete_local_effect s t (Some (LocalRef level r)) r))
+  deleted x level None target args get away e h goes is =
+      given_lands classes in_use k s t line target DeleteLocalRef args rest (at p (with_changed p.regions x killed)) own (left_deleted x args is) GivesNothing [] s t NoResult get refl away (λ c. absurd (cc))
+      (stands_with (without_own x) s.statics t.variables t.frames (at p (with_changed p.regions x killed))
+      (stands_killed s.statics t.variables t.frames p stands x t.frames refl (λ l m. let less = fewer t.variables x l m p.regions.variables in let enough = stands.backed l m in omega (arith, less, enough)))
+      (killed_owned s.statics t.variables t.frames p stands x))
+      (Plainly NoResultThere) goes
+  deleted x level (Some n) target args get away e h goes is =
+      given_lands classes in_use k s t line target DeleteLocalRef args rest (at p (with_changed p.regions x killed)) own (left_deleted x args is) GivesNothing [] s (record t { frames = without_local level n t.frames }) NoResult get refl away (λ c. absurd (cc))
+      (stands_with (without_own x) s.statics t.variables (without_local level n t.frames) (at p (with_changed p.regions x killed))
+      (stands_killed s.statics t.variables t.frames p stands x (without_local level n t.frames) (deleted_length level n t.frames) (λ l m.
+      let less = killed_owners t.variables x l m level n p.regions.variables e h in
+      let one = copies_deleted level n l m t.frames (level_within x level n e h) in
+      let enough = stands.backed l m in
+      omega (arith, less, one, enough)))
+      (killed_owned s.statics t.variables t.frames p stands x))
+      (Plainly NoResultThere) goes
+
+  -- what the call deletes, looked up
+  abbrev deletes : Identifier → Option Variable → CallEffect
+  deletes x o = delete_local_effect s t o (reference_in_actual (Some (ReferenceActual x (held_reference o (lookup x s.statics)))))
+
+  delete_is : (x : Identifier) → call_effect classes in_use k s t (actuals (sight_of s t) DeleteLocalRef (Given (tree.Value (tree.Variable x)) ∷ [])) DeleteLocalRef ≡ deletes x (lookup x t.variables)
+  unfolding call_effect
+  delete_is x = refl
+
+  delete_at : (x : Identifier) (level : ℕ) (r : Reference) (target : Target) (get : _) → IsNoTest target → state_of p.regions x ≡ Some (ReferenceAt level true) → lookup x t.variables ≡ Some (LocalRef level r)
+      → ResultGoes target GivesNothing get (GoesOn rest) (at p (with_changed p.regions x killed)) → (args : List Actual) → x ≡ variable_given args 0
+      → LandsBy (Calls line target DeleteLocalRef args) (length t.frames) own s.statics (after_call classes in_use k s t line target DeleteLocalRef args rest (deletes x (Some (LocalRef level r))))
+  delete_at x level None target get away e h goes args is = deleted x level None target args get away e h goes is
+  delete_at x level (Some n) target get away e h goes args is = deleted x level (Some n) target args get away e h goes is
+
+  delete_known : (x : Identifier) (level : ℕ) (target : Target) (get : _) → IsNoTest target → state_of p.regions x ≡ Some (ReferenceAt level true)
+      → ResultGoes target GivesNothing get (GoesOn rest) (at p (with_changed p.regions x killed))
+      → LandsBy (Calls line target DeleteLocalRef (actuals (sight_of s t) DeleteLocalRef (Given (tree.Value (tree.Variable x)) ∷ []))) (length t.frames) own s.statics (call_step classes in_use k s t line target DeleteLocalRef (actuals (sight_of s t) DeleteLocalRef (Given (tree.Value (tree.Variable x)) ∷ [])) rest false)
+  delete_known x level target get away e goes = by_trap (trap_of_call classes s t target DeleteLocalRef args)
+    where
+      args : List Actual
+      args = actuals (sight_of s t) DeleteLocalRef (Given (tree.Value (tree.Variable x)) ∷ [])
+
+      shown : (r : Reference) × (lookup x t.variables ≡ Some (LocalRef level r))
+      shown = stands.shows x (ReferenceAt level true) e
+
+      by_trap : (o : Option Trap) → LandsBy (Calls line target DeleteLocalRef args) (length t.frames) own s.statics (after_call classes in_use k s t line target DeleteLocalRef args rest (checked o (call_effect classes in_use k s t args DeleteLocalRef)))
+      by_trap None =
+          subst (λ (e : CallEffect). LandsBy (Calls line target DeleteLocalRef args) (length t.frames) own s.statics (after_call classes in_use k s t line target DeleteLocalRef args rest e)) (sym (delete_is x))
+          (subst (λ (o : Option Variable). LandsBy (Calls line target DeleteLocalRef args) (length t.frames) own s.statics (after_call classes in_use k s t line target DeleteLocalRef args rest (deletes x o))) (sym shown.1) (delete_at x level shown.0 target get away e shown.1 goes args refl))
+      by_trap (Some trap) = (whole, λ x r g. (r, g))
+
+  delete_operands : (target : Target) (operands : List Operand) → IsNoTest target → OperandsFit p (LocalVariable ∷ []) operands
+      → ResultGoes target GivesNothing (get_of (call_seen DeleteLocalRef operands)) (GoesOn rest) (at p (states.after_call p.regions (call_seen DeleteLocalRef operands)))
+      → LandsBy (Calls line target DeleteLocalRef (actuals (sight_of s t) DeleteLocalRef operands)) (length t.frames) own s.statics (call_step classes in_use k s t line target DeleteLocalRef (actuals (sight_of s t) DeleteLocalRef operands) rest false)
+  delete_operands target (Given (tree.Value (tree.Variable x)) ∷ []) away h goes = delete_known x h.0.0 target _ away h.0.1 goes
+  delete_operands target (Given (tree.Value (tree.Variable x)) ∷ o ∷ operands) away h goes = absurd h.1
+  delete_operands target [] away h goes = absurd h
+  delete_operands target (o ∷ operands) away h goes = absurd h.0
+
+  -- DeleteLocalRef
+  pub delete_lands : (target : Target) (operands : List Operand) → Runs (Invoke line target DeleteLocalRef operands) (GoesOn rest) p
+      → LandsBy (Calls line target DeleteLocalRef (actuals (sight_of s t) DeleteLocalRef operands)) (length t.frames) own s.statics (call_step classes in_use k s t line target DeleteLocalRef (actuals (sight_of s t) DeleteLocalRef operands) rest false)
+  delete_lands (Tested a b) operands r = absurd (no_push r.1)
+    where
+      no_push : DeleteLocalRef ≡ PushLocalFrame → ⊥
+      no_push e = cc
+  delete_lands (Declared kind x) operands r = delete_operands (Declared kind x) operands tt r.0.sorts r.2
+  delete_lands (Assigned x) operands r = delete_operands (Assigned x) operands tt r.0.sorts r.2
+  delete_lands Dropped operands r = delete_operands Dropped operands tt r.0.sorts r.2
+
+  -- ---- a frame begins
+
+  module _ (a b : Block) (args : List Actual) (on_true : RunsBlock a (Outside (GoesOn rest)) (at p (record p.regions { frames = p.regions.frames + 1 }))) (on_false : RunsBlock b (Outside (GoesOn rest)) p) where
+    -- the point with a frame more
+    abbrev pushed : Point
+    pushed = at p (record p.regions { frames = p.regions.frames + 1 })
+
+    tested_lands : (t' : Thread) (z : ℤ) (q : Point) → Stands own s.statics t'.variables t'.frames q → GoesOn (Branch line (Done (Truth (is_zero (ScalarResult (Int z))))) a b ∷ rest) q
+        → LandsBy (Calls line (Tested a b) PushLocalFrame args) (length t.frames) own s.statics (completed classes in_use k s t line (Tested a b) PushLocalFrame args rest [] s t' (ScalarResult (Int z)))
+    tested_lands t' z q there g =
+        quiet_by line PushLocalFrame args (length t.frames) own own (Tested a b) (λ y other. refl) s.statics (record s { heap = s.heap ++ [] }) (record (received GivesInt (ScalarResult (Int z)) t') { tasks = Some (tasks_after line (Tested a b) (is_zero (ScalarResult (Int z))) ++ rest); variables = tell_copy (variable_given args 1) (ScalarResult (Int z)) t'.variables })
+        ((q, subst (λ (vs : Variables). Stands own s.statics vs t'.frames q) (sym (told t' line rest (variable_given args 1) t'.variables GivesInt (ScalarResult (Int z)) (AnInt z))) there, g), λ x r e. (r, e))
+
+    refused : LandsBy (Calls line (Tested a b) PushLocalFrame args) (length t.frames) own s.statics (completed classes in_use k s t line (Tested a b) PushLocalFrame args rest [] s (record t { pending = Some (length classes + 1) }) (ScalarResult (Int (negsuc 3))))
+    refused = tested_lands (record t { pending = Some (length classes + 1) }) (negsuc 3) p stands (refl, (pushed, p, IsFalseNow pushed, on_true, on_false))
+
+    pushes : (z : ℤ) → LandsBy (Calls line (Tested a b) PushLocalFrame args) (length t.frames) own s.statics (after_call classes in_use k s t line (Tested a b) PushLocalFrame args rest (push_effect classes s t z))
+    pushes (pos n) =
+        cond_both (nat_le (capacities (record { capacity = n; references = [] } ∷ t.frames)) 1024) _ _ (λ (e : CallEffect). LandsBy (Calls line (Tested a b) PushLocalFrame args) (length t.frames) own s.statics (after_call classes in_use k s t line (Tested a b) PushLocalFrame args rest e))
+        (λ e. tested_lands (record t { frames = record { capacity = n; references = [] } ∷ t.frames }) (pos 0) pushed (stands_pushed s.statics t.variables t.frames p stands (record { capacity = n; references = [] })) (refl, (pushed, p, IsTrueNow p, on_true, on_false)))
+        (λ e. refused)
+    pushes (negsuc n) = refused
+
+    push_is : call_effect classes in_use k s t args PushLocalFrame ≡ push_effect classes s t (number_given args 0)
+    unfolding call_effect
+    push_is = refl
+
+    push_at : (o : Option Trap) → LandsBy (Calls line (Tested a b) PushLocalFrame args) (length t.frames) own s.statics (after_call classes in_use k s t line (Tested a b) PushLocalFrame args rest (checked o (call_effect classes in_use k s t args PushLocalFrame)))
+    push_at None = subst (λ (e : CallEffect). LandsBy (Calls line (Tested a b) PushLocalFrame args) (length t.frames) own s.statics (after_call classes in_use k s t line (Tested a b) PushLocalFrame args rest e)) (sym push_is) (pushes (number_given args 0))
+    push_at (Some trap) = (whole, λ x r g. (r, g))
+
+  no_other : PushLocalFrame ≡ PushLocalFrame → true ≡ false → ⊥
+  no_other e h = cc
+
+  -- PushLocalFrame
+  pub push_lands : (target : Target) (operands : List Operand) (args : List Actual) → Runs (Invoke line target PushLocalFrame operands) (GoesOn rest) p → LandsBy (Calls line target PushLocalFrame args) (length t.frames) own s.statics (call_step classes in_use k s t line target PushLocalFrame args rest false)
+  push_lands (Tested a b) operands args r = push_at a b args r.2 r.3 (trap_of_call classes s t (Tested a b) PushLocalFrame args)
+  push_lands (Declared kind x) operands args r = absurd (no_other refl r.1)
+  push_lands (Assigned x) operands args r = absurd (no_other refl r.1)
+  push_lands Dropped operands args r = absurd (no_other refl r.1)
+
+  -- ---- a frame ends
+
+  gives_any : (r : Reference) → Gives NewLocal (ReferenceResult r)
+  gives_any None = Plainly NullLocal
+  gives_any (Some n) = ALocal n
+
+  pop_is : (args : List Actual) → call_effect classes in_use k s t args PopLocalFrame ≡ Leaves [] s (record t { frames = drop 1 t.frames }) (ReferenceResult (reference_given args 0))
+  unfolding call_effect
+  pop_is args = refl
+
+  pop_at : (target : Target) (args : List Actual) (get : _) → IsNoTest target → ResultGoes target NewLocal get (GoesOn rest) (at p (after_pop p.regions)) → (o : Option Trap) → trap_of_call classes s t target PopLocalFrame args ≡ o
+      → LandsBy (Calls line target PopLocalFrame args) (length t.frames) own s.statics (after_call classes in_use k s t line target PopLocalFrame args rest (checked o (call_effect classes in_use k s t args PopLocalFrame)))
+  pop_at target args get away goes None e =
+      subst (λ (e : CallEffect). LandsBy (Calls line target PopLocalFrame args) (length t.frames) own s.statics (after_call classes in_use k s t line target PopLocalFrame args rest e)) (sym (pop_is args))
+      (given_lands classes in_use k s t line target PopLocalFrame args rest (at p (after_pop p.regions)) own (λ y. refl) NewLocal [] s (record t { frames = drop 1 t.frames }) (ReferenceResult (reference_given args 0)) get refl away
+      (λ is. has_frame (drop 1 t.frames) (has_room classes s.heap t (target_element t.variables target) PopLocalFrame args e refl))
+      (stands_with (λ y. other_than (length t.frames) (own y)) s.statics t.variables (drop 1 t.frames) (at p (after_pop p.regions)) (stands_popped s.statics t.variables t.frames p stands) (popped_owned s.statics t.variables t.frames p stands)) (gives_any (reference_given args 0)) goes)
+  pop_at target args get away goes (Some trap) e = (whole, λ x r g. (r, g))
+
+  -- PopLocalFrame
+  pub pop_lands : (target : Target) (operands : List Operand) (args : List Actual) → Runs (Invoke line target PopLocalFrame operands) (GoesOn rest) p → LandsBy (Calls line target PopLocalFrame args) (length t.frames) own s.statics (call_step classes in_use k s t line target PopLocalFrame args rest false)
+  pop_lands (Tested a b) operands args r = absurd (no_push r.1)
+    where
+      no_push : PopLocalFrame ≡ PushLocalFrame → ⊥
+      no_push e = cc
+  pop_lands (Declared kind x) operands args r = pop_at (Declared kind x) args (get_of (call_seen PopLocalFrame operands)) tt r.2 (trap_of_call classes s t (Declared kind x) PopLocalFrame args) refl
+  pop_lands (Assigned x) operands args r = pop_at (Assigned x) args (get_of (call_seen PopLocalFrame operands)) tt r.2 (trap_of_call classes s t (Assigned x) PopLocalFrame args) refl
+  pop_lands Dropped operands args r = pop_at Dropped args None tt r.2 (trap_of_call classes s t Dropped PopLocalFrame args) refl

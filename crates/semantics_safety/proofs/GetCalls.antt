@@ -1,0 +1,320 @@
+-- The steps of the calls that get a buffer.
+use Rattle.std.proofs.Common.{◌≡◌, ◌≢◌, ℕ, ◌+◌, ◌≤◌, arith, Bool, true, false, ◌⊎◌, inl, inr, List, [], ◌∷◌, ◌++◌, map, filter, length, Option, Some, None, refl, sym, ap, ◌∙◌, subst, if◌then◌else◌}
+use Rattle.std.specs.Prelude.{ℤ, nat_le, nat_lt, zip, ◌||◌, ◌&&◌, not, is_some, slice_get}
+use Rattle.std.specs.List.{list_any}
+use Rattle.std.specs.Option.{option_map}
+use Rattle.std.specs.Str.{bytes_eq}
+use Rattle.base.specs.Bytes.{Identifier, ByName, lookup}
+use Rattle.base.specs.Element.{ElementType}
+use Rattle.syntax.specs.Tree as tree
+use Rattle.class_rules.specs.Class.{Classes}
+use Rattle.jni.specs.Access.{Access, ElementsCopy, ArrayView, CharsCopy, CharsView, is_critical}
+use Rattle.jni.specs.JniFunction.{JniFunction, GetBuffer, PushLocalFrame, is_allowed_pending, prototype}
+use Rattle.jni.specs.Prototype.{GivesBuffer, owner, IsCopy}
+use Rattle.type_rules.specs.Sorts.{Sort, sort_in}
+use Rattle.type_rules.specs.Sorts as sort
+use Rattle.region_rules.specs.RegionStates.{get_of, VariableState, BufferState, Free, Untested, ReferenceAt, BufferIn, state_of, with_new, with_changed}
+use Rattle.semantics.specs.Object.{Reference}
+use Rattle.semantics.specs.Arguments.{Actual, ReferenceActual, look_up, actuals, variable_given, variable_in_actual, reference_in_actual, name_or_zero}
+use Rattle.semantics.specs.CallEffects.{CallEffect, Leaves, BufferResult}
+use Rattle.semantics.specs.CallStep.{put, put_assigned, tell_copy, trap_of_call, target_element, checked, after_call, call_step}
+use Rattle.semantics.specs.CallTable.{call_effect, go_together}
+use Rattle.semantics.specs.Checks.{call_trap, first_trap, is_deleted, is_missing, is_misfit, lacks_room, frames_after}
+use Rattle.semantics.specs.Effect.{tasks_after, Calls}
+use Rattle.semantics.specs.Heap.{Heap, numbers_of}
+use Rattle.semantics.specs.Sight.{held_reference}
+use Rattle.semantics.specs.Task.{Task, Target, Declared, Assigned, Tested, Dropped, VariableKind, ScalarKind, ReferenceKind, FieldKind, BufferKind, Operand, Given, Invoke}
+use Rattle.semantics.specs.Thread.{Thread, Shared, BuffersInUse, Frame, sight_of}
+use Rattle.semantics.specs.ThreadStep.{with_tasks}
+use Rattle.semantics.specs.Value.{Flag, Value, Trap, ExceptionPending, DeletedReference, NullReference, WrongObject, NoCapacity}
+use Rattle.semantics.specs.Variable.{Variable, Scalar, LocalRef, Elements, Buffer, NoBuffer, Copy, View, Variables, Statics, assign}
+use Rattle.semantics_safety.proofs.OwnerLaws.{LandsBy, put_by}
+use Rattle.semantics_safety.specs.Owners.{Owners}
+use Rattle.semantics_safety.specs.Points.{Point, OperandFits, OperandsFit, is_copy, owns}
+use Rattle.semantics_safety.specs.Stands.{VariableFits, IsOf, Lends, Shows, Goes, Stands}
+use Rattle.semantics_safety.specs.Wanted.{Holds, IsNew, DeclaresResult, AssignsResult, ResultGoes, Runs, GoesOn, CallKeeps, call_seen, operand_argument, at, named}
+use Rattle.semantics_safety.proofs.FrameLaws.{counted_here}
+use Rattle.semantics_safety.proofs.NameLaws.{one_or_other, front_same, front_other, lookup_same, lookup_other, known_same, known_other}
+use Rattle.semantics_safety.proofs.QuietLaws.{IsNoTest, nothing_after}
+use Rattle.semantics_safety.proofs.SetLaws.{none_some, once_changed, owners_elsewhere, owners_same, sorts_named, stands_at, stands_kept}
+use Rattle.semantics_safety.proofs.StepLaws.{Lands, same_statics, apart_buffer, sort_of_buffer, buffer_no_copy}
+
+-- NULL, or a buffer of the object that a variable holds
+abbrev pub IsLentBy : Variables → Access → Identifier → Buffer → Type 0
+IsLentBy vs access a b = (b ≡ NoBuffer) ⊎ Lends vs access a b
+
+lent_moved : (vs us : Variables) (access : Access) (a : Identifier) (b : Buffer) → lookup a us ≡ lookup a vs → IsLentBy vs access a b → IsLentBy us access a b
+lent_moved vs us access a b same (inl none) = inl none
+lent_moved vs us access a b same (inr (n, level, e, is)) = inr (n, level, same ∙ e, is)
+
+-- what is known to be a buffer owns nothing
+fewer_owners : (vs : Variables) (x : Identifier) (b : BufferState) (l m : ℕ) (known : ByName VariableState)
+    → length (filter (owns vs l m) (map (λ (v : Identifier × VariableState). (v.0, if bytes_eq x v.0 then BufferIn b else v.1)) known)) ≤ length (filter (owns vs l m) known)
+fewer_owners vs x b l m [] = omega arith
+fewer_owners vs x b l m ((y, v) ∷ known) = by_test (bytes_eq x y) (fewer_owners vs x b l m known)
+  where
+    by_test : (c : Bool) → length (filter (owns vs l m) (map (λ (v : Identifier × VariableState). (v.0, if bytes_eq x v.0 then BufferIn b else v.1)) known)) ≤ length (filter (owns vs l m) known)
+        → length (filter (owns vs l m) ((y, if c then BufferIn b else v) ∷ map (λ (v : Identifier × VariableState). (v.0, if bytes_eq x v.0 then BufferIn b else v.1)) known)) ≤ length (filter (owns vs l m) ((y, v) ∷ known))
+    by_test true later =
+        let old = counted_here (owns vs l m (y, v)) (y, v) (filter (owns vs l m) known) in
+        omega (arith, old, later)
+    by_test false later =
+        let new = counted_here (owns vs l m (y, v)) (y, v) (filter (owns vs l m) (map (λ (v : Identifier × VariableState). (v.0, if bytes_eq x v.0 then BufferIn b else v.1)) known)) in
+        let old = counted_here (owns vs l m (y, v)) (y, v) (filter (owns vs l m) known) in
+        omega (arith, new, old, later)
+
+module _ (classes : Classes) (in_use : BuffersInUse) (k : ℕ) (s : Shared) (t : Thread) (rest : List Task) (p : Point) {own : Owners} (stands : Stands own s.statics t.variables t.frames p) (access : Access) (a : Identifier) (level : ℕ) (here_a : state_of p.regions a ≡ Some (ReferenceAt level true)) (b : Buffer) (is_lent : IsLentBy t.variables access a b) where
+  -- a new variable holds the buffer
+  got_declared : (x : Identifier) (u : ElementType) (w : Bool) → IsNew p x
+      → Stands own s.statics (assign x (Elements u b) t.variables) t.frames (at (named p x (sort.Buffer u w)) (with_new p.regions x (BufferIn (Untested access a))))
+  got_declared x u w new = stands_at s.statics t.variables t.frames p stands x (Elements u b) t.frames (at (named p x (sort.Buffer u w)) (with_new p.regions x (BufferIn (Untested access a)))) (record {
+    elsewhere = λ y other. front_other x y (BufferIn (Untested access a)) p.regions.variables other;
+    apart = λ y c access' m l h at_c same. new.unused y access' (subst (Holds p y access') same h);
+    here = λ v e.
+        let both : Some (BufferIn (Untested access a)) ≡ Some v = sym (front_same x (BufferIn (Untested access a)) p.regions.variables) ∙ e in
+        let one : BufferIn (Untested access a) ≡ v = cc in
+        let other : a ≢ x = λ same. none_some (state_of p.regions x) (ReferenceAt level true) new.unknown (subst (λ (z : Identifier). state_of p.regions z ≡ Some (ReferenceAt level true)) same here_a) in
+        subst (λ (v : VariableState). Shows (assign x (Elements u b) t.variables) v (Some (Elements u b))) one
+        (u, b, refl, lent_moved t.variables (assign x (Elements u b) t.variables) access a b (lookup_other x a (Elements u b) t.variables other) is_lent);
+    sorts = sorts_named s.statics t.variables t.frames p stands x (Elements u b) (sort.Buffer u w) (b, refl);
+    held = λ v c e. inr (access, a, inl (front_same x (BufferIn (Untested access a)) p.regions.variables));
+    known_once = (new.unknown, stands.known_once);
+    depth = stands.depth;
+    backed = λ l m.
+        let same = owners_elsewhere t.variables x (Elements u b) l m p.regions.variables new.unknown in
+        let enough = stands.backed l m in
+        omega (arith, same, enough);
+    keeps = λ y other. refl;
+    owned_here = λ l m n known h. absurd (let c : Elements u b ≡ LocalRef m (Some n) = h in cc);
+  })
+
+  -- a buffer that is there and free holds it
+  got_assigned : (x : Identifier) (u : ElementType) (old : Buffer) → state_of p.regions x ≡ Some (BufferIn Free) → lookup x t.variables ≡ Some (Elements u old)
+      → Stands own s.statics (assign x (Elements u b) t.variables) t.frames (at p (with_changed p.regions x (λ v. BufferIn (Untested access a))))
+  got_assigned x u old e at_x = stands_at s.statics t.variables t.frames p stands x (Elements u b) t.frames (at p (with_changed p.regions x (λ v. BufferIn (Untested access a)))) (record {
+    elsewhere = λ y other. known_other p.regions x y (λ v. BufferIn (Untested access a)) other;
+    apart = λ y c access' m l h at_c. apart_buffer classes in_use k s t rest p stands x u old at_x c m l at_c;
+    here = λ v h.
+        let both : Some (BufferIn (Untested access a)) ≡ Some v = sym (known_there x e) ∙ h in
+        let one : BufferIn (Untested access a) ≡ v = cc in
+        let other : a ≢ x = λ same. let both : Some (ReferenceAt level true) ≡ Some (BufferIn Free) = sym (subst (λ (z : Identifier). state_of p.regions z ≡ Some (ReferenceAt level true)) same here_a) ∙ e in cc in
+        subst (λ (v : VariableState). Shows (assign x (Elements u b) t.variables) v (Some (Elements u b))) one
+        (u, b, refl, lent_moved t.variables (assign x (Elements u b) t.variables) access a b (lookup_other x a (Elements u b) t.variables other) is_lent);
+    sorts = λ y r h. elim (one_or_other y x) [
+      | inl same ↦
+          subst (λ (z : Identifier). VariableFits r (lookup z (assign x (Elements u b) t.variables)) (lookup z s.statics)) (sym same)
+          (subst (λ (o : Option Variable). VariableFits r o (lookup x s.statics)) (sym (lookup_same x (Elements u b) t.variables))
+          (sort_of_buffer classes in_use k s t rest p stands r (lookup x t.variables) (lookup x s.statics) u old b at_x (stands.sorts x r (subst (λ (z : Identifier). sort_in p.names z ≡ Some r) same h))))
+      | inr other ↦ subst (λ (o : Option Variable). VariableFits r o (lookup y s.statics)) (sym (lookup_other x y (Elements u b) t.variables other)) (stands.sorts y r h)
+    ];
+    held = λ v c h. inr (access, a, inl (known_there x e));
+    known_once = once_changed (λ (y : Identifier) (old : VariableState). if bytes_eq x y then BufferIn (Untested access a) else old) p.regions.variables stands.known_once;
+    depth = stands.depth;
+    backed = λ l m.
+        let us = assign x (Elements u b) t.variables in
+        let less = fewer_owners us x (Untested access a) l m p.regions.variables in
+        let same = owners_same t.variables us l m p.regions.variables (λ y. elim (one_or_other y x) [
+          | inl is ↦ subst (λ (z : Identifier). is_copy l m (lookup z us) ≡ is_copy l m (lookup z t.variables)) (sym is)
+              (ap (is_copy l m) (lookup_same x (Elements u b) t.variables) ∙ buffer_no_copy classes in_use k s t rest p stands l m u old b (lookup x t.variables) at_x)
+          | inr other ↦ ap (is_copy l m) (lookup_other x y (Elements u b) t.variables other)
+        ]) in
+        let enough = stands.backed l m in
+        omega (arith, less, same, enough);
+    keeps = λ y other. refl;
+    owned_here = λ l m n known h. absurd (let c : Elements u b ≡ LocalRef m (Some n) = h in cc);
+  })
+    where
+      known_there : (x : Identifier) → state_of p.regions x ≡ Some (BufferIn Free) → state_of (with_changed p.regions x (λ v. BufferIn (Untested access a))) x ≡ Some (BufferIn (Untested access a))
+      known_there x e = known_same p.regions x (λ v. BufferIn (Untested access a)) ∙ ap (option_map (λ (v : VariableState). BufferIn (Untested access a))) e
+
+  declared : (kind : VariableKind) (x : Identifier) → DeclaresResult p kind x (GivesBuffer access) (Some (access, Some a)) (GoesOn rest) → Lands own s.statics (put (Declared kind x) (BufferResult b) s (with_tasks t rest))
+  declared (BufferKind u) x (new, (w, for_it, g)) = ((at (named p x (sort.Buffer u w)) (with_new p.regions x (BufferIn (Untested access a))), got_declared x u w new, g), same_statics s.statics)
+  declared ScalarKind x h = absurd h
+  declared ReferenceKind x h = absurd h
+  declared FieldKind x h = absurd h
+
+  assigned : (x : Identifier) (o : Option Sort) → AssignsResult p o x (GivesBuffer access) (Some (access, Some a)) (GoesOn rest) → Lands own s.statics (put_assigned x (BufferResult b) s (with_tasks t rest) (lookup x t.variables))
+  assigned x (Some (sort.Buffer u w)) (e, for_it, g) =
+      let shown = stands.shows x (BufferIn Free) e in
+      subst (λ (v : Option Variable). Lands own s.statics (put_assigned x (BufferResult b) s (with_tasks t rest) v)) (sym shown.2)
+      ((at p (with_changed p.regions x (λ v. BufferIn (Untested access a))), got_assigned x shown.0 shown.1 e shown.2, g), same_statics s.statics)
+  assigned x o h = absurd h
+
+  -- the buffer goes where it may
+  pub buffer_lands : (target : Target) → ResultGoes target (GivesBuffer access) (Some (access, Some a)) (GoesOn rest) p → Lands own s.statics (put target (BufferResult b) s (with_tasks t rest))
+  buffer_lands (Declared kind x) h = declared kind x h
+  buffer_lands (Assigned x) h = assigned x (sort_in p.names x) h
+  buffer_lands (Tested c d) h = absurd h
+  buffer_lands Dropped h = absurd h.0
+
+-- ---- whether it is a copy
+
+module _ (ss : Statics) (vs : Variables) (frames : List Frame) (p : Point) {own : Owners} (stands : Stands own ss vs frames p) (y : Identifier) (flag : sort_in p.names y ≡ Some sort.Flag) where
+  flag_set : (v : Bool) → Stands own ss (assign y (Scalar (Flag v)) vs) frames p
+  flag_set v =
+      let old = stands.sorts y sort.Flag flag in
+      stands_kept ss vs frames p stands y (Scalar (Flag v)) sort.Flag (Scalar old.0) flag old.1 (λ level r e. no_ref old.0 level r e) (λ u b e. no_buffer old.0 u b e) (Flag v, refl, refl) (λ u b e. absurd (no_buffer (Flag v) u b e))
+    where
+      no_ref : (v : Value) (level : ℕ) (r : _) → Scalar v ≡ LocalRef level r → ⊥
+      no_ref v level r e = cc
+
+      no_buffer : (v : Value) (u : _) (b : Buffer) → Scalar v ≡ Elements u b → ⊥
+      no_buffer v u b e = cc
+
+  not_flag : (a : Identifier) (level : ℕ) (r : Reference) → lookup a vs ≡ Some (LocalRef level r) → a ≢ y
+  not_flag a level r e same =
+      let old = stands.sorts y sort.Flag flag in
+      let there : lookup y vs ≡ Some (LocalRef level r) = subst (λ (z : Identifier). lookup z vs ≡ Some (LocalRef level r)) same e in
+      let both : Some (Scalar old.0) ≡ Some (LocalRef level r) = sym old.1 ∙ there in
+      cc
+
+  -- the flag tells it
+  pub stands_told : (b : Buffer) → Stands own ss (tell_copy y (BufferResult b) vs) frames p
+  stands_told b = by_name y refl b
+    where
+      by_name : (z : Identifier) → z ≡ y → (b : Buffer) → Stands own ss (tell_copy z (BufferResult b) vs) frames p
+      by_name [] same b = stands
+      by_name (c ∷ z) same NoBuffer = stands
+      by_name (c ∷ z) same (Copy n zs) = subst (λ (i : Identifier). Stands own ss (assign i (Scalar (Flag true)) vs) frames p) (sym same) (flag_set true)
+      by_name (c ∷ z) same (View n) = subst (λ (i : Identifier). Stands own ss (assign i (Scalar (Flag false)) vs) frames p) (sym same) (flag_set false)
+
+  -- and references are as they were
+  pub told_apart : (a : Identifier) (level : ℕ) (r : Reference) (b : Buffer) → lookup a vs ≡ Some (LocalRef level r) → lookup a (tell_copy y (BufferResult b) vs) ≡ lookup a vs
+  told_apart a level r b e = by_name y refl b
+    where
+      other : (z : Identifier) → z ≡ y → a ≢ z
+      other z same is = not_flag a level r e (is ∙ same)
+
+      by_name : (z : Identifier) → z ≡ y → (b : Buffer) → lookup a (tell_copy z (BufferResult b) vs) ≡ lookup a vs
+      by_name [] same b = refl
+      by_name (c ∷ z) same NoBuffer = refl
+      by_name (c ∷ z) same (Copy n zs) = lookup_other (c ∷ z) a (Scalar (Flag true)) vs (other (c ∷ z) same)
+      by_name (c ∷ z) same (View n) = lookup_other (c ∷ z) a (Scalar (Flag false)) vs (other (c ∷ z) same)
+
+-- ---- the step
+
+third_fails : (a b c d e : Bool) (u v w x y : Trap) → first_trap ((a, u) ∷ (b, v) ∷ (c, w) ∷ (d, x) ∷ (e, y) ∷ []) ≡ None → c ≡ false
+third_fails true b c d e u v w x y h = absurd (cc)
+third_fails false true c d e u v w x y h = absurd (cc)
+third_fails false false true d e u v w x y h = absurd (cc)
+third_fails false false false d e u v w x y h = refl
+
+-- a call that no trap stopped has all objects that it asks for
+none_missing : (classes : Classes) (heap : Heap) (t : Thread) (buffer : ElementType) (f : JniFunction) (args : List Actual) → call_trap classes heap t buffer f args ≡ None → list_any is_missing (zip (prototype f).parameters args) ≡ false
+unfolding call_trap
+none_missing classes heap t buffer f args none =
+    third_fails (is_some t.pending && not (is_allowed_pending f)) (list_any is_deleted args) (list_any is_missing (zip (prototype f).parameters args))
+    (list_any (is_misfit classes heap) (zip (prototype f).parameters args) || not (go_together classes heap buffer args f))
+    (lacks_room (prototype f).result (slice_get (frames_after f t.frames) 0)) ExceptionPending DeletedReference NullReference WrongObject NoCapacity none
+
+module _ (classes : Classes) (in_use : BuffersInUse) (k : ℕ) (s : Shared) (t : Thread) (line : ℕ) (rest : List Task) (p : Point) {own : Owners} (stands : Stands own s.statics t.variables t.frames p) (whole : Goes own s.statics t t.tasks) where
+  -- the object of the first argument
+  abbrev object_of : Identifier → Option Variable → ℕ
+  object_of a o = name_or_zero (reference_in_actual (Some (ReferenceActual a (held_reference o (lookup a s.statics)))))
+
+  object_is : (a : Identifier) (level n : ℕ) → lookup a t.variables ≡ Some (LocalRef level (Some n)) → object_of a (lookup a t.variables) ≡ n
+  object_is a level n e = ap (object_of a) e
+
+  copy_lent : (access : Access) (a : Identifier) (level n : ℕ) (fits : Bool) (zs : List ℤ) → is_critical access ≡ false → lookup a t.variables ≡ Some (LocalRef level (Some n)) → IsLentBy t.variables access a (if fits then Copy (object_of a (lookup a t.variables)) zs else NoBuffer)
+  copy_lent access a level n true zs critical e = inr (n, level, e, subst (λ (c : Bool). IsOf c n (Copy (object_of a (lookup a t.variables)) zs)) (sym critical) (zs, ap (λ (i : ℕ). Copy i zs) (object_is a level n e)))
+  copy_lent access a level n false zs critical e = inl refl
+
+  view_lent : (access : Access) (a : Identifier) (level n : ℕ) (fits : Bool) → is_critical access ≡ true → lookup a t.variables ≡ Some (LocalRef level (Some n)) → IsLentBy t.variables access a (if fits then View (object_of a (lookup a t.variables)) else NoBuffer)
+  view_lent access a level n true critical e = inr (n, level, e, subst (λ (c : Bool). IsOf c n (View (object_of a (lookup a t.variables)))) (sym critical) (ap (λ (i : ℕ). View i) (object_is a level n e)))
+  view_lent access a level n false critical e = inl refl
+
+  module _ (access : Access) (a : Identifier) (level : ℕ) (here_a : state_of p.regions a ≡ Some (ReferenceAt level true)) (r : Reference) (at_a : lookup a t.variables ≡ Some (LocalRef level r)) (target : Target) (away : IsNoTest target) (goes : ResultGoes target (GivesBuffer access) (Some (access, Some a)) (GoesOn rest) p) where
+    got : (shared : Shared) → shared.statics ≡ s.statics → (b : Buffer) → IsLentBy t.variables access a b → (y : Identifier) → (y ≡ []) ⊎ (sort_in p.names y ≡ Some sort.Flag)
+        → Lands own shared.statics (put target (BufferResult b) shared (record t { tasks = Some (tasks_after line target false ++ rest); variables = tell_copy y (BufferResult b) t.variables }))
+    got shared same b is y told =
+        subst (λ (tasks : List Task). Lands own shared.statics (put target (BufferResult b) shared (record t { tasks = Some tasks; variables = tell_copy y (BufferResult b) t.variables }))) (sym (nothing_after t line rest target false away)) (by_copy told)
+      where
+        there : Stands own shared.statics t.variables t.frames p
+        there = subst (λ (ss : Statics). Stands own ss t.variables t.frames p) (sym same) stands
+
+        by_copy : (y ≡ []) ⊎ (sort_in p.names y ≡ Some sort.Flag) → Lands own shared.statics (put target (BufferResult b) shared (record t { tasks = Some rest; variables = tell_copy y (BufferResult b) t.variables }))
+        by_copy (inl none) =
+            subst (λ (z : Identifier). Lands own shared.statics (put target (BufferResult b) shared (record t { tasks = Some rest; variables = tell_copy z (BufferResult b) t.variables }))) (sym none)
+            (buffer_lands classes in_use k shared t rest p there access a level here_a b is target goes)
+        by_copy (inr flag) =
+            buffer_lands classes in_use k shared (record t { variables = tell_copy y (BufferResult b) t.variables }) rest p (stands_told shared.statics t.variables t.frames p there y flag b) access a level here_a b
+            (lent_moved t.variables (tell_copy y (BufferResult b) t.variables) access a b (told_apart shared.statics t.variables t.frames p there y flag a level r b at_a) is) target goes
+
+  -- the variable of `isCopy`
+  abbrev told_in : Operand → Identifier
+  told_in c = variable_in_actual (Some (look_up (sight_of s t) (IsCopy, c)))
+
+  told_fits : (c : Operand) → OperandFits p IsCopy c → (told_in c ≡ []) ⊎ (sort_in p.names (told_in c) ≡ Some sort.Flag)
+  told_fits (Given (tree.Value (tree.Named n))) fit = inl refl
+  told_fits (Given (tree.AddressOf y)) fit = inr fit
+  told_fits c fit = absurd fit
+
+  -- the arguments of such a call
+  abbrev got_with : Access → Identifier → Operand → List Actual
+  got_with access a c = actuals (sight_of s t) (GetBuffer access) (Given (tree.Value (tree.Variable a)) ∷ c ∷ [])
+
+  -- the buffer that it gives
+  abbrev buffer_got : Access → Identifier → Buffer
+  buffer_got (ElementsCopy u) a = if nat_le (in_use.copied + length (numbers_of s.heap (object_of a (lookup a t.variables)))) 65536 then Copy (object_of a (lookup a t.variables)) (numbers_of s.heap (object_of a (lookup a t.variables))) else NoBuffer
+  buffer_got CharsCopy a = if nat_le (in_use.copied + length (numbers_of s.heap (object_of a (lookup a t.variables)))) 65536 then Copy (object_of a (lookup a t.variables)) (numbers_of s.heap (object_of a (lookup a t.variables))) else NoBuffer
+  buffer_got ArrayView a = if nat_lt in_use.views 64 then View (object_of a (lookup a t.variables)) else NoBuffer
+  buffer_got CharsView a = if nat_lt in_use.views 64 then View (object_of a (lookup a t.variables)) else NoBuffer
+
+  got_lent : (access : Access) (a : Identifier) (level n : ℕ) → lookup a t.variables ≡ Some (LocalRef level (Some n)) → IsLentBy t.variables access a (buffer_got access a)
+  got_lent (ElementsCopy u) a level n e = copy_lent (ElementsCopy u) a level n _ _ refl e
+  got_lent CharsCopy a level n e = copy_lent CharsCopy a level n _ _ refl e
+  got_lent ArrayView a level n e = view_lent ArrayView a level n _ refl e
+  got_lent CharsView a level n e = view_lent CharsView a level n _ refl e
+
+  got_is : (access : Access) (a : Identifier) (c : Operand) → call_effect classes in_use k s t (got_with access a c) (GetBuffer access) ≡ Leaves [] s t (BufferResult (buffer_got access a))
+  unfolding call_effect
+  got_is (ElementsCopy u) a c = refl
+  got_is CharsCopy a c = refl
+  got_is ArrayView a c = refl
+  got_is CharsView a c = refl
+
+  told_is : (access : Access) (a : Identifier) (c : Operand) → variable_given (got_with access a c) 1 ≡ told_in c
+  told_is (ElementsCopy u) a c = refl
+  told_is CharsCopy a c = refl
+  told_is ArrayView a c = refl
+  told_is CharsView a c = refl
+
+  -- NULL would have been a trap
+  null_missing : (access : Access) (a : Identifier) (c : Operand) (level : ℕ) → lookup a t.variables ≡ Some (LocalRef level None) → list_any is_missing (zip (prototype (GetBuffer access)).parameters (got_with access a c)) ≡ true
+  null_missing (ElementsCopy u) a c level e = ap (λ (o : Option Variable). is_missing (owner (ElementsCopy u), ReferenceActual a (held_reference o (lookup a s.statics))) || list_any is_missing ((IsCopy, look_up (sight_of s t) (IsCopy, c)) ∷ [])) e
+  null_missing CharsCopy a c level e = ap (λ (o : Option Variable). is_missing (owner CharsCopy, ReferenceActual a (held_reference o (lookup a s.statics))) || list_any is_missing ((IsCopy, look_up (sight_of s t) (IsCopy, c)) ∷ [])) e
+  null_missing ArrayView a c level e = ap (λ (o : Option Variable). is_missing (owner ArrayView, ReferenceActual a (held_reference o (lookup a s.statics))) || list_any is_missing ((IsCopy, look_up (sight_of s t) (IsCopy, c)) ∷ [])) e
+  null_missing CharsView a c level e = ap (λ (o : Option Variable). is_missing (owner CharsView, ReferenceActual a (held_reference o (lookup a s.statics))) || list_any is_missing ((IsCopy, look_up (sight_of s t) (IsCopy, c)) ∷ [])) e
+
+  got_at : (access : Access) (a : Identifier) (c : Operand) (level : ℕ) (r : Reference) (target : Target) → IsNoTest target → state_of p.regions a ≡ Some (ReferenceAt level true) → lookup a t.variables ≡ Some (LocalRef level r) → OperandFits p IsCopy c
+      → ResultGoes target (GivesBuffer access) (Some (access, Some a)) (GoesOn rest) p → (o : Option Trap) → trap_of_call classes s t target (GetBuffer access) (got_with access a c) ≡ o
+      → LandsBy (Calls line target (GetBuffer access) (got_with access a c)) (length t.frames) own s.statics (after_call classes in_use k s t line target (GetBuffer access) (got_with access a c) rest (checked o (call_effect classes in_use k s t (got_with access a c) (GetBuffer access))))
+  got_at access a c level r target away here_a at_a fit goes (Some trap) e = (whole, λ x q g. (q, g))
+  got_at access a c level None target away here_a at_a fit goes None e =
+      absurd (let missing = null_missing access a c level at_a in let none = none_missing classes s.heap t (target_element t.variables target) (GetBuffer access) (got_with access a c) e in let both : true ≡ false = sym missing ∙ none in cc)
+  got_at access a c level (Some n) target away here_a at_a fit goes None e =
+      subst (λ (e : CallEffect). LandsBy (Calls line target (GetBuffer access) (got_with access a c)) (length t.frames) own s.statics (after_call classes in_use k s t line target (GetBuffer access) (got_with access a c) rest e)) (sym (got_is access a c))
+      (put_by line (GetBuffer access) (got_with access a c) (length t.frames) own own target (λ y other. refl) (BufferResult (buffer_got access a)) s.statics _ _
+      (subst (λ (y : Identifier). Lands own s.statics (put target (BufferResult (buffer_got access a)) (record s { heap = s.heap ++ [] }) (record t { tasks = Some (tasks_after line target false ++ rest); variables = tell_copy y (BufferResult (buffer_got access a)) t.variables }))) (sym (told_is access a c))
+      (got access a level here_a (Some n) at_a target away goes (record s { heap = s.heap ++ [] }) refl (buffer_got access a) (got_lent access a level n at_a) (told_in c) (told_fits c fit))))
+
+  get_operands : (access : Access) (target : Target) (operands : List Operand) → IsNoTest target → CallKeeps p (GetBuffer access) (map operand_argument operands) → OperandsFit p (owner access ∷ IsCopy ∷ []) operands
+      → ResultGoes target (GivesBuffer access) (get_of (call_seen (GetBuffer access) operands)) (GoesOn rest) p
+      → LandsBy (Calls line target (GetBuffer access) (actuals (sight_of s t) (GetBuffer access) operands)) (length t.frames) own s.statics (call_step classes in_use k s t line target (GetBuffer access) (actuals (sight_of s t) (GetBuffer access) operands) rest false)
+  get_operands access target (Given (tree.Value (tree.Variable a)) ∷ c ∷ []) away (level, e) fit goes =
+      let shown = stands.shows a (ReferenceAt level true) e in
+      got_at access a c level shown.0 target away e shown.1 fit.1.0 goes (trap_of_call classes s t target (GetBuffer access) (got_with access a c)) refl
+  get_operands access target (Given (tree.Value (tree.Variable a)) ∷ c ∷ o ∷ operands) away rules fit goes = absurd fit.1.1
+  get_operands access target (Given (tree.Value (tree.Variable a)) ∷ []) away rules fit goes = absurd fit.1
+  get_operands access target operands away rules fit goes = absurd rules
+
+  get_no_push : (access : Access) → GetBuffer access ≡ PushLocalFrame → ⊥
+  get_no_push access e = cc
+
+  -- the calls that get a buffer
+  pub get_lands : (access : Access) (target : Target) (operands : List Operand) → Runs (Invoke line target (GetBuffer access) operands) (GoesOn rest) p
+      → LandsBy (Calls line target (GetBuffer access) (actuals (sight_of s t) (GetBuffer access) operands)) (length t.frames) own s.statics (call_step classes in_use k s t line target (GetBuffer access) (actuals (sight_of s t) (GetBuffer access) operands) rest false)
+  get_lands access (Tested a b) operands r = absurd (get_no_push access r.1)
+  get_lands access (Declared kind x) operands r = get_operands access (Declared kind x) operands tt r.0.rules r.0.sorts r.2
+  get_lands access (Assigned x) operands r = get_operands access (Assigned x) operands tt r.0.rules r.0.sorts r.2
+  get_lands access Dropped operands r = get_operands access Dropped operands tt r.0.rules r.0.sorts r.2

@@ -1,0 +1,92 @@
+-- What is known of a statement that breaks no rule of sorts, and of the statements inside it.
+use Rattle.std.proofs.Common.{◌≡◌, Bool, true, false, not, ◌||◌, List, [], ◌∷◌, ◌++◌, refl}
+use Rattle.std.specs.Prelude.{flat_map}
+use Rattle.std.specs.List.{list_any, list_all}
+use Rattle.std.specs.Option.{is_none}
+use Rattle.base.specs.Bytes.{Identifier}
+use Rattle.base.specs.Options.{some_passes}
+use Rattle.syntax.specs.Parts.{statements_of, line_of, declared_name, right_side, own_call, own_expressions, names_declared}
+use Rattle.syntax.specs.Tree.{ResultType, Stmt, If, IfElse, While}
+use Rattle.jni.specs.JniFunction.{function_named}
+use Rattle.type_rules.specs.Sorts.{Scope, call_arguments_fit}
+use Rattle.type_rules.specs.SortRules.{SortRule, UnknownName, DeclaredTwice, SortMisfit, UnknownFunction, ArgumentCount, ReferenceCopied, BadMode, ReadOnlyWrite, sort_rules, Place, StatementForm, has_name, is_formed, statement_fits, has_wrong_count, has_wrong_mode, copies_reference, set_sort, breaks, broken_at, places_within, places_of}
+use Rattle.type_rules.proofs.PlaceLists.{AreUnbroken, first_empty, second_empty, none_broken, first_false, second_false}
+
+-- what a statement that breaks no rule is known for
+pub record IsKept (known : Scope) (taken : List Identifier) (returns : ResultType) (s : Stmt) : Type 0 where
+  pub new : some_passes (has_name taken) (declared_name s) ≡ false
+  pub fits : statement_fits known returns s ≡ true
+  pub arguments : some_passes (λ c. not (call_arguments_fit known c (function_named c.function))) (own_call s) ≡ false
+  pub there : some_passes (λ c. is_none (function_named c.function)) (own_call s) ≡ false
+  pub count : some_passes (λ c. has_wrong_count c (function_named c.function)) (own_call s) ≡ false
+  pub uncopied : copies_reference known (set_sort known s) (right_side s) ≡ false
+  pub modes : some_passes (λ c. has_wrong_mode c (function_named c.function)) (own_call s) ≡ false
+
+fitting : (a b c : Bool) → (not a || not b || c) ≡ false → (b ≡ true) × (c ≡ false)
+fitting true true c h = (refl, h)
+fitting a b c h = absurd (cc)
+
+abbrev pub statement_place : ResultType → Scope → List Identifier → Stmt → Place
+statement_place returns known taken s = record { line = line_of s; known = known; taken = taken; returns = returns; form = StatementForm s }
+
+-- the rules after others
+abbrev after_copies : List SortRule
+after_copies = BadMode ∷ ReadOnlyWrite ∷ []
+
+abbrev after_counts : List SortRule
+after_counts = ReferenceCopied ∷ after_copies
+
+abbrev after_functions : List SortRule
+after_functions = ArgumentCount ∷ after_counts
+
+abbrev after_sorts : List SortRule
+after_sorts = UnknownFunction ∷ after_functions
+
+abbrev after_twice : List SortRule
+after_twice = SortMisfit ∷ after_sorts
+
+abbrev after_names : List SortRule
+after_names = DeclaredTwice ∷ after_twice
+
+is_kept : (returns : ResultType) (known : Scope) (taken : List Identifier) (s : Stmt) → broken_at (statement_place returns known taken s) ≡ [] → IsKept known taken returns s
+is_kept returns known taken s none =
+    let place = statement_place returns known taken s in
+    let p : SortRule → Bool = λ rule. breaks rule place place.form in
+    let names = second_false (p UnknownName) (list_any p after_names) (none_broken p (line_of s) sort_rules none) in
+    let twice = second_false (p DeclaredTwice) (list_any p after_twice) names in
+    let sorts = second_false (p SortMisfit) (list_any p after_sorts) twice in
+    let functions = second_false (p UnknownFunction) (list_any p after_functions) sorts in
+    let counts = second_false (p ArgumentCount) (list_any p after_counts) functions in
+    let copies = second_false (p ReferenceCopied) (list_any p after_copies) counts in
+    let fit = fitting (list_all (is_formed known) (own_expressions s)) (statement_fits known returns s) (some_passes (λ c. not (call_arguments_fit known c (function_named c.function))) (own_call s)) (first_false (p SortMisfit) (list_any p after_sorts) twice) in
+    record {
+      new = first_false (p DeclaredTwice) (list_any p after_twice) names;
+      fits = fit.0;
+      arguments = fit.1;
+      there = first_false (p UnknownFunction) (list_any p after_functions) sorts;
+      count = first_false (p ArgumentCount) (list_any p after_counts) functions;
+      uncopied = first_false (p ReferenceCopied) (list_any p after_copies) counts;
+      modes = first_false (p BadMode) (list_any p (ReadOnlyWrite ∷ [])) copies;
+    }
+
+-- ---- places inside
+
+-- the places of the statements inside a statement
+abbrev pub places_inside : ResultType → Scope → List Identifier → Stmt → List Place
+places_inside returns known taken (If line test then') = places_of returns known taken then'
+places_inside returns known taken (IfElse line test then' else') = places_of returns known taken then' ++ places_of returns known (taken ++ names_declared (statements_of then')) else'
+places_inside returns known taken (While line test body) = places_of returns known taken body
+places_inside returns known taken s = []
+
+parts_kept : (returns : ResultType) (known : Scope) (taken : List Identifier) (s : Stmt) → AreUnbroken (places_within returns known taken s) → AreUnbroken (statement_place returns known taken s ∷ places_inside returns known taken s)
+parts_kept returns known taken (If line test then') h = h
+parts_kept returns known taken (IfElse line test then' else') h = h
+parts_kept returns known taken (While line test body) h = h
+parts_kept returns known taken s h = h
+
+pub own_kept : (returns : ResultType) (known : Scope) (taken : List Identifier) (s : Stmt) → AreUnbroken (places_within returns known taken s) → IsKept known taken returns s
+own_kept returns known taken s h =
+    is_kept returns known taken s (first_empty (broken_at (statement_place returns known taken s)) (flat_map broken_at (places_inside returns known taken s)) (parts_kept returns known taken s h))
+
+pub inside_kept : (returns : ResultType) (known : Scope) (taken : List Identifier) (s : Stmt) → AreUnbroken (places_within returns known taken s) → AreUnbroken (places_inside returns known taken s)
+inside_kept returns known taken s h = second_empty (broken_at (statement_place returns known taken s)) (flat_map broken_at (places_inside returns known taken s)) (parts_kept returns known taken s h)

@@ -1,0 +1,109 @@
+-- The step of a quiet call keeps what holds of its thread, and is possible.
+use Rattle.std.proofs.Common.{◌≡◌, ℕ, Bool, true, false, List, [], ◌∷◌, map, Option, Some, None, refl, subst, length}
+use Rattle.std.specs.Prelude.{◌&&◌, ◌||◌, not, is_some, zip, slice_get}
+use Rattle.std.specs.List.{list_any}
+use Rattle.base.specs.Element.{ElementType}
+use Rattle.class_rules.specs.Class.{Classes}
+use Rattle.jni.specs.JniFunction as jni
+use Rattle.jni.specs.JniFunction.{JniFunction, PushLocalFrame, is_allowed_pending, prototype}
+use Rattle.jni.specs.Prototype.{ResultKind, NewLocal}
+use Rattle.semantics.specs.Arguments.{Actual}
+use Rattle.semantics.specs.CallStep.{trap_of_call, target_element, checked, after_call, call_step}
+use Rattle.semantics.specs.Checks.{call_trap, first_trap, is_deleted, is_missing, is_misfit, frames_after, is_full, lacks_room}
+use Rattle.semantics.specs.Heap.{Heap}
+use Rattle.semantics.specs.Value.{Trap, ExceptionPending, DeletedReference, NullReference, WrongObject, NoCapacity}
+use Rattle.semantics.specs.CallTable.{call_effect, go_together}
+use Rattle.region_rules.specs.RegionStates as states
+use Rattle.region_rules.specs.RegionStates.{RegionState, get_of}
+use Rattle.semantics.specs.Task.{Task, Target, Declared, Assigned, Tested, Dropped, Operand, Invoke}
+use Rattle.semantics.specs.Thread.{Frame, Thread, Shared, BuffersInUse}
+use Rattle.semantics.specs.Effect.{Calls}
+use Rattle.base.specs.Bytes.{Identifier}
+use Rattle.semantics_safety.proofs.OwnerLaws.{LandsBy, LandsByIfPossible}
+use Rattle.semantics_safety.specs.Owners.{Owners, left_by}
+use Rattle.semantics_safety.specs.Points.{Point}
+use Rattle.semantics_safety.specs.Stands.{Goes, Stands}
+use Rattle.semantics_safety.specs.Wanted.{Runs, ResultGoes, GoesOn, call_seen, operand_argument, at}
+use Rattle.semantics_safety.proofs.QuietCalls.{IsQuietFunction, effect_quiet, fails_simply}
+use Rattle.semantics_safety.proofs.FrameLaws.{HasFrame}
+use Rattle.semantics_safety.proofs.QuietLaws.{IsFree, IsNoTest, free_call, quiet_lands, refused_lands, free_owners}
+
+quiet_free : (f : JniFunction) → IsQuietFunction f → IsFree f
+quiet_free (jni.ReleaseBuffer access) h = absurd h
+quiet_free jni.DeleteLocalRef h = absurd h
+quiet_free jni.PopLocalFrame h = absurd h
+quiet_free f h = tt
+
+quiet_no_push : (f : JniFunction) → IsQuietFunction f → f ≡ PushLocalFrame → ⊥
+quiet_no_push f h e = subst IsQuietFunction e h
+
+-- ---- room for a local reference
+
+last_fails : (a b c d e : Bool) (u v w x y : Trap) → first_trap ((a, u) ∷ (b, v) ∷ (c, w) ∷ (d, x) ∷ (e, y) ∷ []) ≡ None → e ≡ false
+last_fails true b c d e u v w x y h = absurd (cc)
+last_fails false true c d e u v w x y h = absurd (cc)
+last_fails false false true d e u v w x y h = absurd (cc)
+last_fails false false false true e u v w x y h = absurd (cc)
+last_fails false false false false true u v w x y h = absurd (cc)
+last_fails false false false false false u v w x y h = refl
+
+frames_stay : (f : JniFunction) (frames : List Frame) → IsFree f → frames_after f frames ≡ frames
+frames_stay (jni.ReleaseBuffer access) frames h = absurd h
+frames_stay jni.DeleteLocalRef frames h = absurd h
+frames_stay jni.PopLocalFrame frames h = absurd h
+frames_stay f frames h = refl
+
+pub has_frame : (frames : List Frame) → is_full (slice_get frames 0) ≡ false → HasFrame frames
+has_frame [] h = absurd (cc)
+has_frame (frame ∷ below) h = tt
+
+-- a call that no trap stopped has room for its result
+pub has_room : (classes : Classes) (heap : Heap) (t : Thread) (buffer : ElementType) (f : JniFunction) (args : List Actual) → call_trap classes heap t buffer f args ≡ None → (prototype f).result ≡ NewLocal → is_full (slice_get (frames_after f t.frames) 0) ≡ false
+unfolding call_trap
+has_room classes heap t buffer f args none is =
+    subst (λ (kind : ResultKind). lacks_room kind (slice_get (frames_after f t.frames) 0) ≡ false) is (last_fails
+    (is_some t.pending && not (is_allowed_pending f))
+    (list_any is_deleted args)
+    (list_any is_missing (zip (prototype f).parameters args))
+    (list_any (is_misfit classes heap) (zip (prototype f).parameters args) || not (go_together classes heap buffer args f))
+    (lacks_room (prototype f).result (slice_get (frames_after f t.frames) 0))
+    ExceptionPending DeletedReference NullReference WrongObject NoCapacity none)
+
+module _ (classes : Classes) (in_use : BuffersInUse) (k : ℕ) (s : Shared) (t : Thread) (line : ℕ) (f : JniFunction) (args : List Actual) (rest : List Task) (p : Point) {own : Owners} (stands : Stands own s.statics t.variables t.frames p) (quiet : IsQuietFunction f) (whole : Goes own s.statics t t.tasks) where
+  goes_at : (target : Target) (operands : List Operand) → ResultGoes target (prototype f).result (get_of (call_seen f operands)) (GoesOn rest) (at p (states.after_call p.regions (call_seen f operands)))
+      → ResultGoes target (prototype f).result (get_of (call_seen f operands)) (GoesOn rest) p
+  goes_at target operands h = subst (λ (regions : RegionState). ResultGoes target (prototype f).result (get_of (call_seen f operands)) (GoesOn rest) (at p regions)) (free_call f p.regions (map operand_argument operands) (quiet_free f quiet)) h
+
+  left : (y : Identifier) → own y ≡ left_by f args (length t.frames) own y
+  left y = free_owners f args (length t.frames) own (quiet_free f quiet) y
+
+  room : (target : Target) → trap_of_call classes s t target f args ≡ None → (prototype f).result ≡ NewLocal → HasFrame t.frames
+  room target none is = has_frame t.frames (subst (λ (frames : List Frame). is_full (slice_get frames 0) ≡ false) (frames_stay f t.frames (quiet_free f quiet)) (has_room classes s.heap t (target_element t.variables target) f args none is))
+
+  lands_at : (target : Target) (operands : List Operand) → IsNoTest target → ResultGoes target (prototype f).result (get_of (call_seen f operands)) (GoesOn rest) p
+      → LandsBy (Calls line target f args) (length t.frames) own s.statics (call_step classes in_use k s t line target f args rest false)
+  lands_at target operands away h = by_trap (trap_of_call classes s t target f args) refl
+    where
+      by_trap : (o : Option Trap) → trap_of_call classes s t target f args ≡ o → LandsBy (Calls line target f args) (length t.frames) own s.statics (after_call classes in_use k s t line target f args rest (checked o (call_effect classes in_use k s t args f)))
+      by_trap None e =
+          quiet_lands classes in_use k s t line target f args rest p stands left (get_of (call_seen f operands)) (call_effect classes in_use k s t args f) away whole (room target e)
+          (effect_quiet classes in_use k s t args f quiet) h
+      by_trap (Some trap) e = (whole, λ x r g. (r, g))
+
+  refused_at : (target : Target) (operands : List Operand) → IsNoTest target → ResultGoes target (prototype f).result (get_of (call_seen f operands)) (GoesOn rest) p
+      → LandsByIfPossible (Calls line target f args) (length t.frames) own s.statics (call_step classes in_use k s t line target f args rest true)
+  refused_at target operands away h = refused_lands classes in_use k s t line target f args rest p stands left (get_of (call_seen f operands)) _ away (fails_simply f quiet) h
+
+  -- the call's step, unmarked
+  pub call_lands : (target : Target) (operands : List Operand) → Runs (Invoke line target f operands) (GoesOn rest) p → LandsBy (Calls line target f args) (length t.frames) own s.statics (call_step classes in_use k s t line target f args rest false)
+  call_lands (Tested a b) operands r = absurd (quiet_no_push f quiet r.1)
+  call_lands (Declared kind x) operands r = lands_at (Declared kind x) operands tt (goes_at (Declared kind x) operands r.2)
+  call_lands (Assigned x) operands r = lands_at (Assigned x) operands tt (goes_at (Assigned x) operands r.2)
+  call_lands Dropped operands r = lands_at Dropped operands tt (goes_at Dropped operands r.2)
+
+  -- and marked as refused
+  pub refused_call_lands : (target : Target) (operands : List Operand) → Runs (Invoke line target f operands) (GoesOn rest) p → LandsByIfPossible (Calls line target f args) (length t.frames) own s.statics (call_step classes in_use k s t line target f args rest true)
+  refused_call_lands (Tested a b) operands r = absurd (quiet_no_push f quiet r.1)
+  refused_call_lands (Declared kind x) operands r = refused_at (Declared kind x) operands tt (goes_at (Declared kind x) operands r.2)
+  refused_call_lands (Assigned x) operands r = refused_at (Assigned x) operands tt (goes_at (Assigned x) operands r.2)
+  refused_call_lands Dropped operands r = refused_at Dropped operands tt (goes_at Dropped operands r.2)

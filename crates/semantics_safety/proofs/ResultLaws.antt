@@ -1,0 +1,120 @@
+-- A thread is at the point after a call's result that is no buffer and no new local reference.
+use Rattle.std.proofs.Common.{◌≡◌, ℕ, Bool, List, Option, Some, None, refl, sym, ◌∙◌, subst}
+use Rattle.std.specs.Prelude.{ℤ}
+use Rattle.base.specs.Bytes.{Identifier, lookup}
+use Rattle.base.specs.Element.{ElementType}
+use Rattle.class_rules.specs.Class.{Classes}
+use Rattle.class_rules.specs.Fields.{FieldId}
+use Rattle.jni.specs.Access.{Access}
+use Rattle.jni.specs.Prototype.{ResultKind, NewLocal, NewGlobal, GivesFlag, GivesInt, GivesField, GivesNothing}
+use Rattle.type_rules.specs.Sorts.{Sort, sort_in}
+use Rattle.type_rules.specs.Sorts as sort
+use Rattle.semantics.specs.Object.{Reference}
+use Rattle.semantics.specs.CallEffects.{CallResult, NoResult, NullResult, ScalarResult, ReferenceResult, FieldResult}
+use Rattle.semantics.specs.CallStep.{put, put_assigned, static_result}
+use Rattle.semantics.specs.Task.{Task, Target, Declared, Assigned, Tested, Dropped, VariableKind, ScalarKind, ReferenceKind, FieldKind, BufferKind}
+use Rattle.semantics.specs.Thread.{Thread, Shared, BuffersInUse}
+use Rattle.semantics.specs.ThreadStep.{with_tasks}
+use Rattle.semantics.specs.Value.{Value, Int, Flag}
+use Rattle.semantics.specs.Variable.{Variable, Scalar, LocalRef, FieldHandle, Elements, Buffer, StaticReference}
+use Rattle.semantics_safety.specs.Owners.{Owners}
+use Rattle.semantics_safety.specs.Points.{Point}
+use Rattle.semantics_safety.specs.Stands.{VariableFits, Stands}
+use Rattle.region_rules.specs.RegionStates.{with_changed}
+use Rattle.semantics_safety.specs.Wanted.{revived, DeclaresResult, AssignsResult, ResultGoes, GoesOn, at, named}
+use Rattle.semantics_safety.proofs.SetLaws.{stands_new, stands_kept}
+use Rattle.semantics_safety.proofs.StepLaws.{Lands}
+use Rattle.semantics_safety.proofs.NullLaws.{nulled, null_lands, assigned_lands, stands_static, statics_stay}
+
+-- the results of a kind that put no reference into a frame and no buffer into a variable
+pub data Simple : ResultKind → CallResult → Type 0 where
+  AnInt : (z : ℤ) → Simple GivesInt (ScalarResult (Int z))
+  AFlag : (b : Bool) → Simple GivesFlag (ScalarResult (Flag b))
+  AField : (f : Option FieldId) → Simple GivesField (FieldResult f)
+  NoField : Simple GivesField NullResult
+  AGlobal : (r : Reference) → Simple NewGlobal (ReferenceResult r)
+  NoGlobal : Simple NewGlobal NullResult
+  NoLocal : Simple NewLocal NullResult
+  NullLocal : Simple NewLocal (ReferenceResult None)
+  NoResultThere : Simple GivesNothing NoResult
+
+module _ (classes : Classes) (in_use : BuffersInUse) (k : ℕ) (s : Shared) (t : Thread) (rest : List Task) (p : Point) {own : Owners} (stands : Stands own s.statics t.variables t.frames p) where
+  scalar_no_buffer : (v : Value) (u : ElementType) (b : Buffer) → Scalar v ≡ Elements u b → ⊥
+  scalar_no_buffer v u b e = cc
+
+  scalar_no_ref : (v : Value) (level : ℕ) (r : _) → Scalar v ≡ LocalRef level r → ⊥
+  scalar_no_ref v level r e = cc
+
+  field_no_buffer : (f : Option FieldId) (u : ElementType) (b : Buffer) → FieldHandle f ≡ Elements u b → ⊥
+  field_no_buffer f u b e = cc
+
+  field_no_ref : (f : Option FieldId) (level : ℕ) (r : _) → FieldHandle f ≡ LocalRef level r → ⊥
+  field_no_ref f level r e = cc
+
+  stay : (x : Identifier) (r : StaticReference) → lookup x s.statics ≡ Some r → (q : StaticReference) × (lookup x s.statics ≡ Some q)
+  stay x r e = (r, e)
+
+  declared : (kind : VariableKind) (x : Identifier) (result : ResultKind) (given : CallResult) (get : Option (Access × Option Identifier)) → Simple result given → DeclaresResult p kind x result get (GoesOn rest) → Lands own s.statics (put (Declared kind x) given s (with_tasks t rest))
+  declared ScalarKind x result given get (AnInt z) (new, g) =
+      ((named p x sort.Jint, stands_new s.statics t.variables t.frames p stands x (Scalar (Int z)) sort.Jint new (Int z, refl, refl) (λ u b c. absurd (scalar_no_buffer (Int z) u b c)), g), stay)
+  declared ScalarKind x result given get (AFlag b) (new, g) =
+      ((named p x sort.Flag, stands_new s.statics t.variables t.frames p stands x (Scalar (Flag b)) sort.Flag new (Flag b, refl, refl) (λ u c d. absurd (scalar_no_buffer (Flag b) u c d)), g), stay)
+  declared FieldKind x result given get (AField f) (new, g) =
+      ((named p x sort.FieldId, stands_new s.statics t.variables t.frames p stands x (FieldHandle f) sort.FieldId new (f, refl) (λ u b c. absurd (field_no_buffer f u b c)), g), stay)
+  declared FieldKind x result given get NoField h = null_lands classes in_use k s t rest p stands (Declared FieldKind x) h
+  declared ReferenceKind x result given get NoLocal h = null_lands classes in_use k s t rest p stands (Declared ReferenceKind x) h
+  declared ReferenceKind x result given get NullLocal h = null_lands classes in_use k s t rest p stands (Declared ReferenceKind x) h
+  declared (BufferKind u) x result given get (AnInt z) h = absurd h
+  declared (BufferKind u) x result given get (AFlag b) h = absurd h
+  declared (BufferKind u) x result given get (AField f) h = absurd h
+  declared (BufferKind u) x result given get NoField h = absurd h
+  declared (BufferKind u) x result given get (AGlobal r) h = absurd h
+  declared (BufferKind u) x result given get NoGlobal h = absurd h
+  declared (BufferKind u) x result given get NoLocal h = absurd h
+  declared (BufferKind u) x result given get NullLocal h = absurd h
+  declared (BufferKind u) x result given get NoResultThere h = absurd h
+  declared kind x result given get simple h = absurd h
+
+  number_put : (x : Identifier) (r : Sort) (v : Value) (o : Option Variable) → sort_in p.names x ≡ Some r → lookup x t.variables ≡ o → (old : Value) × (o ≡ Some (Scalar old)) → VariableFits r (Some (Scalar v)) (lookup x s.statics) → GoesOn rest p → Lands own s.statics (put_assigned x (ScalarResult v) s (with_tasks t rest) o)
+  number_put x r v o e at_x (old, is) fits g =
+      subst (λ (w : Option Variable). Lands own s.statics (put_assigned x (ScalarResult v) s (with_tasks t rest) w)) (sym is)
+      ((p, stands_kept s.statics t.variables t.frames p stands x (Scalar v) r (Scalar old) e (at_x ∙ is) (scalar_no_ref old) (scalar_no_buffer old) fits (λ u b c. absurd (scalar_no_buffer v u b c)), g), stay)
+
+  field_put : (x : Identifier) (f : Option FieldId) (o : Option Variable) → sort_in p.names x ≡ Some sort.FieldId → lookup x t.variables ≡ o → (old : Option FieldId) × (o ≡ Some (FieldHandle old)) → GoesOn rest p → Lands own s.statics (put_assigned x (FieldResult f) s (with_tasks t rest) o)
+  field_put x f o e at_x (old, is) g =
+      subst (λ (w : Option Variable). Lands own s.statics (put_assigned x (FieldResult f) s (with_tasks t rest) w)) (sym is)
+      ((p, stands_kept s.statics t.variables t.frames p stands x (FieldHandle f) sort.FieldId (FieldHandle old) e (at_x ∙ is) (field_no_ref old) (field_no_buffer old) (f, refl) (λ u b c. absurd (field_no_buffer f u b c)), g), stay)
+
+  static_put : (x : Identifier) (given : CallResult) (o : Option Variable) → o ≡ None → GoesOn rest p → Lands own s.statics (put_assigned x given s (with_tasks t rest) o)
+  static_put x given o none g =
+      subst (λ (w : Option Variable). Lands own s.statics (put_assigned x given s (with_tasks t rest) w)) (sym none)
+      ((p, stands_static classes in_use k s t rest p stands x (static_result given), g), statics_stay classes in_use k s t rest p stands x (static_result given))
+
+  assigned : (x : Identifier) (o : Option Sort) (result : ResultKind) (given : CallResult) (get : Option (Access × Option Identifier)) → sort_in p.names x ≡ o → Simple result given → AssignsResult p o x result get (GoesOn rest) → Lands own s.statics (put_assigned x given s (with_tasks t rest) (lookup x t.variables))
+  assigned x (Some sort.Jint) result given get e (AnInt z) g = let old = stands.sorts x sort.Jint e in number_put x sort.Jint (Int z) (lookup x t.variables) e refl (old.0, old.1) (Int z, refl, refl) g
+  assigned x (Some sort.Flag) result given get e (AFlag b) g = let old = stands.sorts x sort.Flag e in number_put x sort.Flag (Flag b) (lookup x t.variables) e refl (old.0, old.1) (Flag b, refl, refl) g
+  assigned x (Some sort.FieldId) result given get e (AField f) g = field_put x f (lookup x t.variables) e refl (stands.sorts x sort.FieldId e) g
+  assigned x (Some sort.FieldId) result given get e NoField g = assigned_lands classes in_use k s t rest p stands x (Some sort.FieldId) e g
+  assigned x (Some sort.Ref) result given get e NoLocal h = assigned_lands classes in_use k s t rest p stands x (Some sort.Ref) e h
+  assigned x (Some sort.Ref) result given get e NullLocal (may, g) =
+      let shown = stands.shows x _ may.known in
+      subst (λ (v : Option Variable). Lands own s.statics (put_assigned x (ReferenceResult None) s (with_tasks t rest) v)) (sym shown.1) ((at p (with_changed p.regions x revived), nulled classes in_use k s t rest p stands x may e, g), stay)
+  assigned x (Some sort.Global) result given get e (AGlobal r) g = static_put x (ReferenceResult r) (lookup x t.variables) ((stands.sorts x sort.Global e).0) g
+  assigned x (Some sort.Global) result given get e NoGlobal g = static_put x NullResult (lookup x t.variables) ((stands.sorts x sort.Global e).0) g
+  assigned x (Some (sort.Buffer u w)) result given get e (AnInt z) h = absurd h
+  assigned x (Some (sort.Buffer u w)) result given get e (AFlag b) h = absurd h
+  assigned x (Some (sort.Buffer u w)) result given get e (AField f) h = absurd h
+  assigned x (Some (sort.Buffer u w)) result given get e NoField h = absurd h
+  assigned x (Some (sort.Buffer u w)) result given get e (AGlobal r) h = absurd h
+  assigned x (Some (sort.Buffer u w)) result given get e NoGlobal h = absurd h
+  assigned x (Some (sort.Buffer u w)) result given get e NoLocal h = absurd h
+  assigned x (Some (sort.Buffer u w)) result given get e NullLocal h = absurd h
+  assigned x (Some (sort.Buffer u w)) result given get e NoResultThere h = absurd h
+  assigned x o result given get e simple g = absurd g
+
+  -- such a result goes where it may
+  pub result_lands : (target : Target) (result : ResultKind) (given : CallResult) (get : Option (Access × Option Identifier)) → Simple result given → ResultGoes target result get (GoesOn rest) p → Lands own s.statics (put target given s (with_tasks t rest))
+  result_lands (Declared kind x) result given get simple h = declared kind x result given get simple h
+  result_lands (Assigned x) result given get simple h = assigned x (sort_in p.names x) result given get refl simple h
+  result_lands (Tested a b) result given get simple h = absurd h
+  result_lands Dropped result given get simple h = ((p, stands, h.1), stay)

@@ -1,0 +1,302 @@
+-- What holds of each thread before its steps holds after each journal that can be replayed, so each thread's next step is safe.
+use Rattle.std.proofs.Common.{◌≡◌, ◌⊎◌, inl, inr, ℕ, zero, suc, Bool, true, false, ◌&&◌, List, [], ◌∷◌, map, Option, Some, None, refl, sym, ◌∙◌, subst, if◌then◌else◌, ap, ◌+◌, ◌<◌, ◌==◌, length, arith}
+use Rattle.std.proofs.lemmas.Bool.Decides.{nat_tests}
+use Rattle.std.specs.Prelude.{IsTrue, find, is_none, not, is_some, slice_get, slice_set}
+use Rattle.std.specs.List.{list_all, AllByRecursion}
+use Rattle.std.specs.Option.{option_map, option_and_then}
+use Rattle.std.specs.Str.{bytes_eq}
+use Rattle.base.specs.Bytes.{Identifier, lookup}
+use Rattle.base.specs.Options.{some_passes}
+use Rattle.class_rules.specs.Class.{Classes}
+use Rattle.syntax.specs.Parts.{functions_of}
+use Rattle.syntax.specs.Tree.{Function, SourceUnit}
+use Rattle.type_rules.specs.Sorts.{Sort, Word, Jint, Flag, Truth, Ref, Global, Buffer, Array, Scope}
+use Rattle.type_rules.specs.Sorts as sort
+use Rattle.semantics.specs.declared.journal.Entry.{Entry}
+use Rattle.semantics.specs.declared.journal.Entry.TheVariants.{Step}
+use Rattle.semantics.specs.Activation.{function_at, class_of_function, entered, entered_function, enter, entry_advance}
+use Rattle.semantics.specs.Journal.{Journal}
+use Rattle.semantics.specs.Load.{fit_parameters, is_callable, call_loads, Loads}
+use Rattle.semantics.specs.Run.{replay_from}
+use Rattle.semantics.specs.Start.{waiting_thread, null_statics, start}
+use Rattle.semantics.specs.State.{State, thread_at, set_thread, in_use, with_event, advanced}
+use Rattle.semantics.specs.Step.{is_unfinished, is_waiting, is_live, can_step, step_of, world_step}
+use Rattle.semantics.specs.Task.{Task, tasks_of}
+use Rattle.semantics.specs.Thread.{Thread, Shared, Frame, BuffersInUse, Event, Quiet, PrintedNumber, Trapped, Advance, Advances, NoAdvance, sight_of}
+use Rattle.semantics.specs.ThreadStep.{step_within, thread_step}
+use Rattle.semantics.specs.Variable.{Variable, StaticReference, Variables, Statics}
+use Rattle.semantics.specs.World.{Invocation, World}
+use Rattle.semantics.proofs.StepLaws.{step-thread}
+use Rattle.semantics.specs.Effect.{Effect, effect_of}
+use Rattle.semantics_safety.specs.Owners.{Owners, AllOwners, no_owner, after_tasks, after_advance, after_turn, after_entry, with_owners, owners_from, owners_after}
+use Rattle.semantics_safety.specs.Points.{Point}
+use Rattle.semantics_safety.specs.Stands.{VariableFits, Stands, Goes, IsSound, AllSound, AreSound}
+use Rattle.semantics_safety.specs.StepSafe.{has_calls, HasCalls, IsSafe}
+use Rattle.semantics_safety.specs.Wanted.{GoesOn}
+use Rattle.semantics_safety.proofs.CallLaws.{each_step_lands}
+use Rattle.semantics_safety.proofs.EntryPoints.{entry_point, SeesStatics, HasNamesOnce, stands_at_entry}
+use Rattle.semantics_safety.proofs.FrameLaws.{both_true}
+use Rattle.semantics_safety.proofs.KeptCalls.{KeepsCalls, calls_kept}
+use Rattle.semantics_safety.proofs.OwnerLaws.{LandsBy, LandsByIfPossible}
+use Rattle.semantics_safety.proofs.RefusedLaws.{marked_step_lands}
+use Rattle.semantics_safety.proofs.StepClauses.{view, return, references, owned, release, declared, free, possible}
+
+-- ---- statics
+
+-- the names of the statics are there yet
+abbrev pub NamesStay : Statics → Statics → Type 0
+NamesStay ss us = (x : Identifier) (r : StaticReference) → lookup x ss ≡ Some r → (q : StaticReference) × (lookup x us ≡ Some q)
+
+-- from a function's entry its tasks break no rule, where it sees statics that are there
+abbrev pub Enters : Statics → Function → Type 0
+Enters ss f = (scope : Scope) × SeesStatics scope ss × HasNamesOnce f scope × GoesOn (tasks_of f.body) (entry_point f scope)
+
+fits_later : (s : Sort) (v : Option Variable) (g h : Option StaticReference) → ((r : StaticReference) → g ≡ Some r → (q : StaticReference) × (h ≡ Some q)) → VariableFits s v g → VariableFits s v h
+fits_later Global v g h stay (none, (r, e)) = (none, stay r e)
+fits_later Ref v g h stay fits = fits
+fits_later sort.FieldId v g h stay fits = fits
+fits_later (Buffer t writable) v g h stay fits = fits
+fits_later (Array t size) v g h stay fits = fits
+fits_later Truth v g h stay fits = fits
+fits_later Word v g h stay fits = fits
+fits_later Jint v g h stay fits = fits
+fits_later Flag v g h stay fits = fits
+
+module _ (ss us : Statics) (stay : NamesStay ss us) where
+  sees_later : (scope : Scope) → SeesStatics scope ss → SeesStatics scope us
+  sees_later scope sees x s e = let found = sees x s e in (found.0, stay x found.1.0 found.1.1)
+
+  stands_later : {own : Owners} (vs : Variables) (frames : List Frame) (p : Point) → Stands own ss vs frames p → Stands own us vs frames p
+  stands_later vs frames p stands = record {
+    sorts = λ x s e. fits_later s (lookup x vs) (lookup x ss) (lookup x us) (stay x) (stands.sorts x s e);
+    shows = stands.shows;
+    held = stands.held;
+    once = stands.once;
+    known_once = stands.known_once;
+    depth = stands.depth;
+    backed = stands.backed;
+    owned = stands.owned;
+  }
+
+  goes_later : (own : Owners) (t : Thread) (o : Option (List Task)) → Goes own ss t o → Goes own us t o
+  goes_later own t None g = g
+  goes_later own t (Some tasks) (p, stands, goes) = (p, stands_later t.variables t.frames p stands, goes)
+
+-- ---- one thread
+
+module _ (unit : SourceUnit) (classes : Classes) (first : Statics) (enters : AllByRecursion (Enters first) (functions_of unit)) where
+  sound_later : (own : Owners) (ss us : Statics) (t : Thread) → NamesStay ss us → IsSound unit classes own ss t → IsSound unit classes own us t
+  sound_later own ss us t stay h = record { goes = goes_later ss us stay own t t.tasks h.goes; loads = h.loads }
+
+  -- ---- lists of threads
+
+  all_later : (owners : AllOwners) (ss us : Statics) (k : ℕ) (ts : List Thread) → NamesStay ss us → AllSound unit classes owners ss k ts → AllSound unit classes owners us k ts
+  all_later owners ss us k [] stay h = tt
+  all_later owners ss us k (t ∷ ts) stay h = (sound_later (owners k) ss us t stay h.0, all_later owners ss us (k + 1) ts stay h.1)
+
+  all_get : (owners : AllOwners) (ss : Statics) (k : ℕ) (ts : List Thread) (i j : ℕ) (t : Thread) → j ≡ k + i → AllSound unit classes owners ss k ts → slice_get ts i ≡ Some t → IsSound unit classes (owners j) ss t
+  all_get owners ss k [] i j t is h e = absurd (cc)
+  all_get owners ss k (u ∷ ts) zero j t is h e =
+      let same : u ≡ t = cc in
+      let here : k ≡ j = omega (arith, is) in
+      subst (λ (n : ℕ). IsSound unit classes (owners n) ss t) here (subst (IsSound unit classes (owners k) ss) same h.0)
+  all_get owners ss k (u ∷ ts) (suc i) j t is h e = all_get owners ss (k + 1) ts i j t (omega (arith, is)) h.1 e
+
+  -- the owners of one thread are no other's
+  other_number : (owners : AllOwners) (n k : ℕ) (own : Owners) → (k == n) ≡ false → owners k ≡ with_owners owners n own k
+  other_number owners n k own e = ap (λ (b : Bool). if b then own else owners k) (sym e)
+
+  all_others : (owners : AllOwners) (ss : Statics) (n : ℕ) (own : Owners) (k : ℕ) (ts : List Thread) → n < k → AllSound unit classes owners ss k ts → AllSound unit classes (with_owners owners n own) ss k ts
+  all_others owners ss n own k [] less h = tt
+  all_others owners ss n own k (t ∷ ts) less h =
+      let other : (k == n) ≡ false = grind (arith, nat_tests, less) in
+      (subst (λ (o : Owners). IsSound unit classes o ss t) (other_number owners n k own other) h.0, all_others owners ss n own (k + 1) ts (omega (arith, less)) h.1)
+
+  all_set : (owners : AllOwners) (ss : Statics) (n : ℕ) (own : Owners) (k : ℕ) (ts : List Thread) (i : ℕ) (t : Thread) → n ≡ k + i → AllSound unit classes owners ss k ts → IsSound unit classes own ss t → AllSound unit classes (with_owners owners n own) ss k (slice_set ts i t)
+  all_set owners ss n own k [] i t is h new = tt
+  all_set owners ss n own k (u ∷ ts) zero t is h new =
+      let here : (k == n) ≡ true = grind (arith, nat_tests, is) in
+      (subst (λ (o : Owners). IsSound unit classes o ss t) (ap (λ (b : Bool). if b then own else owners k) (sym here)) new, all_others owners ss n own (k + 1) ts (omega (arith, is)) h.1)
+  all_set owners ss n own k (u ∷ ts) (suc i) t is h new =
+      let other : (k == n) ≡ false = grind (arith, nat_tests, is) in
+      (subst (λ (o : Owners). IsSound unit classes o ss u) (other_number owners n k own other) h.0, all_set owners ss n own (k + 1) ts i t (omega (arith, is)) h.1 new)
+
+  all_put : (owners : AllOwners) (ss : Statics) (own : Owners) (ts : List Thread) (k : ℕ) (t : Thread) → AllSound unit classes owners ss 1 ts → IsSound unit classes own ss t → AllSound unit classes (with_owners owners k own) ss 1 (set_thread ts k t)
+  all_put owners ss own ts zero t h new = all_others owners ss 0 own 1 ts (omega arith) h
+  all_put owners ss own ts (suc i) t h new = all_set owners ss (suc i) own 1 ts i t (omega arith) h new
+
+  -- ---- a step
+
+  -- what a step leaves is sound, with these owners, and only a marked one may be impossible
+  abbrev StepsOn : Bool → (Event → Variables → Owners) → Statics → Advance → Type 0
+  StepsOn refused give ss (Advances s t event) = IsSound unit classes (give event t.variables) s.statics t × NamesStay ss s.statics
+  StepsOn refused give ss NoAdvance = refused ≡ true
+
+  loads_kept : (calls now : List Invocation) → (now ≡ calls) ⊎ (now ≡ []) → IsTrue (list_all (call_loads unit classes) calls) → IsTrue (list_all (call_loads unit classes) now)
+  loads_kept calls now (inl e) h = subst (λ (l : List Invocation). IsTrue (list_all (call_loads unit classes) l)) (sym e) h
+  loads_kept calls now (inr e) h = subst (λ (l : List Invocation). IsTrue (list_all (call_loads unit classes) l)) (sym e) refl
+
+  module _ (s : Shared) (t : Thread) (task : Task) (rest : List Task) (own : Owners) where
+    -- the step's effect
+    abbrev effect : Effect
+    effect = effect_of (sight_of s t) task
+
+    lands_on : (refused : Bool) (ss : Statics) (calls : List Invocation) (e : Advance) → LandsBy effect (length t.frames) own ss e → KeepsCalls calls e → IsTrue (list_all (call_loads unit classes) calls) → StepsOn refused (after_tasks s t (Some (task ∷ rest)) own) ss e
+    lands_on refused ss calls (Advances s' t' event) h kept loads = (record { goes = h.0; loads = loads_kept calls t'.calls kept loads }, h.1)
+    lands_on refused ss calls NoAdvance h kept loads = absurd h
+
+    lands_if_possible : (ss : Statics) (calls : List Invocation) (e : Advance) → LandsByIfPossible effect (length t.frames) own ss e → KeepsCalls calls e → IsTrue (list_all (call_loads unit classes) calls) → StepsOn true (after_tasks s t (Some (task ∷ rest)) own) ss e
+    lands_if_possible ss calls (Advances s' t' event) h kept loads = lands_on true ss calls (Advances s' t' event) h kept loads
+    lands_if_possible ss calls NoAdvance h kept loads = refl
+
+  -- ---- entries
+
+  found_enters : (fs : List Function) (name : Identifier) (f : Function) → AllByRecursion (Enters first) fs → find (λ (g : Function). bytes_eq g.name name) fs ≡ Some f → Enters first f
+  found_enters [] name f h e = absurd (cc)
+  found_enters (g ∷ fs) name f h e = by_test (bytes_eq g.name name) e (found_enters fs name f h.1)
+    where
+      by_test : (b : Bool) → (if b then Some g else find (λ (g : Function). bytes_eq g.name name) fs) ≡ Some f → (find (λ (g : Function). bytes_eq g.name name) fs ≡ Some f → Enters first f) → Enters first f
+      by_test true e later = let same : g ≡ f = cc in subst (Enters first) same h.0
+      by_test false e later = later e
+
+  module _ (s : Shared) (t : Thread) (own : Owners) (stay : NamesStay first s.statics) (call : Invocation) (calls : List Invocation) (loads : IsTrue (list_all (call_loads unit classes) calls)) where
+    enters_class : (f : Function) (o : Option ℕ) → Enters first f → is_some o ≡ true → fit_parameters f.parameters call.arguments ≡ true → StepsOn false (after_tasks s t None own) s.statics (entry_advance s (option_map (λ c. entered t calls f c call.arguments) o))
+    enters_class f None h there fits = absurd (cc)
+    enters_class f (Some c) (scope, sees, once, goes) there fits =
+        (record { goes = (entry_point f scope, stands_at_entry s.statics scope f c call.arguments (sees_later first s.statics stay scope sees) fits once, goes); loads = loads }, λ x r e. (r, e))
+
+    enters_function : (o : Option Function) → function_at unit call.function ≡ o → some_passes (is_callable classes call.arguments) o ≡ true → StepsOn false (after_tasks s t None own) s.statics (entry_advance s (entered_function classes t call calls o))
+    enters_function None e h = absurd (cc)
+    enters_function (Some f) e h =
+        let both = both_true (is_some (class_of_function classes f)) (fit_parameters f.parameters call.arguments) h in
+        enters_class f (class_of_function classes f) (found_enters (functions_of unit) call.function f enters e) both.0 both.1
+
+  entry_steps : (s : Shared) (t : Thread) (own : Owners) → NamesStay first s.statics → (calls : List Invocation) → IsTrue (has_calls calls) → IsTrue (list_all (call_loads unit classes) calls) → StepsOn false (after_tasks s t None own) s.statics (entry_advance s (enter unit classes t calls))
+  entry_steps s t own stay [] has loads = absurd (cc)
+  entry_steps s t own stay (call ∷ calls) has loads =
+      let both = both_true (call_loads unit classes call) (list_all (call_loads unit classes) calls) loads in
+      enters_function s t own stay call calls both.1 (function_at unit call.function) refl both.0
+
+  -- ---- a thread's step
+
+  module _ (room : BuffersInUse) (k : ℕ) (s : Shared) (t : Thread) (own : Owners) (stay : NamesStay first s.statics) (live : is_unfinished t.ending ≡ true) (sound : IsSound unit classes own s.statics t) where
+    steps_at : (refused : Bool) (o : Option (List Task)) → Goes own s.statics t o → StepsOn refused (after_tasks s t o own) s.statics (step_within unit classes room k s t refused o)
+    steps_at true None g = refl
+    steps_at false None g = entry_steps s t own stay t.calls (g.1 live) sound.loads
+    steps_at refused (Some []) g = absurd (g.2)
+    steps_at false (Some (task ∷ rest)) (p, stands, runs) =
+        lands_on s t task rest own false s.statics t.calls (step_within unit classes room k s t false (Some (task ∷ rest)))
+        (each_step_lands unit classes room k s t task rest p stands runs sound.goes) (calls_kept classes room k s t unit false task rest) sound.loads
+    steps_at true (Some (task ∷ rest)) (p, stands, runs) =
+        lands_if_possible s t task rest own s.statics t.calls (step_within unit classes room k s t true (Some (task ∷ rest)))
+        (marked_step_lands unit classes room k s t task rest p stands runs sound.goes) (calls_kept classes room k s t unit true task rest) sound.loads
+
+    thread_steps : (refused : Bool) → StepsOn refused (after_tasks s t t.tasks own) s.statics (thread_step unit classes room k s t refused)
+    thread_steps refused = steps_at refused t.tasks sound.goes
+
+  -- ---- the state
+
+  record AreRunning (owners : AllOwners) (s : State) : Type 0 where
+    sound : AreSound unit classes owners s
+    stay : NamesStay first s.shared.statics
+
+  thread_sound : (owners : AllOwners) (s : State) (k : ℕ) (t : Thread) → AreRunning owners s → thread_at s k ≡ Some t → IsSound unit classes (owners k) s.shared.statics t
+  thread_sound owners s zero t h e = absurd (cc)
+  thread_sound owners s (suc i) t h e = all_get owners s.shared.statics 1 s.threads i (suc i) t (omega arith) h.sound e
+
+  event_running : (owners : AllOwners) (s : State) (k : ℕ) (event : Event) → AreRunning owners s → AreRunning owners (with_event s k event)
+  event_running owners s k Quiet h = h
+  event_running owners s k (PrintedNumber z) h = record { sound = h.sound; stay = h.stay }
+  event_running owners s k (Trapped trap line) h = record { sound = h.sound; stay = h.stay }
+
+  advance_running : (owners : AllOwners) (s : State) (k : ℕ) (old : Thread) (refused : Bool) (e : Advance) (next : State) → AreRunning owners s → StepsOn refused (after_tasks s.shared old old.tasks (owners k)) s.shared.statics e → advanced s k e ≡ Some next
+      → AreRunning (with_owners owners k (after_advance s.shared old (owners k) e)) next
+  advance_running owners s k old refused NoAdvance next h g e = absurd (cc)
+  advance_running owners s k old refused (Advances shared t event) next h g e =
+      let same : with_event (record s { shared = shared; threads = set_thread s.threads k t }) k event ≡ next = cc in
+      let now : AllOwners = with_owners owners k (after_tasks s.shared old old.tasks (owners k) event t.variables) in
+      subst (AreRunning now) same
+      (event_running now (record s { shared = shared; threads = set_thread s.threads k t }) k event (record {
+        sound = all_put owners shared.statics (after_tasks s.shared old old.tasks (owners k) event t.variables) s.threads k t (all_later owners s.shared.statics shared.statics 1 s.threads g.1 h.sound) g.0;
+        stay = λ x r at. let q = h.stay x r at in g.1 x q.0 q.1;
+      }))
+
+  live_thread : (s : State) (k : ℕ) → can_step classes s k ≡ true → is_live (thread_at s k) ≡ true
+  live_thread s k can =
+      let all = both_true (is_none s.stop && is_live (thread_at s k)) (not (is_waiting classes k s.shared (thread_at s k))) can in
+      (both_true (is_none s.stop) (is_live (thread_at s k)) all.0).1
+
+  module _ (owners : AllOwners) (s : State) (h : AreRunning owners s) (k : ℕ) (refused : Bool) (next : State) where
+    thread_running : (o : Option Thread) → thread_at s k ≡ o → is_live o ≡ true → step_of unit classes s k refused o ≡ Some next → AreRunning (after_turn unit classes s owners k refused o) next
+    thread_running None there live e = absurd (cc)
+    thread_running (Some t) there live e =
+        advance_running owners s k t refused (thread_step unit classes (in_use s) k s.shared t refused) next h (thread_steps (in_use s) k s.shared t (owners k) h.stay live (thread_sound owners s k t h there) refused) e
+
+    can_running : (b : Bool) → can_step classes s k ≡ b → (if b then step_of unit classes s k refused (thread_at s k) else None) ≡ Some next → AreRunning (after_turn unit classes s owners k refused (thread_at s k)) next
+    can_running true can e = thread_running (thread_at s k) refl (live_thread s k can) e
+    can_running false can e = absurd (cc)
+
+  -- an entry that is possible
+  step_running : (owners : AllOwners) (s : State) → AreRunning owners s → (e : Entry) (next : State) → world_step unit classes s e ≡ Some next → AreRunning (after_entry unit classes s owners e) next
+  unfolding world_step
+  step_running owners s h (Step k refused) next g = can_running owners s h k refused next (can_step classes s k) refl g
+
+  advance_there : (give : Event → Variables → Owners) (s : State) (k : ℕ) (e : Advance) → StepsOn false give s.shared.statics e → (next : State) × (advanced s k e ≡ Some next)
+  advance_there give s k (Advances shared t event) g = (with_event (record s { shared = shared; threads = set_thread s.threads k t }) k event, refl)
+  advance_there give s k NoAdvance g = absurd (cc)
+
+  -- a thread that can step does
+  step_there : (owners : AllOwners) (s : State) (k : ℕ) (t : Thread) → AreRunning owners s → thread_at s k ≡ Some t → can_step classes s k ≡ true → (next : State) × (world_step unit classes s (Step k false) ≡ Some next)
+  step_there owners s k t h there can =
+      let live : is_live (Some t) ≡ true = subst (λ (o : Option Thread). is_live o ≡ true) there (live_thread s k can) in
+      let leads = advance_there (after_tasks s.shared t t.tasks (owners k)) s k (thread_step unit classes (in_use s) k s.shared t false) (thread_steps (in_use s) k s.shared t (owners k) h.stay live (thread_sound owners s k t h there) false) in
+      (leads.0, step-thread unit classes s k t false (record { thread = there; can = can }) ∙ leads.1)
+
+-- ---- runs
+
+module _ (unit : SourceUnit) (w : World) (enters : AllByRecursion (Enters (null_statics unit)) (functions_of unit)) where
+  abbrev Running : AllOwners → State → Type 0
+  Running owners s = AreRunning unit w.classes (null_statics unit) enters owners s
+
+  replay_running : (journal : Journal) (owners : AllOwners) (s end : State) → Running owners s → replay_from unit w s journal ≡ Some end → Running (owners_from unit w (Some s) owners journal) end
+  replay_running [] owners s end h e = let same : s ≡ end = cc in subst (Running owners) same h
+  replay_running (entry ∷ rest) owners s end h e =
+      by_step (world_step unit w.classes s entry) refl (λ next. replay_running rest (after_entry unit w.classes s owners entry) next end) e
+    where
+      by_step : (o : Option State) → world_step unit w.classes s entry ≡ o
+          → ((next : State) → Running (after_entry unit w.classes s owners entry) next → replay_from unit w next rest ≡ Some end → Running (owners_from unit w (Some next) (after_entry unit w.classes s owners entry) rest) end)
+          → option_and_then (λ next. replay_from unit w next rest) o ≡ Some end → Running (owners_from unit w o (after_entry unit w.classes s owners entry) rest) end
+      by_step None is later g = absurd (cc)
+      by_step (Some next) is later g = later next (step_running unit w.classes (null_statics unit) enters owners s h entry next is) g
+
+  all_waiting : (owners : AllOwners) (k : ℕ) (threads : List (List Invocation)) → list_all (list_all (call_loads unit w.classes)) threads ≡ true → list_all has_calls threads ≡ true → AllSound unit w.classes owners (null_statics unit) k (map waiting_thread threads)
+  all_waiting owners k [] loads has = tt
+  all_waiting owners k (calls ∷ threads) loads has =
+      let l = both_true (list_all (call_loads unit w.classes) calls) (list_all (list_all (call_loads unit w.classes)) threads) loads in
+      let c = both_true (has_calls calls) (list_all has_calls threads) has in
+      (record { goes = (refl, λ e. c.0); loads = l.0 }, all_waiting owners (k + 1) threads l.1 c.1)
+
+  start_running : Loads unit w → HasCalls w → Running (λ k. no_owner) (start unit w)
+  start_running loads has = record { sound = all_waiting (λ k. no_owner) 1 w.threads loads has; stay = λ x r e. (r, e) }
+
+  -- where each function's tasks break no rule, each thread is at a point, or before an entry, after each journal
+  pub threads_are_sound : Loads unit w → HasCalls w → (journal : Journal) (s : State) (k : ℕ) (t : Thread) → replay_from unit w (start unit w) journal ≡ Some s → thread_at s k ≡ Some t → IsSound unit w.classes (owners_after unit w journal k) s.shared.statics t
+  threads_are_sound loads has journal s k t replayed there =
+      thread_sound unit w.classes (null_statics unit) enters (owners_after unit w journal) s k t (replay_running journal (λ k. no_owner) (start unit w) s (start_running loads has) replayed) there
+
+  -- and no step of any replay breaks one
+  pub runs_are_safe : Loads unit w → HasCalls w → IsSafe unit w
+  runs_are_safe loads has journal s k t replayed there =
+      let running : Running (owners_after unit w journal) s = replay_running journal (λ k. no_owner) (start unit w) s (start_running loads has) replayed in
+      let sound = thread_sound unit w.classes (null_statics unit) enters (owners_after unit w journal) s k t running there in
+      record {
+        view = view (owners_after unit w journal k) s.shared t sound.goes;
+        return = return (owners_after unit w journal k) s.shared t sound.goes;
+        references = references (owners_after unit w journal k) s.shared t sound.goes;
+        owned = owned (owners_after unit w journal k) s.shared t sound.goes;
+        release = release (owners_after unit w journal k) s.shared t sound.goes;
+        declared = declared (owners_after unit w journal k) s.shared t sound.goes;
+        free = free (owners_after unit w journal k) s.shared t sound.goes;
+        possible = possible (owners_after unit w journal k) s.shared t sound.goes;
+        progress = step_there unit w.classes (null_statics unit) enters (owners_after unit w journal) s k t running there;
+      }

@@ -1,0 +1,198 @@
+-- A variable that a step sets as a whole is no buffer that holds something.
+use Rattle.std.proofs.Common.{◌≡◌, ◌≢◌, inl, inr, ℕ, true, false, List, [], ◌∷◌, map, Option, Some, None, refl, sym, ◌∙◌, subst}
+use Rattle.std.specs.Prelude.{drop}
+use Rattle.std.specs.Str.{bytes_eq}
+use Rattle.std.proofs.lemmas.Slice.Eq.{bytes_eq-Decides}
+use Rattle.base.specs.Bytes.{Identifier, lookup}
+use Rattle.syntax.specs.Tree as tree
+use Rattle.jni.specs.JniFunction.{JniFunction, GetBuffer, ReleaseBuffer, DeleteLocalRef, PopLocalFrame, prototype}
+use Rattle.jni.specs.Prototype.{ResultKind, NewLocal, NewGlobal, GivesFlag, GivesInt, GivesField, GivesNothing, GivesBuffer, IsCopy}
+use Rattle.region_rules.specs.RegionStates.{RegionState, Free, BufferIn, state_of, get_of, after_call, after_pop}
+use Rattle.type_rules.specs.Sorts.{Sort, sort_in}
+use Rattle.type_rules.specs.Sorts as sort
+use Rattle.semantics.specs.Arguments.{Actual, look_up, actuals, variable_in_actual}
+use Rattle.semantics.specs.Effect.{Effect, Sets, SetsNull, MakesArray, Calls}
+use Rattle.semantics.specs.Sight.{Sight}
+use Rattle.semantics.specs.Task.{Task, VariableKind, ScalarKind, ReferenceKind, FieldKind, BufferKind, Target, Declared, Assigned, Tested, Dropped, Operand, Given, Invoke}
+use Rattle.semantics.specs.Thread.{Frame}
+use Rattle.semantics.specs.Value.{Value}
+use Rattle.semantics.specs.Variable.{Variable, Scalar, LocalRef, FieldHandle, Elements, StaticReference, Variables, Statics}
+use Rattle.semantics_safety.specs.Owners.{Owners, is_target}
+use Rattle.semantics_safety.specs.Follows.{Follows}
+use Rattle.semantics_safety.specs.Points.{Point, IsNumberSort, value_sort, OperandFits, OperandsFit}
+use Rattle.semantics_safety.specs.Stands.{VariableFits, Stands}
+use Rattle.semantics_safety.specs.StepSafe.{HoldsNoBuffer, IsTold, SetsWhole}
+use Rattle.semantics_safety.specs.Wanted.{IsNew, at, DeclaresNull, AssignsNull, SetsNumber, SetsNullThere, DeclaresResult, AssignsResult, ResultGoes, CallFits, Runs, GoesOn, call_seen, operand_argument}
+use Rattle.semantics_safety.proofs.PoppedLaws.{stands_popped}
+use Rattle.semantics_safety.proofs.QuietLaws.{free_call}
+use Rattle.semantics_safety.proofs.SetLaws.{none_some}
+
+same_name : (x y : Identifier) → bytes_eq x y ≡ true → x ≡ y
+same_name x y e = (bytes_eq-Decides x y).0 e
+
+scalar_holds : (o : Option Variable) (v : Value) → o ≡ Some (Scalar v) → HoldsNoBuffer o
+scalar_holds o v e u b h = absurd (let c : Some (Scalar v) ≡ Some (Elements u b) = sym e ∙ h in cc)
+
+reference_holds : (o : Option Variable) (level : ℕ) (r : _) → o ≡ Some (LocalRef level r) → HoldsNoBuffer o
+reference_holds o level r e u b h = absurd (let c : Some (LocalRef level r) ≡ Some (Elements u b) = sym e ∙ h in cc)
+
+field_holds : (o : Option Variable) (f : _) → o ≡ Some (FieldHandle f) → HoldsNoBuffer o
+field_holds o f e u b h = absurd (let c : Some (FieldHandle f) ≡ Some (Elements u b) = sym e ∙ h in cc)
+
+none_holds : (o : Option Variable) → o ≡ None → HoldsNoBuffer o
+none_holds o e u b h = absurd (none_some o (Elements u b) e h)
+
+number_holds : (s : Sort) (o : Option Variable) (g : Option StaticReference) → IsNumberSort s → VariableFits s o g → HoldsNoBuffer o
+number_holds sort.Word o g n (v, e, f) = scalar_holds o v e
+number_holds sort.Jint o g n (v, e, f) = scalar_holds o v e
+number_holds sort.Flag o g n (v, e, f) = scalar_holds o v e
+number_holds s o g n h = absurd n
+
+module _ (ss : Statics) (vs : Variables) (frames : List Frame) (p : Point) {own : Owners} (stands : Stands own ss vs frames p) where
+  abbrev Nothing : Identifier → Type 0
+  Nothing x = HoldsNoBuffer (lookup x vs)
+
+  new_holds : (x : Identifier) → IsNew p x → Nothing x
+  new_holds x new u b e = elim (stands.held x u b e) [
+    | inl none ↦ none
+    | inr (access, a, inl h) ↦ absurd (none_some (state_of p.regions x) _ new.unknown h)
+    | inr (access, a, inr h) ↦ absurd (none_some (state_of p.regions x) _ new.unknown h)
+  ]
+
+  free_holds : (x : Identifier) → state_of p.regions x ≡ Some (BufferIn Free) → Nothing x
+  free_holds x e u b h =
+      let shown = stands.shows x (BufferIn Free) e in
+      let both : Some (Elements shown.0 shown.1) ≡ Some (Elements u b) = sym shown.2 ∙ h in
+      let same : b ≡ shown.1 = cc in
+      same ∙ shown.3
+
+  sorted_holds : (x : Identifier) (s : Sort) → IsNumberSort s → sort_in p.names x ≡ Some s → Nothing x
+  sorted_holds x s n e = number_holds s (lookup x vs) (lookup x ss) n (stands.sorts x s e)
+
+  reference_there : (x : Identifier) → sort_in p.names x ≡ Some sort.Ref → Nothing x
+  reference_there x e = let h = stands.sorts x sort.Ref e in reference_holds (lookup x vs) h.0 h.1 h.2
+
+  static_there : (x : Identifier) → sort_in p.names x ≡ Some sort.Global → Nothing x
+  static_there x e = none_holds (lookup x vs) (stands.sorts x sort.Global e).0
+
+  field_there : (x : Identifier) → sort_in p.names x ≡ Some sort.FieldId → Nothing x
+  field_there x e = let h = stands.sorts x sort.FieldId e in field_holds (lookup x vs) h.0 h.1
+
+  -- ---- NULL
+
+  null_declared : (kind : VariableKind) (x : Identifier) (k : Point → Type 0) → DeclaresNull p kind x k → Nothing x
+  null_declared ScalarKind x k h = absurd h
+  null_declared ReferenceKind x k h = new_holds x h.0
+  null_declared FieldKind x k h = new_holds x h.0
+  null_declared (BufferKind t) x k h = new_holds x h.0
+
+  null_assigned : (o : Option Sort) (x : Identifier) (k : Point → Type 0) → sort_in p.names x ≡ o → AssignsNull p o x k → Nothing x
+  null_assigned (Some sort.Ref) x k e h = reference_there x e
+  null_assigned (Some sort.Global) x k e h = static_there x e
+  null_assigned (Some sort.FieldId) x k e h = field_there x e
+  null_assigned o x k e h = absurd h
+
+  null_holds : (target : Target) (k : Point → Type 0) (x : Identifier) → is_target target x ≡ true → SetsNullThere p target k → Nothing x
+  null_holds (Declared kind y) k x is h = subst Nothing (sym (same_name x y is)) (null_declared kind y k h)
+  null_holds (Assigned y) k x is h = subst Nothing (sym (same_name x y is)) (null_assigned (sort_in p.names y) y k refl h)
+  null_holds (Tested a b) k x is h = absurd h
+  null_holds Dropped k x is h = absurd h
+
+  -- ---- results
+
+  result_declared : (kind : VariableKind) (x : Identifier) (result : ResultKind) (get : _) (k : Point → Type 0) → DeclaresResult p kind x result get k → Nothing x
+  result_declared ScalarKind x GivesInt get k h = new_holds x h.0
+  result_declared ScalarKind x GivesFlag get k h = new_holds x h.0
+  result_declared ReferenceKind x NewLocal get k h = new_holds x h.0
+  result_declared FieldKind x GivesField get k h = new_holds x h.0
+  result_declared (BufferKind t) x (GivesBuffer access) get k h = new_holds x h.0
+  result_declared kind x result get k h = absurd h
+
+  result_assigned : (o : Option Sort) (x : Identifier) (result : ResultKind) (get : _) (k : Point → Type 0) → sort_in p.names x ≡ o → AssignsResult p o x result get k → Nothing x
+  result_assigned (Some sort.Jint) x GivesInt get k e h = sorted_holds x sort.Jint tt e
+  result_assigned (Some sort.Flag) x GivesFlag get k e h = sorted_holds x sort.Flag tt e
+  result_assigned (Some sort.Ref) x NewLocal get k e h = reference_there x e
+  result_assigned (Some sort.Global) x NewGlobal get k e h = static_there x e
+  result_assigned (Some sort.FieldId) x GivesField get k e h = field_there x e
+  result_assigned (Some (sort.Buffer t w)) x (GivesBuffer access) get k e h = free_holds x h.0
+  result_assigned o x result get k e h = absurd h
+
+  result_holds : (target : Target) (result : ResultKind) (get : _) (k : Point → Type 0) (x : Identifier) → is_target target x ≡ true → ResultGoes target result get k p → Nothing x
+  result_holds (Declared kind y) result get k x is h = subst Nothing (sym (same_name x y is)) (result_declared kind y result get k h)
+  result_holds (Assigned y) result get k x is h = subst Nothing (sym (same_name x y is)) (result_assigned (sort_in p.names y) y result get k refl h)
+  result_holds (Tested a b) result get k x is h = absurd h
+  result_holds Dropped result get k x is h = absurd (let no : false ≡ true = is in cc)
+
+-- ---- calls
+
+no_result : (q : Point) (target : Target) (get : _) (k : Point → Type 0) (x : Identifier) → is_target target x ≡ true → ResultGoes target GivesNothing get k q → ⊥
+no_result q (Declared ScalarKind y) get k x is h = h
+no_result q (Declared ReferenceKind y) get k x is h = h
+no_result q (Declared FieldKind y) get k x is h = h
+no_result q (Declared (BufferKind t) y) get k x is h = h
+no_result q (Assigned y) get k x is h = by_sort (sort_in q.names y) h
+  where
+    by_sort : (o : Option Sort) → AssignsResult q o y GivesNothing get k → ⊥
+    by_sort None h = h
+    by_sort (Some sort.Jint) h = h
+    by_sort (Some sort.Flag) h = h
+    by_sort (Some sort.Ref) h = h
+    by_sort (Some sort.Global) h = h
+    by_sort (Some sort.FieldId) h = h
+    by_sort (Some (sort.Buffer t w)) h = h
+    by_sort (Some s) h = h
+no_result q (Tested a b) get k x is h = h
+no_result q Dropped get k x is h = let no : false ≡ true = is in cc
+
+module _ (ss : Statics) (vs : Variables) (frames : List Frame) (p : Point) {own : Owners} (stands : Stands own ss vs frames p) (k : Point → Type 0) where
+  abbrev Goes : Target → JniFunction → List Operand → Type 0
+  Goes target f operands = ResultGoes target (prototype f).result (get_of (call_seen f operands)) k (at p (after_call p.regions (call_seen f operands)))
+
+  given_holds : (target : Target) (f : JniFunction) (operands : List Operand) (x : Identifier) → is_target target x ≡ true → Goes target f operands → HoldsNoBuffer (lookup x vs)
+  given_holds target PopLocalFrame operands x is h = result_holds ss vs (drop 1 frames) (at p (after_pop p.regions)) (stands_popped ss vs frames p stands) target NewLocal (get_of (call_seen PopLocalFrame operands)) k x is h
+  given_holds target (ReleaseBuffer access) operands x is h = absurd (no_result _ target _ k x is h)
+  given_holds target DeleteLocalRef operands x is h = absurd (no_result _ target _ k x is h)
+  given_holds target f operands x is h =
+      result_holds ss vs frames p stands target (prototype f).result (get_of (call_seen f operands)) k x is
+      (subst (λ (regions : RegionState). ResultGoes target (prototype f).result (get_of (call_seen f operands)) k (at p regions)) (free_call f p.regions (map operand_argument operands) tt) h)
+
+  target_holds : (line : ℕ) (target : Target) (f : JniFunction) (operands : List Operand) (x : Identifier) → is_target target x ≡ true → Runs (Invoke line target f operands) k p → HoldsNoBuffer (lookup x vs)
+  target_holds line (Declared kind y) f operands x is r = given_holds (Declared kind y) f operands x is r.2
+  target_holds line (Assigned y) f operands x is r = given_holds (Assigned y) f operands x is r.2
+  target_holds line (Tested a b) f operands x is r = absurd (let no : false ≡ true = is in cc)
+  target_holds line Dropped f operands x is r = absurd (let no : false ≡ true = is in cc)
+
+  fits_call : (line : ℕ) (target : Target) (f : JniFunction) (operands : List Operand) → Runs (Invoke line target f operands) k p → CallFits p f operands
+  fits_call line (Tested a b) f operands r = r.0
+  fits_call line (Declared kind x) f operands r = r.0
+  fits_call line (Assigned x) f operands r = r.0
+  fits_call line Dropped f operands r = r.0
+
+  -- the variable of `isCopy` holds a flag
+  told_operand : (sight : Sight) (c : Operand) (x : Identifier) → OperandFits p IsCopy c → variable_in_actual (Some (look_up sight (IsCopy, c))) ≡ x → x ≢ [] → HoldsNoBuffer (lookup x vs)
+  told_operand sight (Given (tree.Value (tree.Named n))) x fit e some = absurd (some (sym e))
+  told_operand sight (Given (tree.AddressOf y)) x fit e some = subst (λ (z : Identifier). HoldsNoBuffer (lookup z vs)) e (sorted_holds ss vs frames p stands y sort.Flag tt fit)
+  told_operand sight c x fit e some = absurd fit
+
+  told_holds : (sight : Sight) (f : JniFunction) (operands : List Operand) (x : Identifier) → OperandsFit p (prototype f).parameters operands → IsTold f (actuals sight f operands) x → HoldsNoBuffer (lookup x vs)
+  told_holds sight (GetBuffer access) (o ∷ c ∷ []) x fit told = told_operand sight c x fit.1.0 told.0 told.1
+  told_holds sight (GetBuffer access) (o ∷ c ∷ d ∷ operands) x fit told = absurd fit.1.1
+  told_holds sight (GetBuffer access) (o ∷ []) x fit told = absurd fit.1
+  told_holds sight (GetBuffer access) [] x fit told = absurd fit
+  told_holds sight f operands x fit told = absurd told
+
+-- ---- effects
+
+module _ (sight : Sight) (ss : Statics) (vs : Variables) (frames : List Frame) (p : Point) {own : Owners} (stands : Stands own ss vs frames p) (rest : List Task) where
+  number_set : (x : Identifier) (v : Value) → SetsNumber x (value_sort v) (GoesOn rest) p → IsNumberSort (value_sort v) → HoldsNoBuffer (lookup x vs)
+  number_set x v (inl h) n = sorted_holds ss vs frames p stands x (value_sort v) n h.0
+  number_set x v (inr h) n = new_holds ss vs frames p stands x h.0
+
+  pub whole_clause : (x : Identifier) (e : Effect) → SetsWhole x e → Follows own sight ss vs frames p rest e → HoldsNoBuffer (lookup x vs)
+  whole_clause x (Sets y v) is h = subst (λ (z : Identifier). HoldsNoBuffer (lookup z vs)) is (number_set y v h.0 h.1)
+  whole_clause x (SetsNull target) is h = null_holds ss vs frames p stands target (GoesOn rest) x is h
+  whole_clause x (MakesArray t y size) is h = subst (λ (z : Identifier). HoldsNoBuffer (lookup z vs)) is (new_holds ss vs frames p stands y h.0)
+  whole_clause x (Calls line target f args) (inl is) h = target_holds ss vs frames p stands (GoesOn rest) line target f h.0 x is h.3
+  whole_clause x (Calls line target f args) (inr told) h =
+      told_holds ss vs frames p stands (GoesOn rest) sight f h.0 x ((fits_call ss vs frames p stands (GoesOn rest) line target f h.0 h.3).sorts) (subst (λ (l : List Actual). IsTold f l x) h.1 told)
+  whole_clause x e is h = absurd is

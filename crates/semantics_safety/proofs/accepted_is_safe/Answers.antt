@@ -1,0 +1,5 @@
+use Rattle.semantics_safety.proofs.FunctionGives.{unit_is_safe}
+use Rattle.semantics_safety.proofs.accepted_is_safe.Goals as goal
+
+pub returns : goal.returns
+returns c = unit_is_safe

@@ -1,0 +1,119 @@
+-- Which variables have a local reference of their own: one that the call was entered with or that a call gave to the variable,
+-- and that neither DeleteLocalRef nor PopLocalFrame has ended.
+use Rattle.std.specs.Prelude.{◌≡◌, ℕ, ◌==◌, Bool, false, if◌then◌else◌, List, [], ◌∷◌, length, Option, Some, None}
+use Rattle.std.specs.Str.{bytes_eq}
+use Rattle.base.specs.Bytes.{Identifier, lookup}
+use Rattle.syntax.specs.Tree.{SourceUnit}
+use Rattle.class_rules.specs.Class.{Classes}
+use Rattle.jni.specs.JniFunction.{JniFunction, DeleteLocalRef, PopLocalFrame}
+use Rattle.semantics.specs.declared.journal.Entry.{Entry}
+use Rattle.semantics.specs.declared.journal.Entry.TheVariants.{Step}
+use Rattle.semantics.specs.Arguments.{Actual, variable_given}
+use Rattle.semantics.specs.Effect.{Effect, Calls}
+use Rattle.semantics.specs.Journal.{Journal}
+use Rattle.semantics.specs.Start.{start}
+use Rattle.semantics.specs.State.{State, thread_at, in_use}
+use Rattle.semantics.specs.Step.{world_step}
+use Rattle.semantics.specs.Task.{Task, Target, Declared, Assigned}
+use Rattle.semantics.specs.Thread.{Thread, Shared, Event, Trapped, Advance, Advances, NoAdvance}
+use Rattle.semantics.specs.ThreadStep.{next_effect, thread_step}
+use Rattle.semantics.specs.Variable.{Variable, LocalRef, Variables}
+use Rattle.semantics.specs.World.{World}
+
+-- for each variable the level of its own reference, if it has one
+abbrev pub Owners : Type 0
+Owners = Identifier → Option ℕ
+
+-- no variable has one
+abbrev pub no_owner : Owners
+no_owner x = None
+
+-- the level of a variable that refers to an object
+abbrev pub level_held : Option Variable → Option ℕ
+level_held (Some (LocalRef level (Some n))) = Some level
+level_held v = None
+
+-- each variable that refers to an object has one
+abbrev pub holders : Variables → Owners
+holders vs x = level_held (lookup x vs)
+
+-- ---- a call
+
+-- a call's result goes to this variable
+abbrev pub is_target : Target → Identifier → Bool
+is_target (Declared kind y) x = bytes_eq x y
+is_target (Assigned y) x = bytes_eq x y
+is_target target x = false
+
+-- a level other than this one
+abbrev pub other_than : ℕ → Option ℕ → Option ℕ
+other_than top None = None
+other_than top (Some level) = if level == top then None else Some level
+
+-- the owners that a call leaves, where this is the number of frames before it
+abbrev pub left_by : JniFunction → List Actual → (frames : ℕ) → Owners → Owners
+left_by DeleteLocalRef args frames own x = if bytes_eq x (variable_given args 0) then None else own x
+left_by PopLocalFrame args frames own x = other_than frames (own x)
+left_by f args frames own x = own x
+
+-- those once its result is in its variable, with these variables then
+abbrev pub after_call : Target → JniFunction → List Actual → (frames : ℕ) → Owners → Variables → Owners
+after_call target f args frames own vs x = if is_target target x then level_held (lookup x vs) else left_by f args frames own x
+
+-- ---- a step
+
+-- the owners after an effect that leaves these variables
+abbrev pub after_effect : Effect → (frames : ℕ) → Owners → Variables → Owners
+after_effect (Calls line target f args) frames own vs = after_call target f args frames own vs
+after_effect e frames own vs = own
+
+-- the same, but nothing changes where the effect is a trap
+abbrev pub after_event : Event → Effect → (frames : ℕ) → Owners → Variables → Owners
+after_event (Trapped trap line) e frames own vs = own
+after_event event e frames own vs = after_effect e frames own vs
+
+-- after a step of a thread with these tasks that leaves these variables; a call begins with those that it is given
+abbrev pub after_tasks : Shared → Thread → Option (List Task) → Owners → Event → Variables → Owners
+after_tasks s t None own event vs = holders vs
+after_tasks s t (Some tasks) own event vs = after_event event (next_effect s t (Some tasks)) (length t.frames) own vs
+
+-- after a step of a thread, where it is possible
+abbrev pub after_advance : Shared → Thread → Owners → Advance → Owners
+after_advance s t own NoAdvance = own
+after_advance s t own (Advances s' t' event) = after_tasks s t t.tasks own event t'.variables
+
+-- ---- a journal
+
+-- of each thread, by its number
+abbrev pub AllOwners : Type 0
+AllOwners = ℕ → Owners
+
+-- with those of one thread
+abbrev pub with_owners : AllOwners → ℕ → Owners → AllOwners
+with_owners owners k own j = if j == k then own else owners j
+
+-- after a step of thread k, if it is there
+abbrev pub after_turn : SourceUnit → Classes → State → AllOwners → (k : ℕ) → (refused : Bool) → Option Thread → AllOwners
+after_turn unit classes s owners k refused None = owners
+after_turn unit classes s owners k refused (Some t) = with_owners owners k (after_advance s.shared t (owners k) (thread_step unit classes (in_use s) k s.shared t refused))
+
+-- after an entry
+abbrev pub after_entry : SourceUnit → Classes → State → AllOwners → Entry → AllOwners
+after_entry unit classes s owners (Step k refused) = after_turn unit classes s owners k refused (thread_at s k)
+
+-- after entries, from a state on; none is after one that isn't possible
+abbrev pub owners_from : SourceUnit → World → Option State → AllOwners → Journal → AllOwners
+owners_from unit w s owners [] = owners
+owners_from unit w None owners (e ∷ rest) = owners
+owners_from unit w (Some s) owners (e ∷ rest) = owners_from unit w (world_step unit w.classes s e) (after_entry unit w.classes s owners e) rest
+
+-- after a journal
+abbrev pub owners_after : SourceUnit → World → Journal → AllOwners
+owners_after unit w journal = owners_from unit w (Some (start unit w)) (λ k. no_owner) journal
+
+-- ---- a use
+
+-- a variable that is NULL, no local reference, or has its reference yet
+abbrev pub IsOwn : Owners → Identifier → Option Variable → Type 0
+IsOwn own x (Some (LocalRef level (Some n))) = own x ≡ Some level
+IsOwn own x v = Unit {0}

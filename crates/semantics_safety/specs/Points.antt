@@ -1,0 +1,184 @@
+-- What is known at a point of a function: the sorts of names, and the state of references, buffers and frames.
+use Rattle.std.specs.Prelude.{◌≡◌, ℕ, Bool, true, false, ◌&&◌, ◌==◌, List, [], ◌∷◌, length, filter, Option, Some, None, if◌then◌else◌}
+use Rattle.base.specs.Bytes.{Identifier, ByName, lookup}
+use Rattle.syntax.specs.Tree as tree
+use Rattle.syntax.specs.Tree.{PrefixOp, LogicalNot, Complement, ToWord, ToInt, Argument}
+use Rattle.jni.specs.Access.{Access}
+use Rattle.jni.specs.Prototype.{ParameterKind, FieldID, IntNumber, TextBytes, LocalVariable, StaticVariable, ArrayVariable, BufferVariable, Mode, IsCopy}
+use Rattle.type_rules.specs.Sorts.{Sort, Word, Jint, Flag, Truth, Ref, Global, FieldId, Buffer, Array, Scope, OperatorGroup, Logic, Equality, Order, OnWords, group, sort_in}
+use Rattle.type_rules.specs.Sorts as sort
+use Rattle.region_rules.specs.RegionStates.{RegionState, VariableState, ReferenceAt, BufferIn, Usable, state_of}
+use Rattle.semantics.specs.Variable.{Variable, LocalRef, Variables}
+use Rattle.semantics.specs.Task.{Operand, NumberOperand, Given}
+use Rattle.semantics.specs.Term as term
+use Rattle.semantics.specs.Term.{Term, Done, Read, IsNull, Prefix, And, Or, Binary}
+use Rattle.semantics.specs.Value as value
+use Rattle.semantics.specs.Value.{Value}
+
+-- what is known there
+pub record Point : Type 0 where
+  pub names : Scope
+  pub regions : RegionState
+
+-- ---- names
+
+-- no name occurs twice
+abbrev pub AreOnce : {A : Type 0} → ByName A → Type 0
+AreOnce [] = Unit {0}
+AreOnce ((x, v) ∷ rest) = (lookup x rest ≡ None) × AreOnce rest
+
+-- a live local reference
+abbrev pub IsLive : Point → Identifier → Type 0
+IsLive p x = (level : ℕ) × (state_of p.regions x ≡ Some (ReferenceAt level true))
+
+-- a buffer that was tested
+abbrev pub IsUsable : Point → Identifier → Type 0
+IsUsable p x = (access : Access) × (array : Identifier) × (state_of p.regions x ≡ Some (BufferIn (Usable access array)))
+
+-- what is compared with NULL
+abbrev pub NullTestFits : Point → Identifier → Option Sort → Type 0
+NullTestFits p x (Some Ref) = IsLive p x
+NullTestFits p x (Some Global) = Unit {0}
+NullTestFits p x (Some sort.FieldId) = Unit {0}
+NullTestFits p x (Some (Buffer t writable)) = Unit {0}
+NullTestFits p x s = ⊥
+
+-- what elements are of
+abbrev pub ElementsFit : Point → Identifier → Option Sort → Type 0
+ElementsFit p x (Some (Buffer t writable)) = IsUsable p x
+ElementsFit p x (Some (Array t size)) = Unit {0}
+ElementsFit p x s = ⊥
+
+-- a live local reference, or a static
+abbrev pub ReferenceFits : Point → Identifier → Option Sort → Type 0
+ReferenceFits p x (Some Ref) = IsLive p x
+ReferenceFits p x (Some Global) = Unit {0}
+ReferenceFits p x s = ⊥
+
+-- ---- expressions
+
+-- the sort of a value
+abbrev pub value_sort : Value → Sort
+value_sort (value.Word n) = Word
+value_sort (value.Int z) = Jint
+value_sort (value.Flag b) = Flag
+value_sort (value.Truth b) = Truth
+
+-- the sorts of variables that hold numbers
+abbrev pub IsNumberSort : Sort → Type 0
+IsNumberSort Word = Unit {0}
+IsNumberSort Jint = Unit {0}
+IsNumberSort Flag = Unit {0}
+IsNumberSort s = ⊥
+
+-- the sorts of an index
+abbrev pub IsIndexSort : Sort → Type 0
+IsIndexSort Word = Unit {0}
+IsIndexSort Jint = Unit {0}
+IsIndexSort s = ⊥
+
+-- the sort of both operands, and that of the result
+abbrev pub OperatorFits : OperatorGroup → (operands result : Sort) → Type 0
+OperatorFits Logic r s = ⊥
+OperatorFits Equality r s = IsNumberSort r × (s ≡ Truth)
+OperatorFits Order r s = IsIndexSort r × (s ≡ Truth)
+OperatorFits OnWords r s = (r ≡ Word) × (s ≡ Word)
+
+-- the same of a prefix
+abbrev pub PrefixFits : PrefixOp → (operand result : Sort) → Type 0
+PrefixFits LogicalNot r s = (r ≡ Truth) × (s ≡ Truth)
+PrefixFits Complement r s = (r ≡ Word) × (s ≡ Word)
+PrefixFits ToWord r s = IsNumberSort r × (s ≡ Word)
+PrefixFits ToInt r s = IsNumberSort r × (s ≡ Jint)
+
+-- what is left of an expression has this sort, and uses no dead reference and no buffer that is free or untested
+abbrev pub HasSort : Point → Term → Sort → Type 0
+HasSort p (Done v) s = value_sort v ≡ s
+HasSort p (term.Number n unsigned) s = s ≡ (if unsigned then Word else Jint)
+HasSort p (term.Named tree.True) s = s ≡ Flag
+HasSort p (term.Named tree.False) s = s ≡ Flag
+HasSort p (term.Named c) s = ⊥
+HasSort p (Read x) s = (sort_in p.names x ≡ Some s) × IsNumberSort s
+HasSort p (term.Element x t) s = ElementsFit p x (sort_in p.names x) × ((r : Sort) × IsIndexSort r × HasSort p t r) × (s ≡ Jint)
+HasSort p (IsNull equal x) s = NullTestFits p x (sort_in p.names x) × (s ≡ Truth)
+HasSort p (Prefix op t) s = (r : Sort) × PrefixFits op r s × HasSort p t r
+HasSort p (And a b) s = HasSort p a Truth × HasSort p b Truth × (s ≡ Truth)
+HasSort p (Or a b) s = HasSort p a Truth × HasSort p b Truth × (s ≡ Truth)
+HasSort p (Binary op a b) s = (r : Sort) × OperatorFits (group op) r s × HasSort p a r × HasSort p b r
+
+-- ---- arguments
+
+-- NULL or a name where a reference is asked for
+abbrev pub ReferenceArgumentFits : Point → Argument → Type 0
+ReferenceArgumentFits p (tree.Value (tree.Named tree.Null)) = Unit {0}
+ReferenceArgumentFits p (tree.Value (tree.Variable x)) = ReferenceFits p x (sort_in p.names x)
+ReferenceArgumentFits p a = ⊥
+
+-- a bare name of which this holds
+abbrev pub NameFits : (Identifier → Type 0) → Argument → Type 0
+NameFits ok (tree.Value (tree.Variable x)) = ok x
+NameFits ok a = ⊥
+
+-- a constant, or a bare name of a field ID
+abbrev pub FieldArgumentFits : Point → Argument → Type 0
+FieldArgumentFits p (tree.Value (tree.Named c)) = Unit {0}
+FieldArgumentFits p (tree.Value (tree.Variable x)) = sort_in p.names x ≡ Some sort.FieldId
+FieldArgumentFits p a = ⊥
+
+-- a mode: a number or a constant
+abbrev pub ModeFits : Argument → Type 0
+ModeFits (tree.Value (tree.Number n unsigned)) = Unit {0}
+ModeFits (tree.Value (tree.Named c)) = Unit {0}
+ModeFits a = ⊥
+
+-- NULL, or the address of a flag
+abbrev pub CopyFits : Point → Argument → Type 0
+CopyFits p (tree.Value (tree.Named c)) = Unit {0}
+CopyFits p (tree.AddressOf x) = sort_in p.names x ≡ Some Flag
+CopyFits p a = ⊥
+
+-- a text
+abbrev pub TextFits : Argument → Type 0
+TextFits (tree.Text bytes) = Unit {0}
+TextFits a = ⊥
+
+-- an argument that isn't a number
+abbrev pub GivenFits : Point → ParameterKind → Argument → Type 0
+GivenFits p IntNumber a = ⊥
+GivenFits p TextBytes a = TextFits a
+GivenFits p LocalVariable a = NameFits (IsLive p) a
+GivenFits p StaticVariable a = NameFits (λ x. sort_in p.names x ≡ Some Global) a
+GivenFits p FieldID a = FieldArgumentFits p a
+GivenFits p (ArrayVariable t) a = NameFits (λ x. (size : ℕ) × (sort_in p.names x ≡ Some (Array t size))) a
+GivenFits p (BufferVariable access) a = NameFits (IsUsable p) a
+GivenFits p Mode a = ModeFits a
+GivenFits p IsCopy a = CopyFits p a
+GivenFits p parameter a = ReferenceArgumentFits p a
+
+-- an argument; the expression of a number is one of sort Jint
+abbrev pub OperandFits : Point → ParameterKind → Operand → Type 0
+OperandFits p IntNumber (NumberOperand t) = HasSort p t Jint
+OperandFits p parameter (NumberOperand t) = ⊥
+OperandFits p parameter (Given a) = GivenFits p parameter a
+
+-- as many arguments as parameters, and each fits
+abbrev pub OperandsFit : Point → List ParameterKind → List Operand → Type 0
+OperandsFit p [] [] = Unit {0}
+OperandsFit p (parameter ∷ parameters) (o ∷ operands) = OperandFits p parameter o × OperandsFit p parameters operands
+OperandsFit p parameters operands = ⊥
+
+-- ---- copies of references
+
+-- a variable holds the object in this level
+abbrev pub is_copy : ℕ → ℕ → Option Variable → Bool
+is_copy level n (Some (LocalRef l (Some m))) = l == level && m == n
+is_copy level n v = false
+
+-- a live reference of this level that holds the object
+abbrev pub owns : Variables → ℕ → ℕ → Identifier × VariableState → Bool
+owns vs level n (x, ReferenceAt l live) = live && is_copy level n (lookup x vs)
+owns vs level n (x, BufferIn b) = false
+
+-- how many live references of a level hold an object
+abbrev pub owners : RegionState → Variables → ℕ → ℕ → ℕ
+owners regions vs level n = length (filter (owns vs level n) regions.variables)

@@ -1,0 +1,103 @@
+-- What it is for a thread to be at a point: its variables are of their sorts, and hold what is known of them.
+use Rattle.std.specs.Prelude.{◌≡◌, ℕ, ◌+◌, ◌≤◌, ◌==◌, Bool, true, false, ◌⊎◌, ℤ, List, [], ◌∷◌, length, Option, Some, None, IsTrue, filter}
+use Rattle.std.specs.List.{list_all}
+use Rattle.base.specs.Bytes.{Identifier, lookup}
+use Rattle.base.specs.Element.{ElementType}
+use Rattle.syntax.specs.Tree.{SourceUnit}
+use Rattle.class_rules.specs.Class.{Classes}
+use Rattle.class_rules.specs.Fields.{FieldId}
+use Rattle.jni.specs.Access.{Access, is_critical}
+use Rattle.type_rules.specs.Sorts.{Sort, Truth, Ref, Global, Buffer, Array, sort_in}
+use Rattle.type_rules.specs.Sorts as sort
+use Rattle.semantics.specs.Object.{Reference}
+use Rattle.semantics.specs.Load.{call_loads}
+use Rattle.region_rules.specs.RegionStates.{VariableState, BufferState, Free, Untested, Usable, ReferenceAt, BufferIn, state_of}
+use Rattle.semantics.specs.State.{State}
+use Rattle.semantics.specs.Step.{is_unfinished}
+use Rattle.semantics.specs.Task.{Task}
+use Rattle.semantics.specs.Thread.{Thread, Frame}
+use Rattle.semantics.specs.Value.{Value}
+use Rattle.semantics.specs.Variable.{Variable, Scalar, LocalRef, FieldHandle, Elements, LocalArray, Buffer as Buffer_, NoBuffer, Copy, View, StaticReference, Variables, Statics}
+use Rattle.semantics_safety.specs.Owners.{Owners, AllOwners}
+use Rattle.semantics_safety.specs.Points.{Point, AreOnce, value_sort, owners}
+use Rattle.semantics_safety.specs.StepSafe.{references_at, has_calls}
+use Rattle.semantics_safety.specs.Wanted.{Holds, GoesOn}
+
+-- ---- sorts
+
+-- a variable of a sort; a static is no variable
+abbrev pub VariableFits : Sort → Option Variable → Option StaticReference → Type 0
+VariableFits Ref v g = (level : ℕ) × (r : Reference) × (v ≡ Some (LocalRef level r))
+VariableFits Global v g = (v ≡ None) × ((r : StaticReference) × (g ≡ Some r))
+VariableFits sort.FieldId v g = (f : Option FieldId) × (v ≡ Some (FieldHandle f))
+VariableFits (Buffer t writable) v g = (b : Buffer_) × (v ≡ Some (Elements t b))
+VariableFits (Array t size) v g = (zs : List ℤ) × (v ≡ Some (LocalArray t zs))
+VariableFits Truth v g = ⊥
+VariableFits s v g = (n : Value) × (v ≡ Some (Scalar n)) × (value_sort n ≡ s)
+
+-- ---- references and buffers
+
+-- a copy or a view of an object, as the access says
+abbrev pub IsOf : Bool → ℕ → Buffer_ → Type 0
+IsOf true n b = b ≡ View n
+IsOf false n b = (zs : List ℤ) × (b ≡ Copy n zs)
+
+-- a buffer of the object that this variable holds
+abbrev pub Lends : Variables → Access → Identifier → Buffer_ → Type 0
+Lends vs access a b = (n level : ℕ) × (lookup a vs ≡ Some (LocalRef level (Some n))) × IsOf (is_critical access) n b
+
+-- what is known of a buffer
+abbrev pub BufferShows : Variables → BufferState → Buffer_ → Type 0
+BufferShows vs Free b = b ≡ NoBuffer
+BufferShows vs (Untested access a) b = (b ≡ NoBuffer) ⊎ Lends vs access a b
+BufferShows vs (Usable access a) b = Lends vs access a b
+
+-- what is known of a variable
+abbrev pub Shows : Variables → VariableState → Option Variable → Type 0
+Shows vs (ReferenceAt level live) v = (r : Reference) × (v ≡ Some (LocalRef level r))
+Shows vs (BufferIn known) v = (u : ElementType) × (b : Buffer_) × (v ≡ Some (Elements u b)) × BufferShows vs known b
+
+-- ---- a frame
+
+-- how many copies of a reference a frame has
+abbrev pub copies : List ℕ → ℕ → ℕ
+copies names n = length (filter (λ m. n == m) names)
+
+-- ---- a thread
+
+-- the level of each live reference is that of its variable's own
+abbrev pub IsOwned : Owners → Variables → Point → Type 0
+IsOwned own vs p = (x : Identifier) (level l n : ℕ) → state_of p.regions x ≡ Some (ReferenceAt level true) → lookup x vs ≡ Some (LocalRef l (Some n)) → own x ≡ Some l
+
+-- the thread is at this point
+pub record Stands (own : Owners) (statics : Statics) (vs : Variables) (frames : List Frame) (p : Point) : Type 0 where
+  pub sorts : (x : Identifier) (s : Sort) → sort_in p.names x ≡ Some s → VariableFits s (lookup x vs) (lookup x statics)
+  pub shows : (x : Identifier) (v : VariableState) → state_of p.regions x ≡ Some v → Shows vs v (lookup x vs)
+  -- no other buffer is held
+  pub held : (x : Identifier) (u : ElementType) (b : Buffer_) → lookup x vs ≡ Some (Elements u b) → (b ≡ NoBuffer) ⊎ ((access : Access) × (a : Identifier) × Holds p x access a)
+  pub once : AreOnce vs
+  pub known_once : AreOnce p.regions.variables
+  pub depth : length frames ≡ p.regions.frames
+  -- each live reference has a copy of its own in the frame of its level
+  pub backed : (level n : ℕ) → owners p.regions vs level n ≤ copies (references_at level frames) n
+  -- and is its variable's own
+  pub owned : IsOwned own vs p
+
+-- how the thread goes on: from its entry, or from a point that it is at
+abbrev pub Goes : Owners → Statics → Thread → Option (List Task) → Type 0
+Goes own statics t None = (t.variables ≡ []) × (is_unfinished t.ending ≡ true → IsTrue (has_calls t.calls))
+Goes own statics t (Some tasks) = (p : Point) × Stands own statics t.variables t.frames p × GoesOn tasks p
+
+-- what holds of a thread before each step
+pub record IsSound (unit : SourceUnit) (classes : Classes) (own : Owners) (statics : Statics) (t : Thread) : Type 0 where
+  pub goes : Goes own statics t t.tasks
+  pub loads : IsTrue (list_all (call_loads unit classes) t.calls)
+
+-- what holds of threads, where the first of them has this number
+abbrev pub AllSound : SourceUnit → Classes → AllOwners → Statics → ℕ → List Thread → Type 0
+AllSound unit classes owners statics k [] = Unit {0}
+AllSound unit classes owners statics k (t ∷ ts) = IsSound unit classes (owners k) statics t × AllSound unit classes owners statics (k + 1) ts
+
+-- what holds of a state
+abbrev pub AreSound : SourceUnit → Classes → AllOwners → State → Type 0
+AreSound unit classes owners s = AllSound unit classes owners s.shared.statics 1 s.threads

@@ -1,0 +1,207 @@
+-- What is known of the arguments of a call that no trap stopped.
+use Rattle.std.proofs.Common.{◌≡◌, ℕ, ℤ, zero, suc, Bool, true, false, not, ◌||◌, List, [], ◌∷◌, map, zip, Option, Some, None, refl, subst, arith, if◌then◌else◌}
+use Rattle.std.specs.Prelude.{slice_get, is_some, ◌&&◌, ◌==◌}
+use Rattle.std.specs.List.{list_any, AllByRecursion}
+use Rattle.std.specs.Str.{bytes_eq}
+use Rattle.std.proofs.lemmas.Bool.Decides.{nat_tests}
+use Rattle.base.specs.Bytes.{Identifier, lookup}
+use Rattle.base.specs.Element.{ElementType}
+use Rattle.syntax.specs.Tree as tree
+use Rattle.syntax.specs.Tree.{Argument}
+use Rattle.class_rules.specs.BuiltIns.{class_class, string_class, number_array}
+use Rattle.class_rules.specs.Class.{Classes, class_kind, is_object_array}
+use Rattle.class_rules.specs.Fields.{FieldId}
+use Rattle.jni.specs.JniFunction.{JniFunction, prototype, is_allowed_pending}
+use Rattle.jni.specs.Prototype.{ParameterKind, Nullable, NonNull, ClassObject, AnyArray, ObjectArray, StringObject, NumberArray, LocalVariable, StaticVariable, FieldID, IntNumber, TextBytes, ArrayVariable, BufferVariable, Mode, IsCopy}
+use Rattle.type_rules.specs.Sorts as sort
+use Rattle.type_rules.specs.Sorts.{Sort, sort_in}
+use Rattle.semantics.specs.Arguments.{Actual, ReferenceActual, FieldActual, look_up, reference_in_actual, name_or_zero, field_in_actual, text_in_actual, variable_in_actual}
+use Rattle.semantics.specs.CallTable.{go_together}
+use Rattle.semantics.specs.Checks.{call_trap, first_trap, is_deleted, is_missing, is_misfit, lacks_room, frames_after}
+use Rattle.semantics.specs.Heap.{Heap, class_of}
+use Rattle.semantics.specs.Sight.{Sight, seen, held_field}
+use Rattle.semantics.specs.Task.{Operand, Given}
+use Rattle.semantics.specs.Thread.{Thread, Frame}
+use Rattle.semantics.specs.Value.{Trap, ExceptionPending, DeletedReference, NullReference, WrongObject, NoCapacity}
+use Rattle.semantics.specs.Variable.{Variable, FieldHandle, Scalar, LocalRef, Elements, LocalArray, StaticReference, Empty, Live, Deleted, Variables, Statics}
+use Rattle.semantics_safety.specs.Owners.{Owners}
+use Rattle.semantics_safety.specs.Points.{Point, OperandFits, OperandsFit}
+use Rattle.semantics_safety.specs.Stands.{Stands}
+use Rattle.world_values.specs.DeclaredFields.{IsDeclared}
+use Rattle.semantics_typing.specs.Objects.{IsTypedVariable, AreTypedVariables}
+use Rattle.semantics_typing.specs.Texts.{IsText}
+
+-- ---- checks
+
+all_fail : (a b c d e : Bool) (u v w x y : Trap) → first_trap ((a, u) ∷ (b, v) ∷ (c, w) ∷ (d, x) ∷ (e, y) ∷ []) ≡ None → (b ≡ false) × (c ≡ false) × (d ≡ false)
+all_fail true b c d e u v w x y h = absurd (cc)
+all_fail false true c d e u v w x y h = absurd (cc)
+all_fail false false true d e u v w x y h = absurd (cc)
+all_fail false false false true e u v w x y h = absurd (cc)
+all_fail false false false false e u v w x y h = (refl, refl, refl)
+
+or_fails : (a b : Bool) → (a || not b) ≡ false → (a ≡ false) × (b ≡ true)
+or_fails true b h = absurd (cc)
+or_fails false true h = (refl, refl)
+or_fails false false h = absurd (cc)
+
+-- what the checks of a call have found
+pub record ArePassed (classes : Classes) (heap : Heap) (buffer : ElementType) (f : JniFunction) (args : List Actual) : Type 0 where
+  pub present : list_any is_deleted args ≡ false
+  pub given : list_any is_missing (zip (prototype f).parameters args) ≡ false
+  pub kinds : list_any (is_misfit classes heap) (zip (prototype f).parameters args) ≡ false
+  pub together : go_together classes heap buffer args f ≡ true
+
+pub passed : (classes : Classes) (heap : Heap) (t : Thread) (buffer : ElementType) (f : JniFunction) (args : List Actual) → call_trap classes heap t buffer f args ≡ None → ArePassed classes heap buffer f args
+unfolding call_trap
+passed classes heap t buffer f args none =
+    let all = all_fail (is_some t.pending && not (is_allowed_pending f)) (list_any is_deleted args) (list_any is_missing (zip (prototype f).parameters args))
+    (list_any (is_misfit classes heap) (zip (prototype f).parameters args) || not (go_together classes heap buffer args f))
+    (lacks_room (prototype f).result (slice_get (frames_after f t.frames) 0)) ExceptionPending DeletedReference NullReference WrongObject NoCapacity none in
+    let last = or_fails (list_any (is_misfit classes heap) (zip (prototype f).parameters args)) (go_together classes heap buffer args f) all.2 in
+    record { present = all.0; given = all.1; kinds = last.0; together = last.1 }
+
+-- ---- one argument
+
+-- the object of an argument
+abbrev pub object_in : Option Actual → ℕ
+object_in a = name_or_zero (reference_in_actual a)
+
+-- what is known of it, by its kind
+abbrev pub IsKnownAs : Classes → Heap → Variables → ParameterKind → Option Actual → Type 0
+IsKnownAs classes heap vs ClassObject a = class_of heap (object_in a) ≡ class_class
+IsKnownAs classes heap vs ObjectArray a = is_object_array (class_kind classes (class_of heap (object_in a))) ≡ true
+IsKnownAs classes heap vs StringObject a = class_of heap (object_in a) ≡ string_class
+IsKnownAs classes heap vs (NumberArray t) a = class_of heap (object_in a) ≡ number_array t
+IsKnownAs classes heap vs FieldID a = IsDeclared classes (field_in_actual a)
+IsKnownAs classes heap vs (ArrayVariable t) a = (zs : List ℤ) × (lookup (variable_in_actual a) vs ≡ Some (LocalArray t zs))
+IsKnownAs classes heap vs TextBytes a = IsText (text_in_actual a)
+IsKnownAs classes heap vs kind a = Unit {0}
+
+-- its text, if it is one, is of bytes
+abbrev pub HasActualText : Actual → Type 0
+HasActualText a = IsText (text_in_actual (Some a))
+
+-- the kinds of objects
+abbrev IsObjectKind : ParameterKind → Type 0
+IsObjectKind ClassObject = Unit {0}
+IsObjectKind ObjectArray = Unit {0}
+IsObjectKind StringObject = Unit {0}
+IsObjectKind (NumberArray t) = Unit {0}
+IsObjectKind kind = ⊥
+
+equal_if : (n m : ℕ) → not (n == m) ≡ false → n ≡ m
+equal_if n m h = by_test (n == m) refl h
+  where
+    by_test : (b : Bool) → (n == m) ≡ b → not b ≡ false → n ≡ m
+    by_test true e h = grind (arith, nat_tests, e)
+    by_test false e h = absurd (cc)
+
+true_if : (b : Bool) → not b ≡ false → b ≡ true
+true_if true h = refl
+true_if false h = absurd (cc)
+
+module _ (classes : Classes) (heap : Heap) (vs : Variables) where
+  object_known : (kind : ParameterKind) → IsObjectKind kind → (x : Identifier) (r : StaticReference) → is_deleted (ReferenceActual x r) ≡ false → is_missing (kind, ReferenceActual x r) ≡ false → is_misfit classes heap (kind, ReferenceActual x r) ≡ false
+      → IsKnownAs classes heap vs kind (Some (ReferenceActual x r))
+  object_known kind of x Deleted d m f = absurd (cc)
+  object_known ClassObject of x Empty d m f = absurd (cc)
+  object_known ObjectArray of x Empty d m f = absurd (cc)
+  object_known StringObject of x Empty d m f = absurd (cc)
+  object_known (NumberArray t) of x Empty d m f = absurd (cc)
+  object_known ClassObject of x (Live n) d m f = equal_if (class_of heap n) class_class f
+  object_known ObjectArray of x (Live n) d m f = true_if (is_object_array (class_kind classes (class_of heap n))) f
+  object_known StringObject of x (Live n) d m f = equal_if (class_of heap n) string_class f
+  object_known (NumberArray t) of x (Live n) d m f = equal_if (class_of heap n) (number_array t) f
+  object_known kind of x r d m f = absurd of
+
+  field_known : (o : Option FieldId) → is_missing (FieldID, FieldActual o) ≡ false → ((f : FieldId) → o ≡ Some f → IsDeclared classes f) → IsKnownAs classes heap vs FieldID (Some (FieldActual o))
+  field_known None m h = absurd (cc)
+  field_known (Some f) m h = h f refl
+
+pub variable_typed : (classes : Classes) (heap : Heap) (x : Identifier) (vs : Variables) (v : Variable) → AreTypedVariables classes heap vs → lookup x vs ≡ Some v → IsTypedVariable classes heap v
+variable_typed classes heap x [] v h e = absurd (cc)
+variable_typed classes heap x ((y, w) ∷ vs) v h e = by_test (bytes_eq x y) e (variable_typed classes heap x vs v h.1)
+  where
+    by_test : (b : Bool) → (if b then Some w else lookup x vs) ≡ Some v → (lookup x vs ≡ Some v → IsTypedVariable classes heap v) → IsTypedVariable classes heap v
+    by_test true e later = let same : w ≡ v = cc in subst (IsTypedVariable classes heap) same h.0
+    by_test false e later = later e
+
+-- what is known of each
+abbrev pub AreKnownAs : Classes → Heap → Variables → List ParameterKind → List Actual → Type 0
+AreKnownAs classes heap vs [] [] = Unit {0}
+AreKnownAs classes heap vs (kind ∷ kinds) (a ∷ args) = IsKnownAs classes heap vs kind (Some a) × AreKnownAs classes heap vs kinds args
+AreKnownAs classes heap vs kinds args = ⊥
+
+pub known_at : (classes : Classes) (heap : Heap) (vs : Variables) (kinds : List ParameterKind) (args : List Actual) (i : ℕ) (kind : ParameterKind) → AreKnownAs classes heap vs kinds args → slice_get kinds i ≡ Some kind → IsKnownAs classes heap vs kind (slice_get args i)
+known_at classes heap vs [] [] i kind h e = absurd (cc)
+known_at classes heap vs [] (a ∷ args) i kind h e = absurd h
+known_at classes heap vs (c ∷ kinds) [] i kind h e = absurd h
+known_at classes heap vs (c ∷ kinds) (a ∷ args) zero kind h e = let same : c ≡ kind = cc in subst (λ (x : ParameterKind). IsKnownAs classes heap vs x (Some a)) same h.0
+known_at classes heap vs (c ∷ kinds) (a ∷ args) (suc i) kind h e = known_at classes heap vs kinds args i kind h.1 e
+
+-- ---- all arguments
+
+module _ (classes : Classes) (heap : Heap) (ss : Statics) (vs : Variables) (frames : List Frame) (p : Point) {own : Owners} (stands : Stands own ss vs frames p) (typed : AreTypedVariables classes heap vs) where
+  abbrev sight : Sight
+  sight = seen vs ss heap
+
+  abbrev Known : ParameterKind → Actual → Type 0
+  Known kind a = IsKnownAs classes heap vs kind (Some a)
+
+  held_declared : (o : Option Variable) → ((v : Variable) → o ≡ Some v → IsTypedVariable classes heap v) → (f : FieldId) → held_field o ≡ Some f → IsDeclared classes f
+  held_declared None h f e = absurd (cc)
+  held_declared (Some (FieldHandle None)) h f e = absurd (cc)
+  held_declared (Some (FieldHandle (Some g))) h f e = let same : g ≡ f = cc in subst (IsDeclared classes) same (h (FieldHandle (Some g)) refl)
+  held_declared (Some (Scalar v)) h f e = absurd (cc)
+  held_declared (Some (LocalRef level r)) h f e = absurd (cc)
+  held_declared (Some (Elements t b)) h f e = absurd (cc)
+  held_declared (Some (LocalArray t zs)) h f e = absurd (cc)
+
+  one_known : (kind : ParameterKind) (o : Operand) → OperandFits p kind o → HasActualText (look_up sight (kind, o)) → is_deleted (look_up sight (kind, o)) ≡ false → is_missing (kind, look_up sight (kind, o)) ≡ false → is_misfit classes heap (kind, look_up sight (kind, o)) ≡ false → Known kind (look_up sight (kind, o))
+  one_known ClassObject (Given (tree.Value (tree.Named tree.Null))) fit text d m f = object_known classes heap vs ClassObject tt [] Empty d m f
+  one_known ClassObject (Given (tree.Value (tree.Variable x))) fit text d m f = object_known classes heap vs ClassObject tt x (sight.reference x) d m f
+  one_known ClassObject o fit text d m f = absurd fit
+  one_known ObjectArray (Given (tree.Value (tree.Named tree.Null))) fit text d m f = object_known classes heap vs ObjectArray tt [] Empty d m f
+  one_known ObjectArray (Given (tree.Value (tree.Variable x))) fit text d m f = object_known classes heap vs ObjectArray tt x (sight.reference x) d m f
+  one_known ObjectArray o fit text d m f = absurd fit
+  one_known StringObject (Given (tree.Value (tree.Named tree.Null))) fit text d m f = object_known classes heap vs StringObject tt [] Empty d m f
+  one_known StringObject (Given (tree.Value (tree.Variable x))) fit text d m f = object_known classes heap vs StringObject tt x (sight.reference x) d m f
+  one_known StringObject o fit text d m f = absurd fit
+  one_known (NumberArray t) (Given (tree.Value (tree.Named tree.Null))) fit text d m f = object_known classes heap vs (NumberArray t) tt [] Empty d m f
+  one_known (NumberArray t) (Given (tree.Value (tree.Variable x))) fit text d m f = object_known classes heap vs (NumberArray t) tt x (sight.reference x) d m f
+  one_known (NumberArray t) o fit text d m f = absurd fit
+  one_known FieldID (Given (tree.Value (tree.Named c))) fit text d m f = field_known classes heap vs None m (λ g e. absurd (cc))
+  one_known FieldID (Given (tree.Value (tree.Variable x))) fit text d m f = field_known classes heap vs (held_field (lookup x vs)) m (held_declared (lookup x vs) (λ v e. variable_typed classes heap x vs v typed e))
+  one_known FieldID o fit text d m f = absurd fit
+  one_known (ArrayVariable t) (Given (tree.Value (tree.Variable x))) fit text d m f = let h = stands.sorts x (sort.Array t fit.0) fit.1 in (h.0, h.1)
+  one_known (ArrayVariable t) o fit text d m f = absurd fit
+  one_known Nullable o fit text d m f = tt
+  one_known NonNull o fit text d m f = tt
+  one_known AnyArray o fit text d m f = tt
+  one_known LocalVariable o fit text d m f = tt
+  one_known StaticVariable o fit text d m f = tt
+  one_known IntNumber o fit text d m f = tt
+  one_known TextBytes o fit text d m f = text
+  one_known (BufferVariable access) o fit text d m f = tt
+  one_known Mode o fit text d m f = tt
+  one_known IsCopy o fit text d m f = tt
+
+  none_of : (a b : Bool) → (a || b) ≡ false → (a ≡ false) × (b ≡ false)
+  none_of true b h = absurd (cc)
+  none_of false b h = (refl, h)
+
+  pub all_known : (kinds : List ParameterKind) (operands : List Operand) → OperandsFit p kinds operands → AllByRecursion HasActualText (map (look_up sight) (zip kinds operands))
+      → list_any is_deleted (map (look_up sight) (zip kinds operands)) ≡ false
+      → list_any is_missing (zip kinds (map (look_up sight) (zip kinds operands))) ≡ false
+      → list_any (is_misfit classes heap) (zip kinds (map (look_up sight) (zip kinds operands))) ≡ false
+      → AreKnownAs classes heap vs kinds (map (look_up sight) (zip kinds operands))
+  all_known [] [] fit texts d m f = tt
+  all_known [] (o ∷ operands) fit texts d m f = absurd fit
+  all_known (kind ∷ kinds) [] fit texts d m f = absurd fit
+  all_known (kind ∷ kinds) (o ∷ operands) fit texts d m f =
+      let args = map (look_up sight) (zip kinds operands) in
+      let x = none_of (is_deleted (look_up sight (kind, o))) (list_any is_deleted args) d in
+      let y = none_of (is_missing (kind, look_up sight (kind, o))) (list_any is_missing (zip kinds args)) m in
+      let z = none_of (is_misfit classes heap (kind, look_up sight (kind, o))) (list_any (is_misfit classes heap) (zip kinds args)) f in
+      (one_known kind o fit.0 texts.0 x.0 y.0 z.0, all_known kinds operands fit.1 texts.1 x.1 y.1 z.1)

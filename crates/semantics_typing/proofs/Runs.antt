@@ -1,0 +1,151 @@
+-- Objects are typed after each journal, and each step leaves what they are made of.
+use Rattle.std.proofs.Common.{◌≡◌, ℕ, zero, suc, Bool, true, false, List, [], ◌∷◌, ◌++◌, map, Option, Some, None, refl, sym, subst, if◌then◌else◌}
+use Rattle.std.specs.Prelude.{◌&&◌}
+use Rattle.std.specs.List.{AllByRecursion, list_all}
+use Rattle.std.specs.Option.{option_and_then}
+use Rattle.class_rules.specs.Class.{Classes}
+use Rattle.syntax.specs.Tree.{SourceUnit}
+use Rattle.region_rules.specs.Regions.{HasRegions}
+use Rattle.type_rules.specs.SortRules.{IsSorted}
+use Rattle.semantics.specs.declared.journal.Entry.{Entry}
+use Rattle.semantics.specs.declared.journal.Entry.TheVariants.{Step}
+use Rattle.semantics.specs.Heap.{Heap}
+use Rattle.semantics.specs.Journal.{Journal}
+use Rattle.semantics.specs.Load.{Loads}
+use Rattle.semantics.specs.Run.{replay, replay_from}
+use Rattle.semantics.specs.Start.{waiting_thread, start}
+use Rattle.semantics.specs.State.{State, thread_at, set_thread, in_use, with_event, advanced}
+use Rattle.semantics.specs.Step.{can_step, step_of, world_step}
+use Rattle.semantics.specs.Thread.{Thread, Event, Quiet, PrintedNumber, Trapped, Advance, Advances, NoAdvance}
+use Rattle.semantics.specs.ThreadStep.{thread_step}
+use Rattle.semantics.specs.World.{Invocation, World}
+use Rattle.semantics.proofs.RunLaws.{replay_more}
+use Rattle.semantics_safety.specs.Owners.{owners_after}
+use Rattle.semantics_safety.specs.StepSafe.{has_calls, HasCalls}
+use Rattle.semantics_safety.proofs.FunctionGives.{unit_is_sound}
+use Rattle.world_values.specs.SoundWorlds.{has_call, IsSound}
+use Rattle.semantics_typing.specs.Law.{RunsTyped, AcceptedIsTyped}
+use Rattle.semantics_typing.specs.Objects.{AreTypedVariables, IsTyped, ShapesStay}
+use Rattle.semantics_typing.specs.Texts.{HasTexts}
+use Rattle.semantics_typing.proofs.Heaps.{variables_later}
+use Rattle.semantics_typing.proofs.Lists.{all_get, all_set, all_later}
+use Rattle.semantics_typing.proofs.Loads.{loaded_typed}
+use Rattle.semantics_typing.proofs.Results.{AdvanceFits}
+use Rattle.semantics_typing.proofs.Steps.{step_fits}
+use Rattle.semantics_typing.proofs.TaskTexts.{TasksHaveTexts}
+
+-- ---- a state
+
+-- what holds of a state
+record IsRunning (classes : Classes) (s : State) : Type 0 where
+  typed : IsTyped classes s
+  texts : AllByRecursion (λ (t : Thread). TasksHaveTexts t.tasks) s.threads
+
+thread_in : (P : Thread → Type 0) (s : State) (k : ℕ) (t : Thread) → AllByRecursion P s.threads → thread_at s k ≡ Some t → P t
+thread_in P s zero t h e = absurd (cc)
+thread_in P s (suc i) t h e = all_get P s.threads i t h e
+
+thread_set : (P : Thread → Type 0) (ts : List Thread) (k : ℕ) (t : Thread) → AllByRecursion P ts → P t → AllByRecursion P (set_thread ts k t)
+thread_set P ts zero t h new = h
+thread_set P ts (suc i) t h new = all_set P ts i t h new
+
+event_running : (classes : Classes) (s : State) (k : ℕ) (event : Event) → IsRunning classes s → IsRunning classes (with_event s k event)
+event_running classes s k Quiet h = h
+event_running classes s k (PrintedNumber z) h = record { typed = record { heap = h.typed.heap; variables = h.typed.variables }; texts = h.texts }
+event_running classes s k (Trapped trap line) h = record { typed = record { heap = h.typed.heap; variables = h.typed.variables }; texts = h.texts }
+
+event_heap : (s : State) (k : ℕ) (event : Event) → (with_event s k event).shared.heap ≡ s.shared.heap
+event_heap s k Quiet = refl
+event_heap s k (PrintedNumber z) = refl
+event_heap s k (Trapped trap line) = refl
+
+-- a state after another
+record IsNext (classes : Classes) (s next : State) : Type 0 where
+  running : IsRunning classes next
+  shapes : ShapesStay s.shared.heap next.shared.heap
+
+advance_next : (classes : Classes) (s : State) (k : ℕ) (e : Advance) (next : State) → IsRunning classes s → AdvanceFits classes s.shared.heap e → advanced s k e ≡ Some next → IsNext classes s next
+advance_next classes s k NoAdvance next h g e = absurd (cc)
+advance_next classes s k (Advances shared t event) next h g e =
+    let there : State = record s { shared = shared; threads = set_thread s.threads k t } in
+    let same : with_event (record s { shared = shared; threads = set_thread s.threads k t }) k event ≡ next = cc in
+    let typed : AllByRecursion (λ (t : Thread). AreTypedVariables classes shared.heap t.variables) s.threads =
+    all_later (λ (t : Thread). AreTypedVariables classes s.shared.heap t.variables) (λ (t : Thread). AreTypedVariables classes shared.heap t.variables) s.threads (λ u v. variables_later classes s.shared.heap shared.heap g.0.stay u.variables v) h.typed.variables in
+    subst (IsNext classes s) same (record {
+      running = event_running classes (record s { shared = shared; threads = set_thread s.threads k t }) k event (record {
+        typed = record { heap = g.0.typed; variables = thread_set (λ (t : Thread). AreTypedVariables classes shared.heap t.variables) s.threads k t typed g.1 };
+        texts = thread_set (λ (t : Thread). TasksHaveTexts t.tasks) s.threads k t h.texts g.2;
+      });
+      shapes = subst (ShapesStay s.shared.heap) (sym (event_heap (record s { shared = shared; threads = set_thread s.threads k t }) k event)) g.0.stay;
+    })
+
+-- ---- a world
+
+both_true : (a b : Bool) → (a && b) ≡ true → (a ≡ true) × (b ≡ true)
+both_true true b h = (refl, h)
+both_true false b h = absurd (cc)
+
+calls_there : (threads : List (List Invocation)) → list_all has_call threads ≡ true → list_all has_calls threads ≡ true
+calls_there [] h = refl
+calls_there ([] ∷ threads) h = absurd (cc)
+calls_there ((call ∷ calls) ∷ threads) h = calls_there threads h
+
+module _ (unit : SourceUnit) (w : World) (sorted : IsSorted unit) (regions : HasRegions unit) (all : HasTexts unit) (loads : Loads unit w) (sound : IsSound w) where
+  has : HasCalls w
+  has = calls_there w.threads sound.calls
+
+  waiting_variables : (threads : List (List Invocation)) (heap : Heap) → AllByRecursion (λ (t : Thread). AreTypedVariables w.classes heap t.variables) (map waiting_thread threads)
+  waiting_variables [] heap = tt
+  waiting_variables (calls ∷ threads) heap = (tt, waiting_variables threads heap)
+
+  waiting_texts : (threads : List (List Invocation)) → AllByRecursion (λ (t : Thread). TasksHaveTexts t.tasks) (map waiting_thread threads)
+  waiting_texts [] = tt
+  waiting_texts (calls ∷ threads) = (tt, waiting_texts threads)
+
+  start_running : IsRunning w.classes (start unit w)
+  start_running = record { typed = record { heap = loaded_typed w sound; variables = waiting_variables w.threads (start unit w).shared.heap }; texts = waiting_texts w.threads }
+
+  -- ---- a step
+
+  module _ (journal : Journal) (s : State) (replayed : replay unit w journal ≡ Some s) (h : IsRunning w.classes s) (k : ℕ) (refused : Bool) (next : State) where
+    thread_next : (o : Option Thread) → thread_at s k ≡ o → step_of unit w.classes s k refused o ≡ Some next → IsNext w.classes s next
+    thread_next None there e = absurd (cc)
+    thread_next (Some t) there e =
+        advance_next w.classes s k (thread_step unit w.classes (in_use s) k s.shared t refused) next h
+        (step_fits unit w.classes sound.declares sound.grown (in_use s) k s.shared t h.typed.heap
+        (thread_in (λ (t : Thread). AreTypedVariables w.classes s.shared.heap t.variables) s k t h.typed.variables there)
+        (thread_in (λ (t : Thread). TasksHaveTexts t.tasks) s k t h.texts there) all (owners_after unit w journal k)
+        ((unit_is_sound unit w sorted regions loads has journal s k t replayed there).goes) refused) e
+
+    can_next : (b : Bool) → (if b then step_of unit w.classes s k refused (thread_at s k) else None) ≡ Some next → IsNext w.classes s next
+    can_next true e = thread_next (thread_at s k) refl e
+    can_next false e = absurd (cc)
+
+  step_next : (journal : Journal) (s : State) → replay unit w journal ≡ Some s → IsRunning w.classes s → (e : Entry) (next : State) → world_step unit w.classes s e ≡ Some next → IsNext w.classes s next
+  unfolding world_step
+  step_next journal s replayed h (Step k refused) next e = can_next journal s replayed h k refused next (can_step w.classes s k) e
+
+  -- ---- journals
+
+  from : (before rest : Journal) (s end : State) → replay unit w before ≡ Some s → IsRunning w.classes s → replay_from unit w s rest ≡ Some end → IsRunning w.classes end
+  from before [] s end replayed h e = let same : s ≡ end = cc in subst (IsRunning w.classes) same h
+  from before (entry ∷ rest) s end replayed h e =
+      by_step (world_step unit w.classes s entry) refl (λ next is r. from (before ++ entry ∷ []) rest next end (replay_more unit w before entry s next replayed is) r) e
+    where
+      by_step : (o : Option State) → world_step unit w.classes s entry ≡ o → ((next : State) → world_step unit w.classes s entry ≡ Some next → IsRunning w.classes next → replay_from unit w next rest ≡ Some end → IsRunning w.classes end)
+          → option_and_then (λ next. replay_from unit w next rest) o ≡ Some end → IsRunning w.classes end
+      by_step None is later g = absurd (cc)
+      by_step (Some next) is later g = later next is ((step_next before s replayed h entry next is).running) g
+
+  replay_running : (journal : Journal) (s : State) → replay unit w journal ≡ Some s → IsRunning w.classes s
+  replay_running journal s e = from [] journal (start unit w) s refl start_running e
+
+  runs : RunsTyped unit w
+  runs = record {
+    typed = λ journal s e. (replay_running journal s e).typed;
+    shapes = λ journal s next entry e is. (step_next journal s e (replay_running journal s e) entry next is).shapes;
+  }
+
+-- an accepted unit's runs are typed
+pub unit_is_typed : AcceptedIsTyped
+unit_is_typed unit w sorted regions all loads sound = runs unit w sorted regions all loads sound

@@ -1,7 +1,0 @@
--- Schedules: in which order the threads step.
-use Rattle.std.specs.Prelude.{List}
-use Rattle.source.specs.declared.schedule.ScheduleWord.{ScheduleWord}
-
--- whose turn it is
-abbrev pub Schedule : Type 0
-Schedule = List ScheduleWord

@@ -1,7 +1,0 @@
-use Rattle.std.proofs.Common.{◌≡◌}
-use Rattle.tasks.specs.Tasks.{OperandsInRange}
-use Rattle.steps.proofs.Invocations.{AreGiven}
-use Rattle.steps.proofs.invoke.reduce_first.Given as goal
-
-abbrev pub invariant-loop-place : goal.invariant-loop-place
-invariant-loop-place l = (l.operands ≡ l.initial.operands) × AreGiven l.operands l.place × OperandsInRange l.operands

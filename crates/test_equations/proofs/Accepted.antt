@@ -1,0 +1,43 @@
+-- The cases of texts/accepted.cases, as examples/worked_equations writes them.
+use Rattle.std.specs.Prelude.{◌∷◌, true, false, [], codes, refl}
+use Rattle.base.specs.Element.{JInt}
+use Rattle.syntax.specs.Tree.{AssignElement, Binary, DeclareBuffer, Equal, FromCall, If, IfElse, JIntArray, Named, Null, Number, Perform, Return, SourceUnit, TestExpr, Value, Variable, Void}
+use Rattle.test_equations.specs.Claims.{IsAccepted}
+use Rattle.test_equations.proofs.Programs.{unit_of, native, block, reference_parameter, call, given}
+use Rattle.test_equations.proofs.Computed.{opened, accepted}
+
+-- returns early
+-- JNIEXPORT void JNICALL Java_A_f(JNIEnv *env, jclass cls, jintArray a) {
+-- jint *p = (*env)->GetIntArrayElements(env, a, NULL);
+-- if (p == NULL) { return; }
+-- p[0] = 1;
+-- (*env)->ReleaseIntArrayElements(env, a, p, 0);
+-- if (1u == 1u) { return; } else { return; } }
+abbrev pub returns_early : SourceUnit
+returns_early =
+    unit_of
+    (native 1 Void (codes "Java_A_f") (reference_parameter JIntArray (codes "a") ∷ [])
+    (DeclareBuffer 2 JInt (codes "p") (FromCall (call (codes "GetIntArrayElements") (given (codes "a") ∷ Value (Named Null) ∷ [])))
+    ∷ If 3 (TestExpr (Binary Equal (Variable (codes "p")) (Named Null)))
+    (block
+    (Return 3
+    ∷ [])
+    3)
+    ∷ AssignElement 4 (codes "p") (Number 0 false) (Number 1 false)
+    ∷ Perform 5 (call (codes "ReleaseIntArrayElements") (given (codes "a") ∷ given (codes "p") ∷ Value (Number 0 false) ∷ []))
+    ∷ IfElse 6 (TestExpr (Binary Equal (Number 1 true) (Number 1 true)))
+    (block
+    (Return 6
+    ∷ [])
+    6)
+    (block
+    (Return 6
+    ∷ [])
+    6)
+    ∷ [])
+    6
+    ∷ [])
+
+returns_early-accepted : IsAccepted returns_early
+unfolding opened
+returns_early-accepted = accepted returns_early refl refl refl

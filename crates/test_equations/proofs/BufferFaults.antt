@@ -1,0 +1,366 @@
+-- The cases of texts/buffer_faults.cases, as examples/worked_equations writes them.
+use Rattle.std.specs.Prelude.{◌∷◌, true, false, [], codes, refl}
+use Rattle.base.specs.Element.{JInt}
+use Rattle.syntax.specs.Tree.{Assign, AssignElement, Binary, Commit, Declare, DeclareBuffer, Element, Equal, FromCall, FromExpr, If, JIntArray, JObject, Named, NotEqual, Null, Number, Perform, PutJint, ReferenceVariable, Return, SourceUnit, TestCall, TestExpr, Value, Variable, Void}
+use Rattle.region_rules.specs.RegionRules.{CallWhileCritical, HeldBuffer, UntestedBuffer, WrongBuffer, ArrayInUse}
+use Rattle.test_equations.specs.Claims.{IsRefused}
+use Rattle.test_equations.proofs.Programs.{unit_of, native, block, static_reference, reference_parameter, call, given}
+use Rattle.test_equations.proofs.Computed.{opened, bad_way}
+
+-- got twice
+-- JNIEXPORT void JNICALL Java_A_f(JNIEnv *env, jclass cls, jintArray a) {
+-- jint *p = (*env)->GetIntArrayElements(env, a, NULL);
+-- p = (*env)->GetIntArrayElements(env, a, NULL);
+-- return; }
+abbrev pub got_twice : SourceUnit
+got_twice =
+    unit_of
+    (native 1 Void (codes "Java_A_f") (reference_parameter JIntArray (codes "a") ∷ [])
+    (DeclareBuffer 2 JInt (codes "p") (FromCall (call (codes "GetIntArrayElements") (given (codes "a") ∷ Value (Named Null) ∷ [])))
+    ∷ Assign 3 (codes "p") (FromCall (call (codes "GetIntArrayElements") (given (codes "a") ∷ Value (Named Null) ∷ [])))
+    ∷ Return 4
+    ∷ [])
+    4
+    ∷ [])
+
+got_twice-refused : IsRefused got_twice 33 3
+unfolding opened
+got_twice-refused = bad_way got_twice HeldBuffer 3 refl refl refl
+
+-- held at the end
+-- JNIEXPORT void JNICALL Java_A_f(JNIEnv *env, jclass cls, jintArray a) {
+-- if (1u == 1u) { jint *p = (*env)->GetIntArrayElements(env, a, NULL);
+-- }
+-- return; }
+abbrev pub held_at_the_end : SourceUnit
+held_at_the_end =
+    unit_of
+    (native 1 Void (codes "Java_A_f") (reference_parameter JIntArray (codes "a") ∷ [])
+    (If 2 (TestExpr (Binary Equal (Number 1 true) (Number 1 true)))
+    (block
+    (DeclareBuffer 2 JInt (codes "p") (FromCall (call (codes "GetIntArrayElements") (given (codes "a") ∷ Value (Named Null) ∷ [])))
+    ∷ [])
+    3)
+    ∷ Return 4
+    ∷ [])
+    4
+    ∷ [])
+
+held_at_the_end-refused : IsRefused held_at_the_end 33 3
+unfolding opened
+held_at_the_end-refused = bad_way held_at_the_end HeldBuffer 3 refl refl refl
+
+-- read untested
+-- JNIEXPORT void JNICALL Java_A_f(JNIEnv *env, jclass cls, jintArray a) {
+-- jint *p = (*env)->GetIntArrayElements(env, a, NULL);
+-- put_jint(p[0]);
+-- return; }
+abbrev pub read_untested : SourceUnit
+read_untested =
+    unit_of
+    (native 1 Void (codes "Java_A_f") (reference_parameter JIntArray (codes "a") ∷ [])
+    (DeclareBuffer 2 JInt (codes "p") (FromCall (call (codes "GetIntArrayElements") (given (codes "a") ∷ Value (Named Null) ∷ [])))
+    ∷ PutJint 3 (Element (codes "p") (Number 0 false))
+    ∷ Return 4
+    ∷ [])
+    4
+    ∷ [])
+
+read_untested-refused : IsRefused read_untested 34 3
+unfolding opened
+read_untested-refused = bad_way read_untested UntestedBuffer 3 refl refl refl
+
+-- released untested
+-- JNIEXPORT void JNICALL Java_A_f(JNIEnv *env, jclass cls, jintArray a) {
+-- jint *p = (*env)->GetIntArrayElements(env, a, NULL);
+-- (*env)->ReleaseIntArrayElements(env, a, p, 0);
+-- return; }
+abbrev pub released_untested : SourceUnit
+released_untested =
+    unit_of
+    (native 1 Void (codes "Java_A_f") (reference_parameter JIntArray (codes "a") ∷ [])
+    (DeclareBuffer 2 JInt (codes "p") (FromCall (call (codes "GetIntArrayElements") (given (codes "a") ∷ Value (Named Null) ∷ [])))
+    ∷ Perform 3 (call (codes "ReleaseIntArrayElements") (given (codes "a") ∷ given (codes "p") ∷ Value (Number 0 false) ∷ []))
+    ∷ Return 4
+    ∷ [])
+    4
+    ∷ [])
+
+released_untested-refused : IsRefused released_untested 34 3
+unfolding opened
+released_untested-refused = bad_way released_untested UntestedBuffer 3 refl refl refl
+
+-- never got
+-- JNIEXPORT void JNICALL Java_A_f(JNIEnv *env, jclass cls, jintArray a) {
+-- jint *p = NULL;
+-- if (p == NULL) { }
+-- return; }
+abbrev pub never_got : SourceUnit
+never_got =
+    unit_of
+    (native 1 Void (codes "Java_A_f") (reference_parameter JIntArray (codes "a") ∷ [])
+    (DeclareBuffer 2 JInt (codes "p") (FromExpr (Named Null))
+    ∷ If 3 (TestExpr (Binary Equal (Variable (codes "p")) (Named Null)))
+    (block
+    []
+    3)
+    ∷ Return 4
+    ∷ [])
+    4
+    ∷ [])
+
+never_got-refused : IsRefused never_got 35 3
+unfolding opened
+never_got-refused = bad_way never_got WrongBuffer 3 refl refl refl
+
+-- released for another
+-- JNIEXPORT void JNICALL Java_A_f(JNIEnv *env, jclass cls, jintArray a, jintArray b) {
+-- jint *p = (*env)->GetIntArrayElements(env, a, NULL);
+-- if (p != NULL) {
+-- (*env)->ReleaseIntArrayElements(env, b, p, 0); }
+-- return; }
+abbrev pub released_for_another : SourceUnit
+released_for_another =
+    unit_of
+    (native 1 Void (codes "Java_A_f") (reference_parameter JIntArray (codes "a") ∷ reference_parameter JIntArray (codes "b") ∷ [])
+    (DeclareBuffer 2 JInt (codes "p") (FromCall (call (codes "GetIntArrayElements") (given (codes "a") ∷ Value (Named Null) ∷ [])))
+    ∷ If 3 (TestExpr (Binary NotEqual (Variable (codes "p")) (Named Null)))
+    (block
+    (Perform 4 (call (codes "ReleaseIntArrayElements") (given (codes "b") ∷ given (codes "p") ∷ Value (Number 0 false) ∷ []))
+    ∷ [])
+    4)
+    ∷ Return 5
+    ∷ [])
+    5
+    ∷ [])
+
+released_for_another-refused : IsRefused released_for_another 35 4
+unfolding opened
+released_for_another-refused = bad_way released_for_another WrongBuffer 4 refl refl refl
+
+-- released as critical
+-- JNIEXPORT void JNICALL Java_A_f(JNIEnv *env, jclass cls, jintArray a) {
+-- jint *p = (*env)->GetIntArrayElements(env, a, NULL);
+-- if (p != NULL) {
+-- (*env)->ReleasePrimitiveArrayCritical(env, a, p, 0); }
+-- return; }
+abbrev pub released_as_critical : SourceUnit
+released_as_critical =
+    unit_of
+    (native 1 Void (codes "Java_A_f") (reference_parameter JIntArray (codes "a") ∷ [])
+    (DeclareBuffer 2 JInt (codes "p") (FromCall (call (codes "GetIntArrayElements") (given (codes "a") ∷ Value (Named Null) ∷ [])))
+    ∷ If 3 (TestExpr (Binary NotEqual (Variable (codes "p")) (Named Null)))
+    (block
+    (Perform 4 (call (codes "ReleasePrimitiveArrayCritical") (given (codes "a") ∷ given (codes "p") ∷ Value (Number 0 false) ∷ []))
+    ∷ [])
+    4)
+    ∷ Return 5
+    ∷ [])
+    5
+    ∷ [])
+
+released_as_critical-refused : IsRefused released_as_critical 35 4
+unfolding opened
+released_as_critical-refused = bad_way released_as_critical WrongBuffer 4 refl refl refl
+
+-- committed critical
+-- JNIEXPORT void JNICALL Java_A_f(JNIEnv *env, jclass cls, jintArray a) {
+-- jint *q = (*env)->GetPrimitiveArrayCritical(env, a, NULL);
+-- if (q != NULL) {
+-- (*env)->ReleasePrimitiveArrayCritical(env, a, q, JNI_COMMIT); }
+-- return; }
+abbrev pub committed_critical : SourceUnit
+committed_critical =
+    unit_of
+    (native 1 Void (codes "Java_A_f") (reference_parameter JIntArray (codes "a") ∷ [])
+    (DeclareBuffer 2 JInt (codes "q") (FromCall (call (codes "GetPrimitiveArrayCritical") (given (codes "a") ∷ Value (Named Null) ∷ [])))
+    ∷ If 3 (TestExpr (Binary NotEqual (Variable (codes "q")) (Named Null)))
+    (block
+    (Perform 4 (call (codes "ReleasePrimitiveArrayCritical") (given (codes "a") ∷ given (codes "q") ∷ Value (Named Commit) ∷ []))
+    ∷ [])
+    4)
+    ∷ Return 5
+    ∷ [])
+    5
+    ∷ [])
+
+committed_critical-refused : IsRefused committed_critical 35 4
+unfolding opened
+committed_critical-refused = bad_way committed_critical WrongBuffer 4 refl refl refl
+
+-- used after release
+-- JNIEXPORT void JNICALL Java_A_f(JNIEnv *env, jclass cls, jintArray a) {
+-- jint *p = (*env)->GetIntArrayElements(env, a, NULL);
+-- if (p != NULL) { (*env)->ReleaseIntArrayElements(env, a, p, 0);
+-- p[0] = 1; }
+-- return; }
+abbrev pub used_after_release : SourceUnit
+used_after_release =
+    unit_of
+    (native 1 Void (codes "Java_A_f") (reference_parameter JIntArray (codes "a") ∷ [])
+    (DeclareBuffer 2 JInt (codes "p") (FromCall (call (codes "GetIntArrayElements") (given (codes "a") ∷ Value (Named Null) ∷ [])))
+    ∷ If 3 (TestExpr (Binary NotEqual (Variable (codes "p")) (Named Null)))
+    (block
+    (Perform 3 (call (codes "ReleaseIntArrayElements") (given (codes "a") ∷ given (codes "p") ∷ Value (Number 0 false) ∷ []))
+    ∷ AssignElement 4 (codes "p") (Number 0 false) (Number 1 false)
+    ∷ [])
+    4)
+    ∷ Return 5
+    ∷ [])
+    5
+    ∷ [])
+
+used_after_release-refused : IsRefused used_after_release 35 4
+unfolding opened
+used_after_release-refused = bad_way used_after_release WrongBuffer 4 refl refl refl
+
+-- printed while critical
+-- JNIEXPORT void JNICALL Java_A_f(JNIEnv *env, jclass cls, jintArray a) {
+-- jint *q = (*env)->GetPrimitiveArrayCritical(env, a, NULL);
+-- put_jint(1);
+-- return; }
+abbrev pub printed_while_critical : SourceUnit
+printed_while_critical =
+    unit_of
+    (native 1 Void (codes "Java_A_f") (reference_parameter JIntArray (codes "a") ∷ [])
+    (DeclareBuffer 2 JInt (codes "q") (FromCall (call (codes "GetPrimitiveArrayCritical") (given (codes "a") ∷ Value (Named Null) ∷ [])))
+    ∷ PutJint 3 (Number 1 false)
+    ∷ Return 4
+    ∷ [])
+    4
+    ∷ [])
+
+printed_while_critical-refused : IsRefused printed_while_critical 31 3
+unfolding opened
+printed_while_critical-refused = bad_way printed_while_critical CallWhileCritical 3 refl refl refl
+
+-- released as copy
+-- JNIEXPORT void JNICALL Java_A_f(JNIEnv *env, jclass cls, jintArray a) {
+-- jint *q = (*env)->GetPrimitiveArrayCritical(env, a, NULL);
+-- if (q != NULL) {
+-- (*env)->ReleaseIntArrayElements(env, a, q, 0); }
+-- return; }
+abbrev pub released_as_copy : SourceUnit
+released_as_copy =
+    unit_of
+    (native 1 Void (codes "Java_A_f") (reference_parameter JIntArray (codes "a") ∷ [])
+    (DeclareBuffer 2 JInt (codes "q") (FromCall (call (codes "GetPrimitiveArrayCritical") (given (codes "a") ∷ Value (Named Null) ∷ [])))
+    ∷ If 3 (TestExpr (Binary NotEqual (Variable (codes "q")) (Named Null)))
+    (block
+    (Perform 4 (call (codes "ReleaseIntArrayElements") (given (codes "a") ∷ given (codes "q") ∷ Value (Number 0 false) ∷ []))
+    ∷ [])
+    4)
+    ∷ Return 5
+    ∷ [])
+    5
+    ∷ [])
+
+released_as_copy-refused : IsRefused released_as_copy 31 4
+unfolding opened
+released_as_copy-refused = bad_way released_as_copy CallWhileCritical 4 refl refl refl
+
+-- array set
+-- JNIEXPORT void JNICALL Java_A_f(JNIEnv *env, jclass cls, jintArray a) {
+-- jint *p = (*env)->GetIntArrayElements(env, a, NULL);
+-- a = NULL;
+-- return; }
+abbrev pub array_set : SourceUnit
+array_set =
+    unit_of
+    (native 1 Void (codes "Java_A_f") (reference_parameter JIntArray (codes "a") ∷ [])
+    (DeclareBuffer 2 JInt (codes "p") (FromCall (call (codes "GetIntArrayElements") (given (codes "a") ∷ Value (Named Null) ∷ [])))
+    ∷ Assign 3 (codes "a") (FromExpr (Named Null))
+    ∷ Return 4
+    ∷ [])
+    4
+    ∷ [])
+
+array_set-refused : IsRefused array_set 39 3
+unfolding opened
+array_set-refused = bad_way array_set ArrayInUse 3 refl refl refl
+
+-- array deleted
+-- JNIEXPORT void JNICALL Java_A_f(JNIEnv *env, jclass cls, jintArray a) {
+-- jint *p = (*env)->GetIntArrayElements(env, a, NULL);
+-- (*env)->DeleteLocalRef(env, a);
+-- return; }
+abbrev pub array_deleted : SourceUnit
+array_deleted =
+    unit_of
+    (native 1 Void (codes "Java_A_f") (reference_parameter JIntArray (codes "a") ∷ [])
+    (DeclareBuffer 2 JInt (codes "p") (FromCall (call (codes "GetIntArrayElements") (given (codes "a") ∷ Value (Named Null) ∷ [])))
+    ∷ Perform 3 (call (codes "DeleteLocalRef") (given (codes "a") ∷ []))
+    ∷ Return 4
+    ∷ [])
+    4
+    ∷ [])
+
+array_deleted-refused : IsRefused array_deleted 39 3
+unfolding opened
+array_deleted-refused = bad_way array_deleted ArrayInUse 3 refl refl refl
+
+-- array of a static
+-- static jobject g = NULL;
+-- JNIEXPORT void JNICALL Java_A_f(JNIEnv *env, jclass cls) {
+-- jint *p = (*env)->GetIntArrayElements(env, g, NULL);
+-- return; }
+abbrev pub array_of_a_static : SourceUnit
+array_of_a_static =
+    unit_of
+    (static_reference 1 JObject (codes "g")
+    ∷ native 2 Void (codes "Java_A_f") []
+    (DeclareBuffer 3 JInt (codes "p") (FromCall (call (codes "GetIntArrayElements") (given (codes "g") ∷ Value (Named Null) ∷ [])))
+    ∷ Return 4
+    ∷ [])
+    4
+    ∷ [])
+
+array_of_a_static-refused : IsRefused array_of_a_static 39 3
+unfolding opened
+array_of_a_static-refused = bad_way array_of_a_static ArrayInUse 3 refl refl refl
+
+-- array popped
+-- JNIEXPORT void JNICALL Java_A_f(JNIEnv *env, jclass cls) {
+-- if ((*env)->PushLocalFrame(env, 4) == 0) {
+-- jintArray y = (*env)->NewIntArray(env, 1);
+-- jint *p = (*env)->GetIntArrayElements(env, y, NULL);
+-- jobject z = (*env)->PopLocalFrame(env, NULL);
+-- }
+-- return; }
+abbrev pub array_popped : SourceUnit
+array_popped =
+    unit_of
+    (native 1 Void (codes "Java_A_f") []
+    (If 2 (TestCall (call (codes "PushLocalFrame") (Value (Number 4 false) ∷ [])))
+    (block
+    (Declare 3 (ReferenceVariable JIntArray) (codes "y") (FromCall (call (codes "NewIntArray") (Value (Number 1 false) ∷ [])))
+    ∷ DeclareBuffer 4 JInt (codes "p") (FromCall (call (codes "GetIntArrayElements") (given (codes "y") ∷ Value (Named Null) ∷ [])))
+    ∷ Declare 5 (ReferenceVariable JObject) (codes "z") (FromCall (call (codes "PopLocalFrame") (Value (Named Null) ∷ [])))
+    ∷ [])
+    6)
+    ∷ Return 7
+    ∷ [])
+    7
+    ∷ [])
+
+array_popped-refused : IsRefused array_popped 39 5
+unfolding opened
+array_popped-refused = bad_way array_popped ArrayInUse 5 refl refl refl
+
+-- array null
+-- JNIEXPORT void JNICALL Java_A_f(JNIEnv *env, jclass cls) {
+-- jint *p = (*env)->GetIntArrayElements(env, NULL, NULL);
+-- return; }
+abbrev pub array_null : SourceUnit
+array_null =
+    unit_of
+    (native 1 Void (codes "Java_A_f") []
+    (DeclareBuffer 2 JInt (codes "p") (FromCall (call (codes "GetIntArrayElements") (Value (Named Null) ∷ Value (Named Null) ∷ [])))
+    ∷ Return 3
+    ∷ [])
+    3
+    ∷ [])
+
+array_null-refused : IsRefused array_null 39 2
+unfolding opened
+array_null-refused = bad_way array_null ArrayInUse 2 refl refl refl

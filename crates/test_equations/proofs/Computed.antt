@@ -1,0 +1,438 @@
+-- How the claims are computed.
+use Rattle.std.proofs.Common.{◌≡◌, ℕ, ◌+◌, ◌≤◌, nat_le, nat_lt, Bool, true, false, ◌&&◌, inl, inr, List, [], ◌∷◌, ◌++◌, map, length, flat_map, refl, sym, ◌∙◌, ap, subst, Option, Some, None, decimal, codes, is_none, if◌then◌else◌}
+use Rattle.std.specs.Prelude.{IsTrue}
+use Rattle.std.specs.Fmt.{digits}
+use Rattle.std.specs.List.{list_all, list_any, AllZip}
+use Rattle.std.specs.Str.{bytes_eq}
+use Rattle.std.proofs.lemmas.Bool.{leb-true, ltb-true}
+use Rattle.syntax.specs.Limits.{IsTree, levelled, numbers_in_range, block_height, block_well_formed}
+use Rattle.syntax.specs.Parts.{functions_of, statics_of, statements_of, own_expressions, names_declared, parameter_names}
+use Rattle.syntax.specs.Tree.{SourceUnit}
+use Rattle.class_rules.specs.BuiltIns.{built_ins}
+use Rattle.class_rules.specs.Class.{Classes}
+use Rattle.class_rules.specs.Mangling.{unmangle}
+use Rattle.jni.specs.JniFunction.{function_named}
+use Rattle.type_rules.specs.SortRules.{SortRule, sort_rule_number, IsSorted}
+use Rattle.semantics.specs.declared.journal.Entry.{Entry}
+use Rattle.semantics.specs.declared.journal.Entry.TheVariants.{Step}
+use Rattle.semantics.specs.declared.schedule.ScheduleWord.{ScheduleWord}
+use Rattle.semantics.specs.declared.schedule.ScheduleWord.TheVariants.{Turn, Collect}
+use Rattle.semantics.specs.Journal.{Journal}
+use Rattle.world_schedules.specs.JournalMeaning.{IsJournalText, has_thread}
+use Rattle.semantics.specs.JournalText.{entry_text, journal_line}
+use Rattle.semantics.specs.Object.{Object, sizes}
+use Rattle.world_lines.specs.ReadingValues.{value_named}
+use Rattle.world_schedules.specs.ReadingWords.{lines_words, allowed_words}
+use Rattle.world_lines.specs.ReadingLines.{heap_of_line, line_of}
+use Rattle.world.specs.ReadingWorlds.{line_read, lines_read, heap_read, world_read, numbered_read}
+use Rattle.report.specs.ReportText.{report_text}
+use Rattle.semantics.specs.Schedule.{Schedule}
+use Rattle.world_schedules.specs.ScheduleText.{IsScheduleText, schedule_word, words_meant, is_turn, is_count}
+use Rattle.world_schedules.specs.Words.{words_of}
+use Rattle.semantics.specs.World.{World}
+use Rattle.world_values.specs.WorldLines.{WorldLine, Lines, has_words, line_text, spaced, text_lines}
+use Rattle.world_values.specs.WorldMeaning.{world_of}
+use Rattle.world_values.specs.WorldRules.{IsWorldText, IsNumberedLine, broken_after, is_thread_line}
+use Rattle.std.proofs.lemmas.Slice.Eq.{bytes_eq-Decides}
+use Rattle.semantics.specs.CallTable.{call_effect, go_together}
+use Rattle.semantics.specs.Checks.{call_trap}
+use Rattle.regions.specs.Findings.{first_fault}
+use Rattle.semantics.specs.Load.{first_load_fault}
+use Rattle.semantics.specs.Reachable.{live_size}
+use Rattle.region_rules.specs.RegionRules.{RegionRule, region_rule_number}
+use Rattle.semantics.specs.ReportOf.{report}
+use Rattle.semantics.specs.Run.{Follows, Over, Collects, Waits, Steps, IsFair, Fits, FitsUnmarked, IsFairMarked, EachFrom, made_between, made, wanted, replay}
+use Rattle.report.specs.RunText.{Writes}
+use Rattle.semantics.specs.Start.{start}
+use Rattle.semantics.specs.State.{State, thread_at, views}
+use Rattle.semantics.specs.Step.{world_step, can_step, step_of}
+use Rattle.semantics.proofs.RunLaws.{follows-replay}
+use Rattle.regions.proofs.UnitLemmas.{accepted-all, faulty-all}
+use Rattle.test_equations.specs.Claims.{first_sort_fault, IsAccepted, IsRefused, by_sorts, by_regions, Beginning, IsWorkedRun, IsWorkedReplay, IsStoppedReplay, IsUnloaded}
+use Rattle.test_equations.proofs.Programs.{entry}
+
+-- what the computations unfold
+unfoldable pub opened : Unit {0}
+unfolding world_step call_trap go_together call_effect report report_text journal_line digits function_named unmangle built_ins
+opened = tt
+
+-- what the reading of worlds and schedules unfolds beside
+unfoldable pub read : Unit {0}
+unfolding digits built_ins lines_words allowed_words numbered_read heap_of_line heap_read lines_read line_read line_of value_named world_read
+read = tt
+
+both : (a b : Bool) → IsTrue (a && b) → IsTrue a × IsTrue b
+both true b h = (refl, h)
+both false b h = absurd cc
+
+-- ---- checks
+
+-- the expressions follow precedence, and their numbers are in range
+abbrev pub has_expressions : SourceUnit → Bool
+has_expressions unit =
+    list_all (λ f. list_all (λ s. list_all levelled (own_expressions s)) (statements_of f.body)) (functions_of unit)
+    && list_all (λ f. list_all (λ s. list_all numbers_in_range (own_expressions s)) (statements_of f.body)) (functions_of unit)
+
+-- the blocks are well formed and low
+abbrev pub has_blocks : SourceUnit → Bool
+has_blocks unit =
+    list_all (λ f. block_well_formed f.body) (functions_of unit)
+    && list_all (λ f. nat_le (block_height f.body) 32) (functions_of unit)
+
+-- there are not too many functions, statics and names
+abbrev pub has_few : SourceUnit → Bool
+has_few unit =
+    nat_le (length (functions_of unit)) 256
+    && (nat_le (length (statics_of unit)) 256
+    && list_all (λ f. nat_le (length (parameter_names f ++ names_declared (statements_of f.body))) 256) (functions_of unit))
+
+-- the tree is within the limits
+abbrev pub is_tree : SourceUnit → Bool
+is_tree unit = has_expressions unit && (has_blocks unit && has_few unit)
+
+pub a_tree : (unit : SourceUnit) → IsTrue (is_tree unit) → IsTree unit
+a_tree unit h =
+    let parts = both (has_expressions unit) (has_blocks unit && has_few unit) h in
+    let further = both (has_blocks unit) (has_few unit) parts.1 in
+    let expressions = both _ _ parts.0 in
+    let blocks = both _ _ further.0 in
+    let few = both _ _ further.1 in
+    let fewer = both _ _ few.1 in
+    record {
+      levelled_expressions = expressions.0;
+      numbers = expressions.1;
+      forms = blocks.0;
+      low = blocks.1;
+      few_functions = leb-true _ _ few.0;
+      few_statics = leb-true _ _ fewer.0;
+      few_names = fewer.1;
+    }
+
+pub accepted : (unit : SourceUnit) → IsTrue (is_tree unit) → IsSorted unit → first_fault (functions_of unit) ≡ None → IsAccepted unit
+accepted unit tree sorted none = record { tree = a_tree unit tree; sorted = sorted; regions = accepted-all (functions_of unit) none }
+
+pub badly_sorted : (unit : SourceUnit) (rule : SortRule) (line : ℕ) → IsTrue (is_tree unit) → first_sort_fault unit ≡ Some (line, rule) → IsRefused unit (sort_rule_number rule) line
+badly_sorted unit rule line tree first = by_sorts rule line (a_tree unit tree) first
+
+pub bad_way : (unit : SourceUnit) (rule : RegionRule) (line : ℕ) → IsTrue (is_tree unit) → IsSorted unit → first_fault (functions_of unit) ≡ Some (line, rule) → IsRefused unit (region_rule_number rule) line
+bad_way unit rule line tree sorted first = by_regions rule line (a_tree unit tree) sorted (faulty-all (functions_of unit) (line, rule) first)
+
+-- ---- texts
+
+-- a line with its number, as it is written
+abbrev pub written_line : ℕ × WorldLine → ℕ × List ℕ
+written_line l = (l.0, line_text l.1)
+
+lines-spelled : (lines : Lines) → IsTrue (list_all (λ l. has_words l.1) lines) → AllZip IsNumberedLine (map written_line lines) lines
+lines-spelled [] words = tt
+lines-spelled (l ∷ lines) words = let parts = both (has_words l.1) (list_all (λ l. has_words l.1) lines) words in ((refl, (parts.0, inl refl)), lines-spelled lines parts.1)
+
+pub world-text : (text : List ℕ) (cells : ℕ) (lines : Lines) (heap_line : ℕ)
+    → text_lines text ≡ (heap_line, spaced (codes "heap" ∷ decimal cells ∷ [])) ∷ map written_line lines
+    → IsTrue (nat_le 512 cells && nat_le cells 1048576)
+    → broken_after cells [] lines ≡ []
+    → IsTrue (list_any (λ (l : ℕ × WorldLine). is_thread_line l.1) lines && list_all (λ (l : ℕ × WorldLine). has_words l.1) lines)
+    → IsWorldText text (world_of cells lines)
+world-text text cells lines heap_line spelled size rules formed =
+    let sizes = both (nat_le 512 cells) (nat_le cells 1048576) size in
+    let parts = both (list_any (λ (l : ℕ × WorldLine). is_thread_line l.1) lines) (list_all (λ (l : ℕ × WorldLine). has_words l.1) lines) formed in
+    record {
+      heap_line = heap_line;
+      written = map written_line lines;
+      lines = lines;
+      spelled = spelled;
+      lines_spelled = lines-spelled lines parts.1;
+      size = (leb-true _ _ sizes.0, leb-true _ _ sizes.1);
+      rules = rules;
+      threads = parts.0;
+      meant = refl;
+    }
+
+-- the words of a schedule are turns and collections, and not too many
+abbrev pub is_schedule : ℕ → List (ScheduleWord × Option ℕ) → Bool
+is_schedule threads words =
+    list_all (λ w. is_turn threads w.0 && is_count w.1) words && nat_le (length (flat_map words_meant words)) 1000000
+
+pub schedule-text : (threads : ℕ) (text : List ℕ) (words : List (ScheduleWord × Option ℕ))
+    → words_of text ≡ map schedule_word words
+    → IsTrue (is_schedule threads words)
+    → IsScheduleText threads text (flat_map words_meant words)
+schedule-text threads text words spelled h =
+    let parts = both (list_all (λ w. is_turn threads w.0 && is_count w.1) words) (nat_le (length (flat_map words_meant words)) 1000000) h in
+    record { words = words; spelled = spelled; counted = parts.0; meant = refl; few = leb-true _ _ parts.1 }
+
+-- the entries of a journal are those of threads, and not too many
+abbrev pub is_journal : ℕ → Journal → Bool
+is_journal threads journal = list_all (has_thread threads) journal && nat_le (length journal) 1000000
+
+journal-text : (threads : ℕ) (text : List ℕ) (journal : Journal) → words_of text ≡ map entry_text journal → IsTrue (is_journal threads journal) → IsJournalText threads text journal
+journal-text threads text journal spelled h =
+    let parts = both (list_all (has_thread threads) journal) (nat_le (length journal) 1000000) h in
+    record { spelled = spelled; threads_known = parts.0; few = leb-true _ _ parts.1 }
+
+abbrev pub begins : (unit : SourceUnit) (world : List ℕ) (w : World) → IsAccepted unit → IsWorldText world w → first_load_fault unit w ≡ None → Beginning unit world
+begins unit world w accepted of_world loads = record { accepted = accepted; w = w; of_world = of_world; loads = loads }
+
+-- ---- runs
+
+-- the first mark, and none where there are no more
+abbrev pub first_mark : List Bool → Bool
+first_mark [] = false
+first_mark (mark ∷ marks) = mark
+
+-- the marks after the first
+abbrev pub later_marks : List Bool → List Bool
+later_marks [] = []
+later_marks (mark ∷ marks) = marks
+
+-- a step that is possible is one of a thread that can step
+if_true : (b : Bool) (o : Option State) (next : State) → (if b then o else None) ≡ Some next → b ≡ true
+if_true true o next h = refl
+if_true false o next h = absurd cc
+
+can-step : (unit : SourceUnit) (classes : Classes) (s next : State) (k : ℕ) (refused : Bool) → world_step unit classes s (Step k refused) ≡ Some next → can_step classes s k ≡ true
+unfolding world_step
+can-step unit classes s next k refused h = if_true (can_step classes s k) (step_of unit classes s k refused (thread_at s k)) next h
+
+-- a journal in front of others, turned round
+abbrev pub onto : Journal → Journal → Journal
+onto [] later = later
+onto (e ∷ journal) later = onto journal (e ∷ later)
+
+onto-onto : (journal later more : Journal) → onto (onto journal later) more ≡ onto later (journal ++ more)
+onto-onto [] later more = refl
+onto-onto (e ∷ journal) later more = onto-onto journal (e ∷ later) more
+
+with_none : (journal : Journal) → journal ++ [] ≡ journal
+with_none [] = refl
+with_none (e ∷ journal) = ap (λ j. e ∷ j) (with_none journal)
+
+turned_twice : (journal : Journal) → onto (onto journal []) [] ≡ journal
+turned_twice journal = onto-onto journal [] [] ∙ with_none journal
+
+-- what a run adds to the latest entries is a journal that follows the schedule, and each of its entries has room, or is fairly refused
+pub record Lawful (unit : SourceUnit) (w : World) (s : State) (words : Schedule) (latest : Journal) (end : State) (whole : Journal) : Type 0 where
+  pub journal : Journal
+  pub adds : whole ≡ onto journal latest
+  pub follows : Follows unit w s journal words end
+  pub fits : EachFrom unit w (FitsUnmarked unit w) (Some s) journal
+  pub fair : EachFrom unit w (IsFairMarked unit w) (Some s) journal
+
+module _ (unit : SourceUnit) (w : World) where
+  -- ---- room
+
+  -- whether something is pinned
+  abbrev pub is_some_view : List ℕ → Bool
+  is_some_view [] = false
+  is_some_view (n ∷ names) = true
+
+  -- a refusal is lawful: something is pinned, or there was no room
+  abbrev pub refusal_is_fair : State → ℕ → Bool → Bool
+  refusal_is_fair s k true = true
+  refusal_is_fair s k false = nat_lt w.cells (wanted unit w s k)
+
+  -- an allocation of these objects is lawful
+  abbrev pub allocation_fits : State → List Object → Bool
+  allocation_fits s [] = true
+  allocation_fits s (o ∷ objects) = nat_le (live_size w s + sizes (o ∷ objects)) w.cells
+
+  -- a step to another state, refused or not
+  abbrev pub has_room : State → ℕ → Bool → State → Bool
+  has_room s k true next = refusal_is_fair s k (is_some_view (views s))
+  has_room s k false next = allocation_fits s (made_between s (Some next))
+
+  refused-room : (s : State) (k : ℕ) (names : List ℕ) → views s ≡ names → IsTrue (refusal_is_fair s k (is_some_view names)) → IsFair unit w s k
+  refused-room s k [] e h = inl (ltb-true _ _ h)
+  refused-room s k (n ∷ names) e h = inr (λ none. absurd cc)
+
+  fits-room : (s : State) (k : ℕ) (objects : List Object) → made unit w s k ≡ objects → IsTrue (allocation_fits s objects) → Fits unit w s k
+  fits-room s k [] e h = λ some. absurd (some e)
+  fits-room s k (o ∷ objects) e h = λ some. subst (λ xs. live_size w s + sizes xs ≤ w.cells) (sym e) (leb-true _ _ h)
+
+  step-fits : (s next : State) (k : ℕ) (refused : Bool) → world_step unit w.classes s (entry k refused) ≡ Some next → IsTrue (has_room s k refused next) → FitsUnmarked unit w s (Step k refused)
+  step-fits s next k true e h = tt
+  step-fits s next k false e h = fits-room s k (made_between s (Some next)) (ap (made_between s) e) h
+
+  step-fair : (s next : State) (k : ℕ) (refused : Bool) → IsTrue (has_room s k refused next) → IsFairMarked unit w s (Step k refused)
+  step-fair s next k true h = refused-room s k (views s) refl h
+  step-fair s next k false h = tt
+
+  -- ---- the run by a schedule
+
+  -- the run goes on after a step that has room
+  abbrev pub after_step : (State → List Bool → Journal → Option (State × Journal)) → State → List Bool → Journal → Bool → Option (State × Journal)
+  after_step go next marks latest true = go next marks latest
+  after_step go next marks latest false = None
+
+  -- it goes on after the turn of a thread that can't step
+  abbrev pub after_waiting : Option (State × Journal) → Bool → Option (State × Journal)
+  after_waiting r false = r
+  after_waiting r true = None
+
+  -- after a thread's turn, with the state after its step if that is possible
+  abbrev pub after_turn : ℕ → (State → List Bool → Journal → Option (State × Journal)) → State → List Bool → Journal → Option State → Option (State × Journal)
+  after_turn k go s marks latest None = after_waiting (go s marks latest) (can_step w.classes s k)
+  after_turn k go s marks latest (Some next) = after_step go next (later_marks marks) (entry k (first_mark marks) ∷ latest) (has_room s k (first_mark marks) next)
+
+  -- The state and the journal of a run by a schedule, the latest entry first. A mark for each step, up to the last refused one,
+  -- says whether it is refused.
+  abbrev pub run : Schedule → State → List Bool → Journal → Option (State × Journal)
+  run [] s marks latest = Some (s, latest)
+  run (Collect ∷ words) s marks latest = run words s marks latest
+  run (Turn k ∷ words) s marks latest = after_turn k (λ next rest j. run words next rest j) s marks latest (world_step unit w.classes s (entry k (first_mark marks)))
+
+  -- where there is an end
+  abbrev pub IsLawful : State → Schedule → Journal → Option (State × Journal) → Type 0
+  IsLawful s words latest None = Unit {0}
+  IsLawful s words latest (Some (end, whole)) = Lawful unit w s words latest end whole
+
+  collects : (s : State) (words : Schedule) (latest : Journal) (r : Option (State × Journal)) → IsLawful s words latest r → IsLawful s (Collect ∷ words) latest r
+  collects s words latest None h = tt
+  collects s words latest (Some (end, whole)) h = record { journal = h.journal; adds = h.adds; follows = Collects s end h.journal words h.follows; fits = h.fits; fair = h.fair }
+
+  waits : (s : State) (k : ℕ) (words : Schedule) (latest : Journal) (r : Option (State × Journal)) (can : Bool) → can_step w.classes s k ≡ can → IsLawful s words latest r → IsLawful s (Turn k ∷ words) latest (after_waiting r can)
+  waits s k words latest r true e h = tt
+  waits s k words latest None false e h = tt
+  waits s k words latest (Some (end, whole)) false e h = record { journal = h.journal; adds = h.adds; follows = Waits s end k h.journal words e h.follows; fits = h.fits; fair = h.fair }
+
+  goes_on : (s next : State) (k : ℕ) (refused : Bool) (words : Schedule) (latest : Journal) (r : Option (State × Journal)) → world_step unit w.classes s (entry k refused) ≡ Some next → IsTrue (has_room s k refused next) → IsLawful next words (entry k refused ∷ latest) r → IsLawful s (Turn k ∷ words) latest r
+  goes_on s next k refused words latest None e is h = tt
+  goes_on s next k refused words latest (Some (end, whole)) e is h =
+      record {
+        journal = entry k refused ∷ h.journal;
+        adds = h.adds;
+        follows = Steps s next end k refused h.journal words (can-step unit w.classes s next k refused e) e h.follows;
+        fits = (step-fits s next k refused e is, subst (λ o. EachFrom unit w (FitsUnmarked unit w) o h.journal) (sym e) h.fits);
+        fair = (step-fair s next k refused is, subst (λ o. EachFrom unit w (IsFairMarked unit w) o h.journal) (sym e) h.fair);
+      }
+
+  steps : (s next : State) (k : ℕ) (words : Schedule) (go : State → List Bool → Journal → Option (State × Journal)) (marks : List Bool) (latest : Journal) (room : Bool) → world_step unit w.classes s (entry k (first_mark marks)) ≡ Some next → has_room s k (first_mark marks) next ≡ room → IsLawful next words (entry k (first_mark marks) ∷ latest) (go next (later_marks marks) (entry k (first_mark marks) ∷ latest)) → IsLawful s (Turn k ∷ words) latest (after_step go next (later_marks marks) (entry k (first_mark marks) ∷ latest) room)
+  steps s next k words go marks latest false e is h = tt
+  steps s next k words go marks latest true e is h = goes_on s next k (first_mark marks) words latest (go next (later_marks marks) (entry k (first_mark marks) ∷ latest)) e is h
+
+  turns : (s : State) (k : ℕ) (words : Schedule) (go : State → List Bool → Journal → Option (State × Journal)) (marks : List Bool) (latest : Journal) (o : Option State) → world_step unit w.classes s (entry k (first_mark marks)) ≡ o → ((next : State) (rest : List Bool) (j : Journal) → IsLawful next words j (go next rest j)) → IsLawful s (Turn k ∷ words) latest (after_turn k go s marks latest o)
+  turns s k words go marks latest None e further = waits s k words latest (go s marks latest) (can_step w.classes s k) refl (further s marks latest)
+  turns s k words go marks latest (Some next) e further =
+      steps s next k words go marks latest (has_room s k (first_mark marks) next) e refl (further next (later_marks marks) (entry k (first_mark marks) ∷ latest))
+
+  run-lawful : (words : Schedule) (s : State) (marks : List Bool) (latest : Journal) → IsLawful s words latest (run words s marks latest)
+  run-lawful [] s marks latest = record { journal = []; adds = refl; follows = Over s; fits = tt; fair = tt }
+  run-lawful (Collect ∷ words) s marks latest = collects s words latest (run words s marks latest) (run-lawful words s marks latest)
+  run-lawful (Turn k ∷ words) s marks latest =
+      turns s k words (λ next rest j. run words next rest j) marks latest (world_step unit w.classes s (entry k (first_mark marks))) refl (λ next rest j. run-lawful words next rest j)
+
+  -- ---- what is written
+
+  -- the report of a state, and a journal
+  abbrev pub output : State → Journal → List ℕ
+  output end journal = report_text (report w end) ++ journal_line journal
+
+  -- a run ends, and this is written
+  abbrev pub runs_to : List ℕ → Option (State × Journal) → Bool
+  runs_to text None = false
+  runs_to text (Some (end, latest)) = bytes_eq text (output end (onto latest []))
+
+  run-writes : (schedule text world : List ℕ) (words : Schedule) (r : Option (State × Journal)) (h : IsAccepted unit) (of_world : IsWorldText world w) (loads : first_load_fault unit w ≡ None) → IsScheduleText (length w.threads) schedule words → IsLawful (start unit w) words [] r → IsTrue (runs_to text r) → IsWorkedRun unit world schedule text
+  run-writes schedule text world words None h of_world loads of_schedule lawful is = absurd cc
+  run-writes schedule text world words (Some (end, latest)) h of_world loads of_schedule lawful is =
+      record {
+        beginning = begins unit world w h of_world loads;
+        words = words;
+        of_schedule = of_schedule;
+        journal = lawful.journal;
+        follows = (end, lawful.follows);
+        fits = lawful.fits;
+        fair = lawful.fair;
+        writes = record {
+          end = end;
+          replays = follows-replay unit w lawful.follows;
+          same = (bytes_eq-Decides text (output end (onto latest []))).0 is ∙ ap (output end) (ap (λ j. onto j []) lawful.adds ∙ turned_twice lawful.journal);
+        };
+      }
+
+-- the same world, with its parts worked out, so that each step of a computation finds them so
+abbrev pub worked_out : World → World
+worked_out w = record { cells = w.cells; classes = w.classes; objects = w.objects; threads = w.threads }
+
+pub worked-run : {world schedule text : List ℕ} (unit : SourceUnit) (w : World) (words : List (ScheduleWord × Option ℕ)) (marks : List Bool)
+    → IsAccepted unit
+    → IsWorldText world w
+    → first_load_fault unit w ≡ None
+    → words_of schedule ≡ map schedule_word words
+    → IsTrue (is_schedule (length w.threads) words)
+    → IsTrue (runs_to unit (worked_out w) text (run unit (worked_out w) (flat_map words_meant words) (start unit (worked_out w)) marks []))
+    → IsWorkedRun unit world schedule text
+worked-run {world} {schedule} {text} unit w words marks h of_world loads spelled good is =
+    run-writes unit w schedule text world (flat_map words_meant words) (run unit w (flat_map words_meant words) (start unit w) marks []) h of_world loads
+    (schedule-text (length w.threads) schedule words spelled good) (run-lawful unit w (flat_map words_meant words) (start unit w) marks []) is
+
+-- ---- replays
+
+-- a replay ends, and this is written
+abbrev pub replays_to : World → List ℕ → Journal → Option State → Bool
+replays_to w text journal None = false
+replays_to w text journal (Some end) = bytes_eq text (report_text (report w end) ++ journal_line journal)
+
+replay-writes : (unit : SourceUnit) (w : World) (text : List ℕ) (journal : Journal) (o : Option State) → replay unit w journal ≡ o → IsTrue (replays_to w text journal o) → Writes unit w journal text
+replay-writes unit w text journal None e is = absurd cc
+replay-writes unit w text journal (Some end) e is = record { end = end; replays = e; same = (bytes_eq-Decides text (report_text (report w end) ++ journal_line journal)).0 is }
+
+pub worked-replay : {world journal text : List ℕ} (unit : SourceUnit) (w : World) (entries : Journal)
+    → IsAccepted unit
+    → IsWorldText world w
+    → first_load_fault unit w ≡ None
+    → words_of journal ≡ map entry_text entries
+    → IsTrue (is_journal (length w.threads) entries)
+    → IsTrue (replays_to (worked_out w) text entries (replay unit (worked_out w) entries))
+    → IsWorkedReplay unit world journal text
+worked-replay {world} {journal} {text} unit w entries h of_world loads spelled good is =
+    record {
+      beginning = begins unit world w h of_world loads;
+      entries = entries;
+      of_journal = journal-text (length w.threads) journal entries spelled good;
+      writes = replay-writes unit w text entries (replay unit w entries) refl is;
+    }
+
+-- a replay ends, and the next entry isn't possible
+abbrev pub is_stopped : SourceUnit → World → Entry → Option State → Bool
+is_stopped unit w e None = false
+is_stopped unit w e (Some s) = is_none (world_step unit w.classes s e)
+
+-- a state in which the entry isn't possible
+pub record Stops (unit : SourceUnit) (w : World) (e : Entry) (o : Option State) : Type 0 where
+  pub before : State
+  pub is : o ≡ Some before
+  pub impossible : world_step unit w.classes before e ≡ None
+
+no_step : (o : Option State) → IsTrue (is_none o) → o ≡ None
+no_step None h = refl
+no_step (Some s) h = absurd cc
+
+stops : (unit : SourceUnit) (w : World) (e : Entry) (o : Option State) → IsTrue (is_stopped unit w e o) → Stops unit w e o
+stops unit w e None h = absurd cc
+stops unit w e (Some s) h = record { before = s; is = refl; impossible = no_step (world_step unit w.classes s e) h }
+
+pub stopped-replay : {world journal : List ℕ} (unit : SourceUnit) (w : World) (done : Journal) (e : Entry) (rest : Journal)
+    → IsAccepted unit
+    → IsWorldText world w
+    → first_load_fault unit w ≡ None
+    → words_of journal ≡ map entry_text (done ++ e ∷ rest)
+    → IsTrue (is_journal (length w.threads) (done ++ e ∷ rest))
+    → IsTrue (is_stopped unit (worked_out w) e (replay unit (worked_out w) done))
+    → IsStoppedReplay unit world journal (length done + 1)
+stopped-replay {world} {journal} unit w done e rest h of_world loads spelled good is =
+    let stop = stops unit w e (replay unit w done) is in
+    record {
+      beginning = begins unit world w h of_world loads;
+      done = done;
+      entry = e;
+      rest = rest;
+      of_journal = journal-text (length w.threads) journal (done ++ e ∷ rest) spelled good;
+      counted = refl;
+      before = stop.before;
+      replays = stop.is;
+      impossible = stop.impossible;
+    }
+
+pub unloaded : {world : List ℕ} (unit : SourceUnit) (w : World) (line : ℕ) → IsWorldText world w → first_load_fault unit w ≡ Some line → IsUnloaded unit world line
+unloaded unit w line of_world fault = record { w = w; of_world = of_world; fault = fault }

@@ -1,0 +1,126 @@
+//! Each public call that reads, once with success, and what it reads.
+
+use class_rules::mangling::{is_mangled, mangle, unmangle};
+use semantics::{Entry, ScheduleWord};
+use std::test::Fail;
+use world::read_world;
+use world_schedules::{Repetition, read_journal, read_schedule};
+use world_values::{Call, Object, ObjectValue, World};
+
+#[test]
+fn a_schedule(rt: HostRuntime) -> Result<(), Fail> {
+    let schedule = read_schedule(rt.alloc(), b"1*3  2\n\n1\n", 2)?;
+    let words = [(1, 3), (2, 1), (1, 1)].map(|(thread, times)| Repetition {
+        word: ScheduleWord::Turn(thread),
+        times,
+    });
+    assert!(rt; schedule.repetitions() == words.as_slice());
+    Ok(())
+}
+
+#[test]
+fn a_journal(rt: HostRuntime) -> Result<(), Fail> {
+    let entries = read_journal(rt.alloc(), b"1 1! 2\n", 2)?;
+    let expected = [(1, false), (1, true), (2, false)].map(|(thread, refused)| Entry::Step {
+        thread,
+        refused,
+    });
+    assert!(rt; entries.as_slice() == expected.as_slice());
+    Ok(())
+}
+
+const WORLD: &[u8] =
+    b"heap 1024\nclass A\nclass p/B extends A\nfield A n I\nstatic p/B s [I\nobject @o p/B 7\nobjects @r A @o null\n\narray @b I 7 8 -9\nstring @t a b\nthread Java_A_f @b -5 null class:A\ncall Java_A_g @t\n";
+
+#[test]
+fn classes_of_a_world(rt: HostRuntime) -> Result<(), Fail> {
+    let world = read_world(rt.alloc(), WORLD)?;
+    let classes = world.classes();
+    let got = [
+        world.cells() == 1024,
+        classes.len() == 46,
+        classes.find(b"p/B") == Some(45),
+        classes.superclass(45) == Some(43),
+        classes.name(44) == b"[LA;".as_slice(),
+        classes.layout_len(45) == 1,
+        classes.own_statics(45).len() == 1,
+    ];
+    assert!(rt; got == [true; 7]);
+    Ok(())
+}
+
+/// Whether an object has this class and these values.
+fn is_object(object: &Object, class: usize, values: &[ObjectValue]) -> bool {
+    object.class() == class && object.values() == values
+}
+
+// Objects are named from 46 on, after those of the classes and the OutOfMemoryError object: here from 48, after two classes more.
+#[test]
+fn objects_of_a_world(rt: HostRuntime) -> Result<(), Fail> {
+    let world = read_world(rt.alloc(), WORLD)?;
+    let [o, r, _, _] = world.objects() else {
+        return Err(Fail::new("four objects"));
+    };
+    let elements = [
+        ObjectValue::Reference(Some(48)),
+        ObjectValue::Reference(None),
+    ];
+    assert!(rt; is_object(o, 45, &[ObjectValue::Number(7)]) && is_object(r, 44, &elements));
+    Ok(())
+}
+
+#[test]
+fn numbers_and_text_of_a_world(rt: HostRuntime) -> Result<(), Fail> {
+    let world = read_world(rt.alloc(), WORLD)?;
+    let [_, _, b, t] = world.objects() else {
+        return Err(Fail::new("four objects"));
+    };
+    let numbers = [7, 8, -9].map(ObjectValue::Number);
+    let units = [97, 32, 98].map(ObjectValue::Number);
+    assert!(rt; is_object(b, 23, &numbers) && is_object(t, 3, &units));
+    Ok(())
+}
+
+/// Whether a call is of this function, from this line, with these arguments.
+fn is_call(call: &Call, function: &[u8], line: usize, arguments: &[ObjectValue]) -> bool {
+    call.function() == function && call.line() == line && call.arguments() == arguments
+}
+
+/// The calls of the only thread of a world.
+fn calls_of(world: &World) -> &[Call] {
+    match world.threads() {
+        [calls] => calls.as_slice(),
+        _ => &[],
+    }
+}
+
+#[test]
+fn calls_of_a_world(rt: HostRuntime) -> Result<(), Fail> {
+    let world = read_world(rt.alloc(), WORLD)?;
+    let [first, second] = calls_of(&world) else {
+        return Err(Fail::new("two calls"));
+    };
+    let arguments = [
+        ObjectValue::Reference(Some(50)),
+        ObjectValue::Number(-5),
+        ObjectValue::Reference(None),
+        ObjectValue::Reference(Some(43)),
+    ];
+    let text = [ObjectValue::Reference(Some(51))];
+    assert!(rt;
+        is_call(first, b"Java_A_f", 11, &arguments) && is_call(second, b"Java_A_g", 12, &text)
+    );
+    Ok(())
+}
+
+#[test]
+fn names_of_native_methods(rt: HostRuntime) -> Result<(), Fail> {
+    let name = mangle(rt.alloc(), b"a_b/C", b"f_g")?;
+    assert!(rt; name.as_slice() == b"Java_a_1b_C_f_1g".as_slice() && is_mangled(&name));
+    let native = unmangle(rt.alloc(), &name)?.ok_or("it is mangled")?;
+    assert!(rt;
+        native.class.as_slice() == b"a_b/C".as_slice()
+            && native.method.as_slice() == b"f_g".as_slice()
+    );
+    Ok(())
+}

@@ -1,0 +1,109 @@
+-- The cases of texts/spelled.cases, as examples/worked_equations writes them.
+use Rattle.std.specs.Prelude.{◌∷◌, true, false, [], codes, refl}
+use Rattle.base.specs.Element.{JInt}
+use Rattle.syntax.specs.Tree.{Abort, Add, AddressOf, Assign, AssignElement, Binary, BitAnd, BitOr, Complement, Declare, DeclareArray, DeclareBuffer, Element, Equal, False, FromCall, FromExpr, If, IfElse, IntResult, JBoolean, JIntArray, JObject, JString, Less, LogicalAnd, LogicalNot, Named, NotEqual, Null, Number, Paren, Perform, Prefix, PutJint, ReferenceResult, ReferenceVariable, Return, ReturnValue, ShiftLeft, SourceUnit, TestCall, TestExpr, Text, ToInt, ToWord, UInt32, Value, Variable, Void, While}
+use Rattle.test_equations.proofs.Programs.{unit_of, native, block, static_reference, reference_parameter, int_parameter, call, given}
+use Rattle.parse.specs.Spelling.{SpellsUnit}
+use Rattle.test_equations.proofs.Computed.{a_tree}
+use Rattle.test_texts.proofs.Spelling.{spelled}
+use Rattle.test_texts.proofs.Spelling.{opened}
+
+-- comments, blanks and numbers
+-- /* A native method (JNI Specification, chapter 2)
+--    of the class A. */
+-- JNIEXPORT jint JNICALL Java_A_f(JNIEnv *env, jclass cls, jint n)
+-- {
+--     uint32_t word = (uint32_t)n+0x1Fu; // no space is needed
+--     return (jint)(~word << 2u | 1u & word);
+-- }
+abbrev pub comments_blanks_and_numbers : SourceUnit
+comments_blanks_and_numbers =
+    unit_of
+    (native 3 IntResult (codes "Java_A_f") (int_parameter (codes "n") ∷ [])
+    (Declare 5 UInt32 (codes "word") (FromExpr (Binary Add (Prefix ToWord (Variable (codes "n"))) (Number 31 true)))
+    ∷ ReturnValue 6 (Prefix ToInt (Paren (Binary BitOr (Binary ShiftLeft (Prefix Complement (Variable (codes "word"))) (Number 2 true)) (Binary BitAnd (Number 1 true) (Variable (codes "word"))))))
+    ∷ [])
+    7
+    ∷ [])
+
+comments_blanks_and_numbers-spelled : SpellsUnit (codes "/* A native method (JNI Specification, chapter 2)\n   of the class A. */\nJNIEXPORT jint JNICALL Java_A_f(JNIEnv *env, jclass cls, jint n)\n{\n\tuint32_t word = (uint32_t)n+0x1Fu; // no space is needed\n    return (jint)(~word << 2u | 1u & word);\n}\n") comments_blanks_and_numbers
+unfolding opened
+comments_blanks_and_numbers-spelled = spelled (codes "/* A native method (JNI Specification, chapter 2)\n   of the class A. */\nJNIEXPORT jint JNICALL Java_A_f(JNIEnv *env, jclass cls, jint n)\n{\n\tuint32_t word = (uint32_t)n+0x1Fu; // no space is needed\n    return (jint)(~word << 2u | 1u & word);\n}\n") comments_blanks_and_numbers (a_tree comments_blanks_and_numbers refl) refl
+
+-- a static and calls
+-- static jobject g = NULL;
+-- JNIEXPORT jstring JNICALL Java_A_f(JNIEnv *env, jclass cls, jobject o) {
+--     g = (*env)->NewGlobalRef(env, o);
+--     if ((*env)->PushLocalFrame(env, 1) == 0) { (*env)->PopLocalFrame(env, NULL); } else { return NULL; }
+--     jstring s = (*env)->NewStringUTF(env, "a /* b */ c");
+--     return s;
+-- }
+abbrev pub a_static_and_calls : SourceUnit
+a_static_and_calls =
+    unit_of
+    (static_reference 1 JObject (codes "g")
+    ∷ native 2 (ReferenceResult JString) (codes "Java_A_f") (reference_parameter JObject (codes "o") ∷ [])
+    (Assign 3 (codes "g") (FromCall (call (codes "NewGlobalRef") (given (codes "o") ∷ [])))
+    ∷ IfElse 4 (TestCall (call (codes "PushLocalFrame") (Value (Number 1 false) ∷ [])))
+    (block
+    (Perform 4 (call (codes "PopLocalFrame") (Value (Named Null) ∷ []))
+    ∷ [])
+    4)
+    (block
+    (ReturnValue 4 (Named Null)
+    ∷ [])
+    4)
+    ∷ Declare 5 (ReferenceVariable JString) (codes "s") (FromCall (call (codes "NewStringUTF") (Text (codes "a /* b */ c") ∷ [])))
+    ∷ ReturnValue 6 (Variable (codes "s"))
+    ∷ [])
+    7
+    ∷ [])
+
+a_static_and_calls-spelled : SpellsUnit (codes "static jobject g = NULL;\nJNIEXPORT jstring JNICALL Java_A_f(JNIEnv *env, jclass cls, jobject o) {\n    g = (*env)->NewGlobalRef(env, o);\n    if ((*env)->PushLocalFrame(env, 1) == 0) { (*env)->PopLocalFrame(env, NULL); } else { return NULL; }\n    jstring s = (*env)->NewStringUTF(env, \"a /* b */ c\");\n    return s;\n}\n") a_static_and_calls
+unfolding opened
+a_static_and_calls-spelled = spelled (codes "static jobject g = NULL;\nJNIEXPORT jstring JNICALL Java_A_f(JNIEnv *env, jclass cls, jobject o) {\n    g = (*env)->NewGlobalRef(env, o);\n    if ((*env)->PushLocalFrame(env, 1) == 0) { (*env)->PopLocalFrame(env, NULL); } else { return NULL; }\n    jstring s = (*env)->NewStringUTF(env, \"a /* b */ c\");\n    return s;\n}\n") a_static_and_calls (a_tree a_static_and_calls refl) refl
+
+-- a buffer in a loop
+-- JNIEXPORT void JNICALL Java_A_f(JNIEnv *env, jclass cls, jintArray a) {
+--     jint b[2] = {0};
+--     jboolean copied = JNI_FALSE;
+--     uint32_t i = 0u;
+--     jint *p = (*env)->GetIntArrayElements(env, a, &copied);
+--     if (p != NULL) {
+--         while (i < 2u && !(copied == JNI_FALSE)) {
+--             b[i] = p[i];
+--             i = i + 1u;
+--         }
+--         (*env)->ReleaseIntArrayElements(env, a, p, JNI_ABORT);
+--     }
+--     put_jint(b[1]);
+--     return;
+-- }
+abbrev pub a_buffer_in_a_loop : SourceUnit
+a_buffer_in_a_loop =
+    unit_of
+    (native 1 Void (codes "Java_A_f") (reference_parameter JIntArray (codes "a") ∷ [])
+    (DeclareArray 2 JInt (codes "b") 2
+    ∷ Declare 3 JBoolean (codes "copied") (FromExpr (Named False))
+    ∷ Declare 4 UInt32 (codes "i") (FromExpr (Number 0 true))
+    ∷ DeclareBuffer 5 JInt (codes "p") (FromCall (call (codes "GetIntArrayElements") (given (codes "a") ∷ AddressOf (codes "copied") ∷ [])))
+    ∷ If 6 (TestExpr (Binary NotEqual (Variable (codes "p")) (Named Null)))
+    (block
+    (While 7 (Binary LogicalAnd (Binary Less (Variable (codes "i")) (Number 2 true)) (Prefix LogicalNot (Paren (Binary Equal (Variable (codes "copied")) (Named False)))))
+    (block
+    (AssignElement 8 (codes "b") (Variable (codes "i")) (Element (codes "p") (Variable (codes "i")))
+    ∷ Assign 9 (codes "i") (FromExpr (Binary Add (Variable (codes "i")) (Number 1 true)))
+    ∷ [])
+    10)
+    ∷ Perform 11 (call (codes "ReleaseIntArrayElements") (given (codes "a") ∷ given (codes "p") ∷ Value (Named Abort) ∷ []))
+    ∷ [])
+    12)
+    ∷ PutJint 13 (Element (codes "b") (Number 1 false))
+    ∷ Return 14
+    ∷ [])
+    15
+    ∷ [])
+
+a_buffer_in_a_loop-spelled : SpellsUnit (codes "JNIEXPORT void JNICALL Java_A_f(JNIEnv *env, jclass cls, jintArray a) {\n    jint b[2] = {0};\n    jboolean copied = JNI_FALSE;\n    uint32_t i = 0u;\n    jint *p = (*env)->GetIntArrayElements(env, a, &copied);\n    if (p != NULL) {\n        while (i < 2u && !(copied == JNI_FALSE)) {\n            b[i] = p[i];\n            i = i + 1u;\n        }\n        (*env)->ReleaseIntArrayElements(env, a, p, JNI_ABORT);\n    }\n    put_jint(b[1]);\n    return;\n}\n") a_buffer_in_a_loop
+unfolding opened
+a_buffer_in_a_loop-spelled = spelled (codes "JNIEXPORT void JNICALL Java_A_f(JNIEnv *env, jclass cls, jintArray a) {\n    jint b[2] = {0};\n    jboolean copied = JNI_FALSE;\n    uint32_t i = 0u;\n    jint *p = (*env)->GetIntArrayElements(env, a, &copied);\n    if (p != NULL) {\n        while (i < 2u && !(copied == JNI_FALSE)) {\n            b[i] = p[i];\n            i = i + 1u;\n        }\n        (*env)->ReleaseIntArrayElements(env, a, p, JNI_ABORT);\n    }\n    put_jint(b[1]);\n    return;\n}\n") a_buffer_in_a_loop (a_tree a_buffer_in_a_loop refl) refl

@@ -1,5 +1,0 @@
-use Rattle.texts.proofs.JournalLemmas.{entries_again}
-use Rattle.texts.proofs.journal.entries_are_read_again.Goals as goal
-
-pub returns : goal.returns
-returns c = entries_again

@@ -1,6 +1,0 @@
-use Rattle.texts.proofs.JournalLaws.{journal_is_meant}
-use Rattle.texts.proofs.MeantJournals.{meant_journal}
-use Rattle.texts.proofs.journal.journals_are_read.Goals as goal
-
-pub returns : goal.returns
-returns c threads text journal most = (journal_is_meant threads text journal, meant_journal threads text journal most)

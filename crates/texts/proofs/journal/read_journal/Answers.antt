@@ -1,5 +1,0 @@
-use Rattle.texts.proofs.JournalLaws.{journal_means}
-use Rattle.texts.proofs.journal.read_journal.Goals as goal
-
-pub returns-clause-means : goal.returns-clause-means
-returns-clause-means c = journal_means c.args.threads c.args.text.now c.read_words.result c.read_words.ensures

@@ -1,6 +1,0 @@
-use Rattle.texts.proofs.ScheduleLaws.{schedule_is_meant}
-use Rattle.texts.proofs.MeantSchedules.{meant_schedule}
-use Rattle.texts.proofs.schedule.schedules_are_read.Goals as goal
-
-pub returns : goal.returns
-returns c threads text schedule most turns = (schedule_is_meant threads text schedule, meant_schedule threads text schedule most turns)

@@ -1,5 +1,0 @@
-use Rattle.std.proofs.Common.{length}
-use Rattle.threads.proofs.thread.+add_references.Given as goal
-
-abbrev pub decreases-add_references : goal.decreases-add_references
-decreases-add_references l = length l.arguments.now

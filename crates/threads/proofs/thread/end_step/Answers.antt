@@ -1,9 +1,0 @@
-use Rattle.std.proofs.Common.{refl}
-use Rattle.threads.proofs.ThreadLemmas.{goes_on}
-use Rattle.threads.proofs.thread.end_step.Goals as goal
-
-pub returns-in-Returned : goal.returns-in-Returned
-returns-in-Returned c = rw c.in-Returned.is (refl, c.leave.ensures)
-
-pub returns-in_default : goal.returns-in_default
-returns-in_default c = goes_on c.args.store.now c.args.thread.now c.args.outcome c.step_of.result c.in_default.not-Returned c.step_of.ensures

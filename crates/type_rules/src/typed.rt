@@ -1,0 +1,56 @@
+//! Units whose names and sorts keep the rules.
+
+ghost use Rattle.std.specs.Prelude.{◌≡◌, IsTrue};
+ghost use Rattle.syntax.specs.Limits.{IsTree};
+ghost use Rattle.syntax.specs.Views.{unit_tree};
+ghost use Rattle.type_rules.specs.SortRules.{IsSorted};
+ghost use Rattle.type_rules.specs.BuiltCalls.{calls_are_built};
+
+use std::marker::Model;
+use syntax::{Item, Unit};
+
+/// A unit that is sorted.
+#[derive(Drop)]
+pub struct Typed {
+    unit: Unit,
+}
+
+impl Model for Typed {
+    ghost use Rattle.std.specs.Prelude.{List, IsTrue};
+    ghost use Rattle.std.specs.Coded.{codes};
+    ghost use Rattle.syntax.specs.declared.unit.Item.{Item};
+    ghost use Rattle.syntax.specs.contracts.unit.Item as item;
+    ghost use Rattle.syntax.specs.Limits.{IsTree};
+    ghost use Rattle.syntax.specs.Views.{unit_tree};
+    ghost use Rattle.type_rules.specs.SortRules.{IsSorted};
+    ghost use Rattle.type_rules.specs.BuiltCalls.{calls_are_built};
+
+    ghost Value = { List Item };
+
+    ghost coded = { Prim.hlevel (codes, item.the_row.coded) };
+
+    ghost view = { λ t. t.unit };
+
+    ghost invariant = { λ t. IsSorted (unit_tree t.unit) × IsTrue (calls_are_built (unit_tree t.unit)) };
+}
+
+impl Typed {
+    /// A unit that is known to be sorted. `types` finds out.
+    pub fn of(unit: Unit) -> Typed
+        requires sorted { IsSorted (unit_tree unit) }
+        requires calls { IsTrue (calls_are_built (unit_tree unit)) }
+        ensures { result ≡ unit }
+    {
+        Typed { unit }
+    }
+
+    /// The items of the unit, in the order of the text.
+    pub fn items(&self) -> &[Item]
+        ensures same { result.now ≡ self.now }
+        ensures tree { IsTree (unit_tree result.now) }
+        ensures sorted { IsSorted (unit_tree result.now) }
+        ensures calls { IsTrue (calls_are_built (unit_tree result.now)) }
+    {
+        self.unit.items()
+    }
+}

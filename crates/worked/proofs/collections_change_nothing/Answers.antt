@@ -1,5 +1,0 @@
-use Rattle.worked.proofs.Collections.{without, with_them}
-use Rattle.worked.proofs.collections_change_nothing.Goals as goal
-
-pub returns : goal.returns
-returns c = λ unit w s end journal words. (without unit w, with_them unit w words)

@@ -1,0 +1,44 @@
+-- The names of objects in memory, by name and by place.
+use Rattle.std.proofs.Common.{◌≡◌, ℕ, suc, ◌+◌, Bool, cond, List, [], ◌∷◌, ◌++◌, length, position, Option, Some, None, Result, Ok, Err, is_err, false, nat_lt, refl, ap}
+use Rattle.std.specs.Prelude.{not, OnOk}
+use Rattle.std.specs.List.{prefix_len}
+use Rattle.std.specs.Str.{bytes_eq}
+use Rattle.std.specs.Map as maps
+use Rattle.std.specs.Global.{Vec}
+use Rattle.std.proofs.lemmas.List.{map-append}
+use Rattle.base.specs.Bytes.{Identifier, lookup}
+use Rattle.classes.proofs.Places.{same_bytes}
+use Rattle.world.specs.NameViews.{names_view}
+
+module _ (name : Identifier) where
+  abbrev has_key : Vec ℕ → Bool
+  has_key k = bytes_eq name k.items
+
+  abbrev has_name : Identifier × ℕ → Bool
+  has_name o = bytes_eq o.0 name
+
+  -- the class of a name
+  pub lookup-view : (es : List (Vec ℕ × ℕ)) → lookup name (names_view es) ≡ maps.lookup has_key es
+  lookup-view [] = refl
+  lookup-view (e ∷ es) = ap (λ (o : Option ℕ). cond (has_key e.0) (Some e.1) o) (lookup-view es)
+
+  same_prefix : (es : List (Vec ℕ × ℕ)) → prefix_len (λ k. not (has_key k)) (maps.keys_of es) ≡ prefix_len (λ o. not (has_name o)) (names_view es)
+  same_prefix [] = refl
+  same_prefix (e ∷ es) = λ i. cond (not (same_bytes name e.0.items i)) (1 + same_prefix es i) 0
+
+  same_length : (es : List (Vec ℕ × ℕ)) → length (maps.keys_of es) ≡ length (names_view es)
+  same_length [] = refl
+  same_length (e ∷ es) = ap suc (same_length es)
+
+  -- the place of a name
+  pub place-view : (es : List (Vec ℕ × ℕ)) → position has_key (maps.keys_of es) ≡ position has_name (names_view es)
+  place-view es = λ i. cond (nat_lt (same_prefix es i) (same_length es i)) (Some (same_prefix es i)) None
+
+-- one more entry is one more name
+pub names_view-more : (es : List (Vec ℕ × ℕ)) (e : Vec ℕ × ℕ) → names_view (es ++ e ∷ []) ≡ names_view es ++ (e.0.items, e.1) ∷ []
+names_view-more es e = map-append (λ (f : Vec ℕ × ℕ). (f.0.items, f.1)) es (e ∷ [])
+
+-- what holds on success, where there was no failure
+pub on_ok : {X Y : Type 0} (r : Result X Y) (P : Type 0) → OnOk r P → is_err r ≡ false → P
+on_ok (Ok x) P p h = p
+on_ok (Err y) P p h = absurd (cc)

@@ -1,0 +1,81 @@
+-- How the text of a world is read: line by line, each by the rules on it after those before it. One thread is run today.
+use Rattle.std.specs.Prelude.{ℕ, Bool, ◌&&◌, List, [], ◌∷◌, ◌++◌, Option, Some, None, Result, Ok, nat_le, if◌then◌else◌}
+use Rattle.std.specs.List.{list_any}
+use Rattle.class_rules.specs.Additions.{NameTaken, BadSuperclass, BadSignature, TooMany}
+use Rattle.world_schedules.specs.LineRules.{LineRule, OfClass, LineForm, WrongName, OutOfLimit, HeapFull}
+use Rattle.world_schedules.specs.Reading.{◌>>=◌, refused}
+use Rattle.world_schedules.specs.declared.fault.Rule.{Rule}
+use Rattle.world_schedules.specs.declared.fault.Rule.TheVariants as held
+use Rattle.world_schedules.specs.declared.fault.TextFault.{TextFault}
+use Rattle.semantics.specs.World.{World, least_cells, most_cells}
+use Rattle.world_lines.specs.ReadingLines.{heap_of_line, line_of}
+use Rattle.world_values.specs.WorldLines.{WorldLine, Lines, text_lines}
+use Rattle.world_values.specs.WorldMeaning.{world_of}
+use Rattle.world_values.specs.WorldRules.{is_thread_line, broken_by_line}
+
+-- a rule as it is held in memory
+abbrev pub held_rule : LineRule → Rule
+held_rule (OfClass NameTaken) = held.NameTaken
+held_rule (OfClass BadSuperclass) = held.Superclass
+held_rule (OfClass BadSignature) = held.Signature
+held_rule (OfClass TooMany) = held.Classes
+held_rule LineForm = held.Form
+held_rule WrongName = held.Name
+held_rule OutOfLimit = held.Limit
+held_rule HeapFull = held.Heap
+
+-- ---- a line
+
+-- a thread after another is not run yet
+abbrev pub is_second_thread : Lines → WorldLine → Bool
+is_second_thread earlier line = is_thread_line line && list_any (λ (l : ℕ × WorldLine). is_thread_line l.1) earlier
+
+-- the least rule of several that are broken, or else the limit of one thread
+abbrev pub least_rule : List LineRule → (second : Bool) → Option LineRule
+least_rule (rule ∷ rules) second = Some rule
+least_rule [] second = if second then Some OutOfLimit else None
+
+-- the least rule that a line breaks, its number with it, after earlier lines
+abbrev pub rule_broken : (cells : ℕ) (earlier : Lines) → ℕ × WorldLine → Option LineRule
+rule_broken cells earlier line = least_rule (broken_by_line cells earlier line) (is_second_thread earlier line.1)
+
+-- something that breaks no rule, or the rule at this line
+abbrev pub ruled : {A : Type 0} → (number : ℕ) → Option LineRule → A → Result A TextFault
+ruled number None x = Ok x
+ruled number (Some rule) x = refused (held_rule rule) number
+
+-- the lines with one more
+unfoldable pub line_read : (cells : ℕ) (earlier : Lines) (number : ℕ) → Option WorldLine → Result Lines TextFault
+line_read cells earlier number None = refused held.Form number
+line_read cells earlier number (Some line) = ruled number (rule_broken cells earlier (number, line)) (earlier ++ (number, line) ∷ [])
+
+-- the lines with more
+unfoldable pub lines_read : (cells : ℕ) (earlier : Lines) → List (ℕ × List ℕ) → Result Lines TextFault
+lines_read cells earlier [] = Ok earlier
+lines_read cells earlier ((number, bytes) ∷ more) = line_read cells earlier number (line_of bytes) >>= λ lines. lines_read cells lines more
+
+-- ---- a text
+
+-- the size of the heap, by the first line
+unfoldable pub heap_read : (number : ℕ) → Option ℕ → Result ℕ TextFault
+heap_read number None = refused held.Form number
+heap_read number (Some cells) = if nat_le least_cells cells && nat_le cells most_cells then Ok cells else refused held.Limit number
+
+-- the number of the last line
+abbrev pub last_number : (number : ℕ) → List (ℕ × List ℕ) → ℕ
+last_number number [] = number
+last_number number ((n, bytes) ∷ more) = last_number n more
+
+-- the world of these lines, where a thread is among them; else the last line is told
+unfoldable pub world_read : (cells last : ℕ) → Lines → Result World TextFault
+world_read cells last lines = if list_any (λ (l : ℕ × WorldLine). is_thread_line l.1) lines then Ok (world_of cells lines) else refused held.Limit last
+
+-- the world of lines with their numbers
+unfoldable pub numbered_read : List (ℕ × List ℕ) → Result World TextFault
+numbered_read [] = refused held.Form 1
+numbered_read ((number, bytes) ∷ more) =
+    heap_read number (heap_of_line bytes) >>= λ cells. lines_read cells [] more >>= λ lines. world_read cells (last_number number more) lines
+
+-- the world that is read of a text
+abbrev pub world_of_text : List ℕ → Result World TextFault
+world_of_text text = numbered_read (text_lines text)

@@ -1,0 +1,24 @@
+//! What the lines of a world have said so far.
+
+ghost use Rattle.std.specs.Prelude.{◌≤◌, length};
+
+use crate::names::ObjectNames;
+use classes::table::ClassTable;
+use world_values::{Call, Object};
+
+/// What the lines so far say.
+#[derive(Drop)]
+pub struct WorldBuilder {
+    pub cells: u32,
+    pub classes: ClassTable,
+    pub names: ObjectNames,
+    pub objects: Vec<Object>,
+    pub threads: Vec<Vec<Call>>,
+    /// The cells that are used at load.
+    pub used: usize,
+    /// The part of the last line.
+    pub part: u8,
+    ghost room: { used ≤ cells },
+    ghost limit: { cells ≤ 1048576 },
+    ghost few: { length names ≤ 65536 },
+}

@@ -1,4 +1,0 @@
-use Rattle.world_lines.proofs.class_rules.class_rule.Goals as goal
-
-pub returns-in-None : goal.returns-in-None
-returns-in-None c = rw c.in-None.is c.class_rule-in-None.ensures

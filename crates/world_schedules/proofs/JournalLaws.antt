@@ -1,0 +1,87 @@
+-- The journal that is read is the one that the text means.
+use Rattle.std.proofs.Common.{◌≡◌, ℕ, ◌+◌, ◌-◌, ◌≤◌, Bool, true, false, cond, List, [], ◌∷◌, ◌++◌, map, Some, Result, Ok, Err, refl, sym, ap, ◌∙◌, subst, arith}
+use Rattle.std.specs.Prelude.{filter, ◌==◌, ◌&&◌, nat_le, IfOk}
+use Rattle.std.specs.Global.{Vec}
+use Rattle.std.specs.List.{list_all}
+use Rattle.std.proofs.lemmas.Bool.{and_from}
+use Rattle.std.proofs.lemmas.Bool.Decides.{nat_tests}
+use Rattle.std.proofs.lemmas.Fmt.{decimal_digit}
+use Rattle.base.specs.Bytes.{is_some_byte}
+use Rattle.semantics.specs.declared.journal.Entry.{Entry}
+use Rattle.semantics.specs.declared.journal.Entry.TheVariants.{Step}
+use Rattle.semantics.specs.Journal.{Journal}
+use Rattle.semantics.specs.JournalText.{entry_text}
+use Rattle.world_schedules.specs.JournalMeaning.{IsJournalText, has_thread}
+use Rattle.world_schedules.specs.Split.{parts_of}
+use Rattle.world_schedules.specs.ReadingJournals.{entry_named, entry_of, is_up_to, journal_of}
+use Rattle.world_schedules.specs.Reading.{Gives}
+use Rattle.world_schedules.specs.ReadingWords.{formed_words}
+use Rattle.world_schedules.specs.declared.fault.ReadError.{ReadError}
+use Rattle.world_schedules.proofs.JournalLemmas.{counted}
+use Rattle.world_schedules.proofs.ScheduleLaws.{guarded, guarded_option, some_with}
+use Rattle.world_schedules.proofs.WordLaws.{words_of-parts, all_parts, both_true, are_words}
+
+-- ---- one word
+
+abbrev thread_of : Entry → ℕ
+thread_of (Step k refused) = k
+
+pub record IsEntry (bytes : List ℕ) (e : Entry) : Type 0 where
+  pub spelled : bytes ≡ entry_text e
+  pub low : 1 ≤ thread_of e
+
+-- the mark of a refused allocation
+abbrev mark : Bool → List ℕ
+mark refused = cond refused (33 ∷ []) []
+
+entry_read : (name : ℕ) (refused : Bool) (e : Entry) → entry_named name refused ≡ Some e → IsEntry (name ∷ mark refused) e
+entry_read name refused e h =
+    let g = guarded (nat_le 49 name && nat_le name 56) (Step (name - 48) refused) e h in
+    let t = both_true (nat_le 49 name) (nat_le name 56) g.0 in
+    let low : 49 ≤ name = grind (arith, nat_tests, t.0) in
+    let high : name ≤ 56 = grind (arith, nat_tests, t.1) in
+    let digit : 48 + (name - 48) ≡ name = omega (arith, low) in
+    subst (IsEntry (name ∷ mark refused)) g.1 (record { spelled = ap (λ (ds : List ℕ). ds ++ mark refused) (sym (decimal_digit (name - 48) (omega (arith, high)) ∙ ap (λ n. n ∷ []) digit)); low = omega (arith, low) })
+
+word_read : (bytes : List ℕ) (e : Entry) → entry_of bytes ≡ Some e → IsEntry bytes e
+word_read [] e h = absurd (cc)
+word_read (name ∷ []) e h = entry_read name false e h
+word_read (name ∷ sign ∷ []) e h =
+    let g = guarded_option (sign == 33) (entry_named name true) e h in
+    let is : sign ≡ 33 = grind (arith, nat_tests, g.0) in
+    subst (λ s. IsEntry (name ∷ s ∷ []) e) (sym is) (entry_read name true e g.1)
+word_read (name ∷ sign ∷ more ∷ bytes) e h = absurd (cc)
+
+-- ---- all words
+
+pub record AreEntriesOf (parts : List (List ℕ)) (es : Journal) : Type 0 where
+  pub spelled : filter is_some_byte parts ≡ map entry_text es
+  pub known : (threads : ℕ) → list_all (is_up_to threads) es ≡ true → list_all (has_thread threads) es ≡ true
+
+there : (threads : ℕ) (e : Entry) → 1 ≤ thread_of e → is_up_to threads e ≡ true → has_thread threads e ≡ true
+there threads (Step k refused) low high = let one : nat_le 1 k ≡ true = grind (arith, nat_tests, low) in and_from (nat_le 1 k) (nat_le k threads) one high
+
+entries_read : (parts : List (List ℕ)) (es : Journal) → formed_words entry_of parts ≡ Some es → AreEntriesOf parts es
+entries_read [] es h = let none : [] ≡ es = cc in subst (AreEntriesOf []) none (record { spelled = refl; known = λ threads k. refl })
+entries_read ([] ∷ parts) es h = let a = entries_read parts es h in record { spelled = a.spelled; known = a.known }
+entries_read ((c ∷ cs) ∷ parts) es h =
+    let w = some_with (entry_of (c ∷ cs)) (formed_words entry_of parts) es h in
+    let first = word_read (c ∷ cs) w.0 w.2 in
+    let a = entries_read parts w.1 w.3 in
+    subst (AreEntriesOf ((c ∷ cs) ∷ parts)) (sym w.4) (record {
+      spelled = ap (λ (b : List ℕ). b ∷ filter is_some_byte parts) first.spelled ∙ ap (λ (bs : List (List ℕ)). entry_text w.0 ∷ bs) a.spelled;
+      known = λ threads k.
+          let both = both_true (is_up_to threads w.0) (list_all (is_up_to threads) w.1) k in
+          and_from (has_thread threads w.0) (list_all (has_thread threads) w.1) (there threads w.0 first.low both.0) (a.known threads both.1);
+    })
+
+-- what is read is meant
+pub journal_is_meant : (threads : ℕ) (text : List ℕ) (journal : Journal) → journal_of text threads ≡ Ok journal → IsJournalText threads text journal
+journal_is_meant threads text journal h =
+    let ws = are_words entry_of (is_up_to threads) (λ e. 1) 1 0 (parts_of 10 text) journal (omega arith) h in
+    let es = entries_read (all_parts text) journal ws.formed in
+    record { spelled = words_of-parts text ∙ es.spelled; threads_known = es.known threads ws.all_known; few = omega (arith, counted journal, ws.few) }
+
+pub journal_means : (threads : ℕ) (text : List ℕ) (r : Result (Vec Entry) ReadError) → Gives (λ (v : Vec Entry). v.items) r (journal_of text threads) → IfOk r (λ (v : Vec Entry). IsJournalText threads text v.items)
+journal_means threads text (Ok v) h = journal_is_meant threads text v.items h
+journal_means threads text (Err e) h = tt

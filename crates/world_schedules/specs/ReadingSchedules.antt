@@ -1,0 +1,40 @@
+-- How the words of a schedule are read. Collections are not built yet: their word has no form.
+use Rattle.std.specs.Prelude.{ℕ, ◌-◌, List, [], ◌∷◌, Bool, false, ◌&&◌, Option, Some, None, option_and_then, Result, Ok, ◌==◌, nat_le, replicate, if◌then◌else◌}
+use Rattle.std.specs.List.{flat_map}
+use Rattle.semantics.specs.declared.schedule.ScheduleWord.{ScheduleWord}
+use Rattle.semantics.specs.declared.schedule.ScheduleWord.TheVariants.{Turn, Collect}
+use Rattle.world_schedules.specs.declared.schedule.Repetition.{Repetition}
+use Rattle.world_schedules.specs.declared.fault.TextFault.{TextFault}
+use Rattle.world_schedules.specs.Numbers.{natural_of}
+use Rattle.world_schedules.specs.Reading.{◌>>=◌}
+use Rattle.world_schedules.specs.ReadingWords.{text_words}
+
+-- `1` to `8`
+abbrev pub named_turn : ℕ → Option ScheduleWord
+named_turn name = if nat_le 49 name && nat_le name 56 then Some (Turn (name - 48)) else None
+
+-- from once to a million times
+abbrev pub repetition : ℕ → ScheduleWord → Option Repetition
+repetition times word =
+    if nat_le 1 times && nat_le times 1000000 then Some (record { word = word; times = times }) else None
+
+-- `1`, or `1*20`
+abbrev pub repetition_of : List ℕ → Option Repetition
+repetition_of [] = None
+repetition_of (name ∷ []) = option_and_then (repetition 1) (named_turn name)
+repetition_of (name ∷ star ∷ digits) =
+    if star == 42 then option_and_then (λ word. option_and_then (λ times. repetition times word) (natural_of digits)) (named_turn name) else None
+
+-- the thread whose turn it is is there
+abbrev pub is_known_turn : (threads : ℕ) → ScheduleWord → Bool
+is_known_turn threads (Turn thread) = nat_le thread threads
+is_known_turn threads Collect = false
+
+-- the words that a repetition stands for
+abbrev pub repeated_words : Repetition → List ScheduleWord
+repeated_words r = replicate r.times r.word
+
+-- the words of a schedule, in order
+abbrev pub schedule_of : List ℕ → (threads : ℕ) → Result (List ScheduleWord) TextFault
+schedule_of text threads =
+    text_words repetition_of (λ r. is_known_turn threads r.word) (λ r. r.times) text >>= λ repetitions. Ok (flat_map repeated_words repetitions)

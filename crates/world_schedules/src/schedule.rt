@@ -1,0 +1,127 @@
+//! In which order the threads step.
+
+ghost use Rattle.std.specs.Prelude.{◌≡◌, List, IfOk, option_and_then};
+ghost use Rattle.world_schedules.specs.Numbers.{natural_of};
+ghost use Rattle.world_schedules.specs.ScheduleText.{IsScheduleText};
+ghost use Rattle.world_schedules.specs.ReadingLaws.{SchedulesAreRead};
+ghost use Rattle.world_schedules.specs.Reading.{Gives};
+ghost use Rattle.world_schedules.specs.ReadingSchedules.{named_turn, repetition, schedule_of};
+
+use crate::fault::ReadError;
+use crate::numbers::natural;
+use crate::words::{Word, read_words};
+use semantics::ScheduleWord;
+use std::alloc::Global;
+use std::marker::Model;
+
+/// A word, and how many times in a row.
+#[derive(Clone, Copy, PartialEq, Eq)]
+pub struct Repetition {
+    pub word: ScheduleWord,
+    pub times: u32,
+}
+
+/// The words of a schedule, in order.
+#[derive(Drop)]
+pub struct Schedule {
+    repetitions: Vec<Repetition>,
+}
+
+impl Model for Schedule {
+    ghost use Rattle.std.specs.Prelude.{List};
+    ghost use Rattle.std.specs.List.{flat_map};
+    ghost use Rattle.semantics.specs.declared.schedule.ScheduleWord.{ScheduleWord};
+    ghost use Rattle.world_schedules.specs.ReadingSchedules.{repeated_words};
+
+    ghost Value = { List ScheduleWord };
+
+    ghost view = { λ s. flat_map repeated_words s.repetitions.items };
+}
+
+impl Schedule {
+    ghost use Rattle.std.specs.List.{flat_map};
+    ghost use Rattle.world_schedules.specs.ReadingSchedules.{repeated_words};
+
+    /// The words, each with how often it comes in a row.
+    pub fn repetitions(&self) -> &[Repetition]
+        ensures { flat_map repeated_words result.now ≡ self.now }
+    {
+        &self.repetitions
+    }
+}
+
+impl Word for Repetition {
+    ghost use Rattle.world_schedules.specs.ReadingSchedules.{repetition_of, is_known_turn};
+
+    ghost spelled = { repetition_of };
+
+    ghost known = { λ threads r. is_known_turn threads r.word };
+
+    ghost times = { λ r. r.times };
+
+    fn read(bytes: &[u8]) -> Option<Repetition> {
+        match bytes {
+            [name] => repeated(turn_of(*name)?, 1),
+            [name, b'*', digits @ ..] => counted(*name, digits),
+            _ => None,
+        }
+    }
+
+    fn is_known(&self, threads: u8) -> bool {
+        match self.word {
+            ScheduleWord::Turn(thread) => thread <= threads,
+            ScheduleWord::Collect => false,
+        }
+    }
+
+    fn times(&self) -> u32 {
+        self.times
+    }
+}
+
+/// The turn of the thread of this digit.
+fn turn_of(name: u8) -> Option<ScheduleWord>
+    ensures { result ≡ named_turn name }
+{
+    match name {
+        b'1'..=b'8' => Some(ScheduleWord::Turn(name - b'0')),
+        _ => None,
+    }
+}
+
+/// The word repeated, from once to a million times.
+#[inline]
+fn repeated(word: ScheduleWord, times: u64) -> Option<Repetition>
+    ensures { result ≡ repetition times word }
+{
+    if times < 1 || times > 1_000_000 {
+        return None;
+    }
+    let times = times as u32;
+    Some(Repetition { word, times })
+}
+
+/// The turn of the thread of this digit, repeated as often as the digits after it say.
+#[inline]
+fn counted(name: u8, digits: &[u8]) -> Option<Repetition>
+    ensures { result ≡ option_and_then (λ word. option_and_then (λ times. repetition times word) (natural_of digits.now)) (named_turn name) }
+{
+    repeated(turn_of(name)?, natural(digits)?)
+}
+
+/// The schedule that the text means, for a world of this number of threads.
+///
+/// Fault 81: a word has no form. 82: a turn of a thread that the world lacks. 83: more than 1,000,000 words, each
+/// counted as often as it is repeated. Of one line the least of these, and of several lines that of the first.
+pub fn read_schedule(alloc: Global, text: &[u8], threads: u8) -> Result<Schedule, ReadError>
+    ensures read { Gives (λ words. words) result (schedule_of text.now threads) }
+    ensures means { IfOk result (IsScheduleText threads text.now) }
+{
+    let repetitions = read_words::<Repetition>(alloc, text, threads)?;
+    Ok(Schedule { repetitions })
+}
+
+/// A schedule of turns is read of exactly the texts that mean it: a law, which computes nothing.
+pub fn schedules_are_read()
+    ensures { SchedulesAreRead }
+{}

@@ -1,4 +1,0 @@
-use Rattle.world_text.proofs.builder.WorldBuilder.put_class.Goals as goal
-
-pub returns-in-None : goal.returns-in-None
-returns-in-None c = rw c.in-None.is c.put_class_below-in-None.ensures

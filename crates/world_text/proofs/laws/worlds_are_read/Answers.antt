@@ -1,5 +1,0 @@
-use Rattle.world_text.proofs.ReadWorlds.{worlds_read}
-use Rattle.world_text.proofs.laws.worlds_are_read.Goals as goal
-
-pub returns : goal.returns
-returns c = worlds_read

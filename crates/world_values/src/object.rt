@@ -1,0 +1,54 @@
+//! The objects of a world.
+
+ghost use Rattle.std.specs.Prelude.{◌≡◌, map};
+ghost use Rattle.world_values.specs.Views.{object_value_view};
+
+use semantics::ObjectValue;
+use std::marker::Model;
+
+/// An object that a world begins with.
+pub struct Object {
+    class: usize,
+    values: Vec<ObjectValue>,
+}
+
+// Written out, and not derived, so that crates above needn't prove it again.
+impl Drop for Object {
+    fn drop(self) {
+        let Object { class: _, values } = self;
+        drop(values);
+    }
+}
+
+impl Model for Object {
+    ghost use Rattle.std.specs.Prelude.{map};
+    ghost use Rattle.semantics.specs.Object.{Object as SourceObject};
+    ghost use Rattle.world_values.specs.Views.{object_value_view};
+
+    ghost Value = { SourceObject };
+
+    ghost view = { λ o. record { class = o.class; values = map object_value_view o.values.items } };
+}
+
+impl Object {
+    /// An object of the class of this number.
+    pub fn new(class: usize, values: Vec<ObjectValue>) -> Object
+        ensures { result ≡ record { class = class; values = map object_value_view values.items } }
+    {
+        Object { class, values }
+    }
+
+    /// The number of its class in the class table.
+    pub fn class(&self) -> usize
+        ensures { result ≡ self.now.class }
+    {
+        self.class
+    }
+
+    /// Its fields in the order of its class's layout, the elements of an array, or the units of a string.
+    pub fn values(&self) -> &[ObjectValue]
+        ensures { map object_value_view result.now ≡ self.now.values }
+    {
+        &self.values
+    }
+}
