@@ -1,4 +1,4 @@
--- An entry is of a thread that can step, and changes no other thread's part.
+-- An entry is of a thread that can step, prints at most one number, and changes no other thread's part.
 use Rattle.std.proofs.Common.{◌≡◌, ◌≢◌, ℕ, zero, suc, Bool, true, false, List, [], ◌∷◌, ◌++◌, length, map, Option, Some, None, refl, sym, ap, ◌∙◌, subst, inl, inr}
 use Rattle.std.specs.Prelude.{◌==◌, ◌&&◌, not, is_none, IsSome, slice_get, slice_set, if◌then◌else◌, ◌⊎◌}
 use Rattle.std.specs.List.{filter}
@@ -13,7 +13,7 @@ use Rattle.semantics.specs.declared.journal.Entry.TheVariants.{Step}
 use Rattle.semantics.specs.declared.printed.Printed.{Printed}
 use Rattle.semantics.specs.Journal.{Journal, is_step_of}
 use Rattle.semantics.specs.World.{World}
-use Rattle.semantics.specs.AccountLaws.{OthersStay, StepsMay}
+use Rattle.semantics.specs.AccountLaws.{OthersStay, StepsMay, StepsPrint, Prints}
 use Rattle.semantics.specs.Run.{replay, replay_from, account_at, entries_of, printed_by, ending_of}
 use Rattle.semantics.specs.Start.{start}
 use Rattle.semantics.specs.State.{State, Stop, thread_at, set_thread, in_use, advanced, with_event}
@@ -69,6 +69,17 @@ by_step : (unit : SourceUnit) (classes : Classes) (s next : State) (k : ℕ) (re
 unfolding world_step
 by_step unit classes s next k refused h =
     stepped unit classes s next k refused (thread_at s k) (tested (can_step classes s k) (step_of unit classes s k refused (thread_at s k)) next h).1
+
+-- what it prints
+prints : (s base next : State) (k : ℕ) (event : Event) → base.printed ≡ s.printed → next ≡ with_event base k event → Prints s k next
+prints s base next k Quiet same is = inl (ap (λ (x : State). x.printed) is ∙ same)
+prints s base next k (PrintedNumber z) same is = inr (z, ap (λ (x : State). x.printed) is ∙ ap (λ l. l ++ record { thread = k; number = z } ∷ []) same)
+prints s base next k (Trapped trap line) same is = inl (ap (λ (x : State). x.printed) is ∙ same)
+
+pub steps_print : StepsPrint
+steps_print unit classes s next k refused h =
+    let step : Stepped s k next = by_step unit classes s next k refused h in
+    prints s (record s { shared = step.shared; threads = set_thread s.threads k step.thread }) next k step.event refl step.is
 
 get-set_other : {A : Type 0} (xs : List A) (i j : ℕ) (w : A) → j ≢ i → slice_get (slice_set xs i w) j ≡ slice_get xs j
 get-set_other [] i j w other = refl

@@ -1,5 +1,5 @@
 -- What a step of one thread is, and what it leaves of the others' parts.
-use Rattle.std.specs.Prelude.{◌≡◌, ◌≢◌, ℕ, Bool, ◌∷◌, [], ◌++◌, Some, None, IsSome, false, true}
+use Rattle.std.specs.Prelude.{◌≡◌, ◌≢◌, ◌⊎◌, ℕ, ℤ, Bool, ◌∷◌, [], ◌++◌, Some, None, IsSome, false, true}
 use Rattle.syntax.specs.Tree.{SourceUnit}
 use Rattle.class_rules.specs.Class.{Classes}
 use Rattle.semantics.specs.declared.journal.Entry.TheVariants.{Step}
@@ -24,3 +24,11 @@ pub record MayStep (classes : Classes) (s : State) (k : ℕ) : Type 0 where
 -- an entry is of a thread that can step
 abbrev pub StepsMay : Type 0
 StepsMay = (unit : SourceUnit) (classes : Classes) (s next : State) (k : ℕ) (refused : Bool) → world_step unit classes s (Step k refused) ≡ Some next → MayStep classes s k
+
+-- A step of thread k prints nothing, or one number of its own, behind those printed before.
+abbrev pub Prints : (s : State) (k : ℕ) (next : State) → Type 0
+Prints s k next = (next.printed ≡ s.printed) ⊎ ((z : ℤ) × (next.printed ≡ s.printed ++ record { thread = k; number = z } ∷ []))
+
+-- an entry prints at most one number
+abbrev pub StepsPrint : Type 0
+StepsPrint = (unit : SourceUnit) (classes : Classes) (s next : State) (k : ℕ) (refused : Bool) → world_step unit classes s (Step k refused) ≡ Some next → Prints s k next

@@ -8,7 +8,7 @@ mod objects;
 mod printed;
 mod schedule;
 
-ghost use Rattle.semantics.specs.AccountLaws.{OthersStay, StepsMay};
+ghost use Rattle.semantics.specs.AccountLaws.{OthersStay, StepsMay, StepsPrint};
 ghost use Rattle.semantics.specs.Reachable.{ReachableIsComputed};
 
 pub use journal::Entry;
@@ -30,4 +30,9 @@ pub fn others_stay()
 /// An entry is of a thread that can step: no trap has stopped the machine, and it has neither ended nor waits.
 pub fn steps_may()
     ensures { StepsMay }
+{}
+
+/// An entry prints at most one number, of its own thread, behind those printed before.
+pub fn steps_print()
+    ensures { StepsPrint }
 {}

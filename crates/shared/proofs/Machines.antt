@@ -22,7 +22,7 @@ use Rattle.semantics.specs.Thread.{Thread, Event, Quiet, PrintedNumber, Trapped,
 use Rattle.semantics.specs.ThreadStep.{thread_step}
 use Rattle.semantics.specs.Run.{replay_from, account_at, entries_of, ending_of}
 use Rattle.semantics.proofs.RunLaws.{replay_from-append}
-use Rattle.semantics.proofs.AccountLaws.{others_stay}
+use Rattle.semantics.proofs.AccountLaws.{others_stay, steps_print}
 use Rattle.machine.specs.declared.turn.Turn.{Turn}
 use Rattle.machine.specs.declared.turn.Turn.TheVariants.{Stopped, Ended, Blocked, Full, Short, Stepped}
 use Rattle.machine.specs.Run.{Run, TurnHolds, CouldStep, replay_of, PrintedBy}
@@ -151,35 +151,6 @@ kept_now old new k (Ok Stepped) h e kept w = kept_on old new k (More false h.0 h
 kept_now old new k (Err x) h e kept w = subst (λ (r : Run). IsWithin kept (fate_of r)) (sym e) w
 
 -- ---- what is printed
-
--- what a step prints
-abbrev Prints : (s : State) (k : ℕ) (next : State) → Type 0
-Prints s k next = (next.printed ≡ s.printed) ⊎ ((z : ℤ) × (next.printed ≡ s.printed ++ record { thread = k; number = z } ∷ []))
-
-some_state : (a b : State) → Some a ≡ Some b → a ≡ b
-some_state a b e = cc
-
-printed_by_event : (s base : State) (k : ℕ) (event : Event) (next : State) → base.printed ≡ s.printed → with_event base k event ≡ next → Prints s k next
-printed_by_event s base k Quiet next same h = inl (ap (λ (x : State). x.printed) (sym h) ∙ same)
-printed_by_event s base k (PrintedNumber z) next same h = inr (z, ap (λ (x : State). x.printed) (sym h) ∙ ap (λ l. l ++ record { thread = k; number = z } ∷ []) same)
-printed_by_event s base k (Trapped trap line) next same h = inl (ap (λ (x : State). x.printed) (sym h) ∙ same)
-
-printed_by_advance : (s next : State) (k : ℕ) (a : Advance) → advanced s k a ≡ Some next → Prints s k next
-printed_by_advance s next k (Advances shared t event) h = printed_by_event s (record s { shared = shared; threads = set_thread s.threads k t }) k event next refl (some_state _ _ h)
-printed_by_advance s next k NoAdvance h = let bad : None ≡ Some next = h in absurd (cc)
-
-printed_by_step : (unit : SourceUnit) (classes : Classes) (s next : State) (k : ℕ) (refused : Bool) (o : Option Thread) → step_of unit classes s k refused o ≡ Some next → Prints s k next
-printed_by_step unit classes s next k refused None h = let bad : None ≡ Some next = h in absurd (cc)
-printed_by_step unit classes s next k refused (Some t) h = printed_by_advance s next k (thread_step unit classes (in_use s) k s.shared t refused) h
-
-tested : (b : Bool) (after : Option State) (next : State) → (if b then after else None) ≡ Some next → after ≡ Some next
-tested true after next h = h
-tested false after next h = let bad : None ≡ Some next = h in absurd (cc)
-
--- an entry prints at most one number, of its own thread, behind those printed before
-steps_print : (unit : SourceUnit) (classes : Classes) (s next : State) (k : ℕ) (refused : Bool) → world_step unit classes s (Step k refused) ≡ Some next → Prints s k next
-unfolding world_step
-steps_print unit classes s next k refused h = printed_by_step unit classes s next k refused (thread_at s k) (tested (can_step classes s k) (step_of unit classes s k refused (thread_at s k)) next h)
 
 -- the state after a step, where both runs have one
 after_step : (r : Run) (k : ℕ) (b : Bool) (left : ℕ) (s s' : State) → replay_of r ≡ Some s → replay_of (with_entry r k b left) ≡ Some s' → world_step (unit_tree r.unit) r.world.classes s (Step k b) ≡ Some s'
