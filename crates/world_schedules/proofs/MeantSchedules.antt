@@ -1,5 +1,5 @@
 -- The schedule that a text means is the one that is read.
-use Rattle.std.proofs.Common.{◌≡◌, ℕ, zero, suc, ◌+◌, ◌-◌, ◌^◌, ◌<◌, ◌≤◌, Bool, true, false, cond, List, [], ◌∷◌, ◌++◌, length, get_or, map, replicate, Option, Some, None, Ok, refl, sym, ap, ◌∙◌, arith}
+use Rattle.std.proofs.Common.{◌≡◌, ℕ, ◌+◌, ◌-◌, ◌^◌, ◌<◌, ◌≤◌, true, false, cond, List, [], ◌∷◌, ◌++◌, length, get_or, map, Option, Some, None, Ok, refl, sym, ap, ◌∙◌, arith}
 use Rattle.std.specs.Prelude.{flat_map, ◌==◌, ◌&&◌, nat_le, codes, decimal}
 use Rattle.std.specs.Option.{option_and_then}
 use Rattle.std.specs.List.{list_all}
@@ -10,7 +10,6 @@ use Rattle.std.proofs.lemmas.Bool.{and_from}
 use Rattle.std.proofs.lemmas.Bool.Decides.{nat_tests}
 use Rattle.std.proofs.lemmas.Fmt.{decimal_digit, decimal_nonempty, digits_decimal, digits_value-decimal, first_decimal}
 use Rattle.std.proofs.lemmas.List.Concat.{flat_map-cons}
-use Rattle.std.proofs.lemmas.List.Folds.{list_all-append}
 use Rattle.std.proofs.lemmas.Str.Parse.{numerals_by_value, tells_all_ascii_digits}
 use Rattle.semantics.specs.declared.schedule.ScheduleWord.{ScheduleWord}
 use Rattle.semantics.specs.declared.schedule.ScheduleWord.TheVariants.{Turn, Collect}
@@ -18,11 +17,10 @@ use Rattle.world_schedules.specs.declared.schedule.Repetition.{Repetition}
 use Rattle.world_schedules.specs.Numbers.{digits_number, natural_of}
 use Rattle.world_schedules.specs.Split.{parts_of}
 use Rattle.world_schedules.specs.Reading.{◌>>=◌}
-use Rattle.world_schedules.specs.ReadingSchedules.{named_turn, repetition, repetition_of, is_known_turn, repeated_words, schedule_of}
+use Rattle.world_schedules.specs.ReadingSchedules.{named_word, repetition, repetition_of, is_known_turn, repeated_words, schedule_of}
 use Rattle.world_schedules.specs.ReadingWords.{with_word, formed_words}
 use Rattle.semantics.specs.Schedule.{Schedule}
 use Rattle.world_schedules.specs.ScheduleText.{schedule_word, words_meant, is_turn, is_count, IsScheduleText}
-use Rattle.world_schedules.specs.ReadingLaws.{is_turn_word}
 use Rattle.world_schedules.specs.Words.{is_thread}
 use Rattle.world_schedules.proofs.ScheduleLaws.{all_digits, length-repeated}
 use Rattle.world_schedules.proofs.WordLaws.{words_of-parts, all_parts, both_true, words_read, formed_words-filter}
@@ -45,29 +43,30 @@ natural_of-decimal n low small =
 
 -- ---- one word
 
-named : (k : ℕ) → 1 ≤ k → k ≤ 8 → named_turn (48 + k) ≡ Some (Turn k)
+named : (k : ℕ) → 1 ≤ k → k ≤ 8 → named_word (48 + k) ≡ Some (Turn k)
 named k low high =
+    let n : ((48 + k) == 99) ≡ false = grind (arith, nat_tests) in
     let a : nat_le 49 (48 + k) ≡ true = grind (arith, nat_tests) in
     let b : nat_le (48 + k) 56 ≡ true = grind (arith, nat_tests) in
     let c : (48 + k) - 48 ≡ k = omega arith in
-    rw (a, b, c) refl
+    rw (n, a, b, c) refl
 
 -- the repetition that is read of a word
 abbrev pub repetition_for : ScheduleWord × Option ℕ → Repetition
 repetition_for (word, None) = record { word = word; times = 1 }
 repetition_for (word, Some n) = record { word = word; times = n }
 
-once_read : (k : ℕ) → 1 ≤ k → k ≤ 8 → repetition_of ((48 + k) ∷ []) ≡ Some (record { word = Turn k; times = 1 })
-once_read k low high = ap (option_and_then (repetition 1)) (named k low high)
+once_read : (name : ℕ) (word : ScheduleWord) → named_word name ≡ Some word → repetition_of (name ∷ []) ≡ Some (record { word = word; times = 1 })
+once_read name word is = ap (option_and_then (repetition 1)) is
 
-often_read : (k n : ℕ) → 1 ≤ k → k ≤ 8 → nat_le 1 n && nat_le n 1000000 ≡ true → repetition_of ((48 + k) ∷ 42 ∷ decimal n) ≡ Some (record { word = Turn k; times = n })
-often_read k n low high c =
+often_read : (name : ℕ) (word : ScheduleWord) (n : ℕ) → named_word name ≡ Some word → nat_le 1 n && nat_le n 1000000 ≡ true → repetition_of (name ∷ 42 ∷ decimal n) ≡ Some (record { word = word; times = n })
+often_read name word n is c =
     let t = both_true (nat_le 1 n) (nat_le n 1000000) c in
     let one : 1 ≤ n = grind (arith, nat_tests, t.0) in
     let most : n ≤ 1000000 = grind (arith, nat_tests, t.1) in
-    ap (option_and_then (λ word. option_and_then (λ times. repetition times word) (natural_of (decimal n)))) (named k low high)
-    ∙ ap (option_and_then (λ times. repetition times (Turn k))) (natural_of-decimal n one (omega (arith, most)))
-    ∙ ap (λ b. cond b (Some (record { word = Turn k; times = n })) None) c
+    ap (option_and_then (λ word. option_and_then (λ times. repetition times word) (natural_of (decimal n)))) is
+    ∙ ap (option_and_then (λ times. repetition times word)) (natural_of-decimal n one (omega (arith, most)))
+    ∙ ap (λ b. cond b (Some (record { word = word; times = n })) None) c
 
 -- a word that is read alone or among others
 pub record IsRead (w : ScheduleWord × Option ℕ) : Type 0 where
@@ -83,32 +82,21 @@ thread_low threads k h =
     let most : k ≤ threads = grind (arith, nat_tests, t.1) in
     (one, most)
 
-turns_of : (n : ℕ) (a b : Bool) → (a && b) ≡ true → a ≡ true
-turns_of n true b h = refl
-turns_of n false b h = cc
-
-some_turn : (word : ScheduleWord) (n : ℕ) → 1 ≤ n → list_all is_turn_word (replicate n word) ≡ true → is_turn_word word ≡ true
-some_turn word zero low h = absurd (omega arith)
-some_turn word (suc n) low h = turns_of n (is_turn_word word) (list_all is_turn_word (replicate n word)) h
-
-word_is_read : (threads : ℕ) (w : ScheduleWord × Option ℕ) → threads ≤ 8 → is_turn threads w.0 ≡ true → is_count w.1 ≡ true → list_all is_turn_word (words_meant w) ≡ true → IsRead w
-word_is_read threads (Turn k, None) most turn count none =
+word_is_read : (threads : ℕ) (w : ScheduleWord × Option ℕ) → threads ≤ 8 → is_turn threads w.0 ≡ true → is_count w.1 ≡ true → IsRead w
+word_is_read threads (Turn k, None) most turn count =
     let t = thread_low threads k turn in
     let high : k ≤ 8 = omega (arith, t.1) in
-    record { name = 48 + k; rest = []; bytes = decimal_digit k (omega arith); is = once_read k t.0 high }
-word_is_read threads (Turn k, Some n) most turn count none =
+    record { name = 48 + k; rest = []; bytes = decimal_digit k (omega arith); is = once_read (48 + k) (Turn k) (named k t.0 high) }
+word_is_read threads (Turn k, Some n) most turn count =
     let t = thread_low threads k turn in
     let high : k ≤ 8 = omega (arith, t.1) in
-    record { name = 48 + k; rest = 42 ∷ decimal n; bytes = ap (λ (ds : List ℕ). ds ++ codes "*" ++ decimal n) (decimal_digit k (omega arith)); is = often_read k n t.0 high count }
-word_is_read threads (Collect, None) most turn count none = absurd (cc)
-word_is_read threads (Collect, Some n) most turn count none =
-    let t = both_true (nat_le 1 n) (nat_le n 1000000) count in
-    let low : 1 ≤ n = grind (arith, nat_tests, t.0) in
-    absurd (let e : false ≡ true = some_turn Collect n low none in cc)
+    record { name = 48 + k; rest = 42 ∷ decimal n; bytes = ap (λ (ds : List ℕ). ds ++ codes "*" ++ decimal n) (decimal_digit k (omega arith)); is = often_read (48 + k) (Turn k) n (named k t.0 high) count }
+word_is_read threads (Collect, None) most turn count = record { name = 99; rest = []; bytes = refl; is = once_read 99 Collect refl }
+word_is_read threads (Collect, Some n) most turn count = record { name = 99; rest = 42 ∷ decimal n; bytes = refl; is = often_read 99 Collect n refl count }
 
-known_turn : (threads : ℕ) (word : ScheduleWord) → is_turn threads word ≡ true → is_turn_word word ≡ true → is_known_turn threads word ≡ true
-known_turn threads (Turn k) t u = (both_true (nat_le 1 k) (nat_le k threads) t).1
-known_turn threads Collect t u = absurd (cc)
+known_turn : (threads : ℕ) (word : ScheduleWord) → is_turn threads word ≡ true → is_known_turn threads word ≡ true
+known_turn threads (Turn k) t = (both_true (nat_le 1 k) (nat_le k threads) t).1
+known_turn threads Collect t = refl
 
 -- ---- all words
 
@@ -121,26 +109,22 @@ pub record AreRead (threads : ℕ) (ws : List (ScheduleWord × Option ℕ)) : Ty
   pub known : list_all (λ (r : Repetition). is_known_turn threads r.word) (map repetition_for ws) ≡ true
   pub meant : flat_map repeated_words (map repetition_for ws) ≡ flat_map words_meant ws
 
-one_known : (threads : ℕ) (w : ScheduleWord × Option ℕ) → is_turn threads w.0 ≡ true → is_count w.1 ≡ true → list_all is_turn_word (words_meant w) ≡ true → is_known_turn threads (repetition_for w).word ≡ true
-one_known threads (word, None) t c h = known_turn threads word t ((both_true (is_turn_word word) true h).0)
-one_known threads (word, Some n) t c h =
-    let k = both_true (nat_le 1 n) (nat_le n 1000000) c in
-    let low : 1 ≤ n = grind (arith, nat_tests, k.0) in
-    known_turn threads word t (some_turn word n low h)
+one_known : (threads : ℕ) (w : ScheduleWord × Option ℕ) → is_turn threads w.0 ≡ true → is_known_turn threads (repetition_for w).word ≡ true
+one_known threads (word, None) t = known_turn threads word t
+one_known threads (word, Some n) t = known_turn threads word t
 
-pub words_are_read : (threads : ℕ) (ws : List (ScheduleWord × Option ℕ)) → threads ≤ 8 → list_all (λ (w : ScheduleWord × Option ℕ). is_turn threads w.0 && is_count w.1) ws ≡ true → list_all is_turn_word (flat_map words_meant ws) ≡ true → AreRead threads ws
-words_are_read threads [] most c h = record { formed = refl; known = refl; meant = refl }
-words_are_read threads (w ∷ ws) most c h =
+pub words_are_read : (threads : ℕ) (ws : List (ScheduleWord × Option ℕ)) → threads ≤ 8 → list_all (λ (w : ScheduleWord × Option ℕ). is_turn threads w.0 && is_count w.1) ws ≡ true → AreRead threads ws
+words_are_read threads [] most c = record { formed = refl; known = refl; meant = refl }
+words_are_read threads (w ∷ ws) most c =
     let counted = both_true (is_turn threads w.0 && is_count w.1) (list_all (λ (v : ScheduleWord × Option ℕ). is_turn threads v.0 && is_count v.1) ws) c in
     let first = both_true (is_turn threads w.0) (is_count w.1) counted.0 in
-    let turns = both_true (list_all is_turn_word (words_meant w)) (list_all is_turn_word (flat_map words_meant ws)) (sym (list_all-append is_turn_word (words_meant w) (flat_map words_meant ws)) ∙ sym (ap (list_all is_turn_word) (flat_map-cons words_meant w ws)) ∙ h) in
-    let one = word_is_read threads w most first.0 first.1 turns.0 in
-    let others = words_are_read threads ws most counted.1 turns.1 in
+    let one = word_is_read threads w most first.0 first.1 in
+    let others = words_are_read threads ws most counted.1 in
     record {
       formed = ap (λ (b : List ℕ). formed_words repetition_of (b ∷ map schedule_word ws)) one.bytes
           ∙ ap (λ o. with_word o (formed_words repetition_of (map schedule_word ws))) one.is
           ∙ ap (with_word (Some (repetition_for w))) others.formed;
-      known = and_from (is_known_turn threads (repetition_for w).word) (list_all (λ (r : Repetition). is_known_turn threads r.word) (map repetition_for ws)) (one_known threads w first.0 first.1 turns.0) others.known;
+      known = and_from (is_known_turn threads (repetition_for w).word) (list_all (λ (r : Repetition). is_known_turn threads r.word) (map repetition_for ws)) (one_known threads w first.0) others.known;
       meant = flat_map-cons repeated_words (repetition_for w) (map repetition_for ws)
           ∙ ap (λ (s : List ScheduleWord). s ++ flat_map repeated_words (map repetition_for ws)) (same_words w)
           ∙ ap (λ (s : List ScheduleWord). words_meant w ++ s) others.meant
@@ -148,9 +132,9 @@ words_are_read threads (w ∷ ws) most c h =
     }
 
 -- what is meant is read
-pub meant_schedule : (threads : ℕ) (text : List ℕ) (schedule : Schedule) → threads ≤ 8 → list_all is_turn_word schedule ≡ true → IsScheduleText threads text schedule → schedule_of text threads ≡ Ok schedule
-meant_schedule threads text schedule most turns h =
-    let r = words_are_read threads h.words most h.counted (ap (list_all is_turn_word) (sym h.meant) ∙ turns) in
+pub meant_schedule : (threads : ℕ) (text : List ℕ) (schedule : Schedule) → threads ≤ 8 → IsScheduleText threads text schedule → schedule_of text threads ≡ Ok schedule
+meant_schedule threads text schedule most h =
+    let r = words_are_read threads h.words most h.counted in
     let whole : flat_map repeated_words (map repetition_for h.words) ≡ schedule = r.meant ∙ sym h.meant in
     let formed : formed_words repetition_of (all_parts text) ≡ Some (map repetition_for h.words) =
     formed_words-filter repetition_of (all_parts text)

@@ -15,11 +15,11 @@ use Rattle.std.proofs.lemmas.List.Sums.{sum_by-cons}
 use Rattle.std.proofs.lemmas.Str.Parse.{numerals_by_value, tells_all_ascii_digits}
 use Rattle.base.specs.Bytes.{is_some_byte}
 use Rattle.semantics.specs.declared.schedule.ScheduleWord.{ScheduleWord}
-use Rattle.semantics.specs.declared.schedule.ScheduleWord.TheVariants.{Turn}
+use Rattle.semantics.specs.declared.schedule.ScheduleWord.TheVariants.{Turn, Collect}
 use Rattle.world_schedules.specs.declared.schedule.Repetition.{Repetition}
 use Rattle.world_schedules.specs.Numbers.{digits_number, natural_of}
 use Rattle.world_schedules.specs.Split.{parts_of}
-use Rattle.world_schedules.specs.ReadingSchedules.{named_turn, repetition, repetition_of, is_known_turn, repeated_words, schedule_of}
+use Rattle.world_schedules.specs.ReadingSchedules.{named_turn, named_word, repetition, repetition_of, is_known_turn, repeated_words, schedule_of}
 use Rattle.world_schedules.specs.ReadingWords.{with_word, formed_words, text_words}
 use Rattle.world_schedules.specs.ScheduleText.{turn_text, schedule_word, words_meant, is_turn, is_count, IsScheduleText}
 use Rattle.world_schedules.proofs.WordLaws.{words_of-parts, all_parts, and_then_ok, both_true, are_words}
@@ -69,54 +69,62 @@ decimal-natural_of (d ∷ e ∷ ds) n h small = let k = not_zero d e ds n h in d
 
 -- ---- one word
 
-pub record IsTurn (name : ℕ) (word : ScheduleWord) : Type 0 where
-  pub thread : ℕ
-  pub is : word ≡ Turn thread
-  pub digit : decimal thread ≡ name ∷ []
-  pub low : 1 ≤ thread
-  pub high : thread ≤ 8
+-- a word is spelled by one byte, and what is known of it is what may stand in a schedule
+pub record IsWord (name : ℕ) (word : ScheduleWord) : Type 0 where
+  pub text : turn_text word ≡ name ∷ []
+  pub known : (threads : ℕ) → is_known_turn threads word ≡ true → is_turn threads word ≡ true
 
-turn_read : (name : ℕ) (word : ScheduleWord) → named_turn name ≡ Some word → IsTurn name word
+known_turn : (threads k : ℕ) → 1 ≤ k → is_known_turn threads (Turn k) ≡ true → is_turn threads (Turn k) ≡ true
+known_turn threads k low h =
+    let one : nat_le 1 k ≡ true = grind (arith, nat_tests, low) in
+    and_from (nat_le 1 k) (nat_le k threads) one h
+
+turn_read : (name : ℕ) (word : ScheduleWord) → named_turn name ≡ Some word → IsWord name word
 turn_read name word h =
     let g = guarded (nat_le 49 name && nat_le name 56) (Turn (name - 48)) word h in
     let t = both_true (nat_le 49 name) (nat_le name 56) g.0 in
     let low : 49 ≤ name = grind (arith, nat_tests, t.0) in
     let high : name ≤ 56 = grind (arith, nat_tests, t.1) in
     let digit : 48 + (name - 48) ≡ name = omega (arith, low) in
-    record { thread = name - 48; is = sym g.1; digit = decimal_digit (name - 48) (omega (arith, high)) ∙ ap (λ n. n ∷ []) digit; low = omega (arith, low); high = omega (arith, high) }
+    subst (IsWord name) g.1 (record { text = decimal_digit (name - 48) (omega (arith, high)) ∙ ap (λ n. n ∷ []) digit; known = λ threads k. known_turn threads (name - 48) (omega (arith, low)) k })
+
+word_read : (name : ℕ) (word : ScheduleWord) → named_word name ≡ Some word → IsWord name word
+word_read name word h = by_test (name == 99) refl h
+  where
+    by_test : (b : Bool) → (name == 99) ≡ b → cond b (Some Collect) (named_turn name) ≡ Some word → IsWord name word
+    by_test true t h =
+        let mark : 99 ≡ name = grind (arith, nat_tests, t) in
+        let same : Collect ≡ word = cc (h) in
+        subst (IsWord name) same (record { text = ap (λ n. n ∷ []) mark; known = λ threads k. refl })
+    by_test false t h = turn_read name word h
 
 -- a word with its repetition, and what it stands for
 pub record IsRepetition (bytes : List ℕ) (r : Repetition) : Type 0 where
   pub times : Option ℕ
-  pub thread : ℕ
-  pub turn : r.word ≡ Turn thread
-  pub low : 1 ≤ thread
+  pub known : (threads : ℕ) → is_known_turn threads r.word ≡ true → is_turn threads r.word ≡ true
   pub spelled : bytes ≡ schedule_word (r.word, times)
   pub meant : words_meant (r.word, times) ≡ repeated_words r
   pub counted : is_count times ≡ true
 
-turn_text-is : (name : ℕ) (word : ScheduleWord) → IsTurn name word → turn_text word ≡ name ∷ []
-turn_text-is name word t = ap turn_text t.is ∙ t.digit
-
 pub repetition_read : (bytes : List ℕ) (r : Repetition) → repetition_of bytes ≡ Some r → IsRepetition bytes r
 repetition_read [] r h = absurd (cc)
 repetition_read (name ∷ []) r h =
-    let w = some_then (repetition 1) (named_turn name) r h in
-    let t = turn_read name w.0 w.1 in
+    let w = some_then (repetition 1) (named_word name) r h in
+    let t = word_read name w.0 w.1 in
     let once : ◌≡◌ {A = Repetition} (record { word = w.0; times = 1 }) r = cc (w.2) in
-    subst (IsRepetition (name ∷ [])) once (record { times = None; thread = t.thread; turn = t.is; low = t.low; spelled = sym (turn_text-is name w.0 t); meant = refl; counted = refl })
+    subst (IsRepetition (name ∷ [])) once (record { times = None; known = t.known; spelled = sym t.text; meant = refl; counted = refl })
 repetition_read (name ∷ star ∷ digits) r h =
-    let g = guarded_option (star == 42) (option_and_then (λ word. option_and_then (λ times. repetition times word) (natural_of digits)) (named_turn name)) r h in
-    let w = some_then (λ word. option_and_then (λ times. repetition times word) (natural_of digits)) (named_turn name) r g.1 in
+    let g = guarded_option (star == 42) (option_and_then (λ word. option_and_then (λ times. repetition times word) (natural_of digits)) (named_word name)) r h in
+    let w = some_then (λ word. option_and_then (λ times. repetition times word) (natural_of digits)) (named_word name) r g.1 in
     let n = some_then (λ times. repetition times w.0) (natural_of digits) r w.2 in
     let k = guarded (nat_le 1 n.0 && nat_le n.0 1000000) (record { word = w.0; times = n.0 }) r n.2 in
     let within = both_true (nat_le 1 n.0) (nat_le n.0 1000000) k.0 in
     let high : n.0 ≤ 1000000 = grind (arith, nat_tests, within.1) in
-    let t = turn_read name w.0 w.1 in
+    let t = word_read name w.0 w.1 in
     let mark : star ≡ 42 = grind (arith, nat_tests, g.0) in
     let text : name ∷ star ∷ digits ≡ turn_text w.0 ++ codes "*" ++ decimal n.0 =
-    ap (λ s. name ∷ s ∷ digits) mark ∙ ap (λ (ds : List ℕ). name ∷ 42 ∷ ds) (sym (decimal-natural_of digits n.0 n.1 (omega (arith, high)))) ∙ ap (λ (ts : List ℕ). ts ++ codes "*" ++ decimal n.0) (sym (turn_text-is name w.0 t)) in
-    subst (IsRepetition (name ∷ star ∷ digits)) k.1 (record { times = Some n.0; thread = t.thread; turn = t.is; low = t.low; spelled = text; meant = refl; counted = k.0 })
+    ap (λ s. name ∷ s ∷ digits) mark ∙ ap (λ (ds : List ℕ). name ∷ 42 ∷ ds) (sym (decimal-natural_of digits n.0 n.1 (omega (arith, high)))) ∙ ap (λ (ts : List ℕ). ts ++ codes "*" ++ decimal n.0) (sym t.text) in
+    subst (IsRepetition (name ∷ star ∷ digits)) k.1 (record { times = Some n.0; known = t.known; spelled = text; meant = refl; counted = k.0 })
 
 -- ---- all words
 
@@ -125,11 +133,6 @@ pub record AreRepetitions (parts : List (List ℕ)) (rs : List Repetition) : Typ
   pub spelled : filter is_some_byte parts ≡ map schedule_word words
   pub meant : flat_map words_meant words ≡ flat_map repeated_words rs
   pub counted : (threads : ℕ) → list_all (λ (r : Repetition). is_known_turn threads r.word) rs ≡ true → list_all (λ (w : ScheduleWord × Option ℕ). is_turn threads w.0 && is_count w.1) words ≡ true
-
-known_turn : (threads k : ℕ) (word : ScheduleWord) → word ≡ Turn k → 1 ≤ k → is_known_turn threads word ≡ true → is_turn threads word ≡ true
-known_turn threads k word e low h =
-    let one : nat_le 1 k ≡ true = grind (arith, nat_tests, low) in
-    ap (is_turn threads) e ∙ and_from (nat_le 1 k) (nat_le k threads) one (sym (ap (is_known_turn threads) e) ∙ h)
 
 pub repetitions_read : (parts : List (List ℕ)) (rs : List Repetition) → formed_words repetition_of parts ≡ Some rs → AreRepetitions parts rs
 repetitions_read [] rs h = let none : [] ≡ rs = cc in subst (AreRepetitions []) none (record { words = []; spelled = refl; meant = refl; counted = λ threads k. refl })
@@ -145,7 +148,7 @@ repetitions_read ((c ∷ cs) ∷ parts) rs h =
       counted = λ threads k.
           let both = both_true (is_known_turn threads w.0.word) (list_all (λ (r : Repetition). is_known_turn threads r.word) w.1) k in
           and_from (is_turn threads w.0.word && is_count first.times) (list_all (λ (v : ScheduleWord × Option ℕ). is_turn threads v.0 && is_count v.1) a.words)
-          (and_from (is_turn threads w.0.word) (is_count first.times) (known_turn threads first.thread w.0.word first.turn first.low both.0) first.counted) (a.counted threads both.1);
+          (and_from (is_turn threads w.0.word) (is_count first.times) (first.known threads both.0) first.counted) (a.counted threads both.1);
     })
 
 -- how many words repetitions stand for

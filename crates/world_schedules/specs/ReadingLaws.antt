@@ -1,8 +1,5 @@
 -- Laws: the schedule or the journal that a text means is what is read of it.
-use Rattle.std.specs.Prelude.{◌≡◌, ◌↔◌, ◌≤◌, ℕ, Bool, true, false, List, IsTrue, Ok}
-use Rattle.std.specs.List.{list_all}
-use Rattle.semantics.specs.declared.schedule.ScheduleWord.{ScheduleWord}
-use Rattle.semantics.specs.declared.schedule.ScheduleWord.TheVariants.{Turn, Collect}
+use Rattle.std.specs.Prelude.{◌≡◌, ◌↔◌, ◌≤◌, ℕ, List, Ok}
 use Rattle.semantics.specs.Journal.{Journal}
 use Rattle.semantics.specs.Schedule.{Schedule}
 use Rattle.world_schedules.specs.JournalMeaning.{IsJournalText}
@@ -10,15 +7,9 @@ use Rattle.world_schedules.specs.ReadingJournals.{journal_of}
 use Rattle.world_schedules.specs.ReadingSchedules.{schedule_of}
 use Rattle.world_schedules.specs.ScheduleText.{IsScheduleText}
 
--- a turn, and no collection
-abbrev pub is_turn_word : ScheduleWord → Bool
-is_turn_word (Turn thread) = true
-is_turn_word Collect = false
-
--- a schedule of turns is read of exactly the texts that mean it
+-- a schedule is read of exactly the texts that mean it
 abbrev pub SchedulesAreRead : Type 0
-SchedulesAreRead = (threads : ℕ) (text : List ℕ) (schedule : Schedule) → threads ≤ 8 → IsTrue (list_all is_turn_word schedule)
-    → (schedule_of text threads ≡ Ok schedule) ↔ IsScheduleText threads text schedule
+SchedulesAreRead = (threads : ℕ) (text : List ℕ) (schedule : Schedule) → threads ≤ 8 → (schedule_of text threads ≡ Ok schedule) ↔ IsScheduleText threads text schedule
 
 -- a journal is read of exactly the texts that mean it
 abbrev pub JournalsAreRead : Type 0

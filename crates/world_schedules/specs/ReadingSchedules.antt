@@ -1,5 +1,5 @@
--- How the words of a schedule are read. Collections are not built yet: their word has no form.
-use Rattle.std.specs.Prelude.{ℕ, ◌-◌, List, [], ◌∷◌, Bool, false, ◌&&◌, Option, Some, None, option_and_then, Result, Ok, ◌==◌, nat_le, replicate, if◌then◌else◌}
+-- How the words of a schedule are read.
+use Rattle.std.specs.Prelude.{ℕ, ◌-◌, List, [], ◌∷◌, Bool, true, ◌&&◌, Option, Some, None, option_and_then, Result, Ok, ◌==◌, nat_le, replicate, if◌then◌else◌}
 use Rattle.std.specs.List.{flat_map}
 use Rattle.semantics.specs.declared.schedule.ScheduleWord.{ScheduleWord}
 use Rattle.semantics.specs.declared.schedule.ScheduleWord.TheVariants.{Turn, Collect}
@@ -13,6 +13,10 @@ use Rattle.world_schedules.specs.ReadingWords.{text_words}
 abbrev pub named_turn : ℕ → Option ScheduleWord
 named_turn name = if nat_le 49 name && nat_le name 56 then Some (Turn (name - 48)) else None
 
+-- `1` to `8`, or `c`
+abbrev pub named_word : ℕ → Option ScheduleWord
+named_word name = if name == 99 then Some Collect else named_turn name
+
 -- from once to a million times
 abbrev pub repetition : ℕ → ScheduleWord → Option Repetition
 repetition times word =
@@ -21,14 +25,14 @@ repetition times word =
 -- `1`, or `1*20`
 abbrev pub repetition_of : List ℕ → Option Repetition
 repetition_of [] = None
-repetition_of (name ∷ []) = option_and_then (repetition 1) (named_turn name)
+repetition_of (name ∷ []) = option_and_then (repetition 1) (named_word name)
 repetition_of (name ∷ star ∷ digits) =
-    if star == 42 then option_and_then (λ word. option_and_then (λ times. repetition times word) (natural_of digits)) (named_turn name) else None
+    if star == 42 then option_and_then (λ word. option_and_then (λ times. repetition times word) (natural_of digits)) (named_word name) else None
 
--- the thread whose turn it is is there
+-- a collection, or the turn of a thread that is there
 abbrev pub is_known_turn : (threads : ℕ) → ScheduleWord → Bool
 is_known_turn threads (Turn thread) = nat_le thread threads
-is_known_turn threads Collect = false
+is_known_turn threads Collect = true
 
 -- the words that a repetition stands for
 abbrev pub repeated_words : Repetition → List ScheduleWord

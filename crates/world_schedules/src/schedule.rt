@@ -5,7 +5,7 @@ ghost use Rattle.world_schedules.specs.Numbers.{natural_of};
 ghost use Rattle.world_schedules.specs.ScheduleText.{IsScheduleText};
 ghost use Rattle.world_schedules.specs.ReadingLaws.{SchedulesAreRead};
 ghost use Rattle.world_schedules.specs.Reading.{Gives};
-ghost use Rattle.world_schedules.specs.ReadingSchedules.{named_turn, repetition, schedule_of};
+ghost use Rattle.world_schedules.specs.ReadingSchedules.{named_word, repetition, schedule_of};
 
 use crate::fault::ReadError;
 use crate::numbers::natural;
@@ -61,7 +61,7 @@ impl Word for Repetition {
 
     fn read(bytes: &[u8]) -> Option<Repetition> {
         match bytes {
-            [name] => repeated(turn_of(*name)?, 1),
+            [name] => repeated(word_of(*name)?, 1),
             [name, b'*', digits @ ..] => counted(*name, digits),
             _ => None,
         }
@@ -70,7 +70,7 @@ impl Word for Repetition {
     fn is_known(&self, threads: u8) -> bool {
         match self.word {
             ScheduleWord::Turn(thread) => thread <= threads,
-            ScheduleWord::Collect => false,
+            ScheduleWord::Collect => true,
         }
     }
 
@@ -79,11 +79,12 @@ impl Word for Repetition {
     }
 }
 
-/// The turn of the thread of this digit.
-fn turn_of(name: u8) -> Option<ScheduleWord>
-    ensures { result ≡ named_turn name }
+/// The turn of the thread of this digit, or a collection.
+fn word_of(name: u8) -> Option<ScheduleWord>
+    ensures { result ≡ named_word name }
 {
     match name {
+        b'c' => Some(ScheduleWord::Collect),
         b'1'..=b'8' => Some(ScheduleWord::Turn(name - b'0')),
         _ => None,
     }
@@ -101,12 +102,12 @@ fn repeated(word: ScheduleWord, times: u64) -> Option<Repetition>
     Some(Repetition { word, times })
 }
 
-/// The turn of the thread of this digit, repeated as often as the digits after it say.
+/// The word of this name, repeated as often as the digits after it say.
 #[inline]
 fn counted(name: u8, digits: &[u8]) -> Option<Repetition>
-    ensures { result ≡ option_and_then (λ word. option_and_then (λ times. repetition times word) (natural_of digits.now)) (named_turn name) }
+    ensures { result ≡ option_and_then (λ word. option_and_then (λ times. repetition times word) (natural_of digits.now)) (named_word name) }
 {
-    repeated(turn_of(name)?, natural(digits)?)
+    repeated(word_of(name)?, natural(digits)?)
 }
 
 /// The schedule that the text means, for a world of this number of threads.
@@ -121,7 +122,7 @@ pub fn read_schedule(alloc: Global, text: &[u8], threads: u8) -> Result<Schedule
     Ok(Schedule { repetitions })
 }
 
-/// A schedule of turns is read of exactly the texts that mean it: a law, which computes nothing.
+/// A schedule is read of exactly the texts that mean it: a law, which computes nothing.
 pub fn schedules_are_read()
     ensures { SchedulesAreRead }
 {}

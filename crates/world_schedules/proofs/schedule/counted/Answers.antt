@@ -14,4 +14,4 @@ of_natural word None times h = absurd (cc)
 of_natural word (Some n) times h = same_times word n times (cc)
 
 pub returns : goal.returns
-returns c = c.repeated.ensures ∙ rw (← c.in_ok-turn_of.ensures) (of_natural c.in_ok-turn_of.field-0 _ c.in_ok-natural.field-0 c.in_ok-natural.ensures)
+returns c = c.repeated.ensures ∙ rw (← c.in_ok-word_of.ensures) (of_natural c.in_ok-word_of.field-0 _ c.in_ok-natural.field-0 c.in_ok-natural.ensures)
