@@ -16,6 +16,7 @@ use Rattle.replay_calls.specs.Answers.{Answer, Gives, Writes, Makes, Raises, Ens
 use Rattle.replay_calls.specs.declared.answer.Subject.{Subject}
 use Rattle.replay_calls.specs.declared.answer.Subject.TheVariants as subject
 use Rattle.replay_objects.specs.Frames.{new_frame}
+use Rattle.replay_objects.specs.New.{Fresh}
 
 -- what a function works on
 abbrev pub subject_of : JniFunction → Subject
@@ -108,7 +109,7 @@ module _ (classes : Classes) (heap : Heap) (variables : Variables) (frames : Lis
   worked_out GetObjectClass = Gives (ReferenceResult (Some (class_of heap (object 0))))
   worked_out IsInstanceOf = Gives (ScalarResult (Flag (fits_class classes heap (reference 0) (object 1))))
   worked_out IsAssignableFrom = Gives (ScalarResult (Flag (assignable classes (object 0) (object 1))))
-  worked_out AllocObject = Makes (object 0)
+  worked_out AllocObject = Makes (Fresh (object 0))
   worked_out NewLocalRef = Gives (ReferenceResult (reference 0))
   worked_out NewGlobalRef = made_global (reference 0)
   worked_out DeleteLocalRef = local_deleted (level_of (lookup (variable_given args 0) variables)) (reference 0)

@@ -31,7 +31,7 @@ use classes::built_ins::{NO_CLASS_DEF_FOUND_ERROR, NO_SUCH_FIELD_ERROR};
 use classes::fields::FieldId;
 use classes::table::ClassTable;
 use jni::JniFunction;
-use replay_objects::{Frames, Store};
+use replay_objects::{Frames, New, Store};
 use replay_terms::{Given, Variables, convert};
 use world_values::ObjectValue;
 
@@ -42,9 +42,9 @@ pub enum Answer<'a> {
     Gives(Given<'a>),
     /// A value of the object of this name changes, by its place, counted from 0.
     Writes(usize, usize, ObjectValue),
-    /// An object of the class of this number is made, with zero and null fields, and given.
-    Makes(usize),
-    /// An exception of the class of this number is made and is pending.
+    /// This object is made, and given.
+    Makes(New<'a>),
+    /// An exception of the class of this number is made, with zero and null fields, and is pending.
     Raises(usize),
     /// The current frame gets room for this number of references more, and 0 is given.
     Ensures(usize),
@@ -140,7 +140,7 @@ fn class_answer<'a>(
         JniFunction::IsAssignableFrom => {
             Answer::Gives(Given::Flag(classes.assignable(first, second)))
         }
-        JniFunction::AllocObject => Answer::Makes(first),
+        JniFunction::AllocObject => Answer::Makes(New::Fresh(first)),
         JniFunction::GetFieldID => field_named(classes, actuals, false),
         JniFunction::GetStaticFieldID => field_named(classes, actuals, true),
         _ => unreachable!(),
