@@ -4,7 +4,7 @@ use Rattle.std.specs.Prelude.{ℤ, pos, negsuc, nat_le, if◌then◌else◌}
 use Rattle.base.specs.Bytes.{Identifier}
 use Rattle.class_rules.specs.Class.{Classes}
 use Rattle.class_rules.specs.Fields.{FieldId}
-use Rattle.jni.specs.JniFunction.{JniFunction, FindClass, NewGlobalRef, DeleteLocalRef, DeleteGlobalRef, EnsureLocalCapacity, PushLocalFrame, GetFieldID, GetStaticFieldID}
+use Rattle.jni.specs.JniFunction.{JniFunction, FindClass, NewGlobalRef, DeleteLocalRef, DeleteGlobalRef, EnsureLocalCapacity, PushLocalFrame, GetFieldID, GetStaticFieldID, NewArray, NewObjectArray, GetObjectArrayElement, SetObjectArrayElement}
 use Rattle.semantics.specs.Arguments.{Actual, variable_given, reference_given, number_given}
 use Rattle.semantics.specs.CallEffects.{with_capacity}
 use Rattle.semantics.specs.Heap.{Heap}
@@ -13,7 +13,7 @@ use Rattle.semantics.specs.Thread.{Frame, capacities}
 use Rattle.semantics.specs.Variable.{Variables}
 use Rattle.replay_calls.specs.Answers.{Ensures, Pushes, RefusesFrames, FitsFrames}
 use Rattle.replay_objects.specs.Frames.{new_frame}
-use Rattle.replay_calls.specs.WorkedOut.{ensured, found_class, found_field, global_deleted, local_deleted, made_global, pushed, worked_out}
+use Rattle.replay_calls.specs.WorkedOut.{element_given, element_set, ensured, found_class, found_field, global_deleted, local_deleted, made_global, new_array, new_object_array, pushed, worked_out}
 
 module _ (frames : List Frame) where
   class_fits : (c : Option ℕ) → FitsFrames frames (found_class c)
@@ -52,6 +52,23 @@ module _ (frames : List Frame) where
   deleted_fits x None = tt
   deleted_fits x (Some n) = tt
 
+  array_fits : (class : ℕ) (z : ℤ) → FitsFrames frames (new_array class z)
+  array_fits class (pos n) = tt
+  array_fits class (negsuc n) = tt
+
+  object_array_fits : (element : ℕ) (r : Reference) (z : ℤ) → FitsFrames frames (new_object_array element r z)
+  object_array_fits element r (pos n) = tt
+  object_array_fits element r (negsuc n) = tt
+
+  element_fits : (heap : Heap) (n : ℕ) (i : Option ℕ) → FitsFrames frames (element_given heap n i)
+  element_fits heap n None = tt
+  element_fits heap n (Some i) = tt
+
+  set_fits : (fits : Bool) (n : ℕ) (r : Reference) (i : Option ℕ) → FitsFrames frames (element_set fits n r i)
+  set_fits fits n r None = tt
+  set_fits true n r (Some i) = tt
+  set_fits false n r (Some i) = tt
+
   pub answer_fits : (classes : Classes) (heap : Heap) (vs : Variables) (args : List Actual) (f : JniFunction) → FitsFrames frames (worked_out classes heap vs frames args f)
   answer_fits classes heap vs args FindClass = class_fits _
   answer_fits classes heap vs args NewGlobalRef = global_fits (reference_given args 0)
@@ -61,4 +78,8 @@ module _ (frames : List Frame) where
   answer_fits classes heap vs args PushLocalFrame = pushed_fits (number_given args 0)
   answer_fits classes heap vs args GetFieldID = field_fits _
   answer_fits classes heap vs args GetStaticFieldID = field_fits _
+  answer_fits classes heap vs args (NewArray T) = array_fits _ (number_given args 0)
+  answer_fits classes heap vs args NewObjectArray = object_array_fits _ _ (number_given args 0)
+  answer_fits classes heap vs args GetObjectArrayElement = element_fits heap _ _
+  answer_fits classes heap vs args SetObjectArrayElement = set_fits _ _ _ _
   answer_fits classes heap vs args f = tt

@@ -14,17 +14,18 @@ use Rattle.semantics.specs.World.{fresh_object}
 use Rattle.replay_calls.specs.declared.answer.Answer.{Answer as InMemory}
 use Rattle.replay_calls.specs.declared.answer.Answer.TheVariants as answer
 use Rattle.replay_objects.specs.Frames.{new_frame}
+use Rattle.replay_objects.specs.New.{New, new_view, object_of}
 use Rattle.replay_terms.specs.Views.{given_view}
 use Rattle.world_values.specs.Views.{object_value_view}
 
--- What a call does: nothing changes and this is given, a value of an object is written, an object of a class is made and given,
--- an exception of a class is made, the current frame gets room for this many more and 0 is given, a frame of this capacity is made
+-- What a call does: nothing changes and this is given, a value of an object is written, an object is made and given, an exception
+-- of a class is made, the current frame gets room for this many more and 0 is given, a frame of this capacity is made
 -- and 0 is given, the OutOfMemoryError object is pending and -4 is given, the current frame is dropped and this is given, a local
 -- reference in the frame of a level is deleted, a global reference is made and given, or the one of a static is deleted.
 pub data Answer : Type 0 where
   Gives : CallResult → Answer
   Writes : (object place : ℕ) → ObjectValue → Answer
-  Makes : (class : ℕ) → Answer
+  Makes : New → Answer
   Raises : (class : ℕ) → Answer
   Ensures : (more : ℕ) → Answer
   Pushes : (capacity : ℕ) → Answer
@@ -37,7 +38,7 @@ pub data Answer : Type 0 where
 abbrev pub answer_view : InMemory → Answer
 answer_view (answer.Gives g) = Gives (given_view g)
 answer_view (answer.Writes n i v) = Writes n i (object_value_view v)
-answer_view (answer.Makes c) = Makes c
+answer_view (answer.Makes n) = Makes (new_view n)
 answer_view (answer.Raises c) = Raises c
 answer_view (answer.Ensures n) = Ensures n
 answer_view (answer.Pushes n) = Pushes n
@@ -65,7 +66,7 @@ without_global x n s = record s { globals = without_one n s.globals; statics = a
 abbrev pub effect_as : Classes → Shared → Thread → Answer → CallEffect
 effect_as classes s t (Gives g) = Leaves [] s t g
 effect_as classes s t (Writes n i v) = heap_effect s t (with_value_at s.heap n i v)
-effect_as classes s t (Makes c) = new_effect s t (fresh_object classes c)
+effect_as classes s t (Makes n) = new_effect s t (object_of classes n)
 effect_as classes s t (Raises c) = Throws c
 effect_as classes s t (Ensures n) = Leaves [] s (record t { frames = with_capacity n t.frames }) zero_result
 effect_as classes s t (Pushes n) = Leaves [] s (record t { frames = new_frame n ∷ t.frames }) zero_result
@@ -94,14 +95,14 @@ is_of_references a = is_of_frames a
 
 -- whether there is an object to refuse
 abbrev pub makes_object : Answer → Bool
-makes_object (Makes c) = true
+makes_object (Makes n) = true
 makes_object (Raises c) = true
 makes_object a = false
 
 -- what is shared after it
 abbrev pub shared_after : Classes → Shared → Answer → Shared
 shared_after classes s (Writes n i v) = record s { heap = with_value_at s.heap n i v }
-shared_after classes s (Makes c) = record s { heap = s.heap ++ fresh_object classes c ∷ [] }
+shared_after classes s (Makes n) = record s { heap = s.heap ++ object_of classes n ∷ [] }
 shared_after classes s (Raises c) = record s { heap = s.heap ++ fresh_object classes c ∷ [] }
 shared_after classes s (MakesGlobal n) = record s { globals = n ∷ s.globals }
 shared_after classes s (DeletesGlobal x n) = without_global x n s
@@ -125,7 +126,7 @@ pending_after classes heap pending a = pending
 abbrev pub given_after : Heap → ResultKind → Answer → CallResult
 given_after heap kind (Gives g) = g
 given_after heap kind (Writes n i v) = NoResult
-given_after heap kind (Makes c) = ReferenceResult (Some (next_name heap))
+given_after heap kind (Makes n) = ReferenceResult (Some (next_name heap))
 given_after heap kind (Raises c) = failure kind
 given_after heap kind (Ensures n) = zero_result
 given_after heap kind (Pushes n) = zero_result

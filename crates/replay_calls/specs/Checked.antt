@@ -4,11 +4,11 @@ use Rattle.std.specs.List.{list_any}
 use Rattle.class_rules.specs.BuiltIns.{class_class, has_own_making, string_class, number_array}
 use Rattle.class_rules.specs.Class.{Classes, class_kind, is_plain, is_object_array, assignable}
 use Rattle.class_rules.specs.Fields.{FieldId}
-use Rattle.jni.specs.JniFunction.{is_allowed_pending, JniFunction, AllocObject, GetField, SetField, GetStaticField, SetStaticField, GetObjectField, SetObjectField, GetStaticObjectField, SetStaticObjectField, prototype}
+use Rattle.jni.specs.JniFunction.{is_allowed_pending, JniFunction, AllocObject, GetField, SetField, GetStaticField, SetStaticField, GetObjectField, SetObjectField, GetStaticObjectField, SetStaticObjectField, NewObjectArray, prototype}
 use Rattle.jni.specs.Prototype.{ParameterKind, ClassObject, AnyArray, ObjectArray, StringObject, NumberArray}
 use Rattle.semantics.specs.Arguments.{Actual, reference_given, object_given, field_given}
 use Rattle.semantics.specs.Checks.{first_trap, frames_after, is_deleted, is_misfit, is_missing, lacks_room}
-use Rattle.semantics.specs.Heap.{fits_type, holds_number, holds_reference, Heap, is_instance}
+use Rattle.semantics.specs.Heap.{fits_class, fits_type, holds_number, holds_reference, Heap, is_instance}
 use Rattle.semantics.specs.Thread.{Frame}
 use Rattle.semantics.specs.Value.{Trap, NullReference, ExceptionPending, WrongObject, DeletedReference, NoCapacity}
 
@@ -34,6 +34,10 @@ module _ (classes : Classes) (heap : Heap) (args : List Actual) where
   abbrev pub has_field : Bool
   has_field = not field.is_static && is_instance classes heap (object_given args 0) field.class
 
+  -- argument 1 is a class that arrays can be made of, and argument 2 may be an element
+  abbrev pub fits_new_array : Bool
+  fits_new_array = is_plain (class_kind classes (object_given args 1)) && fits_class classes heap (reference_given args 2) (object_given args 1)
+
   -- the arguments of a function, each of its kind, go together
   abbrev pub fit_together : JniFunction → Bool
   fit_together AllocObject = not (has_own_making classes (object_given args 0))
@@ -45,6 +49,7 @@ module _ (classes : Classes) (heap : Heap) (args : List Actual) where
   fit_together (SetStaticField T) = has_static classes args && holds_number T field.field.type
   fit_together GetStaticObjectField = has_static classes args && holds_reference field.field.type
   fit_together SetStaticObjectField = has_static classes args && fits_type classes heap (reference_given args 2) field.field.type
+  fit_together NewObjectArray = fits_new_array
   fit_together f = true
 
 -- The trap of a call before it does anything.

@@ -1,10 +1,10 @@
 -- What is worked out of a call, its arguments being looked up and its checks passed.
-use Rattle.std.specs.Prelude.{ℕ, nat_le, if◌then◌else◌, ℤ, pos, negsuc, List, ◌∷◌, length, Option, Some, None}
+use Rattle.std.specs.Prelude.{ℕ, nat_le, nat_lt, if◌then◌else◌, Bool, ℤ, pos, negsuc, List, ◌∷◌, length, Option, Some, None}
 use Rattle.base.specs.Bytes.{Identifier, lookup}
-use Rattle.class_rules.specs.BuiltIns.{no_class_def_found_error, no_such_field_error}
-use Rattle.class_rules.specs.Class.{Classes, class_named, superclass, assignable}
+use Rattle.class_rules.specs.BuiltIns.{array_index_out_of_bounds, array_store_exception, negative_array_size, no_class_def_found_error, no_such_field_error, number_array}
+use Rattle.class_rules.specs.Class.{Classes, class_kind, class_named, element_class, superclass, assignable}
 use Rattle.class_rules.specs.Fields.{FieldId, find_field, find_static}
-use Rattle.jni.specs.JniFunction.{JniFunction, FindClass, GetSuperclass, GetObjectClass, IsInstanceOf, IsAssignableFrom, AllocObject, NewLocalRef, NewGlobalRef, DeleteLocalRef, DeleteGlobalRef, IsSameObject, EnsureLocalCapacity, PushLocalFrame, PopLocalFrame, GetFieldID, GetStaticFieldID, GetField, SetField, GetStaticField, SetStaticField, GetObjectField, SetObjectField, GetStaticObjectField, SetStaticObjectField, GetArrayLength}
+use Rattle.jni.specs.JniFunction.{JniFunction, FindClass, GetSuperclass, GetObjectClass, IsInstanceOf, IsAssignableFrom, AllocObject, NewLocalRef, NewGlobalRef, DeleteLocalRef, DeleteGlobalRef, IsSameObject, EnsureLocalCapacity, PushLocalFrame, PopLocalFrame, GetFieldID, GetStaticFieldID, GetField, SetField, GetStaticField, SetStaticField, GetObjectField, SetObjectField, GetStaticObjectField, SetStaticObjectField, GetArrayLength, NewArray, NewObjectArray, GetObjectArrayElement, SetObjectArrayElement, NewStringUTF, GetStringLength}
 use Rattle.semantics.specs.Arguments.{Actual, reference_given, object_given, number_given, text_given, field_given, variable_given}
 use Rattle.semantics.specs.CallEffects.{NoResult, ScalarResult, ReferenceResult, FieldResult, level_of, same_reference, with_capacity}
 use Rattle.semantics.specs.Heap.{Heap, class_of, values_of, value_at, number_in, reference_in, field_place, static_place, fits_class}
@@ -16,6 +16,7 @@ use Rattle.replay_calls.specs.Answers.{Answer, Gives, Writes, Makes, Raises, Ens
 use Rattle.replay_calls.specs.declared.answer.Subject.{Subject}
 use Rattle.replay_calls.specs.declared.answer.Subject.TheVariants as subject
 use Rattle.replay_objects.specs.Frames.{new_frame}
+use Rattle.replay_objects.specs.New.{Array, Fresh, ObjectArray, Text}
 
 -- what a function works on
 abbrev pub subject_of : JniFunction → Subject
@@ -31,11 +32,17 @@ subject_of (GetField T) = subject.Fields
 subject_of (SetField T) = subject.Fields
 subject_of GetObjectField = subject.Fields
 subject_of SetObjectField = subject.Fields
-subject_of GetArrayLength = subject.Fields
 subject_of (GetStaticField T) = subject.Statics
 subject_of (SetStaticField T) = subject.Statics
 subject_of GetStaticObjectField = subject.Statics
 subject_of SetStaticObjectField = subject.Statics
+subject_of GetArrayLength = subject.Arrays
+subject_of (NewArray T) = subject.Arrays
+subject_of NewObjectArray = subject.Arrays
+subject_of GetObjectArrayElement = subject.Arrays
+subject_of SetObjectArrayElement = subject.Arrays
+subject_of NewStringUTF = subject.Arrays
+subject_of GetStringLength = subject.Arrays
 subject_of f = subject.Classes
 
 -- a class that was found, or else an exception
@@ -77,6 +84,41 @@ abbrev pub global_deleted : Identifier → Reference → Answer
 global_deleted x None = Gives NoResult
 global_deleted x (Some n) = DeletesGlobal x n
 
+-- ---- arrays
+
+-- an array of this class with this many zeros; with fewer than none an exception
+abbrev pub new_array : (class : ℕ) → (count : ℤ) → Answer
+new_array class (pos n) = Makes (Array class n (Number (pos 0)))
+new_array class (negsuc n) = Raises negative_array_size
+
+-- an array of objects of this class, this many times this one; with fewer than none an exception
+abbrev pub new_object_array : (element : ℕ) → Reference → (count : ℤ) → Answer
+new_object_array element r (pos n) = Makes (ObjectArray element n r)
+new_object_array element r (negsuc n) = Raises negative_array_size
+
+-- an index, where an array of this length has it
+abbrev pub index_within : (length : ℕ) → ℤ → Option ℕ
+index_within length (pos i) = if nat_lt i length then Some i else None
+index_within length (negsuc i) = None
+
+-- the index of argument 1 in the array of argument 0
+abbrev pub index_given : Heap → List Actual → Option ℕ
+index_given heap args = index_within (length (values_of heap (object_given args 0))) (number_given args 1)
+
+-- the reference in an array at an index; where there is none an exception
+abbrev pub element_given : Heap → (array : ℕ) → (index : Option ℕ) → Answer
+element_given heap n None = Raises array_index_out_of_bounds
+element_given heap n (Some i) = Gives (ReferenceResult (reference_in (value_at heap n i)))
+
+-- whether argument 2 may be an element of the array of argument 0
+abbrev pub fits_element : Classes → Heap → List Actual → Bool
+fits_element classes heap args = fits_class classes heap (reference_given args 2) (element_class (class_kind classes (class_of heap (object_given args 0))))
+
+-- the element of an array at an index becomes a reference, if it fits; else an exception
+abbrev pub element_set : (fits : Bool) → (array : ℕ) → Reference → (index : Option ℕ) → Answer
+element_set fits n r None = Raises array_index_out_of_bounds
+element_set fits n r (Some i) = if fits then Writes n i (Refers r) else Raises array_store_exception
+
 module _ (classes : Classes) (heap : Heap) (variables : Variables) (frames : List Frame) (args : List Actual) where
   abbrev pub reference : ℕ → Option ℕ
   reference i = reference_given args i
@@ -108,7 +150,7 @@ module _ (classes : Classes) (heap : Heap) (variables : Variables) (frames : Lis
   worked_out GetObjectClass = Gives (ReferenceResult (Some (class_of heap (object 0))))
   worked_out IsInstanceOf = Gives (ScalarResult (Flag (fits_class classes heap (reference 0) (object 1))))
   worked_out IsAssignableFrom = Gives (ScalarResult (Flag (assignable classes (object 0) (object 1))))
-  worked_out AllocObject = Makes (object 0)
+  worked_out AllocObject = Makes (Fresh (object 0))
   worked_out NewLocalRef = Gives (ReferenceResult (reference 0))
   worked_out NewGlobalRef = made_global (reference 0)
   worked_out DeleteLocalRef = local_deleted (level_of (lookup (variable_given args 0) variables)) (reference 0)
@@ -128,4 +170,10 @@ module _ (classes : Classes) (heap : Heap) (variables : Variables) (frames : Lis
   worked_out GetStaticObjectField = Gives (ReferenceResult (reference_in (value_at heap declaring place_of_static)))
   worked_out SetStaticObjectField = Writes declaring place_of_static (Refers (reference 2))
   worked_out GetArrayLength = Gives (ScalarResult (Int (pos (length (values_of heap (object 0))))))
+  worked_out (NewArray T) = new_array (number_array T) (number 0)
+  worked_out NewObjectArray = new_object_array (object 1) (reference 2) (number 0)
+  worked_out GetObjectArrayElement = element_given heap (object 0) (index_given heap args)
+  worked_out SetObjectArrayElement = element_set (fits_element classes heap args) (object 0) (reference 2) (index_given heap args)
+  worked_out NewStringUTF = Makes (Text (text 0))
+  worked_out GetStringLength = Gives (ScalarResult (Int (pos (length (values_of heap (object 0))))))
   worked_out f = Gives NoResult

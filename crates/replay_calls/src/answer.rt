@@ -4,19 +4,20 @@ ghost use Rattle.std.specs.Prelude.{◌≡◌, IsTrue, List, if◌then◌else◌
 ghost use Rattle.std.specs.Option.{option_map};
 ghost use Rattle.base.specs.Bytes.{lookup};
 ghost use Rattle.classes.specs.FieldViews.{field_id_view};
-ghost use Rattle.class_rules.specs.Class.{Classes};
+ghost use Rattle.classes.specs.Views.{kind_view};
+ghost use Rattle.class_rules.specs.Class.{Classes, element_class};
 ghost use Rattle.class_rules.specs.Fields.{find_field, find_static};
 ghost use Rattle.class_rules.specs.Grown.{IsGrown};
 ghost use Rattle.jni.specs.JniFunction.{is_built_function};
 ghost use Rattle.jni.specs.Table.{function_value};
 ghost use Rattle.semantics.specs.CallEffects.{level_of, same_reference};
 ghost use Rattle.semantics.specs.Heap.{Heap, field_place, fits_class, number_in, reference_in, static_place};
-ghost use Rattle.semantics.specs.Arguments.{field_given, object_given, reference_given, text_given, variable_given};
+ghost use Rattle.semantics.specs.Arguments.{field_given, number_given, object_given, reference_given, text_given, variable_given};
 ghost use Rattle.semantics.specs.Thread.{Frame};
 ghost use Rattle.semantics.specs.Variable.{Variables as VariablesOfCall};
 ghost use Rattle.replay_calls.specs.Actuals.{actual_view};
 ghost use Rattle.replay_calls.specs.Answers.{answer_view};
-ghost use Rattle.replay_calls.specs.WorkedOut.{ensured, found_class, found_field, global_deleted, local_deleted, made_global, pushed, subject_of, worked_out};
+ghost use Rattle.replay_calls.specs.WorkedOut.{element_given, element_set, ensured, fits_element, found_class, found_field, global_deleted, index_given, local_deleted, made_global, new_array, new_object_array, pushed, subject_of, worked_out};
 ghost use Rattle.replay_calls.specs.declared.answer.Subject.TheVariants as subject;
 ghost use Rattle.replay_terms.specs.Views.{variables_view};
 ghost use Rattle.world_values.specs.Views.{object_value_view};
@@ -25,13 +26,17 @@ use crate::actual::{
     Actual, field_given, level_of, number_given, object_given, reference_given, text_given,
     variable_given,
 };
-use crate::check::fits_class;
+use crate::check::{element_type, fits_class};
 use crate::field;
-use classes::built_ins::{NO_CLASS_DEF_FOUND_ERROR, NO_SUCH_FIELD_ERROR};
+use classes::built_ins::{
+    ARRAY_INDEX_OUT_OF_BOUNDS_EXCEPTION, ARRAY_STORE_EXCEPTION, NEGATIVE_ARRAY_SIZE_EXCEPTION,
+    NO_CLASS_DEF_FOUND_ERROR, NO_SUCH_FIELD_ERROR, number_array,
+};
+use classes::class::ClassKind;
 use classes::fields::FieldId;
 use classes::table::ClassTable;
 use jni::JniFunction;
-use replay_objects::{Frames, Store};
+use replay_objects::{Frames, New, Store};
 use replay_terms::{Given, Variables, convert};
 use world_values::ObjectValue;
 
@@ -42,9 +47,9 @@ pub enum Answer<'a> {
     Gives(Given<'a>),
     /// A value of the object of this name changes, by its place, counted from 0.
     Writes(usize, usize, ObjectValue),
-    /// An object of the class of this number is made, with zero and null fields, and given.
-    Makes(usize),
-    /// An exception of the class of this number is made and is pending.
+    /// This object is made, and given.
+    Makes(New<'a>),
+    /// An exception of the class of this number is made, with zero and null fields, and is pending.
     Raises(usize),
     /// The current frame gets room for this number of references more, and 0 is given.
     Ensures(usize),
@@ -68,9 +73,11 @@ enum Subject {
     Classes,
     /// Local and global references, and frames.
     References,
-    /// The fields of objects, and arrays.
+    /// The fields of objects.
     Fields,
     Statics,
+    /// Arrays and strings.
+    Arrays,
 }
 
 /// What a function works on.
@@ -85,9 +92,12 @@ fn subject_of(function: JniFunction) -> Subject
         JniFunction::PushLocalFrame | JniFunction::PopLocalFrame => Subject::References,
         JniFunction::GetField(_) | JniFunction::SetField(_) => Subject::Fields,
         JniFunction::GetObjectField | JniFunction::SetObjectField => Subject::Fields,
-        JniFunction::GetArrayLength => Subject::Fields,
         JniFunction::GetStaticField(_) | JniFunction::SetStaticField(_) => Subject::Statics,
         JniFunction::GetStaticObjectField | JniFunction::SetStaticObjectField => Subject::Statics,
+        JniFunction::GetArrayLength | JniFunction::GetStringLength => Subject::Arrays,
+        JniFunction::NewArray(_) | JniFunction::NewObjectArray => Subject::Arrays,
+        JniFunction::GetObjectArrayElement | JniFunction::SetObjectArrayElement => Subject::Arrays,
+        JniFunction::NewStringUTF => Subject::Arrays,
         _ => Subject::Classes,
     }
 }
@@ -110,6 +120,7 @@ pub fn work_out<'a>(
         Subject::References => reference_answer(variables, frames, function, actuals),
         Subject::Fields => field_answer(classes, store, function, actuals),
         Subject::Statics => static_answer(classes, store, function, actuals),
+        Subject::Arrays => array_answer(classes, store, function, actuals),
     }
 }
 
@@ -140,7 +151,7 @@ fn class_answer<'a>(
         JniFunction::IsAssignableFrom => {
             Answer::Gives(Given::Flag(classes.assignable(first, second)))
         }
-        JniFunction::AllocObject => Answer::Makes(first),
+        JniFunction::AllocObject => Answer::Makes(New::Fresh(first)),
         JniFunction::GetFieldID => field_named(classes, actuals, false),
         JniFunction::GetStaticFieldID => field_named(classes, actuals, true),
         _ => unreachable!(),
@@ -174,7 +185,7 @@ fn reference_answer<'a>(
     }
 }
 
-/// What a function does that works on the fields of an object, or on an array.
+/// What a function does that works on the fields of an object.
 #[inline]
 fn field_answer<'a>(
     classes: &ClassTable,
@@ -187,9 +198,6 @@ fn field_answer<'a>(
     ensures { (variables : VariablesOfCall) (frames : List Frame) → answer_view result ≡ worked_out classes.now store.now variables frames (map actual_view actuals.now) (function_value function) }
 {
     let object = object_given(actuals, 0);
-    if let JniFunction::GetArrayLength = function {
-        return Answer::Gives(Given::Number(store.values_of(object).len() as i32));
-    }
     let place = place_of_field(classes, store, actuals);
     match function {
         JniFunction::GetField(_) => {
@@ -245,6 +253,36 @@ fn static_answer<'a>(
                 ObjectValue::Reference(reference_given(actuals, 2)),
             )
         }
+        _ => unreachable!(),
+    }
+}
+
+/// What a function does that works on arrays or strings.
+#[inline]
+fn array_answer<'a>(
+    classes: &ClassTable,
+    store: &Store,
+    function: JniFunction,
+    actuals: &[Actual<'a>],
+) -> Answer<'a>
+    requires { subject_of (function_value function) ≡ subject.Arrays }
+    ensures { (variables : VariablesOfCall) (frames : List Frame) → answer_view result ≡ worked_out classes.now store.now variables frames (map actual_view actuals.now) (function_value function) }
+{
+    match function {
+        JniFunction::GetArrayLength | JniFunction::GetStringLength => {
+            let values = store.values_of(object_given(actuals, 0));
+            Answer::Gives(Given::Number(values.len() as i32))
+        }
+        JniFunction::NewArray(element) => {
+            new_array(
+                number_array(element_type(element)),
+                number_given(actuals, 0),
+            )
+        }
+        JniFunction::NewObjectArray => new_object_array(actuals),
+        JniFunction::GetObjectArrayElement => element(store, actuals),
+        JniFunction::SetObjectArrayElement => element_set(classes, store, actuals),
+        JniFunction::NewStringUTF => Answer::Makes(New::Text(text_given(actuals, 0))),
         _ => unreachable!(),
     }
 }
@@ -393,5 +431,102 @@ fn reference_in(value: ObjectValue) -> Option<usize>
     match value {
         ObjectValue::Number(_) => None,
         ObjectValue::Reference(reference) => reference,
+    }
+}
+
+// ---- arrays
+
+/// An array of this class with this many zeros, or else an exception.
+fn new_array<'a>(class: usize, count: i32) -> Answer<'a>
+    ensures { answer_view result ≡ new_array class count }
+{
+    if count < 0 {
+        return Answer::Raises(NEGATIVE_ARRAY_SIZE_EXCEPTION);
+    }
+    Answer::Makes(New::Array {
+        class,
+        count: count as usize,
+        value: ObjectValue::Number(0),
+    })
+}
+
+/// An array with the length, the class of its elements and the reference of arguments 0 to 2, or else an exception.
+fn new_object_array<'a>(actuals: &[Actual<'_>]) -> Answer<'a>
+    ensures { answer_view result ≡ new_object_array (object_given (map actual_view actuals.now) 1) (reference_given (map actual_view actuals.now) 2) (number_given (map actual_view actuals.now) 0) }
+{
+    let count = number_given(actuals, 0);
+    if count < 0 {
+        return Answer::Raises(NEGATIVE_ARRAY_SIZE_EXCEPTION);
+    }
+    Answer::Makes(New::ObjectArray {
+        element: object_given(actuals, 1),
+        count: count as usize,
+        reference: reference_given(actuals, 2),
+    })
+}
+
+/// The index of argument 1, where the array of argument 0 has it.
+fn index_given(store: &Store, actuals: &[Actual<'_>]) -> Option<usize>
+    ensures { result ≡ index_given store.now (map actual_view actuals.now) }
+{
+    let index = number_given(actuals, 1);
+    if index < 0 {
+        return None;
+    }
+    let index = index as usize;
+    if index < store.values_of(object_given(actuals, 0)).len() {
+        Some(index)
+    } else {
+        None
+    }
+}
+
+/// The element of an array of references at an index, or else an exception.
+fn element<'a>(store: &Store, actuals: &[Actual<'_>]) -> Answer<'a>
+    ensures { answer_view result ≡ element_given store.now (object_given (map actual_view actuals.now) 0) (index_given store.now (map actual_view actuals.now)) }
+{
+    match index_given(store, actuals) {
+        Some(index) => {
+            let value = store.value_at(object_given(actuals, 0), index);
+            Answer::Gives(Given::Reference(reference_in(value)))
+        }
+        None => Answer::Raises(ARRAY_INDEX_OUT_OF_BOUNDS_EXCEPTION),
+    }
+}
+
+/// The element of an array at an index becomes the reference of argument 2, or else there is an exception.
+fn element_set<'a>(classes: &ClassTable, store: &Store, actuals: &[Actual<'_>]) -> Answer<'a>
+    ensures { answer_view result ≡ element_set (fits_element classes.now store.now (map actual_view actuals.now)) (object_given (map actual_view actuals.now) 0) (reference_given (map actual_view actuals.now) 2) (index_given store.now (map actual_view actuals.now)) }
+{
+    let Some(index) = index_given(store, actuals) else {
+        return Answer::Raises(ARRAY_INDEX_OUT_OF_BOUNDS_EXCEPTION);
+    };
+    if !fits_element(classes, store, actuals) {
+        return Answer::Raises(ARRAY_STORE_EXCEPTION);
+    }
+    let reference = reference_given(actuals, 2);
+    Answer::Writes(
+        object_given(actuals, 0),
+        index,
+        ObjectValue::Reference(reference),
+    )
+}
+
+/// Whether the reference of argument 2 may be an element of the array of argument 0.
+fn fits_element(classes: &ClassTable, store: &Store, actuals: &[Actual<'_>]) -> bool
+    ensures { result ≡ fits_element classes.now store.now (map actual_view actuals.now) }
+{
+    let class = store.class_of(object_given(actuals, 0));
+    let element = element_class(classes.kind(class));
+    fits_class(classes, store, reference_given(actuals, 2), element)
+}
+
+/// The class of the elements of an array of objects; 0 for another class.
+fn element_class(kind: ClassKind) -> usize
+    ensures { result ≡ element_class (kind_view kind) }
+{
+    match kind {
+        ClassKind::ArrayOfObjects(element) => element,
+        ClassKind::Plain | ClassKind::ArrayOfNumbers(_) => 0,
     }
 }

@@ -1,12 +1,11 @@
 //! What the answer of a function does to what all threads share, to the frames and to the pending exception.
 
-ghost use Rattle.std.specs.Prelude.{◌≡◌, ◌++◌, ◌∷◌, [], IfOk, Some, true};
+ghost use Rattle.std.specs.Prelude.{◌≡◌, IfOk, Some, true};
 ghost use Rattle.jni.specs.Prototype.{ResultKind as SourceKind};
 ghost use Rattle.jni.specs.Table.{result_value};
 ghost use Rattle.semantics.specs.CallEffects.{out_of_memory};
 ghost use Rattle.semantics.specs.CallStep.{failure};
-ghost use Rattle.semantics.specs.Heap.{Heap, next_name};
-ghost use Rattle.semantics.specs.World.{fresh_object};
+ghost use Rattle.semantics.specs.Heap.{Heap};
 ghost use Rattle.replay_calls.specs.Answers.{FitsFrames, answer_view, frames_after, frames_with, given_after, is_of_frames, is_of_references, makes_object, pending_after, shared_after};
 ghost use Rattle.replay_terms.specs.Views.{given_view};
 ghost use Rattle.replay_calls.specs.Shares.{shared_view};
@@ -15,7 +14,7 @@ use crate::Shared;
 use crate::answer::Answer;
 use classes::table::ClassTable;
 use jni::ResultKind;
-use replay_objects::{Frames, Store, fresh_values};
+use replay_objects::{Frames, New, make};
 use replay_terms::{Given, StaticReference};
 use std::alloc::{AllocError, Global};
 
@@ -41,12 +40,12 @@ pub fn carry_out<'a>(
             shared.store.set(name, place, value);
             Ok(Given::Nothing)
         }
-        Answer::Makes(class) => {
-            let name = make(alloc, classes, &mut shared.store, class)?;
+        Answer::Makes(new) => {
+            let name = make(alloc, classes, &mut shared.store, new)?;
             Ok(Given::Reference(Some(name)))
         }
         Answer::Raises(class) => {
-            let name = make(alloc, classes, &mut shared.store, class)?;
+            let name = make(alloc, classes, &mut shared.store, New::Fresh(class))?;
             *pending = Some(name);
             Ok(failed(kind))
         }
@@ -123,21 +122,6 @@ fn carry_out_frames<'a>(
         }
         _ => unreachable!(),
     }
-}
-
-/// Makes an object of a class, with zero and null fields, and tells its name.
-fn make(
-    alloc: Global,
-    classes: &ClassTable,
-    store: &mut Store,
-    class: usize,
-) -> Result<usize, AllocError>
-    ensures store { IfOk result (λ _. store.new ≡ store.old ++ fresh_object classes.now class ∷ []) }
-    ensures name { IfOk result (λ name. name ≡ next_name store.old) }
-{
-    let values = fresh_values(alloc, classes, class)?;
-    store.add(class, values)?;
-    Ok(store.len())
 }
 
 /// Puts what a call of this kind of result gave into the current frame, if it is a new local reference.

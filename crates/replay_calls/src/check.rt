@@ -9,7 +9,7 @@ ghost use Rattle.semantics.specs.Checks.{frames_after, is_deleted, is_full, is_m
 ghost use Rattle.semantics.specs.Heap.{fits_class, fits_type, holds_number, holds_reference};
 ghost use Rattle.syntax.specs.Views.{element_tree};
 ghost use Rattle.replay_calls.specs.Actuals.{actual_view};
-ghost use Rattle.replay_calls.specs.Checked.{fit_together, has_field, has_static, misfits, trap_found};
+ghost use Rattle.replay_calls.specs.Checked.{fit_together, fits_new_array, has_field, has_static, misfits, trap_found};
 ghost use Rattle.replay_terms.specs.Views.{trap_view};
 
 use crate::actual::{Actual, field_given, object_given, reference_given};
@@ -155,7 +155,7 @@ fn misfits(classes: &ClassTable, parameter: ParameterKind, class: usize) -> bool
 }
 
 /// The same type, as classes have it.
-fn element_type(element: syntax::ElementType) -> ElementType
+pub(crate) fn element_type(element: syntax::ElementType) -> ElementType
     ensures { element_view result ≡ element_tree element }
 {
     match element {
@@ -201,6 +201,7 @@ fn fit_together(
             has_static(classes, actuals)
                 && fits_type(classes, store, reference_given(actuals, 2), type_of(field))
         }
+        JniFunction::NewObjectArray => fits_new_array(classes, store, actuals),
         _ => true,
     }
 }
@@ -220,6 +221,15 @@ fn has_static(classes: &ClassTable, actuals: &[Actual<'_>]) -> bool
 {
     let field = field_given(actuals, 1);
     is_static(field) && classes.assignable(object_given(actuals, 0), declaring(field))
+}
+
+/// Whether argument 1 is a class that arrays can be made of, and argument 2 may be an element.
+fn fits_new_array(classes: &ClassTable, store: &Store, actuals: &[Actual<'_>]) -> bool
+    ensures { result ≡ fits_new_array classes.now store.now (map actual_view actuals.now) }
+{
+    let element = object_given(actuals, 1);
+    let is_plain = matches!(classes.kind(element), ClassKind::Plain);
+    is_plain && fits_class(classes, store, reference_given(actuals, 2), element)
 }
 
 /// Whether a type is that of these numbers.

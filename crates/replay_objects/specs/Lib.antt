@@ -1,3 +1,4 @@
 pub mod Names
 pub mod Frames
 pub mod Stores
+pub mod New

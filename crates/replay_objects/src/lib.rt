@@ -4,9 +4,11 @@
 mod frame;
 mod loaded;
 mod names;
+mod new;
 mod store;
 
 pub use frame::Frames;
-pub use loaded::{fresh_values, loaded_store, made_before};
+pub use loaded::{loaded_store, made_before};
 pub use names::Names;
+pub use new::{New, make};
 pub use store::Store;

@@ -73,7 +73,7 @@ fn initial_values(alloc: Global, fields: &OwnFields) -> Result<Vec<ObjectValue>,
 }
 
 /// What the fields of a new object of the class hold.
-pub fn fresh_values(
+pub(crate) fn fresh_values(
     alloc: Global,
     classes: &ClassTable,
     class: usize,

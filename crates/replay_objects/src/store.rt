@@ -1,6 +1,6 @@
 //! The objects that all threads share.
 
-ghost use Rattle.std.specs.Prelude.{◌≡◌, ◌<◌, ◌^◌, ◌++◌, ◌∷◌, [], IfOk, IfSome, length, map, slice_set};
+ghost use Rattle.std.specs.Prelude.{◌≡◌, ◌<◌, ◌^◌, ◌++◌, ◌∷◌, [], IfOk, IfSome, OnErr, length, map, slice_set};
 ghost use Rattle.std.specs.Option.{option_map};
 ghost use Rattle.semantics.specs.Heap.{object_at, class_of, value_at, values_of, with_value_at};
 ghost use Rattle.replay_objects.specs.Stores.{object_view};
@@ -139,7 +139,8 @@ impl Store {
     /// Makes the next object.
     pub fn add(&mut self, class: usize, values: Vec<ObjectValue>) -> Result<(), AllocError>
         requires { length values.items < 2 ^ 31 }
-        ensures { IfOk result (λ _. self.new ≡ self.old ++ record { class = class; values = map object_value_view values.items } ∷ []) }
+        ensures ok { IfOk result (λ _. self.new ≡ self.old ++ record { class = class; values = map object_value_view values.items } ∷ []) }
+        ensures err { OnErr result (self.new ≡ self.old) }
     {
         self.objects.push(Object { class, values })?;
         Ok(())

@@ -38,6 +38,7 @@ use Rattle.replay_terms.specs.Views.{given_view, Contents, trap_view, variables_
 use Rattle.replay_steps.specs.Calls.{MakesCall}
 use Rattle.replay_calls.specs.Checked.{fit_together, trap_found}
 use Rattle.replay_objects.specs.Frames.{new_frame}
+use Rattle.replay_objects.specs.New.{object_of}
 use Rattle.replay_tasks.specs.Outcomes.{outcome_for, purpose_view}
 use Rattle.replay_steps.specs.Steps.{Scene, Sees, left_by, scene_with}
 use Rattle.replay_tasks.specs.Tasks.{task_view}
@@ -157,7 +158,7 @@ failed_frames kind frames = refl
 makes_alike : (classes : Classes) (s : Shared) (t : Thread) (a : Answer) → makes_objects (effect_as classes s t a) ≡ makes_object a
 makes_alike classes s t (Gives g) = refl
 makes_alike classes s t (Writes n i v) = refl
-makes_alike classes s t (Makes c) = refl
+makes_alike classes s t (Makes n) = refl
 makes_alike classes s t (Raises c) = refl
 makes_alike classes s t (Ensures n) = refl
 makes_alike classes s t (Pushes n) = refl
@@ -209,7 +210,7 @@ module _ (classes : Classes) (in_use : BuffersInUse) (k : ℕ) (s : Shared) (t :
       ≡ left_by k (shared_after classes s a) (in_frames t (frames_with kind (given_view g) (frames_after frames a)) (pending_after classes s.heap pending a)) rest (outcome_for line purpose g) new
   answered (Gives c) g new same = plain s frames pending c g new same
   answered (Writes n i v) g new same = plain (shared_after classes s (Writes n i v)) frames pending NoResult g new same
-  answered (Makes c) g new same = finished (fresh_object classes c ∷ []) s frames pending (ReferenceResult (Some (next_name s.heap))) g new same
+  answered (Makes n) g new same = finished (object_of classes n ∷ []) s frames pending (ReferenceResult (Some (next_name s.heap))) g new same
   answered (Raises c) g new same = finished (fresh_object classes c ∷ []) s frames (Some (next_name s.heap)) (failure kind) g new same
   answered (Ensures n) g new same = plain s (with_capacity n frames) pending zero_result g new same
   answered (Pushes n) g new same = plain s (new_frame n ∷ frames) pending zero_result g new same

@@ -16,7 +16,7 @@ make_objects-requires c =
     let values = c.in_ok-error.ensures.values ∙ ap (λ (T : Classes). map (λ (f : FieldId). initial f.field.type) (layout T out_of_memory_error)) c.classes.ensures.classes in
     let object : ◌≡◌ {A = Object} (record { class = out_of_memory_error; values = map object_value_view c.in_ok-error.error.items }) (fresh_object w.classes out_of_memory_error) =
     ap (λ (vs : List ObjectValue). let o : Object = record { class = out_of_memory_error; values = vs } in o) values in
-    c.in_ok-add.ensures
+    c.in_ok-add.ensures.ok
     ∙ ap (λ (l : Heap). l ++ record { class = out_of_memory_error; values = map object_value_view c.in_ok-error.error.items } ∷ []) c.in_ok-make_class_objects.ensures
     ∙ ap (λ (o : Object). take (length w.classes) (loaded_objects w) ++ o ∷ []) object
     ∙ sym (take_next (loaded_objects w) (length w.classes) (fresh_object w.classes out_of_memory_error) (loaded_error w))

@@ -41,7 +41,7 @@ loop-place-preserved c =
     let values = c.in_ok-values.ensures ∙ statics_new w.classes n c.own_statics.result.now is in
     let object : ◌≡◌ {A = Object} (record { class = class_class; values = map object_value_view c.in_ok-values.values.items }) (class_object w.classes n) =
     ap (λ (vs : List ObjectValue). let o : Object = record { class = class_class; values = vs } in o) values in
-    c.in_ok-add.ensures
+    c.in_ok-add.ensures.ok
     ∙ ap (λ (l : Heap). l ++ record { class = class_class; values = map object_value_view c.in_ok-values.values.items } ∷ []) c.loop-place.invariant
     ∙ ap (λ (o : Object). take place (loaded_objects w) ++ o ∷ []) object
     ∙ sym (take_next (loaded_objects w) place (class_object w.classes n) at)

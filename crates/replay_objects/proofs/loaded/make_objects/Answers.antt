@@ -40,7 +40,7 @@ loop-object-preserved c =
     ap (λ (n : ℕ). let o : Object = record { class = n; values = map object_value_view c.in_ok-values.values.items } in o) c.class.ensures
     ∙ ap (λ (vs : List ObjectValue). let o : Object = record { class = c.object-item.result.class; values = vs } in o) given in
     let e : place + 1 ≡ length w.classes + 1 + (c.loop-object.object-index + 1) = omega arith in
-    c.in_ok-add.ensures
+    c.in_ok-add.ensures.ok
     ∙ ap (λ (l : Heap). l ++ record { class = c.class.result; values = map object_value_view c.in_ok-values.values.items } ∷ []) c.loop-object.invariant
     ∙ ap (λ (o : Object). take place (loaded_objects w) ++ o ∷ []) object
     ∙ sym (take_next (loaded_objects w) place c.object-item.result at)

@@ -1,0 +1,123 @@
+//! Objects that are to be made.
+
+ghost use Rattle.std.specs.Prelude.{◌≡◌, ◌++◌, ◌∷◌, [], IfOk, OnErr, length, map, pos, replicate};
+ghost use Rattle.semantics.specs.Heap.{next_name};
+ghost use Rattle.semantics.specs.Object.{Number};
+ghost use Rattle.replay_objects.specs.New.{array_class, new_view, object_of};
+ghost use Rattle.world_values.specs.Views.{object_value_view};
+
+use crate::loaded::fresh_values;
+use crate::store::Store;
+use classes::built_ins::STRING;
+use classes::table::ClassTable;
+use std::alloc::{AllocError, Global};
+use world_values::ObjectValue;
+
+/// What an object is that is to be made.
+#[derive(Clone, Copy)]
+pub enum New<'a> {
+    /// An object of the class of this number, with zero and null fields.
+    Fresh(usize),
+    /// An array of the class of this number, of equal values.
+    Array {
+        class: usize,
+        count: usize,
+        value: ObjectValue,
+    },
+    /// An array of equal references to objects of the class of this number.
+    ObjectArray {
+        element: usize,
+        count: usize,
+        reference: Option<usize>,
+    },
+    /// A string, with one unit for each byte.
+    Text(&'a [u8]),
+}
+
+/// The number of its class. That of an array of references is found by its name, which takes memory.
+fn class_of(classes: &ClassTable, new: New<'_>) -> Result<usize, AllocError>
+    ensures { IfOk result (λ class. class ≡ (object_of classes.now (new_view new.entry)).class) }
+{
+    match new {
+        New::Fresh(class) | New::Array { class, .. } => Ok(class),
+        New::ObjectArray { element, .. } => array_of(classes, element),
+        New::Text(_) => Ok(STRING),
+    }
+}
+
+/// The number of the class of arrays of objects of a class; 0 where there is none.
+fn array_of(classes: &ClassTable, element: usize) -> Result<usize, AllocError>
+    ensures { IfOk result (λ class. class ≡ array_class classes.now element) }
+{
+    match classes.find_array_of(classes.name(element))? {
+        Some(class) => Ok(class),
+        None => Ok(0),
+    }
+}
+
+/// Its values.
+fn values_of(
+    alloc: Global,
+    classes: &ClassTable,
+    new: New<'_>,
+) -> Result<Vec<ObjectValue>, AllocError>
+    ensures { IfOk result (λ values. map object_value_view values.items ≡ (object_of classes.now (new_view new.entry)).values) }
+{
+    match new {
+        New::Fresh(class) => fresh_values(alloc, classes, class),
+        New::Array { count, value, .. } => equal_values(alloc, count, value),
+        New::ObjectArray {
+            count,
+            reference,
+            ..
+        } => equal_values(alloc, count, ObjectValue::Reference(reference)),
+        New::Text(bytes) => units(alloc, bytes),
+    }
+}
+
+/// This many times this value.
+fn equal_values(
+    alloc: Global,
+    count: usize,
+    value: ObjectValue,
+) -> Result<Vec<ObjectValue>, AllocError>
+    ensures { IfOk result (λ values. map object_value_view values.items ≡ replicate count (object_value_view value)) }
+{
+    let mut values = Vec::new(alloc);
+    values.resize(count, value)?;
+    Ok(values)
+}
+
+/// A number for each byte.
+fn units(alloc: Global, bytes: &[u8]) -> Result<Vec<ObjectValue>, AllocError>
+    ensures { IfOk result (λ values. map object_value_view values.items ≡ map (λ b. Number (pos b)) bytes.now) }
+{
+    let mut values = Vec::new(alloc);
+    for byte in bytes {
+        values.push(ObjectValue::Number(i32::from(*byte)))?;
+    }
+    Ok(values)
+}
+
+/// An object has fewer values than this.
+const COUNT_LIMIT: usize = 1 << 31;
+
+/// Makes the next object, and tells its name. One of more values than a `jint` counts has no room.
+pub fn make(
+    alloc: Global,
+    classes: &ClassTable,
+    store: &mut Store,
+    new: New<'_>,
+) -> Result<usize, AllocError>
+    ensures store { IfOk result (λ _. store.new ≡ store.old ++ object_of classes.now (new_view new.entry) ∷ []) }
+    ensures name { IfOk result (λ name. name ≡ next_name store.old) }
+    ensures err { OnErr result (store.new ≡ store.old) }
+{
+    let values = values_of(alloc, classes, new)?;
+    if values.len() >= COUNT_LIMIT {
+        return Err(AllocError);
+    }
+    let class = class_of(classes, new)?;
+    store.add(class, values)?;
+    Ok(store.len())
+}
