@@ -68,6 +68,18 @@ pub const RUNTIME_EXCEPTION: usize = 13;
 /// The number of `java/lang/IndexOutOfBoundsException`.
 pub const INDEX_OUT_OF_BOUNDS_EXCEPTION: usize = 14;
 
+/// The number of `java/lang/ArrayIndexOutOfBoundsException`.
+pub const ARRAY_INDEX_OUT_OF_BOUNDS_EXCEPTION: usize = 15;
+
+/// The number of `java/lang/StringIndexOutOfBoundsException`.
+pub const STRING_INDEX_OUT_OF_BOUNDS_EXCEPTION: usize = 16;
+
+/// The number of `java/lang/ArrayStoreException`.
+pub const ARRAY_STORE_EXCEPTION: usize = 17;
+
+/// The number of `java/lang/NegativeArraySizeException`.
+pub const NEGATIVE_ARRAY_SIZE_EXCEPTION: usize = 18;
+
 /// What is told of a throwable.
 const MESSAGE: BuiltInField = BuiltInField {
     name: b"message",
