@@ -48,7 +48,8 @@ use Rattle.machine_calls.proofs.Handles.{class_of_field, class_within}
 use Rattle.machine_calls.specs.declared.answer.Answer.{Answer}
 use Rattle.machine_calls.specs.declared.store.Store.{Store}
 use Rattle.machine_calls.specs.declared.activation.Activation.{Activation}
-use Rattle.machine_calls.specs.Answers.{HoldsObject, IsAnswer, IsMakeable}
+use Rattle.machine_calls.specs.Answers.{HoldsObject, IsAnswer}
+use Rattle.machine_calls.specs.NewObjects.{IsMakeable}
 use Rattle.machine_calls.specs.Asked.{IsAsked, references_of}
 use Rattle.machine_calls.specs.Statics.{References}
 use Rattle.machine_calls.specs.Checked.{some_missing, may_be_null}
@@ -79,7 +80,7 @@ module _ (p : Lowered) (w : World) (store : Store) (pending : Option ℕ) (call 
 
   -- the answer is what it does
   abbrev Does : JniFunction → Answer → Type 0
-  Does f answer = IsAnswer w.classes store.heap call.locals (prototype f).result shared s answer (call_effect w.classes in_use k shared s args f)
+  Does f answer = IsAnswer w.classes function.texts store.heap call.locals (prototype f).result shared s answer (call_effect w.classes in_use k shared s args f)
 
   abbrev at : (i : ℕ) → Option ℕ
   at i = operand_at references (operand_of function.operands i)
@@ -166,9 +167,9 @@ module _ (p : Lowered) (w : World) (store : Store) (pending : Option ℕ) (call 
       let only = only_number w.classes store.heap references fields function.operands args h.kinds h.given in
       let word : cast_signed w32 (top_word call.stack) ≡ only.0 = ap (λ (l : List ℕ). cast_signed w32 (top_word l)) (h.words ∙ only.3) ∙ to_z-of_z {w = w32} only.2 in
       subst (λ (x : Answer). Does EnsureLocalCapacity x) (sym (is ∙ ap room_for word))
-      (subst (λ (z : ℤ). IsAnswer w.classes store.heap call.locals GivesInt shared s (room_for only.0) (ensure_effect w.classes shared s z)) (sym only.1) (by_number only.0))
+      (subst (λ (z : ℤ). IsAnswer w.classes function.texts store.heap call.locals GivesInt shared s (room_for only.0) (ensure_effect w.classes shared s z)) (sym only.1) (by_number only.0))
     where
-      by_number : (z : ℤ) → IsAnswer w.classes store.heap call.locals GivesInt shared s (room_for z) (ensure_effect w.classes shared s z)
+      by_number : (z : ℤ) → IsAnswer w.classes function.texts store.heap call.locals GivesInt shared s (room_for z) (ensure_effect w.classes shared s z)
       by_number (pos n) = (refl, refl)
       by_number (negsuc n) = (refl, refl)
 
@@ -178,9 +179,9 @@ module _ (p : Lowered) (w : World) (store : Store) (pending : Option ℕ) (call 
       let only = only_number w.classes store.heap references fields function.operands args h.kinds h.given in
       let word : cast_signed w32 (top_word call.stack) ≡ only.0 = ap (λ (l : List ℕ). cast_signed w32 (top_word l)) (h.words ∙ only.3) ∙ to_z-of_z {w = w32} only.2 in
       subst (λ (x : Answer). Does PushLocalFrame x) (sym (is ∙ ap frame_for word))
-      (subst (λ (z : ℤ). IsAnswer w.classes store.heap call.locals GivesInt shared s (frame_for only.0) (push_effect w.classes shared s z)) (sym only.1) (by_number only.0))
+      (subst (λ (z : ℤ). IsAnswer w.classes function.texts store.heap call.locals GivesInt shared s (frame_for only.0) (push_effect w.classes shared s z)) (sym only.1) (by_number only.0))
     where
-      by_number : (z : ℤ) → IsAnswer w.classes store.heap call.locals GivesInt shared s (frame_for z) (push_effect w.classes shared s z)
+      by_number : (z : ℤ) → IsAnswer w.classes function.texts store.heap call.locals GivesInt shared s (frame_for z) (push_effect w.classes shared s z)
       by_number (pos n) = (refl, refl)
       by_number (negsuc n) = (refl, refl)
 
@@ -199,7 +200,7 @@ module _ (p : Lowered) (w : World) (store : Store) (pending : Option ℕ) (call 
       variable : Option Variable
       variable = lookup (variable_given args 0) s.variables
 
-      by_key : (key : Option ℕ) (r : Reference) → OwnKey store.heap call.locals key r (level_of variable) → IsAnswer w.classes store.heap call.locals GivesNothing shared s (deletes key) (delete_local_effect shared s variable r)
+      by_key : (key : Option ℕ) (r : Reference) → OwnKey store.heap call.locals key r (level_of variable) → IsAnswer w.classes function.texts store.heap call.locals GivesNothing shared s (deletes key) (delete_local_effect shared s variable r)
       by_key None None own = (refl, refl, tt)
       by_key None (Some n) own = absurd own
       by_key (Some key) None own = absurd own
@@ -214,10 +215,10 @@ module _ (p : Lowered) (w : World) (store : Store) (pending : Option ℕ) (call 
   answers_delete_global held h answer is =
       subst (λ (x : Answer). Does DeleteGlobalRef x) (sym is)
       (let static = only_static function.operands h.kinds in
-      subst (λ (o : Operand). IsAnswer w.classes store.heap call.locals GivesNothing shared s (deletes_global (at 0) o) (delete_global_effect shared s (variable_given args 0) (reference_given args 0))) (sym static.1)
+      subst (λ (o : Operand). IsAnswer w.classes function.texts store.heap call.locals GivesNothing shared s (deletes_global (at 0) o) (delete_global_effect shared s (variable_given args 0) (reference_given args 0))) (sym static.1)
       (by_reference static.0 (at 0) (reference_given args 0) (λ n given. held refl static.0 n static.1 given) (agrees DeleteGlobalRef h 0)))
     where
-      by_reference : (i : ℕ) (o : Option ℕ) (r : Reference) → ((n : ℕ) → r ≡ Some n → HoldsObject shared (variable_given args 0) i n) → ReferenceAgrees store.heap o r → IsAnswer w.classes store.heap call.locals GivesNothing shared s (deletes_global o (operand.Static i)) (delete_global_effect shared s (variable_given args 0) r)
+      by_reference : (i : ℕ) (o : Option ℕ) (r : Reference) → ((n : ℕ) → r ≡ Some n → HoldsObject shared (variable_given args 0) i n) → ReferenceAgrees store.heap o r → IsAnswer w.classes function.texts store.heap call.locals GivesNothing shared s (deletes_global o (operand.Static i)) (delete_global_effect shared s (variable_given args 0) r)
       by_reference i None None holds agree = (refl, refl, tt)
       by_reference i None (Some n) holds agree = absurd agree
       by_reference i (Some a) None holds agree = absurd agree
@@ -266,7 +267,7 @@ module _ (p : Lowered) (w : World) (store : Store) (pending : Option ℕ) (call 
         no_class = own_making w.classes first.name (ap (λ (n : ℕ). not (has_own_making w.classes n)) (sym name) ∙ has_passed p w store pending call function shared s AllocObject args h target free);
       } in
       subst (λ (x : Answer). Does AllocObject x) (sym is)
-      (refl, refl, refl, refl, ap (fresh_object w.classes) (sym (name_of AllocObject h 0)), subst (IsMakeable w.classes) (sym name) makeable)
+      (refl, refl, refl, refl, record { object = ap (fresh_object w.classes) (sym (name_of AllocObject h 0)); makeable = subst (IsMakeable w.classes) (sym name) makeable })
 
   answers_find : Asked FindClass → (answer : Answer) → Works FindClass answer → Does FindClass answer
   unfolding call_effect
@@ -274,13 +275,13 @@ module _ (p : Lowered) (w : World) (store : Store) (pending : Option ℕ) (call 
       let text : unwrap_or (slice_get function.texts 0) [] ≡ text_given args 0 = ap (λ (l : List (List ℕ)). unwrap_or (slice_get l 0) []) h.texts ∙ only_text w.classes store.heap references fields function.operands args h.kinds h.given in
       subst (λ (x : Answer). Does FindClass x) (sym (is ∙ ap (λ (l : List ℕ). found_class store.loaded.items (class_named w.classes l)) text)) (by_class (class_named w.classes (text_given args 0)) refl)
     where
-      by_class : (o : Option ℕ) → class_named w.classes (text_given args 0) ≡ o → IsAnswer w.classes store.heap call.locals NewLocal shared s (found_class store.loaded.items o) (found_class_effect shared s no_class_def_found_error o)
+      by_class : (o : Option ℕ) → class_named w.classes (text_given args 0) ≡ o → IsAnswer w.classes function.texts store.heap call.locals NewLocal shared s (found_class store.loaded.items o) (found_class_effect shared s no_class_def_found_error o)
       by_class None e = (refl, no_class_class)
       by_class (Some c) e = let known = found_within w.classes (text_given args 0) c e in (refl, refl, table_of FindClass h c known.0 known.1)
 
-  found_field : (o : Option FieldId) (answer : Answer) → IsFoundField w.classes o answer → IsAnswer w.classes store.heap call.locals GivesField shared s answer (found_field_effect shared s no_such_field_error o)
-  found_field None answer is = subst (λ (x : Answer). IsAnswer w.classes store.heap call.locals GivesField shared s x (found_field_effect shared s no_such_field_error None)) (sym is) (refl, no_field_class)
-  found_field (Some f) answer is = subst (λ (x : Answer). IsAnswer w.classes store.heap call.locals GivesField shared s x (found_field_effect shared s no_such_field_error (Some f))) (sym is.1) (refl, refl, is.2)
+  found_field : (o : Option FieldId) (answer : Answer) → IsFoundField w.classes o answer → IsAnswer w.classes function.texts store.heap call.locals GivesField shared s answer (found_field_effect shared s no_such_field_error o)
+  found_field None answer is = subst (λ (x : Answer). IsAnswer w.classes function.texts store.heap call.locals GivesField shared s x (found_field_effect shared s no_such_field_error None)) (sym is) (refl, no_field_class)
+  found_field (Some f) answer is = subst (λ (x : Answer). IsAnswer w.classes function.texts store.heap call.locals GivesField shared s x (found_field_effect shared s no_such_field_error (Some f))) (sym is.1) (refl, refl, is.2)
 
   answers_field : Asked GetFieldID → (answer : Answer) → Works GetFieldID answer → Does GetFieldID answer
   unfolding call_effect
@@ -349,11 +350,11 @@ module _ (p : Lowered) (w : World) (store : Store) (pending : Option ℕ) (call 
 
   -- a value of an object is written
   value_written : (o : Option ℕ) (a n m i j : ℕ) (v v' : Value) (u u' : ObjectValue) → o ≡ Some a → name_at store.heap a ≡ Some n → m ≡ n → i ≡ j → v ≡ v' → u ≡ u' → ValueAgrees store.heap v' u' → StoreAgrees p w store shared
-      → IsAnswer w.classes store.heap call.locals GivesNothing shared s (writes_there store.heap o i v) (heap_effect shared s (with_value_at shared.heap m j u))
+      → IsAnswer w.classes function.texts store.heap call.locals GivesNothing shared s (writes_there store.heap o i v) (heap_effect shared s (with_value_at shared.heap m j u))
   value_written o a n m i j v v' u u' held there same place value is fits agree =
-      subst (λ (x : Answer). IsAnswer w.classes store.heap call.locals GivesNothing shared s x (heap_effect shared s (with_value_at shared.heap m j u))) (sym (λ k. writes_there store.heap (held k) (place k) (value k)))
-      (subst (λ (x : CallEffect). IsAnswer w.classes store.heap call.locals GivesNothing shared s (writes_there store.heap (Some a) j v') x) (sym (λ k. heap_effect shared s (with_value_at shared.heap (same k) j (is k))))
-      (writes p w store shared agree call.locals s a n j v' u' there fits))
+      subst (λ (x : Answer). IsAnswer w.classes function.texts store.heap call.locals GivesNothing shared s x (heap_effect shared s (with_value_at shared.heap m j u))) (sym (λ k. writes_there store.heap (held k) (place k) (value k)))
+      (subst (λ (x : CallEffect). IsAnswer w.classes function.texts store.heap call.locals GivesNothing shared s (writes_there store.heap (Some a) j v') x) (sym (λ k. heap_effect shared s (with_value_at shared.heap (same k) j (is k))))
+      (writes p w store shared agree function.texts call.locals s a n j v' u' there fits))
 
   -- the number on top of the stack, as a cell of a type holds it
   record Kept (T : ElementType) : Type 0 where

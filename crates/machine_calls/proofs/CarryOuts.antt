@@ -6,7 +6,7 @@ use Rattle.base.specs.Bytes.{Identifier}
 use Rattle.heap.specs.Heap.{name_at}
 use Rattle.code_meaning.specs.Slots.{static_index}
 use Rattle.semantics.specs.CallEffects.{without_one}
-use Rattle.semantics.specs.Object.{Reference, object_size, sizes}
+use Rattle.semantics.specs.Object.{Object, Reference, sizes}
 use Rattle.semantics.specs.Variable.{Empty, Live, Deleted, assign}
 use Rattle.tables.specs.Globals.{without}
 use Rattle.tables.specs.References.{address_at}
@@ -18,7 +18,6 @@ use Rattle.std.specs.Prelude.{slice_get, slice_set, nat_le, if◌then◌else◌}
 use Rattle.std.proofs.lemmas.Bool.{le-leb, leb-true}
 use Rattle.std.proofs.lemmas.Option.{slice_get_within}
 use Rattle.class_rules.specs.Class.{Classes}
-use Rattle.class_rules.specs.Fields.{layout}
 use Rattle.heap.specs.Heap.{Space, left_of, with_value}
 use Rattle.heap.specs.declared.value.Value.{Value}
 use Rattle.jni.specs.Prototype.{ResultKind, NewLocal, NewGlobal, GivesFlag, GivesInt, GivesField, GivesNothing, GivesBuffer}
@@ -35,6 +34,8 @@ use Rattle.machine_calls.specs.declared.answer.Answer.{Answer}
 use Rattle.machine_calls.specs.declared.answer.Answer.TheVariants as answer
 use Rattle.machine_calls.specs.declared.answer.Given.{Given}
 use Rattle.machine_calls.specs.declared.answer.Given.TheVariants as given
+use Rattle.machine_calls.specs.declared.new_object.New.{New}
+use Rattle.machine_calls.specs.declared.new_object.New.TheVariants.{Fresh}
 use Rattle.machine_calls.specs.declared.store.Store.{Store}
 use Rattle.machine_calls.specs.StoreAgrees.{HeldAgrees, StoreAgrees, Keeps}
 use Rattle.machine_calls.specs.Answers.{GivenAgrees, IsAnswer}
@@ -44,19 +45,20 @@ use Rattle.tables.specs.Locals as tables
 use Rattle.tables.specs.Locals.{Frame, LocalTable, capacities, popped}
 use Rattle.machine_calls.specs.HeapAgrees.{ReferenceAgrees}
 use Rattle.machine_calls.specs.Made.{HasMade, MakesGlobal}
+use Rattle.machine_calls.specs.NewObjects.{Describes, cells_of_new}
 use Rattle.machine_calls.proofs.AnswerCases.{gives_it, makes_it, throws_it, writes_it}
-use Rattle.machine_calls.proofs.CellsMade.{cells_made, fresh_size, nothing_asked}
+use Rattle.machine_calls.proofs.CellsMade.{cells_made, described_size, nothing_asked}
 use Rattle.machine_calls.proofs.Keeping.{frames_stay, keeps_same, key_stays, reference_stays}
 use Rattle.machine_calls.proofs.Makes as making
 use Rattle.machine_calls.proofs.LocalFrames.{frame_ended, frame_made, key_deleted, key_ensured, key_popped, key_pushed, no_frames, reference_deleted, room_ensured, same_capacities}
 use Rattle.machine_calls.proofs.Writes as writing
 
 -- what is carried out, by the answer's case
-module _ (p : Lowered) (w : World) (space : Space) (before : LocalTable) (kind : ResultKind) (shared : Shared) (s : Thread) (effect : CallEffect) where
-  pub by_answer : (a b : Answer) → a ≡ b → (refused : Bool) (store : Store) (pending : Option ℕ) (locals : LocalTable) (g : Given) → (IsAnswer w.classes space before kind shared s b effect → CarriesOut p w space before b kind shared s effect refused store pending locals g)
-      → IsAnswer w.classes space before kind shared s a effect → CarriesOut p w space before a kind shared s effect refused store pending locals g
+module _ (p : Lowered) (w : World) (space : Space) (before : LocalTable) (kind : ResultKind) (shared : Shared) (s : Thread) (effect : CallEffect) (texts : List (List ℕ)) where
+  pub by_answer : (a b : Answer) → a ≡ b → (refused : Bool) (store : Store) (pending : Option ℕ) (locals : LocalTable) (g : Given) → (IsAnswer w.classes texts space before kind shared s b effect → CarriesOut p w space before b kind shared s effect refused store pending locals g)
+      → IsAnswer w.classes texts space before kind shared s a effect → CarriesOut p w space before a kind shared s effect refused store pending locals g
   by_answer a b same refused store pending locals g f does =
-      subst (λ (x : Answer). CarriesOut p w space before x kind shared s effect refused store pending locals g) (sym same) (f (subst (λ (x : Answer). IsAnswer w.classes space before kind shared s x effect) same does))
+      subst (λ (x : Answer). CarriesOut p w space before x kind shared s effect refused store pending locals g) (sym same) (f (subst (λ (x : Answer). IsAnswer w.classes texts space before kind shared s x effect) same does))
 
 -- a call that fails gives what it gives in the source
 failed_agrees : (classes : Classes) (store : Store) (kind : ResultKind) → can_fail kind ≡ true → ResultAgrees classes store (failed kind) kind (failure kind)
@@ -87,7 +89,7 @@ get_below [] i h = absurd (omega (arith, h))
 get_below (x ∷ xs) zero h = (x, refl)
 get_below (x ∷ xs) (suc i) h = get_below xs i (omega (arith, h))
 
-module _ (p : Lowered) (w : World) (store : Store) (pending : Option ℕ) (locals : LocalTable) (kind : ResultKind) (shared : Shared) (s : Thread) (h : IsPossible p w store pending locals kind shared s) where
+module _ (p : Lowered) (w : World) (store : Store) (pending : Option ℕ) (locals : LocalTable) (kind : ResultKind) (shared : Shared) (s : Thread) (h : IsPossible p w store pending locals kind shared s) (texts : List (List ℕ)) where
   -- what is left of an effect, with the frames as they were
   abbrev Carries : Answer → CallEffect → Bool → Store → Option ℕ → Given → Type 0
   Carries a effect refused after pending' g = CarriesOut p w store.heap locals a kind shared s effect refused after pending' locals g
@@ -115,17 +117,17 @@ module _ (p : Lowered) (w : World) (store : Store) (pending : Option ℕ) (local
   }
 
   abbrev Does : Answer → CallEffect → Type 0
-  Does a effect = IsAnswer w.classes store.heap locals kind shared s a effect
+  Does a effect = IsAnswer w.classes texts store.heap locals kind shared s a effect
 
-  pub refuses_object : (class : ℕ) (effect : CallEffect) → Does (answer.Makes class) effect → left_of store.heap < object_size (length (layout w.classes class)) → Carries (answer.Makes class) effect true store (slice_get store.loaded.items (length w.classes)) (failed kind)
-  refuses_object class effect does short =
-      refuses (answer.Makes class) effect (ap makes_objects (makes_it w.classes store.heap locals kind shared s class effect does).is)
-      (omega (arith, short, cells_made w.classes store.heap locals kind shared s (answer.Makes class) effect does))
+  pub refuses_object : (new : New) (effect : CallEffect) → Does (answer.Makes new) effect → left_of store.heap < cells_of_new w.classes texts new → Carries (answer.Makes new) effect true store (slice_get store.loaded.items (length w.classes)) (failed kind)
+  refuses_object new effect does short =
+      refuses (answer.Makes new) effect (ap makes_objects (makes_it w.classes texts store.heap locals kind shared s new effect does).is)
+      (omega (arith, short, cells_made w.classes texts store.heap locals kind shared s (answer.Makes new) effect does))
 
-  pub refuses_exception : (class : ℕ) (effect : CallEffect) → Does (answer.Throws class) effect → left_of store.heap < object_size (length (layout w.classes class)) → Carries (answer.Throws class) effect true store (slice_get store.loaded.items (length w.classes)) (failed kind)
+  pub refuses_exception : (class : ℕ) (effect : CallEffect) → Does (answer.Throws class) effect → left_of store.heap < cells_of_new w.classes texts (Fresh class) → Carries (answer.Throws class) effect true store (slice_get store.loaded.items (length w.classes)) (failed kind)
   refuses_exception class effect does short =
-      refuses (answer.Throws class) effect (ap makes_objects (throws_it w.classes store.heap locals kind shared s class effect does).is)
-      (omega (arith, short, cells_made w.classes store.heap locals kind shared s (answer.Throws class) effect does))
+      refuses (answer.Throws class) effect (ap makes_objects (throws_it w.classes texts store.heap locals kind shared s class effect does).is)
+      (omega (arith, short, cells_made w.classes texts store.heap locals kind shared s (answer.Throws class) effect does))
 
   -- nothing is added to the heap
   same_heap : (t : Shared) → record t { heap = t.heap ++ [] } ≡ t
@@ -133,7 +135,7 @@ module _ (p : Lowered) (w : World) (store : Store) (pending : Option ℕ) (local
 
   pub gives : (g : Given) (effect : CallEffect) → Does (answer.Gives g) effect → Carries (answer.Gives g) effect false store pending g
   gives g effect does =
-      let it = gives_it w.classes store.heap locals kind shared s g effect does in
+      let it = gives_it w.classes texts store.heap locals kind shared s g effect does in
       subst (λ (e : CallEffect). Carries (answer.Gives g) e false store pending g) (sym it.is) (record {
         store_agrees = subst (StoreAgrees p w store) (sym (same_heap shared)) h.store_agrees;
         keeps = subst (Keeps store.heap shared store.heap) (sym (same_heap shared)) (keeps_same store.heap shared);
@@ -148,7 +150,7 @@ module _ (p : Lowered) (w : World) (store : Store) (pending : Option ℕ) (local
 
   pub writes : (a place : ℕ) (v : Value) (effect : CallEffect) → Does (answer.Writes a place v) effect → Carries (answer.Writes a place v) effect false (record store { heap = with_value store.heap a place v }) pending given.Nothing
   writes a place v effect does =
-      let it = writes_it w.classes store.heap locals kind shared s a place v effect does in
+      let it = writes_it w.classes texts store.heap locals kind shared s a place v effect does in
       let after : Store = record store { heap = with_value store.heap a place v } in
       let agrees = writing.written_agrees p w store shared it.after a place v h.store_agrees it.writes in
       let keeps = writing.written_keeps p w store shared it.after a place v h.store_agrees it.writes in
@@ -339,37 +341,44 @@ module _ (p : Lowered) (w : World) (store : Store) (pending : Option ℕ) (local
       subst (λ (l : List (Option ℕ)). Carries (answer.DeletesGlobal i) effect false (record store { statics = statics; globals = l }) pending given.Nothing) (sym (gone live.key live.at))
       (deletes_global statics effect does.1.0 i live.key live.address does.1.1 does.0 live.at live.held live.named does.1.2.place does.1.3 marked)
 
-  module _ (new : Store) (class a : ℕ) (made : HasMade w.classes store class new a) where
-    object_fits : sizes (fresh_object w.classes class ∷ []) ≤ left_of store.heap
-    object_fits = omega (arith, made.room, fresh_size w.classes class)
+  -- an object was made
+  module _ (after : Store) (new : New) (a : ℕ) (made : HasMade w.classes texts store new after a) where
+    object_fits : (o : Object) → Describes w.classes texts store.heap new o → sizes (o ∷ []) ≤ left_of store.heap
+    object_fits o d = omega (arith, made.room, described_size w.classes texts store.heap new o d.object)
 
-    pub makes : (effect : CallEffect) → Does (answer.Makes class) effect → Carries (answer.Makes class) effect false new pending (given.Reference (Some a))
+    pub makes : (effect : CallEffect) → Does (answer.Makes new) effect → Carries (answer.Makes new) effect false after pending (given.Reference (Some a))
     makes effect does =
-        let it = makes_it w.classes store.heap locals kind shared s class effect does in
-        subst (λ (e : CallEffect). Carries (answer.Makes class) e false new pending (given.Reference (Some a))) (sym it.is) (record {
-          store_agrees = making.made_agrees p w store new shared class a h.store_agrees made it.makeable;
-          keeps = making.made_keeps p w store new shared class a h.store_agrees made;
-          pending_agrees = reference_stays store.heap new.heap (making.names_stay p w store new shared class a h.store_agrees made) pending s.pending h.pending_agrees;
-          frames_agree = frames_stay store.heap new.heap (making.names_stay p w store new shared class a h.store_agrees made) locals s.frames h.frames_agree;
-          left = λ key n level is left. key_stays store.heap new.heap (making.names_stay p w store new shared class a h.store_agrees made) locals key n level is;
-          given_agrees = result_agrees w.classes new kind _ _ (subst (λ (k : ResultKind). GivenAgrees w.classes new.heap k (given.Reference (Some a)) (ReferenceResult (Some (next_name shared.heap)))) (sym it.kind_is)
-              (making.made_named p w store new shared class a h.store_agrees made));
+        let it = makes_it w.classes texts store.heap locals kind shared s new effect does in
+        let names = making.names_stay p w texts store after shared new it.object a h.store_agrees made it.describes in
+        subst (λ (e : CallEffect). Carries (answer.Makes new) e false after pending (given.Reference (Some a))) (sym it.is) (record {
+          store_agrees = making.made_agrees p w texts store after shared new it.object a h.store_agrees made it.describes;
+          keeps = making.made_keeps p w texts store after shared new it.object a h.store_agrees made it.describes;
+          pending_agrees = reference_stays store.heap after.heap names pending s.pending h.pending_agrees;
+          frames_agree = frames_stay store.heap after.heap names locals s.frames h.frames_agree;
+          left = λ key n level is left. key_stays store.heap after.heap names locals key n level is;
+          given_agrees = result_agrees w.classes after kind _ _ (subst (λ (k : ResultKind). GivenAgrees w.classes after.heap k (given.Reference (Some a)) (ReferenceResult (Some (next_name shared.heap)))) (sym it.kind_is)
+              (making.made_named p w texts store after shared new it.object a h.store_agrees made it.describes));
           still = λ same. refl;
           could_refuse = λ e. absurd (cc);
-          room = object_fits;
+          room = object_fits it.object it.describes;
         })
 
-    pub throws : (effect : CallEffect) → Does (answer.Throws class) effect → Carries (answer.Throws class) effect false new (Some a) (failed kind)
+  -- an exception was made
+  module _ (after : Store) (class a : ℕ) (made : HasMade w.classes texts store (Fresh class) after a) where
+    pub throws : (effect : CallEffect) → Does (answer.Throws class) effect → Carries (answer.Throws class) effect false after (Some a) (failed kind)
     throws effect does =
-        let it = throws_it w.classes store.heap locals kind shared s class effect does in
-        subst (λ (e : CallEffect). Carries (answer.Throws class) e false new (Some a) (failed kind)) (sym it.is) (record {
-          store_agrees = making.made_agrees p w store new shared class a h.store_agrees made it.makeable;
-          keeps = making.made_keeps p w store new shared class a h.store_agrees made;
-          pending_agrees = making.made_named p w store new shared class a h.store_agrees made;
-          frames_agree = frames_stay store.heap new.heap (making.names_stay p w store new shared class a h.store_agrees made) locals s.frames h.frames_agree;
-          left = λ key n level is left. key_stays store.heap new.heap (making.names_stay p w store new shared class a h.store_agrees made) locals key n level is;
-          given_agrees = failed_agrees w.classes new kind h.fails;
+        let it = throws_it w.classes texts store.heap locals kind shared s class effect does in
+        let o = fresh_object w.classes class in
+        let described : Describes w.classes texts store.heap (Fresh class) o = record { object = refl; makeable = it.makeable } in
+        let names = making.names_stay p w texts store after shared (Fresh class) o a h.store_agrees made described in
+        subst (λ (e : CallEffect). Carries (answer.Throws class) e false after (Some a) (failed kind)) (sym it.is) (record {
+          store_agrees = making.made_agrees p w texts store after shared (Fresh class) o a h.store_agrees made described;
+          keeps = making.made_keeps p w texts store after shared (Fresh class) o a h.store_agrees made described;
+          pending_agrees = making.made_named p w texts store after shared (Fresh class) o a h.store_agrees made described;
+          frames_agree = frames_stay store.heap after.heap names locals s.frames h.frames_agree;
+          left = λ key n level is left. key_stays store.heap after.heap names locals key n level is;
+          given_agrees = failed_agrees w.classes after kind h.fails;
           still = λ same. refl;
           could_refuse = λ e. absurd (cc);
-          room = object_fits;
+          room = object_fits after (Fresh class) a made o described;
         })

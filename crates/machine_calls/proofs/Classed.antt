@@ -10,7 +10,7 @@ use Rattle.semantics.specs.Object.{Object, ObjectValue}
 use Rattle.semantics.specs.World.{World, class_object, fresh_object, loaded_objects}
 use Rattle.world_values.proofs.LoadedWorlds.{loaded_class, loaded_error, loaded_object, object_class}
 use Rattle.world_values.specs.SoundWorlds.{IsSound}
-use Rattle.machine_calls.specs.Answers.{IsMakeable}
+use Rattle.machine_calls.specs.NewObjects.{IsMakeable}
 use Rattle.machine_calls.specs.Classed.{AreClassed, IsClassed}
 use Rattle.machine_calls.proofs.LongTables.{grown_long}
 
@@ -26,11 +26,11 @@ object_last heap o x zero h = absurd (cc)
 object_last heap o x (suc i) h = get_last heap o x i h
 
 -- one object more
-pub classed_more : (classes : Classes) (heap : Heap) (c : ℕ) → AreClassed classes heap → IsMakeable classes c → AreClassed classes (heap ++ fresh_object classes c ∷ [])
-classed_more classes heap c h made n x at =
+pub classed_more : (classes : Classes) (heap : Heap) (o : Object) → AreClassed classes heap → IsMakeable classes o.class → AreClassed classes (heap ++ o ∷ [])
+classed_more classes heap o h made n x at =
     ⊎_elim (λ (old : object_at heap n ≡ Some x). h n x old)
-    (λ (new : fresh_object classes c ≡ x). subst (λ (o : Object). IsClassed classes n o) new (record { low = made.low; high = made.high; of_class = λ is. absurd (made.no_class is) }))
-    (object_last heap (fresh_object classes c) x n at)
+    (λ (new : o ≡ x). subst (λ (y : Object). IsClassed classes n y) new (record { low = made.low; high = made.high; of_class = λ is. absurd (made.no_class is) }))
+    (object_last heap o x n at)
 
 -- an object of a list with another one at a place
 get_set : (xs : Heap) (i j : ℕ) (o x : Object) → slice_get (slice_set xs i o) j ≡ Some x → (slice_get xs j ≡ Some x) ⊎ ((i ≡ j) × (o ≡ x))

@@ -120,11 +120,11 @@ module _ (p : Lowered) (w : World) (store : Store) (shared : Shared) (h : StoreA
       subst (λ (us : List ObjectValue). ReferenceAgrees store.heap (address_in (value_there store.heap (Some a) i)) (reference_in (value_or_zero (slice_get us i)))) (sym it.values) (references_held store.heap (values_at store.heap a) it.object.values i it.agree)
 
   -- a value that is written
-  pub writes : (locals : LocalTable) (s : Thread) (a n i : ℕ) (v : Value) (u : ObjectValue) → name_at store.heap a ≡ Some n → ValueAgrees store.heap v u
-      → IsAnswer w.classes store.heap locals GivesNothing shared s (writes_there store.heap (Some a) i v) (heap_effect shared s (with_value_at shared.heap n i u))
-  writes locals s a n i v u there agrees = by_test (nat_lt i (length (values_at store.heap a))) refl
+  pub writes : (texts : List (List ℕ)) (locals : LocalTable) (s : Thread) (a n i : ℕ) (v : Value) (u : ObjectValue) → name_at store.heap a ≡ Some n → ValueAgrees store.heap v u
+      → IsAnswer w.classes texts store.heap locals GivesNothing shared s (writes_there store.heap (Some a) i v) (heap_effect shared s (with_value_at shared.heap n i u))
+  writes texts locals s a n i v u there agrees = by_test (nat_lt i (length (values_at store.heap a))) refl
     where
-      by_test : (b : Bool) → nat_lt i (length (values_at store.heap a)) ≡ b → IsAnswer w.classes store.heap locals GivesNothing shared s (writes_there store.heap (Some a) i v) (heap_effect shared s (with_value_at shared.heap n i u))
+      by_test : (b : Bool) → nat_lt i (length (values_at store.heap a)) ≡ b → IsAnswer w.classes texts store.heap locals GivesNothing shared s (writes_there store.heap (Some a) i v) (heap_effect shared s (with_value_at shared.heap n i u))
       by_test true e = rw e (refl, refl, record { name = n; there = there; value = u; agrees = agrees; within = ltb-true i (length (values_at store.heap a)) e; is = refl })
       by_test false e =
           let it = stored a n there in

@@ -21,6 +21,7 @@ pub mod LocalFrames
 pub mod LongTables
 pub mod LookUps
 pub mod Makes
+pub mod NewValues
 pub mod ObjectsAtAddresses
 pub mod SetPlaces
 pub mod StaticStores

@@ -1,16 +1,13 @@
 -- A store with a new object stands for the source's heap with it.
 use Rattle.std.specs.Global.{Vec}
-use Rattle.std.proofs.Common.{inl, ◌≡◌, ℕ, ◌+◌, ◌≤◌, List, Option, [], ◌∷◌, ◌++◌, length, map, Some, refl, sym, ap, ◌∙◌, subst, arith, length-append}
-use Rattle.std.proofs.lemmas.List.{length-map}
+use Rattle.std.proofs.Common.{inl, ◌≡◌, ℕ, ◌+◌, ◌≤◌, List, Option, [], ◌∷◌, ◌++◌, length, Some, refl, sym, ap, ◌∙◌, subst, arith, length-append}
 use Rattle.std.proofs.lemmas.List.Sums.{sum_by-cons}
-use Rattle.class_rules.specs.Class.{FieldType, NumberField, ReferenceField}
-use Rattle.class_rules.specs.Fields.{FieldId, layout}
 use Rattle.heap.specs.Heap.{Block, Space, IsLaidOut, left_of, name_at, with_block}
 use Rattle.heap.proofs.Layouts.{LieFrom-push}
 use Rattle.semantics.specs.Heap.{next_name}
 use Rattle.semantics.specs.Object.{Object, size}
 use Rattle.semantics.specs.Thread.{Shared}
-use Rattle.semantics.specs.World.{World, fresh_object, initial, loaded_objects}
+use Rattle.semantics.specs.World.{World, loaded_objects}
 use Rattle.code_meaning.specs.Lowered.{Lowered}
 use Rattle.machine_calls.specs.declared.store.Store.{Store}
 use Rattle.machine_calls.specs.HeapAgrees.{SlotsAgree}
@@ -18,68 +15,57 @@ use Rattle.machine_calls.specs.StoreAgrees.{Keeps, StaticsAgree, StoreAgrees}
 use Rattle.machine_calls.specs.Statics.{HaveKeys, all_held}
 use Rattle.machine_calls.specs.declared.references.Held.{Held}
 use Rattle.machine_calls.specs.declared.statics.StaticReference.{StaticReference}
-use Rattle.machine_calls.specs.Answers.{IsMakeable}
-use Rattle.machine_calls.specs.HeapAgrees.{HeapAgrees, IsTable, ValueAgrees, ValuesAgree}
-use Rattle.machine_calls.specs.Made.{HasMade, initial_value, new_block}
+use Rattle.machine_calls.specs.declared.new_object.New.{New}
+use Rattle.machine_calls.specs.HeapAgrees.{HeapAgrees, IsTable}
+use Rattle.machine_calls.specs.Made.{HasMade, new_block}
+use Rattle.machine_calls.specs.NewObjects.{Describes, IsMakeable, values_of_new}
 use Rattle.machine_calls.proofs.Classed.{classed_more}
 use Rattle.machine_calls.proofs.HeapLaws.{IsNext, agrees_with_block, name_kept, name_new, object_kept, table_kept}
 use Rattle.machine_calls.proofs.Keeping.{more_made, slots_stay, statics_stay}
+use Rattle.machine_calls.proofs.NewValues.{as_many, new_agree, same_class}
 
--- zero and NULL
-initial_agree : (space : Space) (fields : List FieldId) → ValuesAgree space (map (λ (f : FieldId). initial_value f.field.type) fields) (map (λ (f : FieldId). initial f.field.type) fields)
-initial_agree space [] = tt
-initial_agree space (f ∷ fields) = (one f.field.type, initial_agree space fields)
-  where
-    one : (type : FieldType) → ValueAgrees space (initial_value type) (initial type)
-    one (NumberField t) = (record { sfits = omega arith }, refl)
-    one (ReferenceField c) = tt
-
-module _ (p : Lowered) (w : World) (store new : Store) (shared : Shared) (c a : ℕ) (h : StoreAgrees p w store shared) (made : HasMade w.classes store c new a) where
-  abbrev o : Object
-  o = fresh_object w.classes c
-
+module _ (p : Lowered) (w : World) (texts : List (List ℕ)) (store after : Store) (shared : Shared) (new : New) (o : Object) (a : ℕ) (h : StoreAgrees p w store shared) (made : HasMade w.classes texts store new after a) (d : Describes w.classes texts store.heap new o) where
   abbrev b : Block
-  b = new_block w.classes store c
+  b = new_block w.classes texts store new
 
   next : IsNext store.heap shared.heap b o
-  next = record { after = refl; birth = ap (λ (n : ℕ). n + 1) h.births; class = refl; values = initial_agree store.heap (layout w.classes c) }
+  next = record { after = refl; birth = ap (λ (n : ℕ). n + 1) h.births; class = same_class w.classes texts store.heap new o d.object; values = new_agree w.classes texts store.heap new o d.object made.bytes }
 
   room : size o ≤ left_of store.heap
   room =
-      let long : length o.values ≡ length (layout w.classes c) = length-map (layout w.classes c) (λ (f : FieldId). initial f.field.type) in
+      let long : length (values_of_new w.classes texts new) ≡ length o.values = as_many w.classes texts store.heap new o d.object in
       omega (arith, made.room)
 
   -- the shared state with the object
   abbrev pub with_object : Shared
   with_object = record shared { heap = shared.heap ++ o ∷ [] }
 
-  pub names_stay : (x n : ℕ) → name_at store.heap x ≡ Some n → name_at new.heap x ≡ Some n
+  pub names_stay : (x n : ℕ) → name_at store.heap x ≡ Some n → name_at after.heap x ≡ Some n
   names_stay x n at = ap (λ (s : Space). name_at s x) made.heap ∙ name_kept store.heap b x n at
 
-  pub made_agrees : IsMakeable w.classes c → StoreAgrees p w new with_object
-  made_agrees makeable =
+  pub made_agrees : StoreAgrees p w after with_object
+  made_agrees =
       let count = length-append shared.heap (o ∷ []) in
-      let long : length b.values ≡ length (layout w.classes c) = length-map (layout w.classes c) (λ (f : FieldId). initial_value f.field.type) in
-      let size_is : length o.values ≡ length (layout w.classes c) = length-map (layout w.classes c) (λ (f : FieldId). initial f.field.type) in
+      let long : length b.values ≡ length o.values = as_many w.classes texts store.heap new o d.object in
       let births : store.births ≡ length shared.heap = h.births in
       let begun : length (loaded_objects w) ≤ length shared.heap = h.begun in
       record {
         heap = subst (λ (s : Space). HeapAgrees s (shared.heap ++ o ∷ [])) (sym made.heap) (agrees_with_block store.heap shared.heap b o h.heap next);
         laid_out = subst IsLaidOut (sym made.heap) (LieFrom-push 0 store.heap.blocks b store.heap.cells h.laid_out (omega arith) (omega (arith, room)));
         cells = ap (λ (s : Space). s.cells) made.heap ∙ h.cells;
-        table = subst (λ (s : Space). IsTable s new.loaded.items (length (loaded_objects w))) (sym made.heap)
+        table = subst (λ (s : Space). IsTable s after.loaded.items (length (loaded_objects w))) (sym made.heap)
             (subst (λ (l : List ℕ). IsTable (with_block store.heap b) l (length (loaded_objects w))) (sym (ap (λ v. v.items) made.loaded)) (table_kept store.heap b store.loaded.items (length (loaded_objects w)) h.table));
         begun = omega arith;
         births = made.births ∙ omega arith;
-        classed = classed_more w.classes shared.heap c h.classed makeable;
-        statics = subst (λ (helds : List Held). StaticsAgree new.heap helds shared.statics) (sym (λ i. all_held (made.globals i) (made.statics i).items)) (statics_stay store.heap new.heap names_stay (all_held store.globals store.statics.items) shared.statics h.statics);
+        classed = classed_more w.classes shared.heap o h.classed (subst (IsMakeable w.classes) (same_class w.classes texts store.heap new o d.object) d.makeable);
+        statics = subst (λ (helds : List Held). StaticsAgree after.heap helds shared.statics) (sym (λ i. all_held (made.globals i) (made.statics i).items)) (statics_stay store.heap after.heap names_stay (all_held store.globals store.statics.items) shared.statics h.statics);
         named = h.named;
-        keys = subst (λ (globals : List (Option ℕ)). HaveKeys globals new.statics.items) (sym made.globals) (subst (λ (v : Vec StaticReference). HaveKeys store.globals v.items) (sym made.statics) h.keys);
-        globals = subst (λ (globals : List (Option ℕ)). SlotsAgree new.heap globals shared.globals) (sym made.globals) (slots_stay store.heap new.heap names_stay store.globals shared.globals h.globals);
+        keys = subst (λ (globals : List (Option ℕ)). HaveKeys globals after.statics.items) (sym made.globals) (subst (λ (v : Vec StaticReference). HaveKeys store.globals v.items) (sym made.statics) h.keys);
+        globals = subst (λ (globals : List (Option ℕ)). SlotsAgree after.heap globals shared.globals) (sym made.globals) (slots_stay store.heap after.heap names_stay store.globals shared.globals h.globals);
         monitors = h.monitors;
       }
 
-  pub made_keeps : Keeps store.heap shared new.heap with_object
+  pub made_keeps : Keeps store.heap shared after.heap with_object
   made_keeps = record {
     names = names_stay;
     statics = inl refl;
@@ -89,7 +75,7 @@ module _ (p : Lowered) (w : World) (store new : Store) (shared : Shared) (c a : 
   }
 
   -- the object is at its address
-  pub made_named : name_at new.heap a ≡ Some (next_name shared.heap)
+  pub made_named : name_at after.heap a ≡ Some (next_name shared.heap)
   made_named =
       ap (λ (s : Space). name_at s a) made.heap
       ∙ ap (name_at (with_block store.heap b)) made.address

@@ -1,9 +1,8 @@
 -- What answers are, by the effects of the source's calls.
-use Rattle.std.specs.Prelude.{◌≡◌, ℕ, ◌<◌, ◌≤◌, [], ◌∷◌, ◌++◌, drop, length, Some, None, FitsSigned}
+use Rattle.std.specs.Prelude.{◌≡◌, ℕ, ◌<◌, List, [], ◌∷◌, ◌++◌, drop, length, Some, None, FitsSigned}
 use Rattle.std.specs.Int.{w32}
 use Rattle.std.specs.Option.{option_to_list}
 use Rattle.base.specs.Bytes.{Identifier, lookup}
-use Rattle.class_rules.specs.BuiltIns.{class_class}
 use Rattle.class_rules.specs.Class.{Classes}
 use Rattle.heap.specs.Heap.{Space, name_at, values_at}
 use Rattle.heap.specs.declared.value.Value.{Value}
@@ -14,7 +13,6 @@ use Rattle.semantics.specs.Object.{ObjectValue, Reference}
 use Rattle.semantics.specs.Thread.{Shared, Thread}
 use Rattle.semantics.specs.Value.{Int, Flag}
 use Rattle.semantics.specs.Variable.{Live}
-use Rattle.semantics.specs.World.{fresh_object}
 use Rattle.tables.specs.Locals.{LocalTable}
 use Rattle.code_meaning.specs.Slots.{word_of, static_index}
 use Rattle.machine_calls.specs.declared.answer.Given.{Given}
@@ -24,6 +22,7 @@ use Rattle.machine_calls.specs.declared.answer.Answer.TheVariants as answer
 use Rattle.machine_calls.specs.FieldIds.{FieldAgrees}
 use Rattle.machine_calls.specs.HeapAgrees.{ReferenceAgrees, ValueAgrees}
 use Rattle.machine_calls.specs.Locals.{IsKeyOf}
+use Rattle.machine_calls.specs.NewObjects.{Describes, IsMakeable}
 
 -- what a function of this kind of result gives; NULL where it failed
 abbrev pub GivenAgrees : Classes → Space → ResultKind → Given → CallResult → Type 0
@@ -35,12 +34,6 @@ GivenAgrees classes space NewLocal (given.Reference a) NullResult = a ≡ None
 GivenAgrees classes space GivesField (given.FieldId h) (FieldResult f) = FieldAgrees classes h f
 GivenAgrees classes space GivesField (given.FieldId h) NullResult = h ≡ None
 GivenAgrees classes space kind g c = ⊥
-
--- objects of this class can be made
-pub record IsMakeable (classes : Classes) (c : ℕ) : Type 0 where
-  pub low : 0 < c
-  pub high : c ≤ length classes
-  pub no_class : c ≡ class_class → ⊥
 
 -- another heap of the source, where a value of the object at an address is changed
 pub record WritesAt (space : Space) (s : Shared) (s' : Shared) (a place : ℕ) (v : Value) : Type 0 where
@@ -56,20 +49,20 @@ pub record HoldsObject (s : Shared) (x : Identifier) (i n : ℕ) : Type 0 where
   pub place : static_index x s.statics ≡ Some i
   pub there : lookup x s.statics ≡ Some (Live n)
 
--- The answer is what the call does to this state, all checks being passed.
-abbrev pub IsAnswer : Classes → Space → LocalTable → ResultKind → Shared → Thread → Answer → CallEffect → Type 0
-IsAnswer classes space locals kind s t (answer.Throws c) (Throws class) = (c ≡ class) × IsMakeable classes c
-IsAnswer classes space locals kind s t (answer.Gives given) (Leaves [] s' t' c) = (s' ≡ s) × (t' ≡ t) × GivenAgrees classes space kind given c
-IsAnswer classes space locals kind s t (answer.Writes a place v) (Leaves [] s' t' NoResult) = (t' ≡ t) × (kind ≡ GivesNothing) × WritesAt space s s' a place v
-IsAnswer classes space locals kind s t (answer.Makes c) (Leaves (o ∷ []) s' t' (ReferenceResult r)) =
-    (s' ≡ s) × (t' ≡ t) × (kind ≡ NewLocal) × (r ≡ Some (next_name s.heap)) × (o ≡ fresh_object classes c) × IsMakeable classes c
-IsAnswer classes space locals kind s t (answer.Ensures more) effect = (kind ≡ GivesInt) × (effect ≡ frames_effect classes s t (with_capacity more t.frames))
-IsAnswer classes space locals kind s t (answer.Pushes capacity) effect = (kind ≡ GivesInt) × (effect ≡ frames_effect classes s t (record { capacity = capacity; references = [] } ∷ t.frames))
-IsAnswer classes space locals kind s t (answer.Pops a) effect = (kind ≡ NewLocal) × ((r : Reference) × ReferenceAgrees space a r × (effect ≡ Leaves [] s (record t { frames = drop 1 t.frames }) (ReferenceResult r)))
-IsAnswer classes space locals kind s t (answer.Deletes key) effect =
+-- The answer is what the call, which has these texts, does to this state, all checks being passed.
+abbrev pub IsAnswer : Classes → (texts : List (List ℕ)) → Space → LocalTable → ResultKind → Shared → Thread → Answer → CallEffect → Type 0
+IsAnswer classes texts space locals kind s t (answer.Throws c) (Throws class) = (c ≡ class) × IsMakeable classes c
+IsAnswer classes texts space locals kind s t (answer.Gives given) (Leaves [] s' t' c) = (s' ≡ s) × (t' ≡ t) × GivenAgrees classes space kind given c
+IsAnswer classes texts space locals kind s t (answer.Writes a place v) (Leaves [] s' t' NoResult) = (t' ≡ t) × (kind ≡ GivesNothing) × WritesAt space s s' a place v
+IsAnswer classes texts space locals kind s t (answer.Makes new) (Leaves (o ∷ []) s' t' (ReferenceResult r)) =
+    (s' ≡ s) × (t' ≡ t) × (kind ≡ NewLocal) × (r ≡ Some (next_name s.heap)) × Describes classes texts space new o
+IsAnswer classes texts space locals kind s t (answer.Ensures more) effect = (kind ≡ GivesInt) × (effect ≡ frames_effect classes s t (with_capacity more t.frames))
+IsAnswer classes texts space locals kind s t (answer.Pushes capacity) effect = (kind ≡ GivesInt) × (effect ≡ frames_effect classes s t (record { capacity = capacity; references = [] } ∷ t.frames))
+IsAnswer classes texts space locals kind s t (answer.Pops a) effect = (kind ≡ NewLocal) × ((r : Reference) × ReferenceAgrees space a r × (effect ≡ Leaves [] s (record t { frames = drop 1 t.frames }) (ReferenceResult r)))
+IsAnswer classes texts space locals kind s t (answer.Deletes key) effect =
     (kind ≡ GivesNothing) × ((n level : ℕ) × IsKeyOf space locals key n level × (effect ≡ Leaves [] s (record t { frames = without_local level n t.frames }) NoResult))
-IsAnswer classes space locals kind s t (answer.MakesGlobal a) effect =
+IsAnswer classes texts space locals kind s t (answer.MakesGlobal a) effect =
     (kind ≡ NewGlobal) × ((r : Reference) × ReferenceAgrees space a r × (effect ≡ Leaves [] (record s { globals = option_to_list r ++ s.globals }) t (ReferenceResult r)))
-IsAnswer classes space locals kind s t (answer.DeletesGlobal i) effect = (kind ≡ GivesNothing) × ((x : Identifier) × (n : ℕ) × HoldsObject s x i n × (effect ≡ delete_global_effect s t x (Some n)))
-IsAnswer classes space locals kind s t answer.RefusesFrames effect = (kind ≡ GivesInt) × (effect ≡ refuses_frames classes s t)
-IsAnswer classes space locals kind s t answer effect = ⊥
+IsAnswer classes texts space locals kind s t (answer.DeletesGlobal i) effect = (kind ≡ GivesNothing) × ((x : Identifier) × (n : ℕ) × HoldsObject s x i n × (effect ≡ delete_global_effect s t x (Some n)))
+IsAnswer classes texts space locals kind s t answer.RefusesFrames effect = (kind ≡ GivesInt) × (effect ≡ refuses_frames classes s t)
+IsAnswer classes texts space locals kind s t answer effect = ⊥

@@ -9,6 +9,7 @@ pub mod Checked
 pub mod Asked
 pub mod WorkedOut
 pub mod CallGroups
+pub mod NewObjects
 pub mod Answers
 pub mod Made
 pub mod CarriedOut

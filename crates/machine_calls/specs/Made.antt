@@ -1,53 +1,55 @@
 -- A new object in memory.
-use Rattle.std.specs.Prelude.{◌≡◌, ℕ, ◌+◌, ◌<◌, ◌≤◌, List, map, length, Option, Some, None}
-use Rattle.class_rules.specs.Class.{Classes, FieldType, NumberField, ReferenceField}
-use Rattle.class_rules.specs.Fields.{FieldId, layout}
+use Rattle.std.specs.Prelude.{◌≡◌, ℕ, ◌+◌, ◌<◌, ◌≤◌, List, length, Option, Some, None}
+use Rattle.class_rules.specs.Class.{Classes}
 use Rattle.semantics.specs.Object.{object_size}
-use Rattle.heap.specs.Heap.{Block, end_of, left_of, with_block}
+use Rattle.heap.specs.Heap.{Block, Space, end_of, left_of, with_block}
 use Rattle.heap.specs.declared.value.Value.{Value}
-use Rattle.heap.specs.declared.value.Value.TheVariants as value
 use Rattle.tables.specs.Keys.{Gains}
 use Rattle.machine_calls.specs.declared.answer.Answer.{Answer}
 use Rattle.machine_calls.specs.declared.answer.Answer.TheVariants as answer
+use Rattle.machine_calls.specs.declared.new_object.New.{New}
+use Rattle.machine_calls.specs.declared.new_object.New.TheVariants.{Fresh}
 use Rattle.machine_calls.specs.declared.statics.StaticReference.{StaticReference}
 use Rattle.machine_calls.specs.declared.statics.StaticReference.TheVariants as static
 use Rattle.machine_calls.specs.declared.store.Store.{Store}
+use Rattle.machine_calls.specs.NewObjects.{IsOfBytes, cells_of_new, class_of_new, values_of_new}
 
--- what a new field of this type holds
-abbrev pub initial_value : FieldType → Value
-initial_value (NumberField T) = value.Number 0
-initial_value (ReferenceField c) = value.Null
+-- the next block, after all others
+abbrev pub next_block : Space → (class birth : ℕ) → List Value → Block
+next_block space class birth values = record { address = end_of space; class = class; birth = birth; values = values; pins = 0 }
 
--- what the fields of a new object of a class hold
-abbrev pub initial_values : Classes → (class : ℕ) → List Value
-initial_values classes class = map (λ (f : FieldId). initial_value f.field.type) (layout classes class)
+-- the heap with a further block, where it has room, and else as it was
+abbrev pub Allocates : Space → (class birth : ℕ) → List Value → Space → Option ℕ → Type 0
+Allocates old class birth values new None = (new ≡ old) × (left_of old < object_size (length values))
+Allocates old class birth values new (Some a) = (new ≡ with_block old (next_block old class birth values)) × (object_size (length values) ≤ left_of old) × (a ≡ end_of old)
 
--- its block in a store, after all others
-abbrev pub new_block : Classes → Store → (class : ℕ) → Block
-new_block classes store class = record { address = end_of store.heap; class = class; birth = store.births + 1; values = initial_values classes class; pins = 0 }
+-- the block of a new object in a store
+abbrev pub new_block : Classes → (texts : List (List ℕ)) → Store → New → Block
+new_block classes texts store new = next_block store.heap (class_of_new new) (store.births + 1) (values_of_new classes texts new)
 
--- the store with a new object of a class
-pub record HasMade (classes : Classes) (old : Store) (class : ℕ) (new : Store) (a : ℕ) : Type 0 where
-  pub room : object_size (length (layout classes class)) ≤ left_of old.heap
-  pub address : a ≡ end_of old.heap
-  pub heap : new.heap ≡ with_block old.heap (new_block classes old class)
-  pub loaded : new.loaded ≡ old.loaded
-  pub births : new.births ≡ old.births + 1
-  pub statics : new.statics ≡ old.statics
-  pub globals : new.globals ≡ old.globals
+-- the store with a new object
+pub record HasMade (classes : Classes) (texts : List (List ℕ)) (before : Store) (new : New) (after : Store) (a : ℕ) : Type 0 where
+  pub room : cells_of_new classes texts new ≤ left_of before.heap
+  pub bytes : IsOfBytes texts new
+  pub address : a ≡ end_of before.heap
+  pub heap : after.heap ≡ with_block before.heap (new_block classes texts before new)
+  pub loaded : after.loaded ≡ before.loaded
+  pub births : after.births ≡ before.births + 1
+  pub statics : after.statics ≡ before.statics
+  pub globals : after.globals ≡ before.globals
 
--- a new object of a class, where it has room, and else the store as it was
-abbrev pub Makes : Classes → Store → (class : ℕ) → Store → Option ℕ → Type 0
-Makes classes old class new None = (new ≡ old) × (left_of old.heap < object_size (length (layout classes class)))
-Makes classes old class new (Some a) = HasMade classes old class new a
+-- a new object, where it has room, and else the store as it was
+abbrev pub Makes : Classes → (texts : List (List ℕ)) → Store → New → Store → Option ℕ → Type 0
+Makes classes texts before new after None = (after ≡ before) × (left_of before.heap < cells_of_new classes texts new)
+Makes classes texts before new after (Some a) = HasMade classes texts before new after a
 
 -- a global reference to the object at an address is made, and none for NULL
 abbrev pub MakesGlobal : (old : List (Option ℕ)) → Option ℕ → (new : List (Option ℕ)) → StaticReference → Type 0
 MakesGlobal old None new held = (new ≡ old) × (held ≡ static.Empty)
 MakesGlobal old (Some a) new held = (key : ℕ) × (held ≡ static.Live key) × Gains old key a new
 
--- the cells that an answer takes
-abbrev pub cells_of : Classes → Answer → ℕ
-cells_of classes (answer.Makes class) = object_size (length (layout classes class))
-cells_of classes (answer.Throws class) = object_size (length (layout classes class))
-cells_of classes a = 0
+-- the cells that an answer takes, where a call has these texts
+abbrev pub cells_of : Classes → (texts : List (List ℕ)) → Answer → ℕ
+cells_of classes texts (answer.Makes new) = cells_of_new classes texts new
+cells_of classes texts (answer.Throws class) = cells_of_new classes texts (Fresh class)
+cells_of classes texts a = 0

@@ -20,6 +20,7 @@ use Rattle.machine_calls.specs.declared.answer.Given.TheVariants.{Nothing, Numbe
 use Rattle.machine_calls.specs.declared.answer.Given.TheVariants as given
 use Rattle.machine_calls.specs.declared.answer.Answer.{Answer}
 use Rattle.machine_calls.specs.declared.answer.Answer.TheVariants.{Gives, Writes, Makes, Throws, Ensures, Pushes, RefusesFrames, Pops, Deletes, MakesGlobal, DeletesGlobal}
+use Rattle.machine_calls.specs.declared.new_object.New.TheVariants.{Fresh}
 use Rattle.machine_calls.specs.Statics.{References}
 use Rattle.machine_calls.specs.Given.{operand_at, key_at, operand_of, field_at, class_of_given, name_there, fits_there, field_there}
 
@@ -144,7 +145,7 @@ module _ (classes : Classes) (space : Space) (loaded : List ℕ) (references : R
   worked_out GetObjectClass = Gives (Reference (class_object loaded (Some (class_of_given space (reference 0)))))
   worked_out IsInstanceOf = Gives (Number (truth_word (fits_there classes space (reference 0) (name_there space (reference 1)))))
   worked_out IsAssignableFrom = Gives (Number (truth_word (assignable classes (name_there space (reference 0)) (name_there space (reference 1)))))
-  worked_out AllocObject = Makes (name_there space (reference 0))
+  worked_out AllocObject = Makes (Fresh (name_there space (reference 0)))
   worked_out NewLocalRef = Gives (Reference (reference 0))
   worked_out NewGlobalRef = MakesGlobal (reference 0)
   worked_out DeleteGlobalRef = deletes_global (reference 0) (operand_of call.operands 0)

@@ -17,6 +17,7 @@ ghost use Rattle.machine_calls.specs.Given.{class_of_given, field_at, field_ther
 ghost use Rattle.machine_calls.specs.WorkedOut.{address_in, class_object, count_there, deletes, deletes_global, found_class, frame_for, held_reference, place_there, room_for, top_word, value_there, word_in, writes_there, IsFoundField, IsWorkedOut};
 ghost use Rattle.syntax.specs.Views.{element_tree};
 
+use crate::new_object::{New, text_at};
 use crate::operands::{
     class_of_given, declaring, fits_there, handle_at, key_in, name_there, operand_of, reference_at,
 };
@@ -51,8 +52,8 @@ pub enum Answer {
     Gives(Given),
     /// A value of the object at this address changes, by its place, counted from 0.
     Writes(Addr, usize, Value),
-    /// An object of the class of this number is made, with zero and null fields, and given.
-    Makes(usize),
+    /// An object is made, and given.
+    Makes(New),
     /// An exception of the class of this number is made and is pending.
     Throws(usize),
     /// The current frame gets room for this number of references more, and 0 is given, where the frames can have them; else as
@@ -114,7 +115,9 @@ pub fn work_out(
             let above = name_of(heap, references, function, 1);
             gives_truth(classes.assignable(below, above))
         }
-        JniFunction::AllocObject => Answer::Makes(name_of(heap, references, function, 0)),
+        JniFunction::AllocObject => {
+            Answer::Makes(New::Fresh(name_of(heap, references, function, 0)))
+        }
         JniFunction::GetArrayLength => {
             let first = argument(heap, references, function, 0);
             Answer::Gives(Given::Number(count_there(heap, first)))
@@ -263,16 +266,6 @@ fn gives_truth(truth: bool) -> Answer
     ensures { result ≡ Answer.Gives (Given.Number (truth_word truth)) }
 {
     Answer::Gives(Given::Number(u32::from(truth)))
-}
-
-/// A text of a call, and an empty one where there is none.
-fn text_at(texts: &[Vec<u8>], place: usize) -> &[u8]
-    ensures { result.now ≡ unwrap_or (slice_get (map (λ text. text.items) texts.now) place) [] }
-{
-    match texts.get(place) {
-        Some(text) => text,
-        None => &[],
-    }
 }
 
 /// A class that was found, or else an exception.

@@ -1,6 +1,6 @@
 //! What a call does to the store, and which exception is pending then.
 
-ghost use Rattle.std.specs.Prelude.{◌≡◌, ◌+◌, ◌-◌, ◌<◌, ◌≤◌, ◌^◌, length, nat_le, slice_get, true, false, IfOk, OnErr};
+ghost use Rattle.std.specs.Prelude.{◌≡◌, ◌+◌, ◌-◌, ◌<◌, ◌≤◌, ◌^◌, ℕ, List, length, nat_le, slice_get, true, false, IfOk, OnErr};
 ghost use Rattle.heap.specs.Heap.{left_of};
 ghost use Rattle.jni.specs.Prototype.{ResultKind as SourceKind};
 ghost use Rattle.jni.specs.Table.{result_value};
@@ -12,10 +12,12 @@ ghost use Rattle.tables.specs.Locals.{capacities, ensured, popped};
 ghost use Rattle.machine_calls.specs.Answers.{IsAnswer};
 ghost use Rattle.machine_calls.specs.CarriedOut.{CarriesOut, IsPossible, failed, is_of_frames, is_of_references};
 ghost use Rattle.machine_calls.specs.Made.{cells_of};
+ghost use Rattle.machine_calls.specs.NewObjects.{texts_in};
 ghost use Rattle.machine_calls.specs.declared.answer.Given.TheVariants.{Number};
 
 use crate::answer::{Answer, Given};
 use crate::make::make;
+use crate::new_object::New;
 use crate::statics::{StaticReference, delete_global, make_global};
 use crate::store::Store;
 use classes::table::ClassTable;
@@ -32,18 +34,18 @@ pub struct Carried {
     pub refused: bool,
 }
 
-/// Whether what an answer makes has room in the heap.
-pub fn has_room(classes: &ClassTable, heap: &Heap, answer: &Answer) -> bool
-    ensures { result ≡ nat_le (cells_of classes.now answer.now) (left_of heap.now) }
+/// Whether what an answer makes, of a call with these texts, has room in the heap.
+pub fn has_room(classes: &ClassTable, texts: &[Vec<u8>], heap: &Heap, answer: &Answer) -> bool
+    ensures { result ≡ nat_le (cells_of classes.now (texts_in texts.now) answer.now) (left_of heap.now) }
 {
     match *answer {
-        Answer::Makes(class) => 3 + classes.layout_len(class) <= heap.left(),
-        Answer::Throws(class) => 3 + classes.layout_len(class) <= heap.left(),
+        Answer::Makes(new) => new.cells(classes, texts) <= heap.left(),
+        Answer::Throws(class) => New::Fresh(class).cells(classes, texts) <= heap.left(),
         _ => true,
     }
 }
 
-/// Does to the store and to a call's frames what a function of this kind of result answers. An object or an exception is refused
+/// Does to the store and to a call's frames what a function of this kind of result answers, whose call has these texts. An object or an exception is refused
 /// exactly where it has no room in the heap: then the OutOfMemoryError object is pending, and the call fails.
 ///
 /// An error says that host memory for a frame or a global reference was refused; then all is as before.
@@ -53,13 +55,14 @@ pub fn carry_out(
     pending: &mut Option<Addr>,
     locals: &mut Locals,
     kind: ResultKind,
+    texts: &[Vec<u8>],
     answer: Answer,
 ) -> Result<Carried, AllocError>
     requires possible { (p : Lowered) × (shared : Shared) × (s : SourceThread) × (effect : CallEffect) × IsPossible p world.now store.old pending.old locals.old (result_value kind) shared s
-        × IsAnswer world.now.classes store.old.heap locals.old (result_value kind) shared s answer effect }
+        × IsAnswer world.now.classes (texts_in texts.now) store.old.heap locals.old (result_value kind) shared s answer effect }
     requires few { store.old.births + 2 < 2 ^ 32 }
     ensures carried { IfOk result (λ carried. (p : Lowered) (shared : Shared) (s : SourceThread) (effect : CallEffect) → IsPossible p world.now store.old pending.old locals.old (result_value kind) shared s
-        → IsAnswer world.now.classes store.old.heap locals.old (result_value kind) shared s answer effect
+        → IsAnswer world.now.classes (texts_in texts.now) store.old.heap locals.old (result_value kind) shared s answer effect
         → CarriesOut p world.now store.old.heap locals.old answer (result_value kind) shared s effect carried.refused store.new pending.new locals.new carried.given) }
     ensures store { OnErr result (store.new ≡ store.old) }
     ensures pending { OnErr result (pending.new ≡ pending.old) }
@@ -80,14 +83,14 @@ pub fn carry_out(
                 refused: false,
             })
         }
-        Answer::Makes(class) => match make(world.classes(), store, class) {
+        Answer::Makes(new) => match make(world.classes(), texts, store, new) {
             Some(addr) => Ok(Carried {
                 given: Given::Reference(Some(addr)),
                 refused: false,
             }),
             None => Ok(refuse(world, store, pending, kind)),
         },
-        Answer::Throws(class) => match make(world.classes(), store, class) {
+        Answer::Throws(class) => match make(world.classes(), texts, store, New::Fresh(class)) {
             Some(addr) => {
                 *pending = Some(addr);
                 Ok(Carried {
@@ -111,10 +114,10 @@ fn carry_out_references(
     answer: Answer,
 ) -> Result<Carried, AllocError>
     requires of_references { is_of_references answer ≡ true }
-    requires possible { (p : Lowered) × (kind : SourceKind) × (shared : Shared) × (s : SourceThread) × (effect : CallEffect) × IsPossible p world.now store.old pending.old locals.old kind shared s
-        × IsAnswer world.now.classes store.old.heap locals.old kind shared s answer effect }
-    ensures carried { IfOk result (λ carried. (p : Lowered) (kind : SourceKind) (shared : Shared) (s : SourceThread) (effect : CallEffect) → IsPossible p world.now store.old pending.old locals.old kind shared s
-        → IsAnswer world.now.classes store.old.heap locals.old kind shared s answer effect
+    requires possible { (p : Lowered) × (kind : SourceKind) × (texts : List (List ℕ)) × (shared : Shared) × (s : SourceThread) × (effect : CallEffect) × IsPossible p world.now store.old pending.old locals.old kind shared s
+        × IsAnswer world.now.classes texts store.old.heap locals.old kind shared s answer effect }
+    ensures carried { IfOk result (λ carried. (p : Lowered) (kind : SourceKind) (texts : List (List ℕ)) (shared : Shared) (s : SourceThread) (effect : CallEffect) → IsPossible p world.now store.old pending.old locals.old kind shared s
+        → IsAnswer world.now.classes texts store.old.heap locals.old kind shared s answer effect
         → CarriesOut p world.now store.old.heap locals.old answer kind shared s effect carried.refused store.new pending.new locals.new carried.given) }
     ensures store { OnErr result (store.new ≡ store.old) }
     ensures pending { OnErr result (pending.new ≡ pending.old) }
@@ -156,8 +159,8 @@ fn carry_out_frames(
     answer: Answer,
 ) -> Result<Carried, AllocError>
     requires { is_of_frames answer ≡ true }
-    ensures carried { IfOk result (λ carried. (p : Lowered) (kind : SourceKind) (shared : Shared) (s : SourceThread) (effect : CallEffect) → IsPossible p world.now store.now pending.old locals.old kind shared s
-        → IsAnswer world.now.classes store.now.heap locals.old kind shared s answer effect
+    ensures carried { IfOk result (λ carried. (p : Lowered) (kind : SourceKind) (texts : List (List ℕ)) (shared : Shared) (s : SourceThread) (effect : CallEffect) → IsPossible p world.now store.now pending.old locals.old kind shared s
+        → IsAnswer world.now.classes texts store.now.heap locals.old kind shared s answer effect
         → CarriesOut p world.now store.now.heap locals.old answer kind shared s effect carried.refused store.now pending.new locals.new carried.given) }
     ensures pending { OnErr result (pending.new ≡ pending.old) }
     ensures locals { OnErr result (locals.new ≡ locals.old) }

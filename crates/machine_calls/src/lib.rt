@@ -7,6 +7,7 @@ pub mod answer;
 pub mod carry_out;
 pub mod check;
 mod make;
+pub mod new_object;
 mod operands;
 pub mod references;
 pub mod statics;

@@ -1,38 +1,110 @@
-//! New objects.
+//! Making objects.
 
-ghost use Rattle.std.specs.Prelude.{◌≡◌, ◌+◌, ◌<◌, ◌^◌};
+ghost use Rattle.std.specs.Prelude.{◌≡◌, ◌+◌, ◌<◌, ◌^◌, replicate, IfSome};
+ghost use Rattle.class_rules.specs.BuiltIns.{string_class};
 ghost use Rattle.classes.specs.Views.{field_type_view};
-ghost use Rattle.machine_calls.specs.Made.{Makes, initial_value};
+ghost use Rattle.machine_calls.specs.Made.{Allocates, Makes};
+ghost use Rattle.machine_calls.specs.NewObjects.{class_of_new, initial_value, initial_values, texts_in, units, values_of_new, AreBytes, IsOfBytes};
 
+use crate::new_object::{New, NewArray, text_at};
 use crate::store::Store;
+use classes::built_ins::STRING;
 use classes::class::FieldType;
 use classes::table::ClassTable;
-use heap::{Addr, Value};
+use heap::{Addr, Heap, Value};
 
-/// Makes an object of a class, with zero and null fields, if the heap has room. It takes no host memory. The cost goes by the
-/// number of fields, each time the depth of the class.
-pub fn make(classes: &ClassTable, store: &mut Store, class: usize) -> Option<Addr>
-    requires class { class < 2 ^ 32 }
+/// Makes an object for a call with these texts, if the heap has room. It takes no host memory. The cost goes by the number of its values, of fields each
+/// time the depth of the class.
+pub fn make(classes: &ClassTable, texts: &[Vec<u8>], store: &mut Store, new: New) -> Option<Addr>
+    requires class { class_of_new new < 2 ^ 32 }
     requires few { store.old.births + 1 < 2 ^ 32 }
-    ensures { Makes classes.now store.old class store.new result }
+    ensures { Makes classes.now (texts_in texts.now) store.old new store.new result }
 {
-    // The proof reads off this call how the heap lies.
-    let _ = store.heap.count();
-    let count = classes.layout_len(class);
     let birth = store.births + 1;
-    match store.heap.alloc(class as u32, birth, count, Value::Null) {
-        Err(_) => None,
-        Ok(addr) => {
-            for place in 0..count {
-                let id = classes.layout_field(class, place).unwrap();
-                store
-                    .heap
-                    .set(addr, place, initial_value(id.field.field_type));
-            }
+    match allocate(classes, texts, &mut store.heap, new, birth) {
+        None => None,
+        Some(addr) => {
             store.births = birth;
             Some(addr)
         }
     }
+}
+
+/// Makes its block, if there is room.
+fn allocate(
+    classes: &ClassTable,
+    texts: &[Vec<u8>],
+    heap: &mut Heap,
+    new: New,
+    birth: u32,
+) -> Option<Addr>
+    requires { class_of_new new < 2 ^ 32 }
+    ensures made { Allocates heap.old (class_of_new new) birth (values_of_new classes.now (texts_in texts.now) new) heap.new result }
+    ensures bytes { IfSome result (λ a. IsOfBytes (texts_in texts.now) new) }
+{
+    match new {
+        New::Fresh(class) => allocate_fresh(classes, heap, class, birth),
+        New::Array(array) => allocate_array(heap, &array, birth),
+        New::Text(place) => allocate_text(heap, text_at(texts, place), birth),
+    }
+}
+
+/// Makes the block of an object with zero and null fields.
+fn allocate_fresh(classes: &ClassTable, heap: &mut Heap, class: usize, birth: u32) -> Option<Addr>
+    requires { class < 2 ^ 32 }
+    ensures { Allocates heap.old class birth (initial_values classes.now class) heap.new result }
+{
+    // The proof reads off this call how the heap lies.
+    let _ = heap.count();
+    let count = classes.layout_len(class);
+    match heap.alloc(class as u32, birth, count, Value::Null) {
+        Err(_) => None,
+        Ok(addr) => {
+            for place in 0..count {
+                let id = classes.layout_field(class, place).unwrap();
+                heap.set(addr, place, initial_value(id.field.field_type));
+            }
+            Some(addr)
+        }
+    }
+}
+
+/// Makes the block of an array.
+fn allocate_array(heap: &mut Heap, array: &NewArray, birth: u32) -> Option<Addr>
+    requires { array.now.class < 2 ^ 32 }
+    ensures { Allocates heap.old array.now.class birth (replicate array.now.count array.now.value) heap.new result }
+{
+    let count = array.count as usize;
+    match heap.alloc(array.class as u32, birth, count, array.value) {
+        Err(_) => None,
+        Ok(addr) => Some(addr),
+    }
+}
+
+/// Makes the block of a string.
+fn allocate_text(heap: &mut Heap, bytes: &[u8], birth: u32) -> Option<Addr>
+    ensures made { Allocates heap.old string_class birth (units bytes.now) heap.new result }
+    ensures bytes { IfSome result (λ a. AreBytes bytes.now) }
+{
+    // The proof reads off this call how the heap lies.
+    let _ = heap.count();
+    match heap.alloc(STRING as u32, birth, bytes.len(), Value::Null) {
+        Err(_) => None,
+        Ok(addr) => {
+            for place in 0..bytes.len() {
+                heap.set(addr, place, unit(bytes[place]));
+            }
+            Some(addr)
+        }
+    }
+}
+
+/// The UTF-16 unit of a byte.
+fn unit(byte: u8) -> Value
+    ensures unit { result ≡ Value.Number byte }
+    ensures small { byte < 256 }
+{
+    Value::Number(u32::from(byte))
 }
 
 /// What a new field of this type holds.

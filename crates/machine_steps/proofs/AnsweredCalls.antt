@@ -21,6 +21,7 @@ use Rattle.machine_calls.specs.Answers.{IsAnswer}
 use Rattle.machine_calls.specs.Asked.{references_of}
 use Rattle.machine_calls.specs.CarriedOut.{IsPossible}
 use Rattle.machine_calls.specs.Made.{cells_of}
+use Rattle.machine_calls.specs.NewObjects.{texts_in}
 use Rattle.machine_calls.specs.WorkedOut.{IsWorkedOut}
 use Rattle.semantics_safety.specs.Owners.{Owners}
 use Rattle.machine_steps.specs.Executes.{cells_made}
@@ -50,9 +51,9 @@ module _ (p : Lowered) (w : World) (store : Store) (pending : Option ℕ) (call 
     pub kind_is : kind ≡ (prototype it.f).result
     kind_is = same ∙ ap (λ (f : JniFunction). (prototype f).result) it.asked.same_function
 
-    pub answered : (in_use : BuffersInUse) (k : ℕ) → IsAnswer w.classes store.heap call.locals kind shared s answer (does in_use k)
+    pub answered : (in_use : BuffersInUse) (k : ℕ) → IsAnswer w.classes (texts_in function.texts.items) store.heap call.locals kind shared s answer (does in_use k)
     answered in_use k =
-        subst (λ (x : ResultKind). IsAnswer w.classes store.heap call.locals x shared s answer (does in_use k)) (sym kind_is)
+        subst (λ (x : ResultKind). IsAnswer w.classes (texts_in function.texts.items) store.heap call.locals x shared s answer (does in_use k)) (sym kind_is)
         (answers p w store pending call (call_view function) shared s given.sound in_use k it.args it.f it.asked it.target free answer worked
         (owned_key p w store pending call function own shared s task rest h) (held p w store pending call function own shared s task rest h))
 
@@ -60,8 +61,8 @@ module _ (p : Lowered) (w : World) (store : Store) (pending : Option ℕ) (call 
     can_carry = subst (λ (x : ResultKind). IsPossible p w store pending call.locals x shared s) (sym kind_is) (possible p w store pending call function own shared s task rest h)
 
     -- its step makes what the answer makes
-    pub cells_asked : (in_use : BuffersInUse) (k : ℕ) → cells_made shared (after_effect w.classes in_use k shared s rest (effect_of (sight_of shared s) task)) ≡ cells_of w.classes answer
+    pub cells_asked : (in_use : BuffersInUse) (k : ℕ) → cells_made shared (after_effect w.classes in_use k shared s rest (effect_of (sight_of shared s) task)) ≡ cells_of w.classes (texts_in function.texts.items) answer
     cells_asked in_use k =
         ap (λ (e : Effect). cells_made shared (after_effect w.classes in_use k shared s rest e)) it.is
         ∙ cells_wanted p w store pending call function own shared s task rest h in_use k free
-        ∙ cells_answered w.classes store.heap call.locals kind shared s answer (does in_use k) (answered in_use k)
+        ∙ cells_answered w.classes (texts_in function.texts.items) store.heap call.locals kind shared s answer (does in_use k) (answered in_use k)

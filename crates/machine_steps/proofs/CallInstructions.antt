@@ -120,11 +120,11 @@ same_thread e = cc
 stays_same : (s t : source.Thread) → t ≡ s → t ≡ record s { frames = t.frames; pending = t.pending }
 stays_same s t e = subst (λ (u : source.Thread). t ≡ record u { frames = t.frames; pending = t.pending }) e refl
 
-stays_with : (classes : Classes) (space : Space) (locals : LocalTable) (kind : ResultKind) (shared : Shared) (s : source.Thread) (answer : Answer) (effect : CallEffect) → IsAnswer classes space locals kind shared s answer effect → StaysBut s effect
-stays_with classes space locals kind shared s answer (Throws c) h = tt
-stays_with classes space locals kind shared s answer (Halts trap) h = no_halt answer h
+stays_with : (classes : Classes) (texts : List (List ℕ)) (space : Space) (locals : LocalTable) (kind : ResultKind) (shared : Shared) (s : source.Thread) (answer : Answer) (effect : CallEffect) → IsAnswer classes texts space locals kind shared s answer effect → StaysBut s effect
+stays_with classes texts space locals kind shared s answer (Throws c) h = tt
+stays_with classes texts space locals kind shared s answer (Halts trap) h = no_halt answer h
   where
-    no_halt : (answer : Answer) → IsAnswer classes space locals kind shared s answer (Halts trap) → ⊥
+    no_halt : (answer : Answer) → IsAnswer classes texts space locals kind shared s answer (Halts trap) → ⊥
     no_halt (answers.Gives g) h = h
     no_halt (answers.Writes a place v) h = h
     no_halt (answers.Makes c) h = h
@@ -144,25 +144,25 @@ stays_with classes space locals kind shared s answer (Halts trap) h = no_halt an
     no_halt (answers.DeletesGlobal i) h = let e = h.1.3 in cc
     no_halt (answers.Deletes key) h = let e = h.1.3 in cc
     no_halt answers.RefusesFrames h = let e = h.1 in cc
-stays_with classes space locals kind shared s (answers.Gives g) (Leaves made s' t' c) h = stays_same s t' (same_thread (gives_it classes space locals kind shared s g (Leaves made s' t' c) h).is)
-stays_with classes space locals kind shared s (answers.Writes a place v) (Leaves made s' t' c) h = stays_same s t' (same_thread (writes_it classes space locals kind shared s a place v (Leaves made s' t' c) h).is)
-stays_with classes space locals kind shared s (answers.Makes class) (Leaves made s' t' c) h = stays_same s t' (same_thread (makes_it classes space locals kind shared s class (Leaves made s' t' c) h).is)
-stays_with classes space locals kind shared s (answers.Throws class) (Leaves made s' t' c) h = absurd h
-stays_with classes space locals kind shared s (answers.Ensures more) (Leaves made s' t' c) h = subst (StaysBut s) (sym h.1) (stays_framed (nat_le (source.capacities (with_capacity more s.frames)) 1024))
+stays_with classes texts space locals kind shared s (answers.Gives g) (Leaves made s' t' c) h = stays_same s t' (same_thread (gives_it classes texts space locals kind shared s g (Leaves made s' t' c) h).is)
+stays_with classes texts space locals kind shared s (answers.Writes a place v) (Leaves made s' t' c) h = stays_same s t' (same_thread (writes_it classes texts space locals kind shared s a place v (Leaves made s' t' c) h).is)
+stays_with classes texts space locals kind shared s (answers.Makes class) (Leaves made s' t' c) h = stays_same s t' (same_thread (makes_it classes texts space locals kind shared s class (Leaves made s' t' c) h).is)
+stays_with classes texts space locals kind shared s (answers.Throws class) (Leaves made s' t' c) h = absurd h
+stays_with classes texts space locals kind shared s (answers.Ensures more) (Leaves made s' t' c) h = subst (StaysBut s) (sym h.1) (stays_framed (nat_le (source.capacities (with_capacity more s.frames)) 1024))
   where
     stays_framed : (b : Bool) → StaysBut s (if b then Leaves [] shared (record s { frames = with_capacity more s.frames }) (ScalarResult (Int (pos 0))) else refuses_frames classes shared s)
     stays_framed true = refl
     stays_framed false = refl
-stays_with classes space locals kind shared s (answers.Pushes capacity) (Leaves made s' t' c) h = subst (StaysBut s) (sym h.1) (stays_framed (nat_le (source.capacities (record { capacity = capacity; references = [] } ∷ s.frames)) 1024))
+stays_with classes texts space locals kind shared s (answers.Pushes capacity) (Leaves made s' t' c) h = subst (StaysBut s) (sym h.1) (stays_framed (nat_le (source.capacities (record { capacity = capacity; references = [] } ∷ s.frames)) 1024))
   where
     stays_framed : (b : Bool) → StaysBut s (if b then Leaves [] shared (record s { frames = record { capacity = capacity; references = [] } ∷ s.frames }) (ScalarResult (Int (pos 0))) else refuses_frames classes shared s)
     stays_framed true = refl
     stays_framed false = refl
-stays_with classes space locals kind shared s (answers.Pops a) (Leaves made s' t' c) h = subst (StaysBut s) (sym h.1.2) refl
-stays_with classes space locals kind shared s (answers.MakesGlobal a) (Leaves made s' t' c) h = subst (StaysBut s) (sym h.1.2) refl
-stays_with classes space locals kind shared s (answers.DeletesGlobal i) (Leaves made s' t' c) h = subst (StaysBut s) (sym h.1.3) refl
-stays_with classes space locals kind shared s (answers.Deletes key) (Leaves made s' t' c) h = subst (StaysBut s) (sym h.1.3) refl
-stays_with classes space locals kind shared s answers.RefusesFrames (Leaves made s' t' c) h = subst (StaysBut s) (sym h.1) refl
+stays_with classes texts space locals kind shared s (answers.Pops a) (Leaves made s' t' c) h = subst (StaysBut s) (sym h.1.2) refl
+stays_with classes texts space locals kind shared s (answers.MakesGlobal a) (Leaves made s' t' c) h = subst (StaysBut s) (sym h.1.2) refl
+stays_with classes texts space locals kind shared s (answers.DeletesGlobal i) (Leaves made s' t' c) h = subst (StaysBut s) (sym h.1.3) refl
+stays_with classes texts space locals kind shared s (answers.Deletes key) (Leaves made s' t' c) h = subst (StaysBut s) (sym h.1.3) refl
+stays_with classes texts space locals kind shared s answers.RefusesFrames (Leaves made s' t' c) h = subst (StaysBut s) (sym h.1) refl
 
 -- ---- the place
 
@@ -486,7 +486,7 @@ module _ (p : Lowered) (w : World) (store : Store) (pending : Option ℕ) (call 
     -- what was carried out and received is what the source's call leaves
     pub goes_on : (refused : Bool) (store' : Store) (pending' : Option ℕ) (locals : LocalTable) (g : Given) (after : Activation) (statics : Vec StaticReference) (answer : Answer) → AreStacked locals → (free : trap_of_call w.classes shared s called.target called.f called.args ≡ None)
         → IsWorkedOut w.classes store.heap store.loaded.items (references_of store call) call.fields.items call.stack function called.f answer
-        → IsAnswer w.classes store.heap call.locals (prototype called.f).result shared s answer (call_effect w.classes in_use k shared s called.args called.f)
+        → IsAnswer w.classes function.texts store.heap call.locals (prototype called.f).result shared s answer (call_effect w.classes in_use k shared s called.args called.f)
         → CarriesOut p w store.heap call.locals answer (prototype called.f).result shared s (call_effect w.classes in_use k shared s called.args called.f) refused store' pending' locals g
         → Receives function.target (prototype called.f).result g (record call { locals = locals }) after
         → statics.items ≡ statics_with function.target g store'.statics.items
@@ -506,7 +506,7 @@ module _ (p : Lowered) (w : World) (store : Store) (pending : Option ℕ) (call 
         (λ local x level old is at.
         h.steady.declared called.line x called.f called.args level old (next_is ∙ ap (λ (t : Target). Calls called.line t called.f called.args) is) local at
         ∙ ap (λ (fs : List source.Frame). length fs) (sym (left_frames local))) refl (goes_left answer works) received put in
-        let steps = step_leaves w.classes in_use k shared s called.line called.target called.f called.args rest refused effect (effect_is free in_use k) (stays_with w.classes store.heap call.locals (prototype called.f).result shared s answer effect does) carried.could_refuse in
+        let steps = step_leaves w.classes in_use k shared s called.line called.target called.f called.args rest refused effect (effect_is free in_use k) (stays_with w.classes function.texts store.heap call.locals (prototype called.f).result shared s answer effect does) carried.could_refuse in
         subst (λ (e : Effect). GoesOn p w store.heap (record store' { statics = statics }) in_use k own shared s rest after pending' e refused event.Quiet) (sym called.is) (record {
           next_shared = ends.now;
           next = going called.line called.f called.args ends.tasks s left q c ends.variables;

@@ -12,6 +12,7 @@ ghost use Rattle.code_meaning.specs.Lowered.{Lowered};
 ghost use Rattle.machine_steps.specs.Executes.{Executes, IsHindered, cells_made};
 ghost use Rattle.machine_calls.specs.CarriedOut.{is_of_references};
 ghost use Rattle.machine_calls.specs.Made.{cells_of};
+ghost use Rattle.machine_calls.specs.NewObjects.{texts_in};
 ghost use Rattle.machine_calls.specs.Traps.{trap_view};
 ghost use Rattle.machine_steps.specs.Invoked.{AtCall, IsAnswered, trap_at, done_or_refused, executed_as};
 
@@ -65,7 +66,13 @@ pub fn invoke(
 {
     match answer_or_trap(world, store, *pending, call, function) {
         Ok(answer) => {
-            if goes_ahead(world.classes(), &store.heap, &answer, may_refuse) {
+            if goes_ahead(
+                world.classes(),
+                &function.texts,
+                &store.heap,
+                &answer,
+                may_refuse,
+            ) {
                 match finish(world, store, pending, call, function, answer) {
                     Ok(invoked) => Ok(invoked),
                     Err(_) => Err(StepFault::Memory),
@@ -80,10 +87,16 @@ pub fn invoke(
 
 /// Whether an answer is carried out: it may be refused, or what it makes has room.
 #[inline(always)]
-fn goes_ahead(classes: &ClassTable, heap: &Heap, answer: &Answer, may_refuse: bool) -> bool
-    ensures { result ≡ (may_refuse || nat_le (cells_of classes.now answer.now) (left_of heap.now)) }
+fn goes_ahead(
+    classes: &ClassTable,
+    texts: &[Vec<u8>],
+    heap: &Heap,
+    answer: &Answer,
+    may_refuse: bool,
+) -> bool
+    ensures { result ≡ (may_refuse || nat_le (cells_of classes.now (texts_in texts.now) answer.now) (left_of heap.now)) }
 {
-    may_refuse || has_room(classes, heap, answer)
+    may_refuse || has_room(classes, texts, heap, answer)
 }
 
 /// What a call answers, or the trap that a check found.
@@ -147,14 +160,22 @@ fn finish(
     requires answered { IsAnswered world.now store.old pending.old call.old function.now answer }
     ensures done { IfOk result (λ done. (p : Lowered) (in_use : BuffersInUse) (k : ℕ) (own : Owners) (shared : Shared) (s : SourceThread) (task : Task) (rest : List Task) → AtCall p world.now store.old pending.old call.old function.now own shared s task rest
         → Executes p world.now store.old.heap store.new in_use k own shared s rest call.new pending.new (effect_of (sight_of shared s) task) (executed_as function.now.line done)) }
-    ensures refused { result ≡ Ok Invoked.Refused → left_of store.old.heap < cells_of world.now.classes answer }
+    ensures refused { result ≡ Ok Invoked.Refused → left_of store.old.heap < cells_of world.now.classes (texts_in function.now.texts.items) answer }
     ensures of_references { OnErr result (is_of_references answer ≡ true) }
     ensures store { OnErr result (store.new ≡ store.old) }
     ensures pending { OnErr result (pending.new ≡ pending.old) }
     ensures call { OnErr result (call.new ≡ call.old) }
 {
     let kind = function.result;
-    let carried = carry_out(world, store, pending, &mut call.locals, kind, answer)?;
+    let carried = carry_out(
+        world,
+        store,
+        pending,
+        &mut call.locals,
+        kind,
+        &function.texts,
+        answer,
+    )?;
     // Here the proof takes up what is known of a table.
     let _ = call.locals.frames();
     receive(

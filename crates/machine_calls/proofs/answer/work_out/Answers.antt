@@ -8,6 +8,7 @@ use Rattle.jni.specs.declared.function.JniFunction.{JniFunction}
 use Rattle.code.specs.Effect.{truth_word}
 use Rattle.machine_calls.specs.declared.answer.Answer.TheVariants.{Gives, Makes}
 use Rattle.machine_calls.specs.declared.answer.Given.TheVariants.{Number, Reference}
+use Rattle.machine_calls.specs.declared.new_object.New.TheVariants.{Fresh}
 use Rattle.machine_calls.specs.Given.{class_of_given, fits_there}
 use Rattle.machine_calls.specs.WorkedOut.{IsWorkedOut, class_object, count_there, found_class}
 use Rattle.machine_calls.proofs.answer.work_out.Goals as goal
@@ -40,8 +41,8 @@ returns-in-IsAssignableFrom c =
 
 pub returns-in-AllocObject : goal.returns-in-AllocObject
 returns-in-AllocObject c =
-    subst (λ (f : JniFunction). IsWorkedOut c.args.classes.now c.args.heap.now c.args.loaded.now c.args.references.now c.args.fields.now c.args.stack.now (call_view c.args.function.now) (function_value f) (Makes c.name_of-in-AllocObject.result)) (sym c.in-AllocObject.is)
-    (ap (λ (class : ℕ). Makes class) c.name_of-in-AllocObject.ensures)
+    subst (λ (f : JniFunction). IsWorkedOut c.args.classes.now c.args.heap.now c.args.loaded.now c.args.references.now c.args.fields.now c.args.stack.now (call_view c.args.function.now) (function_value f) (Makes (Fresh c.name_of-in-AllocObject.result))) (sym c.in-AllocObject.is)
+    (ap (λ (class : ℕ). Makes (Fresh class)) c.name_of-in-AllocObject.ensures)
 
 pub returns-in-GetArrayLength : goal.returns-in-GetArrayLength
 returns-in-GetArrayLength c =

@@ -1,12 +1,10 @@
-use Rattle.std.proofs.Common.{◌≡◌, ℕ, ◌<◌, ◌≤◌, ◌^◌, Option, Some, None, length, true, false, Result, Ok, Err, sym, subst, arith}
+use Rattle.std.proofs.Common.{◌≡◌, ℕ, List, ◌<◌, ◌≤◌, ◌^◌, Option, Some, None, length, true, false, Result, Ok, Err, sym, subst, arith}
 use Rattle.std.specs.Prelude.{slice_get, IfOk}
 use Rattle.class_rules.specs.Class.{Classes}
-use Rattle.class_rules.specs.Fields.{layout}
 use Rattle.heap.specs.Heap.{Space, left_of}
 use Rattle.jni.specs.Prototype.{ResultKind}
 use Rattle.jni.specs.Table.{result_value}
 use Rattle.semantics.specs.CallEffects.{CallEffect}
-use Rattle.semantics.specs.Object.{object_size}
 use Rattle.semantics.specs.Thread.{Shared, Thread}
 use Rattle.semantics.specs.World.{World}
 use Rattle.world_values.proofs.LoadedWorlds.{few_loaded}
@@ -22,6 +20,9 @@ use Rattle.machine_calls.specs.CarriedOut.{CarriesOut, failed}
 use Rattle.tables.specs.Locals.{LocalTable}
 use Rattle.machine_calls.specs.declared.answer.Answer.TheVariants as answer
 use Rattle.machine_calls.specs.Made.{HasMade, Makes}
+use Rattle.machine_calls.specs.declared.new_object.New.{New}
+use Rattle.machine_calls.specs.declared.new_object.New.TheVariants.{Fresh}
+use Rattle.machine_calls.specs.NewObjects.{cells_of_new, class_of_new, texts_in}
 use Rattle.machine_calls.proofs.AnswerCases.{makes_it, throws_it}
 use Rattle.machine_calls.proofs.CarryOuts as carries
 use Rattle.machine_calls.proofs.LongTables.{classes_loaded}
@@ -32,15 +33,15 @@ small : (w : World) (class : ℕ) → IsSound w → class ≤ length w.classes �
 small w class sound high = omega (arith, high, few_loaded w sound, classes_loaded w)
 
 -- an object was made in the store of the world's classes
-has_made : (classes table : Classes) (old new : Store) (class a : ℕ) (o : Option ℕ) → table ≡ classes → Makes table old class new o → o ≡ Some a → HasMade classes old class new a
-has_made classes table old new class a o same made is = subst (λ (t : Classes). HasMade t old class new a) same (subst (Makes table old class new) is made)
+has_made : (classes table : Classes) (texts : List (List ℕ)) (old after : Store) (new : New) (a : ℕ) (o : Option ℕ) → table ≡ classes → Makes table texts old new after o → o ≡ Some a → HasMade classes texts old new after a
+has_made classes table texts old after new a o same made is = subst (λ (t : Classes). HasMade t texts old new after a) same (subst (Makes table texts old new after) is made)
 
-unchanged : (table : Classes) (old new : Store) (class : ℕ) (o : Option ℕ) → Makes table old class new o → o ≡ None → new ≡ old
-unchanged table old new class o made is = (subst (Makes table old class new) is made).0
+unchanged : (table : Classes) (texts : List (List ℕ)) (old after : Store) (new : New) (o : Option ℕ) → Makes table texts old new after o → o ≡ None → after ≡ old
+unchanged table texts old after new o made is = (subst (Makes table texts old new after) is made).0
 
 -- none has room for it
-short : (classes table : Classes) (old new : Store) (class : ℕ) (o : Option ℕ) → table ≡ classes → Makes table old class new o → o ≡ None → left_of old.heap < object_size (length (layout classes class))
-short classes table old new class o same made is = subst (λ (t : Classes). left_of old.heap < object_size (length (layout t class))) same (subst (Makes table old class new) is made).1
+short : (classes table : Classes) (texts : List (List ℕ)) (old after : Store) (new : New) (o : Option ℕ) → table ≡ classes → Makes table texts old new after o → o ≡ None → left_of old.heap < cells_of_new classes texts new
+short classes table texts old after new o same made is = subst (λ (t : Classes). left_of old.heap < cells_of_new t texts new) same (subst (Makes table texts old new after) is made).1
 
 module _ (p : Lowered) (w : World) (space : Space) (before : LocalTable) (a : Answer) (kind : ResultKind) (shared : Shared) (s : Thread) (effect : CallEffect) where
   -- what was refused, told of a store that is as it was
@@ -56,71 +57,79 @@ make-requires-clause-class c =
     let r = c.requires.possible in
     let w = c.args.world.now in
     let k = result_value c.args.kind in
-    small w c.in-Makes.class c.threads.ensures.sound
-    (makes_it w.classes c.args.store.now.heap c.args.locals.now k r.1 r.2 c.in-Makes.class r.3 (subst (λ (a : Answer). IsAnswer w.classes c.args.store.now.heap c.args.locals.now k r.1 r.2 a r.3) c.in-Makes.is r.5)).makeable.high
+    let texts = texts_in c.args.texts.now in
+    small w (class_of_new c.in-Makes.new) c.threads.ensures.sound
+    (makes_it w.classes texts c.args.store.now.heap c.args.locals.now k r.1 r.2 c.in-Makes.new r.3 (subst (λ (a : Answer). IsAnswer w.classes texts c.args.store.now.heap c.args.locals.now k r.1 r.2 a r.3) c.in-Makes.is r.5)).describes.makeable.high
 
 pub make-requires-in-Throws-clause-class : goal.make-requires-in-Throws-clause-class
 make-requires-in-Throws-clause-class c =
     let r = c.requires.possible in
     let w = c.args.world.now in
     let k = result_value c.args.kind in
+    let texts = texts_in c.args.texts.now in
     small w c.in-Throws.class c.threads.ensures.sound
-    (throws_it w.classes c.args.store.now.heap c.args.locals.now k r.1 r.2 c.in-Throws.class r.3 (subst (λ (a : Answer). IsAnswer w.classes c.args.store.now.heap c.args.locals.now k r.1 r.2 a r.3) c.in-Throws.is r.5)).makeable.high
+    (throws_it w.classes texts c.args.store.now.heap c.args.locals.now k r.1 r.2 c.in-Throws.class r.3 (subst (λ (a : Answer). IsAnswer w.classes texts c.args.store.now.heap c.args.locals.now k r.1 r.2 a r.3) c.in-Throws.is r.5)).makeable.high
 
 pub returns-in-Writes-clause-carried : goal.returns-in-Writes-clause-carried
 returns-in-Writes-clause-carried c p shared s effect h does =
     let w = c.args.world.now in
     let k = result_value c.args.kind in
+    let texts = texts_in c.args.texts.now in
     let old = c.args.store.now in
-    carries.by_answer p w old.heap c.args.locals.now k shared s effect c.args.answer (answer.Writes c.in-Writes.addr c.in-Writes.place c.in-Writes.value) c.in-Writes.is _ _ _ _ _ (λ writes.
+    carries.by_answer p w old.heap c.args.locals.now k shared s effect texts c.args.answer (answer.Writes c.in-Writes.addr c.in-Writes.place c.in-Writes.value) c.in-Writes.is _ _ _ _ _ (λ writes.
     subst (λ (space : Space). CarriesOut p w old.heap c.args.locals.now (answer.Writes c.in-Writes.addr c.in-Writes.place c.in-Writes.value) k shared s effect false (record old { heap = space }) c.args.pending.now c.args.locals.now given.Nothing) (sym c.set.ensures)
-    (carries.writes p w old c.args.pending.now c.args.locals.now k shared s h c.in-Writes.addr c.in-Writes.place c.in-Writes.value effect writes)) does
+    (carries.writes p w old c.args.pending.now c.args.locals.now k shared s h texts c.in-Writes.addr c.in-Writes.place c.in-Writes.value effect writes)) does
 
 pub returns-in-Some-clause-carried : goal.returns-in-Some-clause-carried
 returns-in-Some-clause-carried c p shared s effect h does =
     let w = c.args.world.now in
     let k = result_value c.args.kind in
+    let texts = texts_in c.args.texts.now in
     let old = c.args.store.now in
-    carries.by_answer p w old.heap c.args.locals.now k shared s effect c.args.answer (answer.Makes c.in-Makes.class) c.in-Makes.is _ _ _ _ _ (λ makes.
-    carries.makes p w old c.args.pending.now c.args.locals.now k shared s h c.make.new.store c.in-Makes.class c.in-Some.addr
-    (has_made w.classes c.classes.result.now old c.make.new.store c.in-Makes.class c.in-Some.addr c.make.result c.classes.ensures.classes c.make.ensures c.in-Some.is) effect makes) does
+    carries.by_answer p w old.heap c.args.locals.now k shared s effect texts c.args.answer (answer.Makes c.in-Makes.new) c.in-Makes.is _ _ _ _ _ (λ makes.
+    carries.makes p w old c.args.pending.now c.args.locals.now k shared s h texts c.make.new.store c.in-Makes.new c.in-Some.addr
+    (has_made w.classes c.classes.result.now texts old c.make.new.store c.in-Makes.new c.in-Some.addr c.make.result c.classes.ensures.classes c.make.ensures c.in-Some.is) effect makes) does
 
 pub returns-in-None-clause-carried : goal.returns-in-None-clause-carried
 returns-in-None-clause-carried c p shared s effect h does =
     let w = c.args.world.now in
     let k = result_value c.args.kind in
+    let texts = texts_in c.args.texts.now in
     let old = c.args.store.now in
-    carries.by_answer p w old.heap c.args.locals.now k shared s effect c.args.answer (answer.Makes c.in-Makes.class) c.in-Makes.is _ _ _ _ _ (λ makes.
-    refused_in p w old.heap c.args.locals.now (answer.Makes c.in-Makes.class) k shared s effect old c.make.new.store c.refuse.new.pending c.args.locals.now c.refuse.result
-    (unchanged c.classes.result.now old c.make.new.store c.in-Makes.class c.make.result c.make.ensures c.in-None.is) c.refuse.ensures.pending c.refuse.ensures.carried
-    (carries.refuses_object p w old c.args.pending.now c.args.locals.now k shared s h c.in-Makes.class effect makes (short w.classes c.classes.result.now old c.make.new.store c.in-Makes.class c.make.result c.classes.ensures.classes c.make.ensures c.in-None.is))) does
+    carries.by_answer p w old.heap c.args.locals.now k shared s effect texts c.args.answer (answer.Makes c.in-Makes.new) c.in-Makes.is _ _ _ _ _ (λ makes.
+    refused_in p w old.heap c.args.locals.now (answer.Makes c.in-Makes.new) k shared s effect old c.make.new.store c.refuse.new.pending c.args.locals.now c.refuse.result
+    (unchanged c.classes.result.now texts old c.make.new.store c.in-Makes.new c.make.result c.make.ensures c.in-None.is) c.refuse.ensures.pending c.refuse.ensures.carried
+    (carries.refuses_object p w old c.args.pending.now c.args.locals.now k shared s h texts c.in-Makes.new effect makes (short w.classes c.classes.result.now texts old c.make.new.store c.in-Makes.new c.make.result c.classes.ensures.classes c.make.ensures c.in-None.is))) does
 
 pub returns-in-Some-make-clause-carried : goal.returns-in-Some-make-clause-carried
 returns-in-Some-make-clause-carried c p shared s effect h does =
     let w = c.args.world.now in
     let k = result_value c.args.kind in
+    let texts = texts_in c.args.texts.now in
     let old = c.args.store.now in
-    carries.by_answer p w old.heap c.args.locals.now k shared s effect c.args.answer (answer.Throws c.in-Throws.class) c.in-Throws.is _ _ _ _ _ (λ throws.
+    carries.by_answer p w old.heap c.args.locals.now k shared s effect texts c.args.answer (answer.Throws c.in-Throws.class) c.in-Throws.is _ _ _ _ _ (λ throws.
     subst (λ (g : Given). CarriesOut p w old.heap c.args.locals.now (answer.Throws c.in-Throws.class) k shared s effect false c.make-in-Throws.new.store (Some c.in-Some-make.addr) c.args.locals.now g) (sym c.failed.ensures)
-    (carries.throws p w old c.args.pending.now c.args.locals.now k shared s h c.make-in-Throws.new.store c.in-Throws.class c.in-Some-make.addr
-    (has_made w.classes c.classes-in-Throws.result.now old c.make-in-Throws.new.store c.in-Throws.class c.in-Some-make.addr c.make-in-Throws.result c.classes-in-Throws.ensures.classes c.make-in-Throws.ensures c.in-Some-make.is) effect throws)) does
+    (carries.throws p w old c.args.pending.now c.args.locals.now k shared s h texts c.make-in-Throws.new.store c.in-Throws.class c.in-Some-make.addr
+    (has_made w.classes c.classes-in-Throws.result.now texts old c.make-in-Throws.new.store (Fresh c.in-Throws.class) c.in-Some-make.addr c.make-in-Throws.result c.classes-in-Throws.ensures.classes c.make-in-Throws.ensures c.in-Some-make.is) effect throws)) does
 
 pub returns-in-None-make-clause-carried : goal.returns-in-None-make-clause-carried
 returns-in-None-make-clause-carried c p shared s effect h does =
     let w = c.args.world.now in
     let k = result_value c.args.kind in
+    let texts = texts_in c.args.texts.now in
     let old = c.args.store.now in
-    carries.by_answer p w old.heap c.args.locals.now k shared s effect c.args.answer (answer.Throws c.in-Throws.class) c.in-Throws.is _ _ _ _ _ (λ throws.
+    carries.by_answer p w old.heap c.args.locals.now k shared s effect texts c.args.answer (answer.Throws c.in-Throws.class) c.in-Throws.is _ _ _ _ _ (λ throws.
     refused_in p w old.heap c.args.locals.now (answer.Throws c.in-Throws.class) k shared s effect old c.make-in-Throws.new.store c.refuse-in-None-make.new.pending c.args.locals.now c.refuse-in-None-make.result
-    (unchanged c.classes-in-Throws.result.now old c.make-in-Throws.new.store c.in-Throws.class c.make-in-Throws.result c.make-in-Throws.ensures c.in-None-make.is) c.refuse-in-None-make.ensures.pending c.refuse-in-None-make.ensures.carried
-    (carries.refuses_exception p w old c.args.pending.now c.args.locals.now k shared s h c.in-Throws.class effect throws (short w.classes c.classes-in-Throws.result.now old c.make-in-Throws.new.store c.in-Throws.class c.make-in-Throws.result c.classes-in-Throws.ensures.classes c.make-in-Throws.ensures c.in-None-make.is))) does
+    (unchanged c.classes-in-Throws.result.now texts old c.make-in-Throws.new.store (Fresh c.in-Throws.class) c.make-in-Throws.result c.make-in-Throws.ensures c.in-None-make.is) c.refuse-in-None-make.ensures.pending c.refuse-in-None-make.ensures.carried
+    (carries.refuses_exception p w old c.args.pending.now c.args.locals.now k shared s h texts c.in-Throws.class effect throws (short w.classes c.classes-in-Throws.result.now texts old c.make-in-Throws.new.store (Fresh c.in-Throws.class) c.make-in-Throws.result c.classes-in-Throws.ensures.classes c.make-in-Throws.ensures c.in-None-make.is))) does
 
 pub returns-in-Gives-clause-carried : goal.returns-in-Gives-clause-carried
 returns-in-Gives-clause-carried c p shared s effect h does =
     let w = c.args.world.now in
     let k = result_value c.args.kind in
+    let texts = texts_in c.args.texts.now in
     let old = c.args.store.now in
-    carries.by_answer p w old.heap c.args.locals.now k shared s effect c.args.answer (answer.Gives c.in-Gives.given) c.in-Gives.is _ _ _ _ _ (λ gives. carries.gives p w old c.args.pending.now c.args.locals.now k shared s h c.in-Gives.given effect gives) does
+    carries.by_answer p w old.heap c.args.locals.now k shared s effect texts c.args.answer (answer.Gives c.in-Gives.given) c.in-Gives.is _ _ _ _ _ (λ gives. carries.gives p w old c.args.pending.now c.args.locals.now k shared s h texts c.in-Gives.given effect gives) does
 
 -- what is told of an answer of references, of each kind of result
 told_on : {T E : Type 0} (P Q : T → Type 0) (r : Result T E) → ((x : T) → P x → Q x) → IfOk r P → IfOk r Q
@@ -129,7 +138,7 @@ told_on P Q (Err e) f h = h
 
 pub returns-in_default-clause-carried : goal.returns-in_default-clause-carried
 returns-in_default-clause-carried c =
-    told_on _ _ c.carry_out_references.result (λ carried told p shared s effect. told p (result_value c.args.kind) shared s effect) c.carry_out_references.ensures.carried
+    told_on _ _ c.carry_out_references.result (λ carried told p shared s effect. told p (result_value c.args.kind) (texts_in c.args.texts.now) shared s effect) c.carry_out_references.ensures.carried
 
 pub carry_out_references-requires-clause-possible : goal.carry_out_references-requires-clause-possible
-carry_out_references-requires-clause-possible c = let r = c.requires.possible in (r.0, result_value c.args.kind, r.1, r.2, r.3, r.4, r.5)
+carry_out_references-requires-clause-possible c = let r = c.requires.possible in (r.0, result_value c.args.kind, texts_in c.args.texts.now, r.1, r.2, r.3, r.4, r.5)

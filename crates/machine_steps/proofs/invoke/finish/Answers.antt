@@ -1,3 +1,4 @@
+use Rattle.std.specs.Global.{Vec}
 use Rattle.std.specs.Vec.{with_items}
 use Rattle.std.proofs.lemmas.List.{with_items_is, places}
 use Rattle.std.proofs.Common.{rules, length, ◌≡◌, ℕ, Bool, true, false, List, Option, sym, ap, ◌∙◌, subst, refl, arith}
@@ -20,6 +21,7 @@ use Rattle.machine_calls.specs.declared.store.Store.{Store}
 use Rattle.machine_calls.specs.declared.activation.Activation.{Activation}
 use Rattle.machine_calls.specs.declared.statics.StaticReference.{StaticReference}
 use Rattle.machine_calls.specs.Answers.{IsAnswer}
+use Rattle.machine_calls.specs.NewObjects.{texts_in}
 use Rattle.machine_calls.specs.CarriedOut.{CarriesOut, GoesByRoom, made_by, shared_after}
 use Rattle.semantics_safety.specs.Owners.{Owners}
 use Rattle.machine_steps.specs.declared.execute.Event.TheVariants.{Quiet}
@@ -45,6 +47,12 @@ executes p w old store in_use k own shared s rest call pending e line false h = 
 module _ (p : Lowered) (w : World) (store : Store) (pending : Option ℕ) (call : Activation) (function : Call) (own : Owners) (shared : Shared) (s : Thread) (task : Task) (rest : List Task) (h : AtCall p w store pending call function own shared s task rest) (answer : Answer) (given : IsAnswered w store pending call function answer) where
   -- the kind of its result
   module _ (kind : ResultKind) (same : kind ≡ (prototype (function_value function.function)).result) where
+    -- the same answer, where the texts are a slice
+    answered_by : (texts : List (Vec ℕ)) → texts ≡ function.texts.items → (in_use : BuffersInUse) (k : ℕ) → IsAnswer w.classes (texts_in texts) store.heap call.locals kind shared s answer (does p w store pending call function own shared s task rest h answer given in_use k)
+    answered_by texts are in_use k =
+        subst (λ (l : List (Vec ℕ)). IsAnswer w.classes (texts_in l) store.heap call.locals kind shared s answer (does p w store pending call function own shared s task rest h answer given in_use k)) (sym are)
+        (answered p w store pending call function own shared s task rest h answer given kind same in_use k)
+
     -- what was carried out
     module _ (in_use : BuffersInUse) (k : ℕ) (refused : Bool) (after : Store) (exception : Option ℕ) (locals : LocalTable) (g : Given) (carried : CarriesOut p w store.heap call.locals answer kind shared s (does p w store pending call function own shared s task rest h answer given in_use k) refused after exception locals g) where
       static_there : (statics : List StaticReference) → statics ≡ after.statics.items → HasStatic function.target (length statics)
@@ -75,7 +83,7 @@ carry_out-requires c =
         a.3,
         call_effect w.classes no_buffers 0 a.2 a.3 it.args it.f,
         can_carry a.0 w c.args.store.now c.args.pending.now c.args.call.now c.args.function.now a.1 a.2 a.3 a.4 a.5 a.6 c.args.answer c.requires.answered kind c.requires.prepared.result,
-        answered a.0 w c.args.store.now c.args.pending.now c.args.call.now c.args.function.now a.1 a.2 a.3 a.4 a.5 a.6 c.args.answer c.requires.answered kind c.requires.prepared.result no_buffers 0,
+        answered_by a.0 w c.args.store.now c.args.pending.now c.args.call.now c.args.function.now a.1 a.2 a.3 a.4 a.5 a.6 c.args.answer c.requires.answered kind c.requires.prepared.result c.deref.result.now c.deref.ensures.value no_buffers 0,
       );
       few = c.requires.few;
     }
@@ -93,7 +101,7 @@ receive-requires-clause-static_target c =
     let same = c.requires.prepared.result in
     static_there a.0 w c.args.store.now c.args.pending.now c.args.call.now c.args.function.now a.1 a.2 a.3 a.4 a.5 a.6 c.args.answer c.requires.answered kind same no_buffers 0 c.in_ok-carried.carried.refused c.carry_out.new.store c.carry_out.new.pending c.carry_out.new.locals c.in_ok-carried.carried.given
     (c.in_ok-carried.ensures.carried a.0 a.2 a.3 _ (can_carry a.0 w c.args.store.now c.args.pending.now c.args.call.now c.args.function.now a.1 a.2 a.3 a.4 a.5 a.6 c.args.answer c.requires.answered kind same)
-    (answered a.0 w c.args.store.now c.args.pending.now c.args.call.now c.args.function.now a.1 a.2 a.3 a.4 a.5 a.6 c.args.answer c.requires.answered kind same no_buffers 0))
+    (answered_by a.0 w c.args.store.now c.args.pending.now c.args.call.now c.args.function.now a.1 a.2 a.3 a.4 a.5 a.6 c.args.answer c.requires.answered kind same c.deref.result.now c.deref.ensures.value no_buffers 0))
     c.deref_mut.result.now c.deref_mut.ensures.value
 
 pub receive-requires-clause-room : goal.receive-requires-clause-room
@@ -104,7 +112,7 @@ receive-requires-clause-room c =
     let same = c.requires.prepared.result in
     room_there a.0 w c.args.store.now c.args.pending.now c.args.call.now c.args.function.now a.1 a.2 a.3 a.4 a.5 a.6 c.args.answer c.requires.answered kind same no_buffers 0 c.in_ok-carried.carried.refused c.carry_out.new.store c.carry_out.new.pending c.carry_out.new.locals c.in_ok-carried.carried.given
     (c.in_ok-carried.ensures.carried a.0 a.2 a.3 _ (can_carry a.0 w c.args.store.now c.args.pending.now c.args.call.now c.args.function.now a.1 a.2 a.3 a.4 a.5 a.6 c.args.answer c.requires.answered kind same)
-    (answered a.0 w c.args.store.now c.args.pending.now c.args.call.now c.args.function.now a.1 a.2 a.3 a.4 a.5 a.6 c.args.answer c.requires.answered kind same no_buffers 0))
+    (answered_by a.0 w c.args.store.now c.args.pending.now c.args.call.now c.args.function.now a.1 a.2 a.3 a.4 a.5 a.6 c.args.answer c.requires.answered kind same c.deref.result.now c.deref.ensures.value no_buffers 0))
 
 pub returns-clause-done : goal.returns-clause-done
 returns-clause-done c p in_use k own shared s task rest h =
@@ -119,7 +127,8 @@ returns-clause-done c p in_use k own shared s task rest h =
     let g = c.in_ok-carried.carried.given in
     let is = kind_is p w store pending call function own shared s task rest h c.args.answer c.requires.answered kind same in
     let answer = answered p w store pending call function own shared s task rest h c.args.answer c.requires.answered kind same in_use k in
-    let carried = c.in_ok-carried.ensures.carried p shared s _ (can_carry p w store pending call function own shared s task rest h c.args.answer c.requires.answered kind same) answer in
+    let carried = c.in_ok-carried.ensures.carried p shared s _ (can_carry p w store pending call function own shared s task rest h c.args.answer c.requires.answered kind same)
+    (answered_by p w store pending call function own shared s task rest h c.args.answer c.requires.answered kind same c.deref.result.now c.deref.ensures.value in_use k) in
     let it = called p w store pending call function own shared s task rest h in
     let after = with_items c.carry_out.new.store.statics c.receive.new.statics in
     let final : Store = record c.carry_out.new.store { statics = after } in
@@ -128,7 +137,7 @@ returns-clause-done c p in_use k own shared s task rest h =
     (goes_on p w store pending call function own shared s task rest h in_use k refused c.carry_out.new.store c.carry_out.new.pending c.carry_out.new.locals g c.receive.new.call after c.args.answer c.frames.ensures.stacked
     (free p w store pending call function own shared s task rest h c.args.answer c.requires.answered)
     (worked p w store pending call function own shared s task rest h c.args.answer c.requires.answered)
-    (subst (λ (x : ResultKind). IsAnswer w.classes store.heap call.locals x shared s c.args.answer (call_effect w.classes in_use k shared s it.args it.f)) is answer)
+    (subst (λ (x : ResultKind). IsAnswer w.classes (texts_in function.texts.items) store.heap call.locals x shared s c.args.answer (call_effect w.classes in_use k shared s it.args it.f)) is answer)
     (carried_as p w store pending call function own shared s task rest h c.args.answer c.requires.answered kind same in_use k refused c.carry_out.new.store c.carry_out.new.pending c.carry_out.new.locals g carried)
     (subst (λ (x : ResultKind). Receives function.target x g (record call { locals = c.carry_out.new.locals }) c.receive.new.call) is c.receive.ensures.call)
     (with_items_is c.carry_out.new.store.statics c.receive.new.statics (search (rules, places)) ∙ c.receive.ensures.statics ∙ ap (λ (l : List StaticReference). statics_with function.target g l) c.deref_mut.ensures.value)))
@@ -148,7 +157,8 @@ returns-clause-refused c is =
     let same = c.requires.prepared.result in
     let effect = does a.0 w store c.args.pending.now call c.args.function.now a.1 a.2 a.3 a.4 a.5 a.6 c.args.answer c.requires.answered no_buffers 0 in
     let answer = answered a.0 w store c.args.pending.now call c.args.function.now a.1 a.2 a.3 a.4 a.5 a.6 c.args.answer c.requires.answered kind same no_buffers 0 in
-    let carried = c.in_ok-carried.ensures.carried a.0 a.2 a.3 effect (can_carry a.0 w store c.args.pending.now call c.args.function.now a.1 a.2 a.3 a.4 a.5 a.6 c.args.answer c.requires.answered kind same) answer in
+    let carried = c.in_ok-carried.ensures.carried a.0 a.2 a.3 effect (can_carry a.0 w store c.args.pending.now call c.args.function.now a.1 a.2 a.3 a.4 a.5 a.6 c.args.answer c.requires.answered kind same)
+    (answered_by a.0 w store c.args.pending.now call c.args.function.now a.1 a.2 a.3 a.4 a.5 a.6 c.args.answer c.requires.answered kind same c.deref.result.now c.deref.ensures.value no_buffers 0) in
     let refused = was_refused c.in_ok-carried.carried.refused c.done_or_refused.result c.done_or_refused.ensures (cc (is)) in
     let short = subst (λ (b : Bool). GoesByRoom b (sizes (made_by w.classes effect)) store.heap c.carry_out.new.store.heap) refused carried.room in
-    omega (arith, short.0, cells_made w.classes store.heap call.locals kind a.2 a.3 c.args.answer effect answer)
+    omega (arith, short.0, cells_made w.classes (texts_in c.args.function.now.texts.items) store.heap call.locals kind a.2 a.3 c.args.answer effect answer)

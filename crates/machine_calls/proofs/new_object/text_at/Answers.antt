@@ -5,7 +5,7 @@ use Rattle.std.specs.Option.{option_map, option_copied}
 use Rattle.std.specs.Slice.{IsItemAt}
 use Rattle.std.proofs.lemmas.Option.{slice_get-map}
 use Rattle.machine_calls.proofs.LookUps.{copied_found}
-use Rattle.machine_calls.proofs.answer.text_at.Goals as goal
+use Rattle.machine_calls.proofs.new_object.text_at.Goals as goal
 
 -- the text that is found at a place
 found_text : (texts : List (Vec ℕ)) (place : ℕ) (found : Option (Bor (Vec ℕ))) → IsItemAt texts place found

@@ -9,10 +9,11 @@ use Rattle.classes.specs.FieldViews.{field_id_view}
 use Rattle.classes.specs.declared.fields.FieldId.{FieldId as InMemory}
 use Rattle.heap.specs.declared.value.Value.{Value}
 use Rattle.heap.specs.declared.value.Value.TheVariants.{Null}
-use Rattle.heap.specs.Heap.{Block, Space, end_of, fresh_block, with_block, with_value, values_at}
-use Rattle.machine_calls.specs.Made.{initial_value, initial_values, new_block}
+use Rattle.heap.specs.Heap.{Space, end_of, fresh_block, with_block, with_value, values_at}
+use Rattle.machine_calls.specs.Made.{next_block}
+use Rattle.machine_calls.specs.NewObjects.{initial_value, initial_values}
 use Rattle.machine_calls.proofs.FilledBlocks.{cells_all, filled_block, filled_fresh, filled_within, filled_more}
-use Rattle.machine_calls.proofs.make.make.Goals as goal
+use Rattle.machine_calls.proofs.make.allocate_fresh.Goals as goal
 
 -- what is at a place is there
 there_by : (o : Option InMemory) (fields : List FieldId) (i : ℕ) → option_map field_id_view o ≡ slice_get fields i → i < length fields → IsSome o
@@ -34,63 +35,50 @@ value_at classes class i o f v at found is =
 
 pub loop-place-init : goal.loop-place-init
 loop-place-init c =
-    let s = c.args.store.now.heap in
+    let s = c.args.heap.now in
     let values = initial_values c.args.classes.now c.args.class in
-    let long : c.layout_len-count.result ≡ length values = c.layout_len-count.ensures.len ∙ sym (length-map (layout c.args.classes.now c.args.class) (λ (x : FieldId). initial_value x.field.type)) in (
-      c.in-Ok.ensures.block
-          ∙ ap (λ (a : ℕ). with_block s (fresh_block a c.args.class (c.args.store.now.births + 1) c.layout_len-count.result Null)) c.in-Ok.ensures.address
-          ∙ filled_fresh s c.args.class (c.args.store.now.births + 1) c.layout_len-count.result values long,
-      refl,
-      refl,
-      refl,
-    )
+    let long : c.layout_len-count.result ≡ length values = c.layout_len-count.ensures.len ∙ sym (length-map (layout c.args.classes.now c.args.class) (λ (x : FieldId). initial_value x.field.type)) in
+    c.in-Ok.ensures.block
+    ∙ ap (λ (a : ℕ). with_block s (fresh_block a c.args.class c.args.birth c.layout_len-count.result Null)) c.in-Ok.ensures.address
+    ∙ filled_fresh s c.args.class c.args.birth c.layout_len-count.result values long
 
 pub unwrap-id-requires : goal.unwrap-id-requires
 unwrap-id-requires c = there_by c.layout_field.result (layout c.args.classes.now c.args.class) c.loop-place.place c.layout_field.ensures (omega (arith, c.layout_len-count.ensures.len, c.loop-place-test.true))
 
 pub set-requires : goal.set-requires
 set-requires c =
-    let s = c.args.store.now.heap in
+    let s = c.args.heap.now in
     let values = initial_values c.args.classes.now c.args.class in
-    let there : length (values_at c.loop-place.store.heap c.in-Ok.addr) ≡ length values =
-    ap (λ (a : ℕ). length (values_at c.loop-place.store.heap a)) c.in-Ok.ensures.address
-    ∙ ap (λ (t : Space). length (values_at t (end_of s))) c.loop-place.invariant.0
-    ∙ filled_within s c.args.class (c.args.store.now.births + 1) values c.loop-place.place c.count.ensures.laid_out in
+    let there : length (values_at c.loop-place.heap c.in-Ok.addr) ≡ length values =
+    ap (λ (a : ℕ). length (values_at c.loop-place.heap a)) c.in-Ok.ensures.address
+    ∙ ap (λ (t : Space). length (values_at t (end_of s))) c.loop-place.invariant
+    ∙ filled_within s c.args.class c.args.birth values c.loop-place.place c.count.ensures.laid_out in
     let long : length values ≡ length (layout c.args.classes.now c.args.class) = length-map (layout c.args.classes.now c.args.class) (λ (x : FieldId). initial_value x.field.type) in
     omega (arith, c.loop-place-test.true, c.layout_len-count.ensures.len)
 
 pub loop-place-preserved : goal.loop-place-preserved
 loop-place-preserved c =
-    let s = c.args.store.now.heap in
+    let s = c.args.heap.now in
     let i = c.loop-place.place in
-    let birth = c.args.store.now.births + 1 in
+    let birth = c.args.birth in
     let values = initial_values c.args.classes.now c.args.class in
     let value = value_at c.args.classes.now c.args.class i c.layout_field.result c.unwrap-id.result c.initial_value.result c.layout_field.ensures c.unwrap-id.ensures c.initial_value.ensures in
-    let next : suc i ≡ i + 1 = omega arith in (
-      c.set.ensures
-          ∙ ap (λ (t : Space). with_value t c.in-Ok.addr i c.initial_value.result) c.loop-place.invariant.0
-          ∙ ap (λ (a : ℕ). with_value (with_block s (filled_block s c.args.class birth values i)) a i c.initial_value.result) c.in-Ok.ensures.address
-          ∙ filled_more s c.args.class birth values i c.initial_value.result c.count.ensures.laid_out value
-          ∙ ap (λ (k : ℕ). with_block s (filled_block s c.args.class birth values k)) next,
-      c.loop-place.invariant.1,
-      c.loop-place.invariant.2,
-      c.loop-place.invariant.3,
-    )
+    let next : suc i ≡ i + 1 = omega arith in
+    c.set.ensures
+    ∙ ap (λ (t : Space). with_value t c.in-Ok.addr i c.initial_value.result) c.loop-place.invariant
+    ∙ ap (λ (a : ℕ). with_value (with_block s (filled_block s c.args.class birth values i)) a i c.initial_value.result) c.in-Ok.ensures.address
+    ∙ filled_more s c.args.class birth values i c.initial_value.result c.count.ensures.laid_out value
+    ∙ ap (λ (k : ℕ). with_block s (filled_block s c.args.class birth values k)) next
 
 pub returns-after-loop-place : goal.returns-after-loop-place
 returns-after-loop-place c =
-    let s = c.args.store.now.heap in
+    let s = c.args.heap.now in
     let values = initial_values c.args.classes.now c.args.class in
     let long : length values ≡ length (layout c.args.classes.now c.args.class) = length-map (layout c.args.classes.now c.args.class) (λ (x : FieldId). initial_value x.field.type) in
-    let all : filled_block s c.args.class (c.args.store.now.births + 1) values c.loop-place.place ≡ new_block c.args.classes.now c.args.store.now c.args.class =
-    ap (λ (l : List Value). let b : Block = record { address = end_of s; class = c.args.class; birth = c.args.store.now.births + 1; values = l; pins = 0 } in b)
-    (cells_all values c.loop-place.place (omega (arith, c.loop-place-test.false, c.layout_len-count.ensures.len))) in
-    record {
-      room = omega (arith, c.in-Ok.ensures.room, c.layout_len-count.ensures.len);
-      address = c.in-Ok.ensures.address;
-      heap = c.loop-place.invariant.0 ∙ ap (with_block s) all;
-      loaded = c.loop-place.invariant.1;
-      births = refl;
-      statics = c.loop-place.invariant.2;
-      globals = c.loop-place.invariant.3;
-    }
+    let all : filled_block s c.args.class c.args.birth values c.loop-place.place ≡ next_block s c.args.class c.args.birth values =
+    ap (λ (l : List Value). next_block s c.args.class c.args.birth l)
+    (cells_all values c.loop-place.place (omega (arith, c.loop-place-test.false, c.layout_len-count.ensures.len))) in (
+      c.loop-place.invariant ∙ ap (with_block s) all,
+      omega (arith, c.in-Ok.ensures.room, c.layout_len-count.ensures.len),
+      c.in-Ok.ensures.address,
+    )
