@@ -1,13 +1,13 @@
 -- What the machine works out of calls is what the source's calls do.
-use Rattle.std.proofs.Common.{◌≡◌, ℕ, pos, negsuc, zero, suc, ◌<◌, ◌≤◌, true, false, not, List, [], ◌∷◌, length, Option, Some, None, slice_get, refl, sym, ap, ◌∙◌, subst, arith, ℤ}
-use Rattle.std.specs.Prelude.{◌==◌, unwrap_or, FitsSigned}
-use Rattle.std.specs.Int.{w32, cast_signed, cast_unsigned}
-use Rattle.std.specs.List.{AllZip}
+use Rattle.std.proofs.Common.{◌≡◌, ℕ, pos, negsuc, zero, suc, ◌<◌, ◌≤◌, true, false, not, List, [], ◌∷◌, length, Option, Some, None, slice_get, refl, sym, ap, ◌∙◌, subst, arith, ℤ, Bool, ◌++◌}
+use Rattle.std.specs.Prelude.{◌==◌, ◌&&◌, nat_lt, if◌then◌else◌, unwrap_or, FitsSigned}
+use Rattle.std.specs.Int.{w32, cast_unsigned}
+use Rattle.std.specs.List.{AllByRecursion, AllZip}
 use Rattle.std.specs.Option.{option_map_or}
 use Rattle.std.proofs.Math.Facts.{to_z-of_z}
 use Rattle.std.proofs.lemmas.Bool.Decides.{nat_tests}
-use Rattle.class_rules.specs.BuiltIns.{class_class, has_own_making, no_class_def_found_error, no_such_field_error}
-use Rattle.class_rules.specs.Class.{class_named, superclass, assignable}
+use Rattle.class_rules.specs.BuiltIns.{array_index_out_of_bounds, array_store_exception, class_class, has_own_making, negative_array_size, no_class_def_found_error, no_such_field_error, number_array, string_class}
+use Rattle.class_rules.specs.Class.{ArrayOfObjects, Plain, array_class_of, array_name, class_kind, class_name, class_named, element_class, is_plain, superclass, assignable}
 use Rattle.class_rules.specs.Fields.{FieldId, find_field, find_static, layout, own_statics}
 use Rattle.class_rules.proofs.GrownTables.{grown_is_ordered}
 use Rattle.classes.specs.declared.class.FieldHandle.{FieldHandle}
@@ -15,24 +15,24 @@ use Rattle.code.specs.Call.{Call}
 use Rattle.code.specs.Effect.{truth_word, element_word}
 use Rattle.code.specs.declared.instr.Operand.{Operand}
 use Rattle.code.specs.declared.instr.Operand.TheVariants as operand
-use Rattle.heap.specs.Heap.{name_at}
-use Rattle.jni.specs.JniFunction.{JniFunction, FindClass, AllocObject, NewLocalRef, NewGlobalRef, DeleteLocalRef, DeleteGlobalRef, IsSameObject, EnsureLocalCapacity, PushLocalFrame, PopLocalFrame, GetFieldID, GetStaticFieldID, GetArrayLength, GetSuperclass, GetObjectClass, IsInstanceOf, IsAssignableFrom, GetField, SetField, GetObjectField, SetObjectField, GetStaticField, SetStaticField, GetStaticObjectField, SetStaticObjectField, prototype, is_built_function}
-use Rattle.jni.specs.Prototype.{ParameterKind, ClassObject, FieldID, IntNumber, NonNull, NewLocal, GivesField, GivesInt, Nullable, GivesNothing}
+use Rattle.heap.specs.Heap.{name_at, values_at}
+use Rattle.jni.specs.JniFunction.{JniFunction, FindClass, AllocObject, NewLocalRef, NewGlobalRef, DeleteLocalRef, DeleteGlobalRef, IsSameObject, EnsureLocalCapacity, PushLocalFrame, PopLocalFrame, GetFieldID, GetStaticFieldID, GetArrayLength, NewArray, NewObjectArray, GetObjectArrayElement, SetObjectArrayElement, NewStringUTF, GetStringLength, GetSuperclass, GetObjectClass, IsInstanceOf, IsAssignableFrom, GetField, SetField, GetObjectField, SetObjectField, GetStaticField, SetStaticField, GetStaticObjectField, SetStaticObjectField, prototype, is_built_function}
+use Rattle.jni.specs.Prototype.{ParameterKind, ClassObject, FieldID, IntNumber, NonNull, ObjectArray, NewLocal, GivesField, GivesInt, Nullable, GivesNothing}
 use Rattle.semantics.specs.Arguments.{Actual, variable_given, reference_given, object_given, name_or_zero, text_given, field_given, number_given}
-use Rattle.semantics.specs.CallEffects.{delete_global_effect, delete_local_effect, ensure_effect, push_effect, found_class_effect, found_field_effect, heap_effect, same_reference, CallEffect, level_of}
+use Rattle.semantics.specs.CallEffects.{Leaves, ReferenceResult, Throws, at_index, new_array_effect, store_effect, string_object, delete_global_effect, delete_local_effect, ensure_effect, push_effect, found_class_effect, found_field_effect, heap_effect, same_reference, CallEffect, level_of}
 use Rattle.semantics.specs.CallStep.{trap_of_call}
 use Rattle.semantics.specs.CallTable.{call_effect}
-use Rattle.semantics.specs.Heap.{class_of, object_at, field_place, number_in, place_in, value_at, reference_in, static_place, with_value_at}
+use Rattle.semantics.specs.Heap.{class_of, fits_class, values_of, object_at, field_place, number_in, place_in, value_at, reference_in, static_place, with_value_at}
 use Rattle.semantics.specs.Object.{Object, Reference, ObjectValue, Number, Refers}
 use Rattle.semantics.specs.Task.{Target}
 use Rattle.semantics.specs.Thread.{Shared, Thread, BuffersInUse}
 use Rattle.semantics.specs.World.{World, fresh_object, loaded_objects}
 use Rattle.world_values.proofs.LoadedWorlds.{class_within as found_within}
 use Rattle.world_values.specs.SoundWorlds.{IsSound}
-use Rattle.code_meaning.specs.Does.{OperandFits}
+use Rattle.code_meaning.specs.Does.{ActualFits, OperandFits}
 use Rattle.code_meaning.specs.Fits.{IsReferenceKind}
 use Rattle.code_meaning.specs.Lowered.{Lowered}
-use Rattle.base.specs.Element.{ElementType}
+use Rattle.base.specs.Element.{ElementType, JInt, JShort, JByte, JChar}
 use Rattle.semantics.specs.Value.{Int, convert}
 use Rattle.code_meaning.specs.Slots.{word_of}
 use Rattle.machine_calls.proofs.KeyLaws.{OwnKey}
@@ -49,18 +49,18 @@ use Rattle.machine_calls.specs.declared.answer.Answer.{Answer}
 use Rattle.machine_calls.specs.declared.store.Store.{Store}
 use Rattle.machine_calls.specs.declared.activation.Activation.{Activation}
 use Rattle.machine_calls.specs.Answers.{HoldsObject, IsAnswer}
-use Rattle.machine_calls.specs.NewObjects.{IsMakeable}
+use Rattle.machine_calls.specs.NewObjects.{IsMakeable, text_in}
 use Rattle.machine_calls.specs.Asked.{IsAsked, references_of}
 use Rattle.machine_calls.specs.Statics.{References}
-use Rattle.machine_calls.specs.Checked.{some_missing, may_be_null}
+use Rattle.machine_calls.specs.Checked.{some_misfit, some_missing, may_be_null}
 use Rattle.machine_calls.specs.Given.{key_at, operand_at, operand_of, class_of_given, class_there, fits_there, name_there, field_at, field_there}
 use Rattle.machine_calls.specs.HeapAgrees.{HeapAgrees, ReferenceAgrees, ValueAgrees}
-use Rattle.machine_calls.specs.WorkedOut.{deletes, deletes_global, frame_for, class_object, found_class, IsFoundField, IsWorkedOut, place_there, value_there, word_in, address_in, held_reference, room_for, top_word, writes_there}
+use Rattle.machine_calls.specs.WorkedOut.{deletes, deletes_global, frame_for, class_object, found_class, IsFoundField, IsWorkedOut, place_there, value_there, word_in, address_in, held_reference, room_for, top_word, writes_there, count_there, element_there, index_there, new_array, stack_number, stores_there}
 use Rattle.machine_calls.proofs.CallChecks.{class_given_is, class_is, field_at_place, fits_is, name_is, reference_at_place, handle_of}
 use Rattle.machine_calls.proofs.BlocksOfNames.{Named, named, name_within}
 use Rattle.machine_calls.proofs.CallTraps.{has_passed, none_deleted, none_lacking, none_unfit, handles_there}
-use Rattle.machine_calls.proofs.LongTables.{classes_loaded, grown_long}
-use Rattle.machine_calls.proofs.CallOperands.{count_is, few_there, class_object_is, super_known, only_text, two_texts, first_object, first_class, second_field, only_number, third_number, class_of_first, only_static, own_making}
+use Rattle.machine_calls.proofs.LongTables.{class_is_plain, classes_loaded, grown_long}
+use Rattle.machine_calls.proofs.CallOperands.{GivenObject, IsWordless, OnTop, count_is, few_there, class_object_is, super_known, only_text, two_texts, object_at_place, on_top, is_class, second_field, only_static, own_making}
 
 -- a call that is asked and passed its checks
 module _ (p : Lowered) (w : World) (store : Store) (pending : Option ℕ) (call : Activation) (function : Call) (shared : Shared) (s : Thread) (sound : IsSound w) (in_use : BuffersInUse) (k : ℕ) (args : List Actual) where
@@ -104,18 +104,65 @@ module _ (p : Lowered) (w : World) (store : Store) (pending : Option ℕ) (call 
   low_name zero o h = absurd (cc)
   low_name (suc n) o h = omega arith
 
-  no_field_class : IsMakeable w.classes no_such_field_error
-  no_field_class = record { low = omega arith; high = omega (arith, grown_long w.classes sound.grown); no_class = λ e. cc }
+  -- a built-in class after Class
+  built_in_class : (c : ℕ) → 2 < c → c ≤ 42 → IsMakeable w.classes c
+  built_in_class c low high = record { low = omega (arith, low); high = omega (arith, high, grown_long w.classes sound.grown); no_class = λ e. let is : c ≡ 2 = e in omega (arith, low, is) }
 
-  no_class_class : IsMakeable w.classes no_class_def_found_error
-  no_class_class = record { low = omega arith; high = omega (arith, grown_long w.classes sound.grown); no_class = λ e. cc }
+  -- the object of argument i
+  object_given_at : (f : JniFunction) (before : List ParameterKind) (q : ParameterKind) (after : List ParameterKind) → IsReferenceKind q → may_be_null q ≡ false → (prototype f).parameters ≡ before ++ q ∷ after → Asked f
+      → (target : Target) → trap_of_call w.classes shared s target f args ≡ None → GivenObject w.classes store.heap references fields function.operands args (length before)
+  object_given_at f before q after kind never are h target free =
+      object_at_place w.classes store.heap references fields before q after kind never function.operands args (subst (λ (l : List ParameterKind). AllZip OperandFits l function.operands) are h.kinds) h.given
+      (none_deleted p w store pending call function shared s f args h target free)
+      (subst (λ (l : List ParameterKind). some_missing references fields l function.operands ≡ false) are (none_lacking p w store pending call function shared s f args h target free))
+
+  -- the number of an argument, which is the only one
+  top_of : (f : JniFunction) (before after : List ParameterKind) → AllByRecursion (IsWordless w.classes store.heap references fields) before → AllByRecursion (IsWordless w.classes store.heap references fields) after
+      → (prototype f).parameters ≡ before ++ IntNumber ∷ after → Asked f → OnTop w.classes store.heap references fields args (length before)
+  top_of f before after none later are h =
+      on_top w.classes store.heap references fields before after function.operands args none later (subst (λ (l : List ParameterKind). AllZip OperandFits l function.operands) are h.kinds)
+      (subst (λ (l : List ParameterKind). AllZip ActualFits l args) are h.fit) h.given
+
+  -- it is on the stack
+  number_of : (f : JniFunction) (before after : List ParameterKind) → AllByRecursion (IsWordless w.classes store.heap references fields) before → AllByRecursion (IsWordless w.classes store.heap references fields) after
+      → (prototype f).parameters ≡ before ++ IntNumber ∷ after → Asked f → stack_number call.stack ≡ number_given args (length before)
+  number_of f before after none later are h =
+      let top = top_of f before after none later are h in
+      ap stack_number (h.words ∙ top.words) ∙ to_z-of_z {w = w32} top.fits ∙ sym top.is
+
+  -- the class that argument i is
+  record GivenClass (i : ℕ) : Type 0 where
+    pub low : 0 < object_given args i
+    pub high : object_given args i ≤ length w.classes
+
+  class_given : (f : JniFunction) (before after : List ParameterKind) → (prototype f).parameters ≡ before ++ ClassObject ∷ after → Asked f → (target : Target) → trap_of_call w.classes shared s target f args ≡ None → GivenClass (length before)
+  class_given f before after are h target free =
+      let given = object_given_at f before ClassObject after tt refl are h target free in
+      let object = object_of f h given.address given.name given.named in
+      let class : class_of shared.heap given.name ≡ object.0.class = ap (λ (o : Option Object). option_map_or (λ (x : Object). x.class) o 0) object.1 in
+      let of_class : class_there store.heap given.address ≡ class_class = is_class w.classes store.heap references fields before after function.operands given.address given.at
+      (subst (λ (l : List ParameterKind). AllZip OperandFits l function.operands) are h.kinds)
+      (subst (λ (l : List ParameterKind). some_misfit w.classes store.heap references l function.operands ≡ false) are (none_unfit p w store pending call function shared s f args h target free)) in
+      let same : object.0.class ≡ class_class = sym class ∙ sym (class_is w.classes store.heap references fields shared.heap h.store_agrees.heap.blocks given.address given.name given.named) ∙ of_class in
+      let name : object_given args (length before) ≡ given.name = ap name_or_zero given.is in
+      let low = low_name given.name object.0 object.1 in
+      let high : given.name ≤ length w.classes = (h.store_agrees.classed given.name object.0 object.1).of_class same in
+      record { low = omega (arith, low, name); high = omega (arith, high, name) }
+
+  -- the number of values of argument 0
+  counted : (f : JniFunction) → Asked f → (count_there store.heap (at 0) ≡ length (values_of shared.heap (object_given args 0))) × FitsSigned w32 (pos (length (values_of shared.heap (object_given args 0))))
+  counted f h =
+      let size = count_is w.classes store.heap references fields shared.heap h.store_agrees.heap.blocks (at 0) (reference_given args 0) (agrees f h 0) in
+      let few = few_there w.classes store.heap references fields shared.heap h.store_agrees.heap.blocks (at 0) h.store_agrees.laid_out (omega (arith, sound.cells, h.store_agrees.cells)) in
+      (size, subst (λ (l : ℕ). FitsSigned w32 (pos l)) size (record { sfits = few }))
 
   answers_length : Asked GetArrayLength → (answer : Answer) → Works GetArrayLength answer → Does GetArrayLength answer
   unfolding call_effect
-  answers_length h answer is =
-      let size = count_is w.classes store.heap references fields shared.heap h.store_agrees.heap.blocks (at 0) (reference_given args 0) (agrees GetArrayLength h 0) in
-      let few = few_there w.classes store.heap references fields shared.heap h.store_agrees.heap.blocks (at 0) h.store_agrees.laid_out (omega (arith, sound.cells, h.store_agrees.cells)) in
-      subst (λ (x : Answer). Does GetArrayLength x) (sym is) (refl, refl, (size, subst (λ (l : ℕ). FitsSigned w32 (pos l)) size (record { sfits = few })))
+  answers_length h answer is = subst (λ (x : Answer). Does GetArrayLength x) (sym is) (refl, refl, counted GetArrayLength h)
+
+  answers_string_length : Asked GetStringLength → (answer : Answer) → Works GetStringLength answer → Does GetStringLength answer
+  unfolding call_effect
+  answers_string_length h answer is = subst (λ (x : Answer). Does GetStringLength x) (sym is) (refl, refl, counted GetStringLength h)
 
   answers_instance : Asked IsInstanceOf → (answer : Answer) → Works IsInstanceOf answer → Does IsInstanceOf answer
   unfolding call_effect
@@ -164,10 +211,7 @@ module _ (p : Lowered) (w : World) (store : Store) (pending : Option ℕ) (call 
   answers_ensure : Asked EnsureLocalCapacity → (answer : Answer) → Works EnsureLocalCapacity answer → Does EnsureLocalCapacity answer
   unfolding call_effect
   answers_ensure h answer is =
-      let only = only_number w.classes store.heap references fields function.operands args h.kinds h.given in
-      let word : cast_signed w32 (top_word call.stack) ≡ only.0 = ap (λ (l : List ℕ). cast_signed w32 (top_word l)) (h.words ∙ only.3) ∙ to_z-of_z {w = w32} only.2 in
-      subst (λ (x : Answer). Does EnsureLocalCapacity x) (sym (is ∙ ap room_for word))
-      (subst (λ (z : ℤ). IsAnswer w.classes function.texts store.heap call.locals GivesInt shared s (room_for only.0) (ensure_effect w.classes shared s z)) (sym only.1) (by_number only.0))
+      subst (λ (x : Answer). Does EnsureLocalCapacity x) (sym (is ∙ ap room_for (number_of EnsureLocalCapacity [] [] tt tt refl h))) (by_number (number_given args 0))
     where
       by_number : (z : ℤ) → IsAnswer w.classes function.texts store.heap call.locals GivesInt shared s (room_for z) (ensure_effect w.classes shared s z)
       by_number (pos n) = (refl, refl)
@@ -176,10 +220,7 @@ module _ (p : Lowered) (w : World) (store : Store) (pending : Option ℕ) (call 
   answers_push : Asked PushLocalFrame → (answer : Answer) → Works PushLocalFrame answer → Does PushLocalFrame answer
   unfolding call_effect
   answers_push h answer is =
-      let only = only_number w.classes store.heap references fields function.operands args h.kinds h.given in
-      let word : cast_signed w32 (top_word call.stack) ≡ only.0 = ap (λ (l : List ℕ). cast_signed w32 (top_word l)) (h.words ∙ only.3) ∙ to_z-of_z {w = w32} only.2 in
-      subst (λ (x : Answer). Does PushLocalFrame x) (sym (is ∙ ap frame_for word))
-      (subst (λ (z : ℤ). IsAnswer w.classes function.texts store.heap call.locals GivesInt shared s (frame_for only.0) (push_effect w.classes shared s z)) (sym only.1) (by_number only.0))
+      subst (λ (x : Answer). Does PushLocalFrame x) (sym (is ∙ ap frame_for (number_of PushLocalFrame [] [] tt tt refl h))) (by_number (number_given args 0))
     where
       by_number : (z : ℤ) → IsAnswer w.classes function.texts store.heap call.locals GivesInt shared s (frame_for z) (push_effect w.classes shared s z)
       by_number (pos n) = (refl, refl)
@@ -238,7 +279,7 @@ module _ (p : Lowered) (w : World) (store : Store) (pending : Option ℕ) (call 
   answers_class : Asked GetObjectClass → (target : Target) → trap_of_call w.classes shared s target GetObjectClass args ≡ None → (answer : Answer) → Works GetObjectClass answer → Does GetObjectClass answer
   unfolding call_effect
   answers_class h target free answer is =
-      let first = first_object w.classes store.heap references fields [] function.operands args h.kinds h.given (none_deleted p w store pending call function shared s GetObjectClass args h target free) (none_lacking p w store pending call function shared s GetObjectClass args h target free) in
+      let first = object_given_at GetObjectClass [] NonNull [] tt refl refl h target free in
       let object = object_of GetObjectClass h first.address first.name first.named in
       let known = h.store_agrees.classed first.name object.0 object.1 in
       let class : class_of shared.heap first.name ≡ object.0.class = ap (λ (o : Option Object). option_map_or (λ (x : Object). x.class) o 0) object.1 in
@@ -254,20 +295,15 @@ module _ (p : Lowered) (w : World) (store : Store) (pending : Option ℕ) (call 
   answers_alloc : Asked AllocObject → (target : Target) → trap_of_call w.classes shared s target AllocObject args ≡ None → (answer : Answer) → Works AllocObject answer → Does AllocObject answer
   unfolding call_effect
   answers_alloc h target free answer is =
-      let first = first_class w.classes store.heap references fields [] function.operands args h.kinds h.given (none_deleted p w store pending call function shared s AllocObject args h target free) (none_lacking p w store pending call function shared s AllocObject args h target free) in
-      let object = object_of AllocObject h first.address first.name first.named in
-      let known = h.store_agrees.classed first.name object.0 object.1 in
-      let class : class_of shared.heap first.name ≡ object.0.class = ap (λ (o : Option Object). option_map_or (λ (x : Object). x.class) o 0) object.1 in
-      let of_class : class_there store.heap first.address ≡ class_class = class_of_first w.classes store.heap references fields [] function.operands first.address first.at h.kinds (none_unfit p w store pending call function shared s AllocObject args h target free) in
-      let same : object.0.class ≡ class_class = sym class ∙ sym (class_is w.classes store.heap references fields shared.heap h.store_agrees.heap.blocks first.address first.name first.named) ∙ of_class in
-      let name : name_there store.heap (at 0) ≡ first.name = name_of AllocObject h 0 ∙ ap name_or_zero first.is in
-      let makeable : IsMakeable w.classes first.name = record {
-        low = low_name first.name object.0 object.1;
-        high = known.of_class same;
-        no_class = own_making w.classes first.name (ap (λ (n : ℕ). not (has_own_making w.classes n)) (sym name) ∙ has_passed p w store pending call function shared s AllocObject args h target free);
+      let class = class_given AllocObject [] [] refl h target free in
+      let name = name_of AllocObject h 0 in
+      let makeable : IsMakeable w.classes (object_given args 0) = record {
+        low = class.low;
+        high = class.high;
+        no_class = own_making w.classes (object_given args 0) (ap (λ (n : ℕ). not (has_own_making w.classes n)) (sym name) ∙ has_passed p w store pending call function shared s AllocObject args h target free);
       } in
       subst (λ (x : Answer). Does AllocObject x) (sym is)
-      (refl, refl, refl, refl, record { object = ap (fresh_object w.classes) (sym (name_of AllocObject h 0)); makeable = subst (IsMakeable w.classes) (sym name) makeable })
+      (refl, refl, refl, refl, record { object = ap (fresh_object w.classes) (sym name); makeable = subst (IsMakeable w.classes) (sym name) makeable })
 
   answers_find : Asked FindClass → (answer : Answer) → Works FindClass answer → Does FindClass answer
   unfolding call_effect
@@ -276,11 +312,11 @@ module _ (p : Lowered) (w : World) (store : Store) (pending : Option ℕ) (call 
       subst (λ (x : Answer). Does FindClass x) (sym (is ∙ ap (λ (l : List ℕ). found_class store.loaded.items (class_named w.classes l)) text)) (by_class (class_named w.classes (text_given args 0)) refl)
     where
       by_class : (o : Option ℕ) → class_named w.classes (text_given args 0) ≡ o → IsAnswer w.classes function.texts store.heap call.locals NewLocal shared s (found_class store.loaded.items o) (found_class_effect shared s no_class_def_found_error o)
-      by_class None e = (refl, no_class_class)
+      by_class None e = (refl, built_in_class no_class_def_found_error (omega arith) (omega arith))
       by_class (Some c) e = let known = found_within w.classes (text_given args 0) c e in (refl, refl, table_of FindClass h c known.0 known.1)
 
   found_field : (o : Option FieldId) (answer : Answer) → IsFoundField w.classes o answer → IsAnswer w.classes function.texts store.heap call.locals GivesField shared s answer (found_field_effect shared s no_such_field_error o)
-  found_field None answer is = subst (λ (x : Answer). IsAnswer w.classes function.texts store.heap call.locals GivesField shared s x (found_field_effect shared s no_such_field_error None)) (sym is) (refl, no_field_class)
+  found_field None answer is = subst (λ (x : Answer). IsAnswer w.classes function.texts store.heap call.locals GivesField shared s x (found_field_effect shared s no_such_field_error None)) (sym is) (refl, built_in_class no_such_field_error (omega arith) (omega arith))
   found_field (Some f) answer is = subst (λ (x : Answer). IsAnswer w.classes function.texts store.heap call.locals GivesField shared s x (found_field_effect shared s no_such_field_error (Some f))) (sym is.1) (refl, refl, is.2)
 
   answers_field : Asked GetFieldID → (answer : Answer) → Works GetFieldID answer → Does GetFieldID answer
@@ -364,11 +400,11 @@ module _ (p : Lowered) (w : World) (store : Store) (pending : Option ℕ) (call 
 
   kept : (f : JniFunction) (q : ParameterKind) (T : ElementType) → IsReferenceKind q → (prototype f).parameters ≡ q ∷ FieldID ∷ IntNumber ∷ [] → Asked f → Kept T
   kept f q T kind are h =
-      let third = third_number w.classes store.heap references fields q function.operands args kind (subst (λ (l : List ParameterKind). AllZip OperandFits l function.operands) are h.kinds) h.given in
+      let third = top_of f (q ∷ FieldID ∷ []) [] (λ e. subst IsReferenceKind e kind, (λ e. cc, tt)) tt are h in
       record {
-        number = third.0;
-        is = third.1;
-        word = ap (λ (l : List ℕ). element_word (element_of T) (top_word l)) (h.words ∙ third.3) ∙ element_words T third.0 third.2;
+        number = third.number;
+        is = third.is;
+        word = ap (λ (l : List ℕ). element_word (element_of T) (top_word l)) (h.words ∙ third.words) ∙ element_words T third.number third.fits;
       }
 
   -- how a cell holds a reference
@@ -382,7 +418,7 @@ module _ (p : Lowered) (w : World) (store : Store) (pending : Option ℕ) (call 
   unfolding call_effect
   answers_get T h target free answer is =
       let missing = none_lacking p w store pending call function shared s (GetField T) args h target free in
-      let first = first_object w.classes store.heap references fields (FieldID ∷ []) function.operands args h.kinds h.given (none_deleted p w store pending call function shared s (GetField T) args h target free) missing in
+      let first = object_given_at (GetField T) [] NonNull (FieldID ∷ []) tt refl refl h target free in
       let place = place_of (GetField T) h (fielded (GetField T) [] NonNull h refl refl missing) in
       let name : object_given args 0 ≡ first.name = ap name_or_zero first.is in
       subst (λ (x : Answer). Does (GetField T) x) (sym is) (refl, refl, number_read (at 0) first.address first.name (object_given args 0) memory_place (source_place (object_given args 0)) first.at first.named name place h.store_agrees)
@@ -391,7 +427,7 @@ module _ (p : Lowered) (w : World) (store : Store) (pending : Option ℕ) (call 
   unfolding call_effect
   answers_set T h target free answer is =
       let missing = none_lacking p w store pending call function shared s (SetField T) args h target free in
-      let first = first_object w.classes store.heap references fields (FieldID ∷ IntNumber ∷ []) function.operands args h.kinds h.given (none_deleted p w store pending call function shared s (SetField T) args h target free) missing in
+      let first = object_given_at (SetField T) [] NonNull (FieldID ∷ IntNumber ∷ []) tt refl refl h target free in
       let place = place_of (SetField T) h (fielded (SetField T) (IntNumber ∷ []) NonNull h refl refl missing) in
       let name : object_given args 0 ≡ first.name = ap name_or_zero first.is in
       let it = kept (SetField T) NonNull T tt refl h in
@@ -403,7 +439,7 @@ module _ (p : Lowered) (w : World) (store : Store) (pending : Option ℕ) (call 
   unfolding call_effect
   answers_get_object h target free answer is =
       let missing = none_lacking p w store pending call function shared s GetObjectField args h target free in
-      let first = first_object w.classes store.heap references fields (FieldID ∷ []) function.operands args h.kinds h.given (none_deleted p w store pending call function shared s GetObjectField args h target free) missing in
+      let first = object_given_at GetObjectField [] NonNull (FieldID ∷ []) tt refl refl h target free in
       let place = place_of GetObjectField h (fielded GetObjectField [] NonNull h refl refl missing) in
       let name : object_given args 0 ≡ first.name = ap name_or_zero first.is in
       subst (λ (x : Answer). Does GetObjectField x) (sym is) (refl, refl, reference_read (at 0) first.address first.name (object_given args 0) memory_place (source_place (object_given args 0)) first.at first.named name place h.store_agrees)
@@ -412,7 +448,7 @@ module _ (p : Lowered) (w : World) (store : Store) (pending : Option ℕ) (call 
   unfolding call_effect
   answers_set_object h target free answer is =
       let missing = none_lacking p w store pending call function shared s SetObjectField args h target free in
-      let first = first_object w.classes store.heap references fields (FieldID ∷ Nullable ∷ []) function.operands args h.kinds h.given (none_deleted p w store pending call function shared s SetObjectField args h target free) missing in
+      let first = object_given_at SetObjectField [] NonNull (FieldID ∷ Nullable ∷ []) tt refl refl h target free in
       let place = place_of SetObjectField h (fielded SetObjectField (Nullable ∷ []) NonNull h refl refl missing) in
       let name : object_given args 0 ≡ first.name = ap name_or_zero first.is in
       subst (λ (x : Answer). Does SetObjectField x) (sym is)
@@ -483,6 +519,111 @@ module _ (p : Lowered) (w : World) (store : Store) (pending : Option ℕ) (call 
       (value_written (class_object store.loaded.items (Some (field_there w.classes (field_at fields (operand_of function.operands 1))).class)) it.address (field_given args 1).class (field_given args 1).class (place_there w.classes (field_at fields (operand_of function.operands 1)) (own_statics w.classes (field_there w.classes (field_at fields (operand_of function.operands 1))).class)) (static_place w.classes (field_given args 1)) (held_reference (at 2)) (held_reference (at 2)) (Refers (reference_given args 2)) (Refers (reference_given args 2))
       it.at_holder it.named_holder refl it.place refl refl (held_agrees (at 2) (reference_given args 2) (agrees SetStaticObjectField h 2)) h.store_agrees)
 
+  -- ---- arrays and strings
+
+  -- a new array of equal values
+  made_array : (class : ℕ) (v : Value) (u : ObjectValue) → IsMakeable w.classes class → ValueAgrees store.heap v u → (z : ℤ) → IsAnswer w.classes function.texts store.heap call.locals NewLocal shared s (new_array class z v) (new_array_effect shared s class z u)
+  made_array class v u makeable agree (pos n) = (refl, refl, refl, refl, record { object = (u, agree, refl); makeable = makeable })
+  made_array class v u makeable agree (negsuc n) = (refl, built_in_class negative_array_size (omega arith) (omega arith))
+
+  answers_new_array : (T : ElementType) → Asked (NewArray T) → (answer : Answer) → Works (NewArray T) answer → Does (NewArray T) answer
+  unfolding call_effect
+  answers_new_array T h answer is =
+      subst (λ (x : Answer). Does (NewArray T) x) (sym (is ∙ ap (λ (z : ℤ). new_array (number_array T) z (cell.Number 0)) (number_of (NewArray T) [] [] tt tt refl h)))
+      (made_array (number_array T) (cell.Number 0) (Number (pos 0)) (class_of_numbers T) (record { sfits = omega arith }, refl) (number_given args 0))
+    where
+      class_of_numbers : (T : ElementType) → IsMakeable w.classes (number_array T)
+      class_of_numbers JInt = built_in_class 23 (omega arith) (omega arith)
+      class_of_numbers JShort = built_in_class 22 (omega arith) (omega arith)
+      class_of_numbers JByte = built_in_class 20 (omega arith) (omega arith)
+      class_of_numbers JChar = built_in_class 21 (omega arith) (omega arith)
+
+  answers_new_object_array : Asked NewObjectArray → (target : Target) → trap_of_call w.classes shared s target NewObjectArray args ≡ None → (answer : Answer) → Works NewObjectArray answer → Does NewObjectArray answer
+  unfolding call_effect
+  answers_new_object_array h target free answer is =
+      let name = name_of NewObjectArray h 1 in
+      let class = class_given NewObjectArray (IntNumber ∷ []) (Nullable ∷ []) refl h target free in
+      let passed = has_passed p w store pending call function shared s NewObjectArray args h target free in
+      let plain : is_plain (class_kind w.classes (object_given args 1)) ≡ true = ap (λ (c : ℕ). is_plain (class_kind w.classes c)) (sym name) ∙ first_true (is_plain (class_kind w.classes (name_there store.heap (at 1)))) (fits_there w.classes store.heap (at 2) (name_there store.heap (at 1))) passed in
+      let array = sound.declares.arrays (object_given args 1) class.low class.high plain in
+      let known = found_within w.classes (array_name (class_name w.classes (object_given args 1))) array.0 array.1 in
+      let makeable : IsMakeable w.classes array.0 = record { low = known.0; high = known.1; no_class = λ e. absurd (let clash : Plain ≡ ArrayOfObjects (object_given args 1) = sym (class_is_plain w.classes sound.grown) ∙ ap (class_kind w.classes) (sym e) ∙ array.2 in cc) } in
+      let found : unwrap_or (array_class_of w.classes (name_there store.heap (at 1))) 0 ≡ array.0 = ap (λ (c : ℕ). unwrap_or (array_class_of w.classes c) 0) name ∙ ap (λ (o : Option ℕ). unwrap_or o 0) array.1 in
+      let given : option_map_or (λ (c : ℕ). c) (array_class_of w.classes (object_given args 1)) 0 ≡ array.0 = ap (λ (o : Option ℕ). option_map_or (λ (c : ℕ). c) o 0) array.1 in
+      subst (λ (x : Answer). Does NewObjectArray x) (sym (is ∙ (λ i. new_array (found i) (number_of NewObjectArray [] (ClassObject ∷ Nullable ∷ []) tt (λ e. cc, (λ e. cc, tt)) refl h i) (held_reference (at 2)))))
+      (subst (λ (c : ℕ). IsAnswer w.classes function.texts store.heap call.locals NewLocal shared s (new_array array.0 (number_given args 0) (held_reference (at 2))) (new_array_effect shared s c (number_given args 0) (Refers (reference_given args 2)))) (sym given)
+      (made_array array.0 (held_reference (at 2)) (Refers (reference_given args 2)) makeable (held_agrees (at 2) (reference_given args 2) (agrees NewObjectArray h 2)) (number_given args 0)))
+    where
+      first_true : (a b : Bool) → (a && b) ≡ true → a ≡ true
+      first_true true b e = refl
+      first_true false b e = absurd (cc)
+
+  -- an array at an address, which has so many elements
+  module _ (a n m size : ℕ) (there : name_at store.heap a ≡ Some n) (same : m ≡ n) (count : length (values_at store.heap a) ≡ size) (agree : StoreAgrees p w store shared) where
+    out_of_bounds : IsMakeable w.classes array_index_out_of_bounds
+    out_of_bounds = built_in_class array_index_out_of_bounds (omega arith) (omega arith)
+
+    -- an element is read
+    abbrev Reads : Answer → CallEffect → Type 0
+    Reads answer effect = IsAnswer w.classes function.texts store.heap call.locals NewLocal shared s answer effect
+
+    abbrev read : ℕ → CallEffect
+    read i = Leaves [] shared s (ReferenceResult (reference_in (value_at shared.heap m i)))
+
+    element_read : (z : ℤ) → Reads (element_there store.heap (Some a) (index_there store.heap (Some a) z)) (at_index array_index_out_of_bounds size z read)
+    element_read (negsuc i) = (refl, out_of_bounds)
+    element_read (pos i) =
+        subst (λ (l : ℕ). Reads (element_there store.heap (Some a) (if nat_lt i (length (values_at store.heap a)) then Some i else None)) (if nat_lt i l then read i else Throws array_index_out_of_bounds)) count
+        (by_test (nat_lt i (length (values_at store.heap a))))
+      where
+        by_test : (b : Bool) → Reads (element_there store.heap (Some a) (if b then Some i else None)) (if b then read i else Throws array_index_out_of_bounds)
+        by_test true = (refl, refl, reference_read (Some a) a n m i i refl there same refl agree)
+        by_test false = (refl, out_of_bounds)
+
+    -- an element is written
+    abbrev Stores : Answer → CallEffect → Type 0
+    Stores answer effect = IsAnswer w.classes function.texts store.heap call.locals GivesNothing shared s answer effect
+
+    element_written : (fits : Bool) (v : Value) (q : Reference) → ValueAgrees store.heap v (Refers q) → (z : ℤ)
+        → Stores (stores_there store.heap (Some a) fits (index_there store.heap (Some a) z) v) (at_index array_index_out_of_bounds size z (store_effect shared s fits m q))
+    element_written fits v q fit (negsuc i) = (refl, out_of_bounds)
+    element_written fits v q fit (pos i) =
+        subst (λ (l : ℕ). Stores (stores_there store.heap (Some a) fits (if nat_lt i (length (values_at store.heap a)) then Some i else None) v) (if nat_lt i l then store_effect shared s fits m q i else Throws array_index_out_of_bounds)) count
+        (by_test fits (nat_lt i (length (values_at store.heap a))))
+      where
+        by_test : (fits b : Bool) → Stores (stores_there store.heap (Some a) fits (if b then Some i else None) v) (if b then store_effect shared s fits m q i else Throws array_index_out_of_bounds)
+        by_test fits false = (refl, out_of_bounds)
+        by_test false true = (refl, built_in_class array_store_exception (omega arith) (omega arith))
+        by_test true true = value_written (Some a) a n m i i v v (Refers q) (Refers q) refl there same refl refl refl fit agree
+
+  answers_element : Asked GetObjectArrayElement → (target : Target) → trap_of_call w.classes shared s target GetObjectArrayElement args ≡ None → (answer : Answer) → Works GetObjectArrayElement answer → Does GetObjectArrayElement answer
+  unfolding call_effect
+  answers_element h target free answer is =
+      let first = object_given_at GetObjectArrayElement [] ObjectArray (IntNumber ∷ []) tt refl refl h target free in
+      let number = number_of GetObjectArrayElement (ObjectArray ∷ []) [] (λ e. cc, tt) tt refl h in
+      subst (λ (x : Answer). Does GetObjectArrayElement x) (sym (is ∙ (λ i. element_there store.heap (first.at i) (index_there store.heap (first.at i) (number i)))))
+      (element_read first.address first.name (object_given args 0) (length (values_of shared.heap (object_given args 0))) first.named (ap name_or_zero first.is) (ap (count_there store.heap) (sym first.at) ∙ (counted GetObjectArrayElement h).0) h.store_agrees (number_given args 1))
+
+  answers_store : Asked SetObjectArrayElement → (target : Target) → trap_of_call w.classes shared s target SetObjectArrayElement args ≡ None → (answer : Answer) → Works SetObjectArrayElement answer → Does SetObjectArrayElement answer
+  unfolding call_effect
+  answers_store h target free answer is =
+      let first = object_given_at SetObjectArrayElement [] ObjectArray (IntNumber ∷ Nullable ∷ []) tt refl refl h target free in
+      let blocks = h.store_agrees.heap.blocks in
+      let class = class_given_is w.classes store.heap references fields shared.heap blocks (at 0) (reference_given args 0) (agrees SetObjectArrayElement h 0) in
+      let element = element_class (class_kind w.classes (class_of shared.heap (object_given args 0))) in
+      let fits : fits_there w.classes store.heap (at 2) (element_class (class_kind w.classes (class_of_given store.heap (at 0)))) ≡ fits_class w.classes shared.heap (reference_given args 2) element =
+      ap (λ (c : ℕ). fits_there w.classes store.heap (at 2) (element_class (class_kind w.classes c))) class ∙ fits_is w.classes store.heap references fields shared.heap blocks (at 2) (reference_given args 2) element (agrees SetObjectArrayElement h 2) in
+      let number = number_of SetObjectArrayElement (ObjectArray ∷ []) (Nullable ∷ []) (λ e. cc, tt) (λ e. cc, tt) refl h in
+      subst (λ (x : Answer). Does SetObjectArrayElement x) (sym (is ∙ (λ i. stores_there store.heap (first.at i) (fits i) (index_there store.heap (first.at i) (number i)) (held_reference (at 2)))))
+      (element_written first.address first.name (object_given args 0) (length (values_of shared.heap (object_given args 0))) first.named (ap name_or_zero first.is) (ap (count_there store.heap) (sym first.at) ∙ (counted SetObjectArrayElement h).0) h.store_agrees
+      (fits_class w.classes shared.heap (reference_given args 2) element) (held_reference (at 2)) (reference_given args 2) (held_agrees (at 2) (reference_given args 2) (agrees SetObjectArrayElement h 2)) (number_given args 1))
+
+  answers_string : Asked NewStringUTF → (answer : Answer) → Works NewStringUTF answer → Does NewStringUTF answer
+  unfolding call_effect
+  answers_string h answer is =
+      let text : text_in function.texts 0 ≡ text_given args 0 = ap (λ (l : List (List ℕ)). text_in l 0) h.texts ∙ only_text w.classes store.heap references fields function.operands args h.kinds h.given in
+      subst (λ (x : Answer). Does NewStringUTF x) (sym is) (refl, refl, refl, refl, record { object = ap string_object (sym text); makeable = built_in_class string_class (omega arith) (omega arith) })
+
   -- the answer is what the call does
   pub answers : (f : JniFunction) → Asked f → (target : Target) → trap_of_call w.classes shared s target f args ≡ None → (answer : Answer) → Works f answer → HasKey f → IsHeld f → Does f answer
   answers FindClass h target free answer is keyed held = answers_find h answer is
@@ -510,4 +651,10 @@ module _ (p : Lowered) (w : World) (store : Store) (pending : Option ℕ) (call 
   answers GetStaticObjectField h target free answer is keyed held = answers_get_static_object h target free answer is
   answers SetStaticObjectField h target free answer is keyed held = answers_set_static_object h target free answer is
   answers GetArrayLength h target free answer is keyed held = answers_length h answer is
+  answers (NewArray T) h target free answer is keyed held = answers_new_array T h answer is
+  answers NewObjectArray h target free answer is keyed held = answers_new_object_array h target free answer is
+  answers GetObjectArrayElement h target free answer is keyed held = answers_element h target free answer is
+  answers SetObjectArrayElement h target free answer is keyed held = answers_store h target free answer is
+  answers NewStringUTF h target free answer is keyed held = answers_string h answer is
+  answers GetStringLength h target free answer is keyed held = answers_string_length h answer is
   answers f h target free answer is keyed held = absurd (let no : is_built_function f ≡ true = h.answered in cc)

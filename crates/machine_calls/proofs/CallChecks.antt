@@ -5,7 +5,7 @@ use Rattle.std.specs.List.{AllZip, list_any}
 use Rattle.base.specs.Bytes.{Identifier}
 use Rattle.base.specs.Element.{ElementType}
 use Rattle.class_rules.specs.BuiltIns.{has_own_making}
-use Rattle.class_rules.specs.Class.{Classes, FieldType, NumberField, ReferenceField, assignable}
+use Rattle.class_rules.specs.Class.{Classes, FieldType, NumberField, ReferenceField, assignable, class_kind, is_plain}
 use Rattle.class_rules.specs.Fields.{FieldId}
 use Rattle.classes.specs.FieldViews.{field_of}
 use Rattle.classes.specs.declared.class.FieldHandle.{FieldHandle}
@@ -390,7 +390,10 @@ module _ (classes : Classes) (space : Space) (references : References) (fields :
         let name = name_is (operand_at references (operand_of operands 0)) (reference_given args 0) (reference_at_place operands args 0 h) in
         let fit = ap (fits_type_there classes space (operand_at references (operand_of operands 2))) (ap (λ (f : FieldId). f.field.type) field) ∙ fits_type_is (operand_at references (operand_of operands 2)) (reference_given args 2) (field_given args 1).field.type (reference_at_place operands args 2 h) in
         λ i. ((field i).is_static && assignable classes (name i) (field i).class) && fit i
-    together_is buffer operands args h NewObjectArray e = absurd (cc)
+    together_is buffer operands args h NewObjectArray e =
+        let name = name_is (operand_at references (operand_of operands 1)) (reference_given args 1) (reference_at_place operands args 1 h) in
+        let fit = ap (fits_there classes space (operand_at references (operand_of operands 2))) name ∙ fits_is (operand_at references (operand_of operands 2)) (reference_given args 2) (name_or_zero (reference_given args 1)) (reference_at_place operands args 2 h) in
+        λ i. is_plain (class_kind classes (name i)) && fit i
     together_is buffer operands args h (GetBuffer ArrayView) e = absurd (cc)
     together_is buffer operands args h Throw e = absurd (cc)
     together_is buffer operands args h ThrowNew e = absurd (cc)

@@ -2,7 +2,7 @@
 use Rattle.std.proofs.Common.{inl, inr, ◌≡◌, ℕ, zero, suc, ◌+◌, ◌-◌, ◌<◌, ◌≤◌, ◌^◌, Bool, true, false, not, List, [], ◌∷◌, ◌++◌, length, Option, Some, None, is_none, slice_get, refl, sym, ap, ◌∙◌, subst, arith, eqb, ⊎_elim, ℤ}
 use Rattle.std.specs.Prelude.{◌||◌, ◌==◌, unwrap_or, FitsSigned, ◌&&◌}
 use Rattle.std.specs.Int.{w32}
-use Rattle.std.specs.List.{AllZip, list_any}
+use Rattle.std.specs.List.{AllByRecursion, AllZip, list_any}
 use Rattle.std.specs.Option.{option_map_or}
 use Rattle.std.proofs.lemmas.Bool.Decides.{eqb_tells}
 use Rattle.class_rules.specs.BuiltIns.{class_class, has_own_making, string_class}
@@ -12,11 +12,11 @@ use Rattle.classes.specs.declared.class.FieldHandle.{FieldHandle}
 use Rattle.code.specs.declared.instr.Operand.{Operand}
 use Rattle.code.specs.declared.instr.Operand.TheVariants as operand
 use Rattle.heap.specs.Heap.{Space, IsLaidOut, name_at}
-use Rattle.jni.specs.Prototype.{ParameterKind, StaticVariable, ClassObject, FieldID, IntNumber, NonNull, TextBytes}
-use Rattle.semantics.specs.Arguments.{Actual, reference_given, name_or_zero, text_given, text_in_actual, NumberActual, number_given, number_in_actual}
+use Rattle.jni.specs.Prototype.{ParameterKind, StaticVariable, ClassObject, FieldID, IntNumber, TextBytes}
+use Rattle.semantics.specs.Arguments.{Actual, ReferenceActual, FieldActual, TextActual, VariableActual, ModeActual, NothingActual, reference_given, name_or_zero, text_given, text_in_actual, NumberActual, number_given, number_in_actual}
 use Rattle.semantics.specs.Heap.{Heap, values_of}
 use Rattle.semantics.specs.Object.{Reference}
-use Rattle.code_meaning.specs.Does.{OperandFits, texts_given, words_given}
+use Rattle.code_meaning.specs.Does.{ActualFits, OperandFits, texts_given, words_given}
 use Rattle.code_meaning.specs.Does as does
 use Rattle.code_meaning.specs.Fits.{IsReferenceKind}
 use Rattle.semantics.specs.Value.{Int}
@@ -24,7 +24,7 @@ use Rattle.code_meaning.specs.Slots.{word_of}
 use Rattle.machine_calls.specs.Statics.{References, held_address, holds_deleted, holds_null, static_at}
 use Rattle.machine_calls.specs.declared.references.Held.{Held}
 use Rattle.machine_calls.specs.declared.references.Held.TheVariants as held
-use Rattle.machine_calls.specs.Checked.{gives_deleted, gives_null, misfits, some_misfit, some_missing, may_be_null}
+use Rattle.machine_calls.specs.Checked.{class_misfits, gives_deleted, gives_null, misfits, some_misfit, some_missing, may_be_null}
 use Rattle.machine_calls.specs.Given.{operand_at, operand_of, class_there, IsGiven, field_at}
 use Rattle.machine_calls.specs.HeapAgrees.{ReferenceAgrees, BlocksAgree, IsTable}
 use Rattle.machine_calls.specs.WorkedOut.{count_there, class_object}
@@ -129,19 +129,23 @@ module _ (classes : Classes) (space : Space) (references : References) (fields :
       let all : texts_given (a ∷ b ∷ d ∷ []) ≡ text_in_actual (Some b) ∷ text_in_actual (Some d) ∷ [] = λ i. none i ++ (one i ++ (two i ++ [])) in
       (ap (λ (l : List (List ℕ)). unwrap_or (slice_get l 0) []) all, ap (λ (l : List (List ℕ)). unwrap_or (slice_get l 1) []) all)
 
-  -- ---- the object of the first argument
+  -- ---- the object of an argument
 
-  -- an operand that gives an object
-  pub record GivenObject (operands : List Operand) (args : List Actual) : Type 0 where
+  -- operand i gives an object
+  pub record GivenObject (operands : List Operand) (args : List Actual) (i : ℕ) : Type 0 where
     pub address : ℕ
     pub name : ℕ
-    pub at : operand_at references (operand_of operands 0) ≡ Some address
-    pub is : reference_given args 0 ≡ Some name
+    pub at : operand_at references (operand_of operands i) ≡ Some address
+    pub is : reference_given args i ≡ Some name
     pub named : name_at space address ≡ Some name
 
   first_of : (a b : Bool) → (a || b) ≡ false → a ≡ false
   first_of true b h = absurd (cc)
   first_of false b h = refl
+
+  second_of : (a b : Bool) → (a || b) ≡ false → b ≡ false
+  second_of true b h = absurd (cc)
+  second_of false b h = h
 
   some_address : (o : Option ℕ) → is_none o ≡ false → (a : ℕ) × (o ≡ Some a)
   some_address None h = absurd (cc)
@@ -152,50 +156,43 @@ module _ (classes : Classes) (space : Space) (references : References) (fields :
   some_held (held.At a) whole h = (a, refl)
   some_held held.Deleted whole h = absurd (cc)
 
-  object_in : (p : ParameterKind) → IsReferenceKind p → (p ≡ FieldID → ⊥) → (o : Operand) → OperandFits p o → (p ≡ IntNumber → ⊥) → (p ≡ TextBytes → ⊥) → gives_deleted references o ≡ false → gives_null references fields o ≡ false → (a : ℕ) × (operand_at references o ≡ Some a)
-  object_in p kind field operand.Number fits number text whole h = absurd (number fits)
-  object_in p kind field (operand.FieldId i) fits number text whole h = absurd (field fits)
-  object_in p kind field operand.Text fits number text whole h = absurd (text fits)
-  object_in p kind field (operand.Array array) fits number text whole h = absurd (subst IsReferenceKind fits.1 kind)
-  object_in p kind field (operand.Buffer i) fits number text whole h = absurd (subst IsReferenceKind fits.1 kind)
-  object_in p kind field (operand.Mode mode) fits number text whole h = absurd (subst IsReferenceKind fits kind)
-  object_in p kind field (operand.IsCopy i) fits number text whole h = absurd (subst IsReferenceKind fits kind)
-  object_in p kind field operand.Null fits number text whole h = absurd (cc)
-  object_in p kind field (operand.Static i) fits number text whole h = some_held (static_at references i) whole h
-  object_in p kind field (operand.Local i) fits number text whole h = some_address (operand_at references (operand.Local i)) h
+  object_in : (p : ParameterKind) → IsReferenceKind p → (o : Operand) → OperandFits p o → gives_deleted references o ≡ false → gives_null references fields o ≡ false → (a : ℕ) × (operand_at references o ≡ Some a)
+  object_in p kind operand.Number fits whole h = absurd (subst IsReferenceKind fits kind)
+  object_in p kind (operand.FieldId i) fits whole h = absurd (subst IsReferenceKind fits kind)
+  object_in p kind operand.Text fits whole h = absurd (subst IsReferenceKind fits kind)
+  object_in p kind (operand.Array array) fits whole h = absurd (subst IsReferenceKind fits.1 kind)
+  object_in p kind (operand.Buffer i) fits whole h = absurd (subst IsReferenceKind fits.1 kind)
+  object_in p kind (operand.Mode mode) fits whole h = absurd (subst IsReferenceKind fits kind)
+  object_in p kind (operand.IsCopy i) fits whole h = absurd (subst IsReferenceKind fits kind)
+  object_in p kind operand.Null fits whole h = absurd (cc)
+  object_in p kind (operand.Static i) fits whole h = some_held (static_at references i) whole h
+  object_in p kind (operand.Local i) fits whole h = some_address (operand_at references (operand.Local i)) h
 
-  pub by_reference : (operands : List Operand) (args : List Actual) (a : ℕ) (q : Reference) → operand_at references (operand_of operands 0) ≡ Some a → reference_given args 0 ≡ q → ReferenceAgrees space (Some a) q → GivenObject operands args
-  by_reference operands args a None at is h = absurd h
-  by_reference operands args a (Some n) at is h = record { address = a; name = n; at = at; is = is; named = h }
+  by_reference : (operands : List Operand) (args : List Actual) (i a : ℕ) (q : Reference) → operand_at references (operand_of operands i) ≡ Some a → reference_given args i ≡ q → ReferenceAgrees space (Some a) q → GivenObject operands args i
+  by_reference operands args i a None at is h = absurd h
+  by_reference operands args i a (Some n) at is h = record { address = a; name = n; at = at; is = is; named = h }
 
   -- an argument that may not be NULL
-  pub first_object : (parameters : List ParameterKind) (operands : List Operand) (args : List Actual) → AllZip OperandFits (NonNull ∷ parameters) operands → AllZip (IsGiven classes space references fields) operands args
-      → list_any (gives_deleted references) operands ≡ false → some_missing references fields (NonNull ∷ parameters) operands ≡ false → GivenObject operands args
-  first_object parameters [] args fits given whole missing = absurd fits
-  first_object parameters (o ∷ operands) [] fits given whole missing = absurd given
-  first_object parameters (o ∷ operands) (a ∷ args) fits given whole missing =
-      let found = object_in NonNull tt (λ e. cc) o fits.0 (λ e. cc) (λ e. cc) (first_of (gives_deleted references o) (list_any (gives_deleted references) operands) whole) (first_of (gives_null references fields o) (some_missing references fields parameters operands) missing) in
-      by_reference (o ∷ operands) (a ∷ args) found.0 (reference_given (a ∷ args) 0) found.1 refl
+  pub object_at_place : (before : List ParameterKind) (p : ParameterKind) (after : List ParameterKind) → IsReferenceKind p → may_be_null p ≡ false → (operands : List Operand) (args : List Actual) → AllZip OperandFits (before ++ p ∷ after) operands
+      → AllZip (IsGiven classes space references fields) operands args → list_any (gives_deleted references) operands ≡ false → some_missing references fields (before ++ p ∷ after) operands ≡ false → GivenObject operands args (length before)
+  object_at_place [] p after kind never [] args fits given whole missing = absurd fits
+  object_at_place [] p after kind never (o ∷ operands) [] fits given whole missing = absurd given
+  object_at_place [] p after kind never (o ∷ operands) (a ∷ args) fits given whole missing =
+      let no_null : (not (may_be_null p) && gives_null references fields o) ≡ false = first_of (not (may_be_null p) && gives_null references fields o) (some_missing references fields after operands) missing in
+      let found = object_in p kind o fits.0 (first_of (gives_deleted references o) (list_any (gives_deleted references) operands) whole) (subst (λ (b : Bool). (not b && gives_null references fields o) ≡ false) never no_null) in
+      by_reference (o ∷ operands) (a ∷ args) 0 found.0 (reference_given (a ∷ args) 0) found.1 refl
       (subst (λ (x : Option ℕ). ReferenceAgrees space x (reference_given (a ∷ args) 0)) found.1 (reference_at_place classes space references fields (o ∷ operands) (a ∷ args) 0 given))
-
-  -- an argument that is a class
-  pub first_class : (parameters : List ParameterKind) (operands : List Operand) (args : List Actual) → AllZip OperandFits (ClassObject ∷ parameters) operands → AllZip (IsGiven classes space references fields) operands args
-      → list_any (gives_deleted references) operands ≡ false → some_missing references fields (ClassObject ∷ parameters) operands ≡ false → GivenObject operands args
-  first_class parameters [] args fits given whole missing = absurd fits
-  first_class parameters (o ∷ operands) [] fits given whole missing = absurd given
-  first_class parameters (o ∷ operands) (a ∷ args) fits given whole missing =
-      let found = object_in ClassObject tt (λ e. cc) o fits.0 (λ e. cc) (λ e. cc) (first_of (gives_deleted references o) (list_any (gives_deleted references) operands) whole) (first_of (gives_null references fields o) (some_missing references fields parameters operands) missing) in
-      by_reference (o ∷ operands) (a ∷ args) found.0 (reference_given (a ∷ args) 0) found.1 refl
-      (subst (λ (x : Option ℕ). ReferenceAgrees space x (reference_given (a ∷ args) 0)) found.1 (reference_at_place classes space references fields (o ∷ operands) (a ∷ args) 0 given))
+  object_at_place (q ∷ before) p after kind never [] args fits given whole missing = absurd fits
+  object_at_place (q ∷ before) p after kind never (o ∷ operands) [] fits given whole missing = absurd given
+  object_at_place (q ∷ before) p after kind never (o ∷ operands) (a ∷ args) fits given whole missing =
+      let further = object_at_place before p after kind never operands args fits.1 given.1 (second_of (gives_deleted references o) (list_any (gives_deleted references) operands) whole)
+      (second_of (not (may_be_null q) && gives_null references fields o) (some_missing references fields (before ++ p ∷ after) operands) missing) in
+      record { address = further.address; name = further.name; at = further.at; is = further.is; named = further.named }
 
   -- a field ID that may not be NULL
   some_handle : (o : Option FieldHandle) → is_none o ≡ false → (h : FieldHandle) × (o ≡ Some h)
   some_handle None h = absurd (cc)
   some_handle (Some x) h = (x, refl)
-
-  second_of : (a b : Bool) → (a || b) ≡ false → b ≡ false
-  second_of true b h = absurd (cc)
-  second_of false b h = h
 
   handle_in : (o : Operand) → OperandFits FieldID o → gives_null references fields o ≡ false → (h : FieldHandle) × (field_at fields o ≡ Some h)
   handle_in operand.Number fits h = absurd (cc)
@@ -229,71 +226,69 @@ module _ (classes : Classes) (space : Space) (references : References) (fields :
   is_number (operand.Static i) a fits h = absurd fits
   is_number (operand.FieldId i) a fits h = absurd (cc)
 
-  -- the number of the only argument is on top
-  pub only_number : (operands : List Operand) (args : List Actual) → AllZip OperandFits (IntNumber ∷ []) operands → AllZip (IsGiven classes space references fields) operands args
-      → (z : ℤ) × (number_given args 0 ≡ z) × FitsSigned w32 z × (words_given args ≡ word_of (Int z) ∷ [])
-  only_number [] args fits given = absurd fits
-  only_number (x ∷ y ∷ more) args fits given = absurd fits.1
-  only_number (x ∷ []) [] fits given = absurd given
-  only_number (x ∷ []) (a ∷ b ∷ more) fits given = absurd given.1
-  only_number (x ∷ []) (a ∷ []) fits given =
-      let number = is_number x a fits.0 given.0 in
+  -- ---- the number on top of the stack
+
+  -- a parameter of no number
+  abbrev pub IsWordless : ParameterKind → Type 0
+  IsWordless p = p ≡ IntNumber → ⊥
+
+  wordless : (p : ParameterKind) (a : Actual) → IsWordless p → ActualFits p a → does.word_given a ≡ []
+  wordless p (NumberActual z) none fits = absurd (none fits)
+  wordless p (ReferenceActual x r) none fits = refl
+  wordless p (FieldActual f) none fits = refl
+  wordless p (TextActual bytes) none fits = refl
+  wordless p (VariableActual x) none fits = refl
+  wordless p (ModeActual m) none fits = refl
+  wordless p NothingActual none fits = refl
+
+  no_words : (parameters : List ParameterKind) (args : List Actual) → AllByRecursion IsWordless parameters → AllZip ActualFits parameters args → words_given args ≡ []
+  no_words [] [] none fits = refl
+  no_words [] (a ∷ args) none fits = absurd fits
+  no_words (p ∷ parameters) [] none fits = absurd fits
+  no_words (p ∷ parameters) (a ∷ args) none fits =
+      let one = wordless p a none.0 fits.0 in
+      let further = no_words parameters args none.1 fits.1 in
+      λ i. further i ++ one i
+
+  -- the number of argument i is the only one
+  pub record OnTop (args : List Actual) (i : ℕ) : Type 0 where
+    pub number : ℤ
+    pub is : number_given args i ≡ number
+    pub fits : FitsSigned w32 number
+    pub words : words_given args ≡ word_of (Int number) ∷ []
+
+  pub on_top : (before after : List ParameterKind) (operands : List Operand) (args : List Actual) → AllByRecursion IsWordless before → AllByRecursion IsWordless after
+      → AllZip OperandFits (before ++ IntNumber ∷ after) operands → AllZip ActualFits (before ++ IntNumber ∷ after) args → AllZip (IsGiven classes space references fields) operands args → OnTop args (length before)
+  on_top [] after [] args none later kinds fit given = absurd kinds
+  on_top [] after (o ∷ operands) [] none later kinds fit given = absurd given
+  on_top [] after (o ∷ operands) (a ∷ args) none later kinds fit given =
+      let number = is_number o a kinds.0 given.0 in
       let word : does.word_given a ≡ word_of (Int number.0) ∷ [] = ap does.word_given number.1 in
-      (number.0, ap (λ (q : Actual). number_in_actual (Some q)) number.1, number.2, λ i. [] ++ word i)
+      let further = no_words after args later fit.1 in
+      record { number = number.0; is = ap (λ (q : Actual). number_in_actual (Some q)) number.1; fits = number.2; words = λ i. further i ++ word i }
+  on_top (p ∷ before) after [] args none later kinds fit given = absurd kinds
+  on_top (p ∷ before) after (o ∷ operands) [] none later kinds fit given = absurd given
+  on_top (p ∷ before) after (o ∷ operands) (a ∷ args) none later kinds fit given =
+      let further = on_top before after operands args none.1 later kinds.1 fit.1 given.1 in
+      let one = wordless p a none.0 fit.0 in
+      record { number = further.number; is = further.is; fits = further.fits; words = λ i. further.words i ++ one i }
 
-  -- the number of the third argument is on top
-  pub third_number : (p : ParameterKind) (operands : List Operand) (args : List Actual) → IsReferenceKind p → AllZip OperandFits (p ∷ FieldID ∷ IntNumber ∷ []) operands → AllZip (IsGiven classes space references fields) operands args
-      → (z : ℤ) × (number_given args 2 ≡ z) × FitsSigned w32 z × (words_given args ≡ word_of (Int z) ∷ [])
-  third_number p [] args kind fits given = absurd fits
-  third_number p (o ∷ []) args kind fits given = absurd fits.1
-  third_number p (o ∷ x ∷ []) args kind fits given = absurd fits.1.1
-  third_number p (o ∷ x ∷ y ∷ z ∷ more) args kind fits given = absurd fits.1.1.1
-  third_number p (o ∷ x ∷ y ∷ []) [] kind fits given = absurd given
-  third_number p (o ∷ x ∷ y ∷ []) (a ∷ []) kind fits given = absurd given.1
-  third_number p (o ∷ x ∷ y ∷ []) (a ∷ b ∷ []) kind fits given = absurd given.1.1
-  third_number p (o ∷ x ∷ y ∷ []) (a ∷ b ∷ d ∷ e ∷ more) kind fits given = absurd given.1.1.1
-  third_number p (o ∷ x ∷ y ∷ []) (a ∷ b ∷ d ∷ []) kind fits given =
-      let number = is_number y d fits.1.1.0 given.1.1.0 in
-      let none = no_word o a kind fits.0 given.0 in
-      let field = no_word_of_field x b fits.1.0 given.1.0 in
-      let word : does.word_given d ≡ word_of (Int number.0) ∷ [] = ap does.word_given number.1 in
-      (number.0, ap (λ (q : Actual). number_in_actual (Some q)) number.1, number.2, λ i. ((([] ++ word i) ++ field i) ++ none i))
-    where
-      no_word : (o : Operand) (a : Actual) → IsReferenceKind p → OperandFits p o → IsGiven classes space references fields o a → does.word_given a ≡ []
-      no_word operand.Number a kind fits h = absurd (subst IsReferenceKind fits kind)
-      no_word operand.Text a kind fits h = ap does.word_given h.1
-      no_word operand.Null a kind fits (inl h) = ap does.word_given h.is
-      no_word operand.Null a kind fits (inr (inl h)) = ap does.word_given h.is
-      no_word operand.Null a kind fits (inr (inr h)) = ap does.word_given h
-      no_word (operand.Array array) a kind fits h = ap does.word_given h.1
-      no_word (operand.Buffer i) a kind fits h = ap does.word_given h.1
-      no_word (operand.Mode mode) a kind fits h = ap does.word_given h.1
-      no_word (operand.IsCopy i) a kind fits h = ap does.word_given h.1
-      no_word (operand.Local i) a kind fits h = ap does.word_given h.is
-      no_word (operand.Static i) a kind fits h = ap does.word_given h.is
-      no_word (operand.FieldId i) a kind fits h = ap does.word_given h.is
+  -- ---- its class
 
-      no_word_of_field : (o : Operand) (a : Actual) → OperandFits FieldID o → IsGiven classes space references fields o a → does.word_given a ≡ []
-      no_word_of_field operand.Number a fits h = absurd (cc)
-      no_word_of_field operand.Text a fits h = absurd (cc)
-      no_word_of_field operand.Null a fits (inl h) = ap does.word_given h.is
-      no_word_of_field operand.Null a fits (inr (inl h)) = ap does.word_given h.is
-      no_word_of_field operand.Null a fits (inr (inr h)) = ap does.word_given h
-      no_word_of_field (operand.Array array) a fits h = ap does.word_given h.1
-      no_word_of_field (operand.Buffer i) a fits h = ap does.word_given h.1
-      no_word_of_field (operand.Mode mode) a fits h = ap does.word_given h.1
-      no_word_of_field (operand.IsCopy i) a fits h = ap does.word_given h.1
-      no_word_of_field (operand.Local i) a fits h = absurd fits
-      no_word_of_field (operand.Static i) a fits h = absurd fits
-      no_word_of_field (operand.FieldId i) a fits h = ap does.word_given h.is
+  -- an object is of the kind that its parameter asks for
+  of_kind : (before : List ParameterKind) (p : ParameterKind) (after : List ParameterKind) (operands : List Operand) (a : ℕ) → operand_at references (operand_of operands (length before)) ≡ Some a → AllZip OperandFits (before ++ p ∷ after) operands
+      → some_misfit classes space references (before ++ p ∷ after) operands ≡ false → class_misfits classes p (class_there space a) ≡ false
+  of_kind [] p after [] a at fits misfit = absurd fits
+  of_kind [] p after (o ∷ operands) a at fits misfit = sym (ap (misfits classes space p) at) ∙ first_of (misfits classes space p (operand_at references o)) (some_misfit classes space references after operands) misfit
+  of_kind (q ∷ before) p after [] a at fits misfit = absurd fits
+  of_kind (q ∷ before) p after (o ∷ operands) a at fits misfit =
+      of_kind before p after operands a at fits.1 (second_of (misfits classes space q (operand_at references o)) (some_misfit classes space references (before ++ p ∷ after) operands) misfit)
 
   -- it is an object of the class Class
-  pub class_of_first : (parameters : List ParameterKind) (operands : List Operand) (a : ℕ) → operand_at references (operand_of operands 0) ≡ Some a → AllZip OperandFits (ClassObject ∷ parameters) operands
-      → some_misfit classes space references (ClassObject ∷ parameters) operands ≡ false → class_there space a ≡ class_class
-  class_of_first parameters [] a at fits misfit = absurd fits
-  class_of_first parameters (o ∷ operands) a at fits misfit =
-      let here : misfits classes space ClassObject (operand_at references o) ≡ false = first_of (misfits classes space ClassObject (operand_at references o)) (some_misfit classes space references parameters operands) misfit in
-      let same : not (class_there space a == class_class) ≡ false = sym (ap (misfits classes space ClassObject) at) ∙ here in
+  pub is_class : (before after : List ParameterKind) (operands : List Operand) (a : ℕ) → operand_at references (operand_of operands (length before)) ≡ Some a → AllZip OperandFits (before ++ ClassObject ∷ after) operands
+      → some_misfit classes space references (before ++ ClassObject ∷ after) operands ≡ false → class_there space a ≡ class_class
+  is_class before after operands a at fits misfit =
+      let same : not (class_there space a == class_class) ≡ false = of_kind before ClassObject after operands a at fits misfit in
       ⊎_elim (λ (t : (eqb (class_there space a) class_class ≡ true) × (class_there space a ≡ class_class)). t.1)
       (λ (t : (eqb (class_there space a) class_class ≡ false) × (class_there space a ≡ class_class → ⊥)). absurd (let clash : not false ≡ false = ap not (sym t.0) ∙ same in cc))
       (eqb_tells (class_there space a) class_class)

@@ -1,4 +1,5 @@
 pub mod AnswerCases
+pub mod ArrayClasses
 pub mod BlocksOfNames
 pub mod CallAnswers
 pub mod CallChecks

@@ -1,22 +1,33 @@
 -- Functions by groups, as they are worked out. Private to the calls.
 use Rattle.std.specs.Prelude.{Bool, true, false}
-use Rattle.jni.specs.JniFunction.{JniFunction, NewLocalRef, NewGlobalRef, DeleteLocalRef, DeleteGlobalRef, IsSameObject, EnsureLocalCapacity, PushLocalFrame, PopLocalFrame, GetFieldID, GetStaticFieldID, GetField, SetField, GetStaticField, SetStaticField, GetObjectField, SetObjectField, GetStaticObjectField, SetStaticObjectField}
+use Rattle.jni.specs.JniFunction.{JniFunction, NewLocalRef, NewGlobalRef, DeleteLocalRef, DeleteGlobalRef, IsSameObject, EnsureLocalCapacity, PushLocalFrame, PopLocalFrame, GetFieldID, GetStaticFieldID, GetField, SetField, GetStaticField, SetStaticField, GetObjectField, SetObjectField, GetStaticObjectField, SetStaticObjectField, GetArrayLength, GetStringLength, NewArray, NewObjectArray, GetObjectArrayElement, SetObjectArrayElement, NewStringUTF}
 
--- a function of fields or statics
-abbrev pub is_of_fields : JniFunction → Bool
-is_of_fields GetFieldID = true
-is_of_fields GetStaticFieldID = true
-is_of_fields (GetField T) = true
-is_of_fields (SetField T) = true
-is_of_fields (GetStaticField T) = true
-is_of_fields (SetStaticField T) = true
-is_of_fields GetObjectField = true
-is_of_fields SetObjectField = true
-is_of_fields GetStaticObjectField = true
-is_of_fields SetStaticObjectField = true
-is_of_fields f = false
+-- a function of arrays or strings
+abbrev pub is_of_arrays : JniFunction → Bool
+is_of_arrays GetArrayLength = true
+is_of_arrays (NewArray T) = true
+is_of_arrays NewObjectArray = true
+is_of_arrays GetObjectArrayElement = true
+is_of_arrays SetObjectArrayElement = true
+is_of_arrays NewStringUTF = true
+is_of_arrays GetStringLength = true
+is_of_arrays f = false
 
--- a function of references, frames, fields or statics
+-- a function of what objects hold: fields, statics, arrays and strings
+abbrev pub is_of_objects : JniFunction → Bool
+is_of_objects GetFieldID = true
+is_of_objects GetStaticFieldID = true
+is_of_objects (GetField T) = true
+is_of_objects (SetField T) = true
+is_of_objects (GetStaticField T) = true
+is_of_objects (SetStaticField T) = true
+is_of_objects GetObjectField = true
+is_of_objects SetObjectField = true
+is_of_objects GetStaticObjectField = true
+is_of_objects SetStaticObjectField = true
+is_of_objects f = is_of_arrays f
+
+-- a function of references, of frames or of what objects hold
 abbrev pub is_further : JniFunction → Bool
 is_further NewLocalRef = true
 is_further NewGlobalRef = true
@@ -26,4 +37,4 @@ is_further IsSameObject = true
 is_further EnsureLocalCapacity = true
 is_further PushLocalFrame = true
 is_further PopLocalFrame = true
-is_further f = is_of_fields f
+is_further f = is_of_objects f

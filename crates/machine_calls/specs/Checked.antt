@@ -8,7 +8,7 @@ use Rattle.classes.specs.declared.class.FieldHandle.{FieldHandle}
 use Rattle.code.specs.declared.instr.Operand.{Operand}
 use Rattle.code.specs.declared.instr.Operand.TheVariants as operand
 use Rattle.heap.specs.Heap.{Space}
-use Rattle.jni.specs.JniFunction.{is_allowed_pending, JniFunction, AllocObject, GetField, SetField, GetStaticField, SetStaticField, GetObjectField, SetObjectField, GetStaticObjectField, SetStaticObjectField, prototype}
+use Rattle.jni.specs.JniFunction.{is_allowed_pending, JniFunction, AllocObject, GetField, SetField, GetStaticField, SetStaticField, GetObjectField, SetObjectField, GetStaticObjectField, SetStaticObjectField, NewObjectArray, prototype}
 use Rattle.jni.specs.Prototype.{ParameterKind, Nullable, ClassObject, AnyArray, ObjectArray, StringObject, NumberArray, LocalVariable, StaticVariable, IsCopy, ResultKind, NewLocal}
 use Rattle.semantics.specs.Checks.{first_trap}
 use Rattle.semantics.specs.Heap.{holds_number, holds_reference}
@@ -100,6 +100,7 @@ module _ (classes : Classes) (space : Space) (references : References) (fields :
   fit_together (SetStaticField T) = has_static && holds_number T field.field.type
   fit_together GetStaticObjectField = has_static && holds_reference field.field.type
   fit_together SetStaticObjectField = has_static && fits_type_there classes space (reference 2) field.field.type
+  fit_together NewObjectArray = is_plain (class_kind classes (name_there space (reference 1))) && fits_there classes space (reference 2) (name_there space (reference 1))
   fit_together f = true
 
 -- a call of this kind of result puts a local reference into the frame

@@ -1,9 +1,9 @@
 -- What the machine works out of a call, by what is in memory.
-use Rattle.std.specs.Prelude.{◌==◌, ◌≡◌, ℕ, ◌-◌, ℤ, pos, negsuc, nat_lt, List, [], ◌∷◌, length, slice_get, unwrap_or, if◌then◌else◌, Option, Some, None}
+use Rattle.std.specs.Prelude.{◌==◌, ◌≡◌, ℕ, ◌-◌, ℤ, pos, negsuc, nat_lt, Bool, true, false, List, [], ◌∷◌, length, slice_get, unwrap_or, if◌then◌else◌, Option, Some, None}
 use Rattle.std.specs.Int.{w32, cast_signed}
 use Rattle.base.specs.Element.{ElementType}
-use Rattle.class_rules.specs.BuiltIns.{no_class_def_found_error, no_such_field_error}
-use Rattle.class_rules.specs.Class.{Classes, assignable, class_named, superclass}
+use Rattle.class_rules.specs.BuiltIns.{array_index_out_of_bounds, array_store_exception, negative_array_size, no_class_def_found_error, no_such_field_error, number_array}
+use Rattle.class_rules.specs.Class.{Classes, array_class_of, assignable, class_kind, class_named, element_class, superclass}
 use Rattle.class_rules.specs.Fields.{FieldId, find_field, find_static, layout, own_statics}
 use Rattle.classes.specs.FieldViews.{field_of, place_among}
 use Rattle.classes.specs.declared.class.FieldHandle.{FieldHandle}
@@ -15,12 +15,12 @@ use Rattle.code_meaning.specs.Coding.{element_of}
 use Rattle.heap.specs.Heap.{Space, values_at}
 use Rattle.heap.specs.declared.value.Value.{Value}
 use Rattle.heap.specs.declared.value.Value.TheVariants as value
-use Rattle.jni.specs.JniFunction.{JniFunction, FindClass, GetSuperclass, GetObjectClass, IsInstanceOf, IsAssignableFrom, AllocObject, NewLocalRef, NewGlobalRef, DeleteLocalRef, DeleteGlobalRef, IsSameObject, EnsureLocalCapacity, PushLocalFrame, PopLocalFrame, GetFieldID, GetStaticFieldID, GetField, SetField, GetStaticField, SetStaticField, GetObjectField, SetObjectField, GetStaticObjectField, SetStaticObjectField, GetArrayLength}
+use Rattle.jni.specs.JniFunction.{JniFunction, FindClass, GetSuperclass, GetObjectClass, IsInstanceOf, IsAssignableFrom, AllocObject, NewLocalRef, NewGlobalRef, DeleteLocalRef, DeleteGlobalRef, IsSameObject, EnsureLocalCapacity, PushLocalFrame, PopLocalFrame, GetFieldID, GetStaticFieldID, GetField, SetField, GetStaticField, SetStaticField, GetObjectField, SetObjectField, GetStaticObjectField, SetStaticObjectField, GetArrayLength, GetStringLength, NewArray, NewObjectArray, GetObjectArrayElement, SetObjectArrayElement, NewStringUTF}
 use Rattle.machine_calls.specs.declared.answer.Given.TheVariants.{Nothing, Number, Reference}
 use Rattle.machine_calls.specs.declared.answer.Given.TheVariants as given
 use Rattle.machine_calls.specs.declared.answer.Answer.{Answer}
 use Rattle.machine_calls.specs.declared.answer.Answer.TheVariants.{Gives, Writes, Makes, Throws, Ensures, Pushes, RefusesFrames, Pops, Deletes, MakesGlobal, DeletesGlobal}
-use Rattle.machine_calls.specs.declared.new_object.New.TheVariants.{Fresh}
+use Rattle.machine_calls.specs.declared.new_object.New.TheVariants.{Fresh, Array, Text}
 use Rattle.machine_calls.specs.Statics.{References}
 use Rattle.machine_calls.specs.Given.{operand_at, key_at, operand_of, field_at, class_of_given, name_there, fits_there, field_there}
 
@@ -102,6 +102,34 @@ abbrev pub place_there : Classes → Option FieldHandle → List FieldId → ℕ
 place_there classes None fields = 0
 place_there classes (Some h) fields = place_among (field_there classes (Some h)) fields
 
+-- ---- arrays
+
+-- a new array of equal values is made, or an exception for a negative number of them
+abbrev pub new_array : (class : ℕ) → ℤ → Value → Answer
+new_array class (pos n) v = Makes (Array (record { class = class; count = n; value = v }))
+new_array class (negsuc n) v = Throws negative_array_size
+
+-- an index of an array, where it has such an element
+abbrev pub index_there : Space → Option ℕ → ℤ → Option ℕ
+index_there space None z = None
+index_there space (Some a) (pos i) = if nat_lt i (length (values_at space a)) then Some i else None
+index_there space (Some a) (negsuc n) = None
+
+-- an element of an array is given, or an exception where there is none of an index
+abbrev pub element_there : Space → Option ℕ → (index : Option ℕ) → Answer
+element_there space r None = Throws array_index_out_of_bounds
+element_there space r (Some i) = Gives (Reference (address_in (value_there space r i)))
+
+-- an element of an array changes, or an exception where there is none of an index, or where the value doesn't fit
+abbrev pub stores_there : Space → Option ℕ → (fits : Bool) → (index : Option ℕ) → Value → Answer
+stores_there space r fits None v = Throws array_index_out_of_bounds
+stores_there space r false (Some i) v = Throws array_store_exception
+stores_there space r true (Some i) v = writes_there space r i v
+
+-- the number on top of the stack, and 0 where there is none
+abbrev pub stack_number : List ℕ → ℤ
+stack_number stack = cast_signed w32 (top_word stack)
+
 -- ---- what a function does
 
 -- A call with these words on the stack.
@@ -138,6 +166,10 @@ module _ (classes : Classes) (space : Space) (loaded : List ℕ) (references : R
   abbrev pub stored : ElementType → Value
   stored T = value.Number (element_word (element_of T) (top_word stack))
 
+  -- operand 2 fits the elements of operand 0
+  abbrev pub fits_element : Bool
+  fits_element = fits_there classes space (reference 2) (element_class (class_kind classes (class_of_given space (reference 0))))
+
   -- the answer of a function that finds no field
   abbrev pub worked_out : JniFunction → Answer
   worked_out FindClass = found_class loaded (class_named classes (text 0))
@@ -151,8 +183,8 @@ module _ (classes : Classes) (space : Space) (loaded : List ℕ) (references : R
   worked_out DeleteGlobalRef = deletes_global (reference 0) (operand_of call.operands 0)
   worked_out DeleteLocalRef = deletes (key_at references (operand_of call.operands 0))
   worked_out IsSameObject = Gives (Number (truth_word (name_there space (reference 0) == name_there space (reference 1))))
-  worked_out EnsureLocalCapacity = room_for (cast_signed w32 (top_word stack))
-  worked_out PushLocalFrame = frame_for (cast_signed w32 (top_word stack))
+  worked_out EnsureLocalCapacity = room_for (stack_number stack)
+  worked_out PushLocalFrame = frame_for (stack_number stack)
   worked_out PopLocalFrame = Pops (reference 0)
   worked_out (GetField T) = Gives (Number (word_in (value_there space (reference 0) place)))
   worked_out (SetField T) = writes_there space (reference 0) place (stored T)
@@ -163,6 +195,12 @@ module _ (classes : Classes) (space : Space) (loaded : List ℕ) (references : R
   worked_out GetStaticObjectField = Gives (Reference (address_in (value_there space declaring place_of_static)))
   worked_out SetStaticObjectField = writes_there space declaring place_of_static (held_reference (reference 2))
   worked_out GetArrayLength = Gives (Number (count_there space (reference 0)))
+  worked_out (NewArray T) = new_array (number_array T) (stack_number stack) (value.Number 0)
+  worked_out NewObjectArray = new_array (unwrap_or (array_class_of classes (name_there space (reference 1))) 0) (stack_number stack) (held_reference (reference 2))
+  worked_out GetObjectArrayElement = element_there space (reference 0) (index_there space (reference 0) (stack_number stack))
+  worked_out SetObjectArrayElement = stores_there space (reference 0) fits_element (index_there space (reference 0) (stack_number stack)) (held_reference (reference 2))
+  worked_out NewStringUTF = Makes (Text 0)
+  worked_out GetStringLength = Gives (Number (count_there space (reference 0)))
   worked_out f = Gives Nothing
 
   -- what is worked out of a call of a function

@@ -1,7 +1,6 @@
 //! What a function of the JNI does, as data.
 
 ghost use Rattle.std.specs.Prelude.{◌≡◌, ◌<◌, ℕ, [], Some, None, IsSome, true, false, unwrap_or, slice_get, map};
-ghost use Rattle.std.specs.Int.{cast_signed};
 ghost use Rattle.classes.specs.FieldViews.{field_of, find_as};
 ghost use Rattle.class_rules.specs.Fields.{layout, own_statics};
 ghost use Rattle.class_rules.specs.Grown.{IsGrown};
@@ -11,12 +10,13 @@ ghost use Rattle.code_meaning.specs.Coding.{element_of};
 ghost use Rattle.heap.specs.Heap.{IsAddress};
 ghost use Rattle.jni.specs.JniFunction.{is_built_function};
 ghost use Rattle.jni.specs.Table.{function_value};
-ghost use Rattle.machine_calls.specs.CallGroups.{is_further, is_of_fields};
+ghost use Rattle.machine_calls.specs.CallGroups.{is_further, is_of_objects};
 ghost use Rattle.machine_calls.specs.Checked.{fit_together};
 ghost use Rattle.machine_calls.specs.Given.{class_of_given, field_at, field_there, name_there, operand_at, operand_of, AreAddresses, AreHandles};
 ghost use Rattle.machine_calls.specs.WorkedOut.{address_in, class_object, count_there, deletes, deletes_global, found_class, frame_for, held_reference, place_there, room_for, top_word, value_there, word_in, writes_there, IsFoundField, IsWorkedOut};
 ghost use Rattle.syntax.specs.Views.{element_tree};
 
+use crate::arrays::{stack_number, work_out_array};
 use crate::new_object::{New, text_at};
 use crate::operands::{
     class_of_given, declaring, fits_there, handle_at, key_in, name_there, operand_of, reference_at,
@@ -118,15 +118,11 @@ pub fn work_out(
         JniFunction::AllocObject => {
             Answer::Makes(New::Fresh(name_of(heap, references, function, 0)))
         }
-        JniFunction::GetArrayLength => {
-            let first = argument(heap, references, function, 0);
-            Answer::Gives(Given::Number(count_there(heap, first)))
-        }
         _ => { work_out_further(classes, heap, loaded, references, fields, stack, function) }
     }
 }
 
-/// What a function of references, frames, fields or statics does.
+/// What a function of references, of frames or of what objects hold does.
 #[inline(always)]
 fn work_out_further(
     classes: &ClassTable,
@@ -162,14 +158,14 @@ fn work_out_further(
         JniFunction::DeleteLocalRef => {
             deletes(key_in(references, operand_of(&function.operands, 0)))
         }
-        JniFunction::EnsureLocalCapacity => room_for(top_word(stack).cast_signed()),
-        JniFunction::PushLocalFrame => frame_for(top_word(stack).cast_signed()),
+        JniFunction::EnsureLocalCapacity => room_for(stack_number(stack)),
+        JniFunction::PushLocalFrame => frame_for(stack_number(stack)),
         JniFunction::PopLocalFrame => Answer::Pops(argument(heap, references, function, 0)),
         _ => { work_out_field(classes, heap, loaded, references, fields, stack, function) }
     }
 }
 
-/// What a function of fields or statics does.
+/// What a function of fields, statics, arrays or strings does.
 #[inline(always)]
 fn work_out_field(
     classes: &ClassTable,
@@ -184,7 +180,7 @@ fn work_out_field(
     requires loaded { (i a : ℕ) → slice_get loaded.now i ≡ Some a → IsAddress heap.now a }
     requires objects { AreAddresses heap.now references.now function.now.operands.items }
     requires handles { AreHandles classes.now fields.now function.now.operands.items }
-    requires of_fields { is_of_fields (function_value function.now.function) ≡ true }
+    requires of_objects { is_of_objects (function_value function.now.function) ≡ true }
     requires passed { fit_together classes.now heap.now references.now fields.now function.now.operands.items (function_value function.now.function) ≡ true }
     ensures { IsWorkedOut classes.now heap.now loaded.now references.now fields.now stack.now (call_view function.now) (function_value function.now.function) result }
 {
@@ -229,13 +225,18 @@ fn work_out_field(
             let value = held_reference(argument(heap, references, function, 2));
             writes_static(classes, heap, loaded, fields, function, value)
         }
-        _ => unreachable!(),
+        _ => work_out_array(classes, heap, references, stack, function),
     }
 }
 
 /// The reference of the operand at a place.
 #[inline(always)]
-fn argument(heap: &Heap, references: &References<'_>, function: &Call, place: usize) -> Option<Addr>
+pub(crate) fn argument(
+    heap: &Heap,
+    references: &References<'_>,
+    function: &Call,
+    place: usize,
+) -> Option<Addr>
     requires { AreAddresses heap.now references.now function.now.operands.items }
     ensures reference { result ≡ operand_at references.now (operand_of function.now.operands.items place) }
     ensures there { (a : ℕ) → result ≡ Some a → IsAddress heap.now a }
@@ -245,7 +246,12 @@ fn argument(heap: &Heap, references: &References<'_>, function: &Call, place: us
 
 /// The name of its object, and 0 for NULL.
 #[inline(always)]
-fn name_of(heap: &Heap, references: &References<'_>, function: &Call, place: usize) -> usize
+pub(crate) fn name_of(
+    heap: &Heap,
+    references: &References<'_>,
+    function: &Call,
+    place: usize,
+) -> usize
     requires { AreAddresses heap.now references.now function.now.operands.items }
     ensures { result ≡ name_there heap.now (operand_at references.now (operand_of function.now.operands.items place)) }
 {
@@ -331,7 +337,7 @@ fn find_field(classes: &ClassTable, class: usize, texts: &[Vec<u8>], is_static: 
 }
 
 /// The number of values of an object, and 0 for NULL.
-fn count_there(heap: &Heap, reference: Option<Addr>) -> u32
+pub(crate) fn count_there(heap: &Heap, reference: Option<Addr>) -> u32
     requires { (a : ℕ) → reference ≡ Some a → IsAddress heap.now a }
     ensures { result ≡ count_there heap.now reference }
 {
@@ -497,7 +503,7 @@ fn static_place(classes: &ClassTable, field: Option<FieldHandle>) -> usize
 }
 
 /// A value of an object, where the object has it.
-fn value_there(heap: &Heap, reference: Option<Addr>, place: usize) -> Option<Value>
+pub(crate) fn value_there(heap: &Heap, reference: Option<Addr>, place: usize) -> Option<Value>
     requires { (a : ℕ) → reference ≡ Some a → IsAddress heap.now a }
     ensures { result ≡ value_there heap.now reference place }
 {
@@ -518,7 +524,7 @@ fn word_in(value: Option<Value>) -> u32
 }
 
 /// The address in a cell, and NULL where there is none.
-fn address_in(value: Option<Value>) -> Option<Addr>
+pub(crate) fn address_in(value: Option<Value>) -> Option<Addr>
     ensures { result ≡ address_in value }
 {
     match value {
@@ -531,7 +537,7 @@ fn address_in(value: Option<Value>) -> Option<Addr>
 }
 
 /// How a cell holds a reference.
-fn held_reference(reference: Option<Addr>) -> Value
+pub(crate) fn held_reference(reference: Option<Addr>) -> Value
     ensures { result ≡ held_reference reference }
 {
     match reference {
@@ -541,7 +547,12 @@ fn held_reference(reference: Option<Addr>) -> Value
 }
 
 /// A value of an object changes, where the object has it.
-fn writes_there(heap: &Heap, reference: Option<Addr>, place: usize, value: Value) -> Answer
+pub(crate) fn writes_there(
+    heap: &Heap,
+    reference: Option<Addr>,
+    place: usize,
+    value: Value,
+) -> Answer
     requires { (a : ℕ) → reference ≡ Some a → IsAddress heap.now a }
     ensures { result ≡ writes_there heap.now reference place value }
 {
@@ -552,7 +563,7 @@ fn writes_there(heap: &Heap, reference: Option<Addr>, place: usize, value: Value
 }
 
 /// The word on top of the stack, and 0 where there is none.
-fn top_word(stack: &Stack) -> u32
+pub(crate) fn top_word(stack: &Stack) -> u32
     ensures { result ≡ top_word stack.now }
 {
     if stack.is_empty() { 0 } else { stack.top() }

@@ -301,6 +301,11 @@ fn fit_together(
             has_static(classes, heap, references, fields, operands)
                 && fits_type(classes, heap, value, asked_type(classes, fields, operands))
         }
+        JniFunction::NewObjectArray => {
+            let class = name_there(heap, reference_at(heap, references, operands, 1));
+            let element = reference_at(heap, references, operands, 2);
+            !classes.is_array(class) && fits_there(classes, heap, element, class)
+        }
         _ => true,
     }
 }

@@ -4,6 +4,8 @@
 
 pub mod activation;
 pub mod answer;
+mod array_class;
+mod arrays;
 pub mod carry_out;
 pub mod check;
 mod make;

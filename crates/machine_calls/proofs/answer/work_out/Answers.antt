@@ -10,7 +10,7 @@ use Rattle.machine_calls.specs.declared.answer.Answer.TheVariants.{Gives, Makes}
 use Rattle.machine_calls.specs.declared.answer.Given.TheVariants.{Number, Reference}
 use Rattle.machine_calls.specs.declared.new_object.New.TheVariants.{Fresh}
 use Rattle.machine_calls.specs.Given.{class_of_given, fits_there}
-use Rattle.machine_calls.specs.WorkedOut.{IsWorkedOut, class_object, count_there, found_class}
+use Rattle.machine_calls.specs.WorkedOut.{IsWorkedOut, class_object, found_class}
 use Rattle.machine_calls.proofs.answer.work_out.Goals as goal
 
 pub returns-in-FindClass : goal.returns-in-FindClass
@@ -43,8 +43,3 @@ pub returns-in-AllocObject : goal.returns-in-AllocObject
 returns-in-AllocObject c =
     subst (λ (f : JniFunction). IsWorkedOut c.args.classes.now c.args.heap.now c.args.loaded.now c.args.references.now c.args.fields.now c.args.stack.now (call_view c.args.function.now) (function_value f) (Makes (Fresh c.name_of-in-AllocObject.result))) (sym c.in-AllocObject.is)
     (ap (λ (class : ℕ). Makes (Fresh class)) c.name_of-in-AllocObject.ensures)
-
-pub returns-in-GetArrayLength : goal.returns-in-GetArrayLength
-returns-in-GetArrayLength c =
-    subst (λ (f : JniFunction). IsWorkedOut c.args.classes.now c.args.heap.now c.args.loaded.now c.args.references.now c.args.fields.now c.args.stack.now (call_view c.args.function.now) (function_value f) (Gives (Number c.count_there.result))) (sym c.in-GetArrayLength.is)
-    (ap (λ (n : ℕ). Gives (Number n)) (c.count_there.ensures ∙ ap (count_there c.args.heap.now) c.argument-first-in-GetArrayLength.ensures.reference))

@@ -1,0 +1,41 @@
+//! Classes of arrays, by their names.
+
+ghost use Rattle.std.specs.Prelude.{◌≡◌, ◌++◌, ◌∷◌, []};
+ghost use Rattle.std.specs.Str.{bytes_eq};
+ghost use Rattle.class_rules.specs.Class.{array_class_of, array_name};
+
+use classes::table::ClassTable;
+
+/// The number of the class of arrays whose elements are of a class. It takes no host memory. The cost goes by the number of
+/// classes.
+pub(crate) fn array_class_of(classes: &ClassTable, class: usize) -> Option<usize>
+    ensures { result ≡ array_class_of classes.now class }
+{
+    let element = classes.name(class);
+    for place in 0..classes.len() {
+        if is_array_name(classes.name(place + 1), element) {
+            return Some(place + 1);
+        }
+    }
+    None
+}
+
+/// Whether a name is that of the class of arrays with elements of the class of another.
+fn is_array_name(name: &[u8], element: &[u8]) -> bool
+    ensures { result ≡ bytes_eq (array_name element.now) name.now }
+{
+    match name {
+        [b'[', b'L', rest @ ..] => is_ended(rest, element),
+        _ => false,
+    }
+}
+
+/// Whether bytes are a name and a semicolon.
+fn is_ended(bytes: &[u8], name: &[u8]) -> bool
+    ensures { result ≡ bytes_eq (name.now ++ 59 ∷ []) bytes.now }
+{
+    match bytes.split_last() {
+        Some((last, front)) => name == front && *last == b';',
+        None => false,
+    }
+}

@@ -1,0 +1,178 @@
+//! What functions of arrays and strings do.
+
+ghost use Rattle.std.specs.Prelude.{◌≡◌, ℕ, true, List, Option, Some};
+ghost use Rattle.class_rules.specs.Class.{class_kind, element_class};
+ghost use Rattle.classes.specs.declared.class.FieldHandle.{FieldHandle};
+ghost use Rattle.code.specs.Call.{call_view};
+ghost use Rattle.heap.specs.Heap.{IsAddress};
+ghost use Rattle.jni.specs.Table.{function_value};
+ghost use Rattle.machine_calls.specs.CallGroups.{is_of_arrays};
+ghost use Rattle.machine_calls.specs.Given.{class_of_given, fits_there, operand_at, operand_of, AreAddresses};
+ghost use Rattle.machine_calls.specs.WorkedOut.{element_there, index_there, new_array, stack_number, stores_there, IsWorkedOut};
+
+use crate::answer::{
+    Answer, Given, address_in, argument, count_there, held_reference, name_of, top_word,
+    value_there, writes_there,
+};
+use crate::array_class::array_class_of;
+use crate::new_object::{New, NewArray};
+use crate::operands::{class_of_given, element_type, fits_there};
+use crate::references::References;
+use classes::built_ins::{
+    ARRAY_INDEX_OUT_OF_BOUNDS_EXCEPTION, ARRAY_STORE_EXCEPTION, NEGATIVE_ARRAY_SIZE_EXCEPTION,
+    number_array,
+};
+use classes::class::ClassKind;
+use classes::table::ClassTable;
+use code::instr::Call;
+use code::stack::Stack;
+use heap::{Addr, Heap, Value};
+use jni::JniFunction;
+
+/// What a function of arrays or strings does.
+#[inline(always)]
+pub(crate) fn work_out_array(
+    classes: &ClassTable,
+    heap: &Heap,
+    references: &References<'_>,
+    stack: &Stack,
+    function: &Call,
+) -> Answer
+    requires objects { AreAddresses heap.now references.now function.now.operands.items }
+    requires of_arrays { is_of_arrays (function_value function.now.function) ≡ true }
+    ensures { (loaded : List ℕ) (fields : List (Option FieldHandle)) → IsWorkedOut classes.now heap.now loaded references.now fields stack.now (call_view function.now) (function_value function.now.function) result }
+{
+    match function.function {
+        JniFunction::GetArrayLength | JniFunction::GetStringLength => {
+            let first = argument(heap, references, function, 0);
+            Answer::Gives(Given::Number(count_there(heap, first)))
+        }
+        JniFunction::NewArray(element) => {
+            let class = number_array(element_type(element));
+            new_array(class, stack_number(stack), Value::Number(0))
+        }
+        JniFunction::NewObjectArray => {
+            let class = array_class_of(classes, name_of(heap, references, function, 1));
+            let element = held_reference(argument(heap, references, function, 2));
+            new_array(class.unwrap_or(0), stack_number(stack), element)
+        }
+        JniFunction::GetObjectArrayElement => {
+            let array = argument(heap, references, function, 0);
+            element_there(heap, array, stack_number(stack))
+        }
+        JniFunction::SetObjectArrayElement => {
+            let fits = fits_element(classes, heap, references, function);
+            let element = held_reference(argument(heap, references, function, 2));
+            let array = argument(heap, references, function, 0);
+            stores_there(heap, array, fits, stack_number(stack), element)
+        }
+        JniFunction::NewStringUTF => Answer::Makes(New::Text(0)),
+        _ => unreachable!(),
+    }
+}
+
+/// The number on top of the stack, and 0 where there is none.
+pub(crate) fn stack_number(stack: &Stack) -> i32
+    ensures { result ≡ stack_number stack.now }
+{
+    top_word(stack).cast_signed()
+}
+
+/// A new array of equal values is made; a negative number of them is an exception.
+fn new_array(class: usize, count: i32, value: Value) -> Answer
+    ensures { result ≡ new_array class count value }
+{
+    if count < 0 {
+        Answer::Throws(NEGATIVE_ARRAY_SIZE_EXCEPTION)
+    } else {
+        Answer::Makes(New::Array(NewArray {
+            class,
+            count: count as u32,
+            value,
+        }))
+    }
+}
+
+/// Whether operand 2 fits the elements of operand 0.
+fn fits_element(
+    classes: &ClassTable,
+    heap: &Heap,
+    references: &References<'_>,
+    function: &Call,
+) -> bool
+    requires { AreAddresses heap.now references.now function.now.operands.items }
+    ensures { result ≡ fits_there classes.now heap.now (operand_at references.now (operand_of function.now.operands.items 2)) (element_class (class_kind classes.now (class_of_given heap.now (operand_at references.now (operand_of function.now.operands.items 0))))) }
+{
+    let array = argument(heap, references, function, 0);
+    let class = element_class(classes, class_of_given(heap, array));
+    fits_there(
+        classes,
+        heap,
+        argument(heap, references, function, 2),
+        class,
+    )
+}
+
+/// The class of the elements of a class of arrays of objects, and 0 for another.
+fn element_class(classes: &ClassTable, class: usize) -> usize
+    ensures { result ≡ element_class (class_kind classes.now class) }
+{
+    match classes.kind(class) {
+        ClassKind::ArrayOfObjects(element) => element,
+        _ => 0,
+    }
+}
+
+/// An index of an array, where it has such an element.
+fn index_in(heap: &Heap, array: Addr, index: i32) -> Option<usize>
+    requires { IsAddress heap.now array }
+    ensures { result ≡ index_there heap.now (Some array) index }
+{
+    if index < 0 {
+        return None;
+    }
+    let index = index as usize;
+    if index < heap.len_of(array) {
+        Some(index)
+    } else {
+        None
+    }
+}
+
+/// An element of an array is given; an index of none is an exception.
+fn element_there(heap: &Heap, reference: Option<Addr>, index: i32) -> Answer
+    requires { (a : ℕ) → reference ≡ Some a → IsAddress heap.now a }
+    ensures { result ≡ element_there heap.now reference (index_there heap.now reference index) }
+{
+    match reference {
+        Some(array) => match index_in(heap, array, index) {
+            Some(index) => {
+                let element = address_in(value_there(heap, Some(array), index));
+                Answer::Gives(Given::Reference(element))
+            }
+            None => Answer::Throws(ARRAY_INDEX_OUT_OF_BOUNDS_EXCEPTION),
+        },
+        None => Answer::Throws(ARRAY_INDEX_OUT_OF_BOUNDS_EXCEPTION),
+    }
+}
+
+/// An element of an array changes to this value; an index of none is an exception, and so is a value that doesn't fit.
+fn stores_there(
+    heap: &Heap,
+    reference: Option<Addr>,
+    fits: bool,
+    index: i32,
+    value: Value,
+) -> Answer
+    requires { (a : ℕ) → reference ≡ Some a → IsAddress heap.now a }
+    ensures { result ≡ stores_there heap.now reference fits (index_there heap.now reference index) value }
+{
+    match reference {
+        Some(array) => match index_in(heap, array, index) {
+            Some(index) if fits => writes_there(heap, Some(array), index, value),
+            Some(_) => Answer::Throws(ARRAY_STORE_EXCEPTION),
+            None => Answer::Throws(ARRAY_INDEX_OUT_OF_BOUNDS_EXCEPTION),
+        },
+        None => Answer::Throws(ARRAY_INDEX_OUT_OF_BOUNDS_EXCEPTION),
+    }
+}
