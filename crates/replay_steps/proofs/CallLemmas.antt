@@ -1,23 +1,23 @@
 -- What a call in memory does is the call's step.
-use Rattle.std.proofs.Common.{◌≡◌, ℕ, Bool, true, false, List, [], ◌∷◌, ◌++◌, Option, Some, None, refl, sym, ap, ◌∙◌, append-nil}
-use Rattle.std.specs.Prelude.{ℤ, pos, negsuc, drop, nat_le, if◌then◌else◌, is_some}
+use Rattle.std.proofs.Common.{◌≡◌, ℕ, Bool, true, false, List, [], ◌∷◌, ◌++◌, length, Option, Some, None, refl, sym, ap, ◌∙◌, append-nil}
+use Rattle.std.specs.Prelude.{ℤ, pos, negsuc, drop, nat_le, nat_lt, if◌then◌else◌, is_some}
 use Rattle.std.specs.Option.{option_to_list}
 use Rattle.base.specs.Bytes.{Identifier, lookup}
 use Rattle.base.specs.Element.{ElementType}
-use Rattle.class_rules.specs.BuiltIns.{no_class_def_found_error, no_such_field_error}
+use Rattle.class_rules.specs.BuiltIns.{array_index_out_of_bounds, no_class_def_found_error, no_such_field_error, number_array}
 use Rattle.class_rules.specs.Class.{Classes}
 use Rattle.class_rules.specs.Fields.{FieldId}
 use Rattle.jni.specs.Access.{ArrayView}
-use Rattle.jni.specs.JniFunction.{is_built_function, JniFunction, FindClass, NewGlobalRef, DeleteLocalRef, DeleteGlobalRef, EnsureLocalCapacity, PushLocalFrame, GetFieldID, GetStaticFieldID, prototype, NewObjectArray, GetBuffer, Throw, ThrowNew}
+use Rattle.jni.specs.JniFunction.{is_built_function, JniFunction, FindClass, NewGlobalRef, DeleteLocalRef, DeleteGlobalRef, EnsureLocalCapacity, PushLocalFrame, GetFieldID, GetStaticFieldID, prototype, NewArray, NewObjectArray, GetObjectArrayElement, SetObjectArrayElement, GetBuffer, Throw, ThrowNew}
 use Rattle.jni.specs.Prototype.{ResultKind, NewLocal}
-use Rattle.semantics.specs.Arguments.{Actual, reference_given, variable_given}
-use Rattle.semantics.specs.CallEffects.{CallResult, NoResult, ReferenceResult, CallEffect, Leaves, delete_global_effect, delete_local_effect, ensure_effect, found_class_effect, found_field_effect, level_of, out_of_memory, push_effect, refuses_frames, with_capacity, without_local}
+use Rattle.semantics.specs.Arguments.{Actual, number_given, object_given, reference_given, variable_given}
+use Rattle.semantics.specs.CallEffects.{CallResult, NoResult, ReferenceResult, CallEffect, Leaves, Throws, at_index, delete_global_effect, delete_local_effect, ensure_effect, found_class_effect, found_field_effect, level_of, new_array_effect, out_of_memory, push_effect, refuses_frames, store_effect, with_capacity, without_local}
 use Rattle.semantics.specs.CallStep.{after_call, after_refusal, call_step, checked, completed, failure, is_zero, makes_objects, put, received, target_element, tell_copy}
 use Rattle.semantics.specs.CallTable.{call_effect, go_together}
 use Rattle.semantics.specs.Checks.{call_trap}
 use Rattle.semantics.specs.Effect.{tasks_after}
-use Rattle.semantics.specs.Heap.{Heap, next_name}
-use Rattle.semantics.specs.Object.{Object, Reference}
+use Rattle.semantics.specs.Heap.{Heap, next_name, reference_in, value_at, values_of}
+use Rattle.semantics.specs.Object.{Number, Object, Reference, Refers}
 use Rattle.semantics.specs.World.{fresh_object}
 use Rattle.semantics.specs.Task.{Task}
 use Rattle.semantics.specs.Thread.{Frame, Thread, Shared, BuffersInUse, Trapped, Advance, Advances, capacities}
@@ -38,11 +38,11 @@ use Rattle.replay_terms.specs.Views.{given_view, Contents, trap_view, variables_
 use Rattle.replay_steps.specs.Calls.{MakesCall}
 use Rattle.replay_calls.specs.Checked.{fit_together, trap_found}
 use Rattle.replay_objects.specs.Frames.{new_frame}
-use Rattle.replay_objects.specs.New.{object_of}
+use Rattle.replay_objects.specs.New.{array_class, object_of}
 use Rattle.replay_tasks.specs.Outcomes.{outcome_for, purpose_view}
 use Rattle.replay_steps.specs.Steps.{Scene, Sees, left_by, scene_with}
 use Rattle.replay_tasks.specs.Tasks.{task_view}
-use Rattle.replay_calls.specs.WorkedOut.{ensured, found_class, found_field, global_deleted, local_deleted, made_global, pushed, worked_out}
+use Rattle.replay_calls.specs.WorkedOut.{element_given, element_set, ensured, fits_element, found_class, found_field, global_deleted, index_within, local_deleted, made_global, new_array, new_object_array, pushed, worked_out}
 use Rattle.replay_steps.proofs.TaskLemmas.{same_thread}
 
 -- ---- checks
@@ -51,7 +51,6 @@ module _ (classes : Classes) (heap : Heap) (buffer : ElementType) (args : List A
   -- the arguments go together
   together : (f : JniFunction) → is_built_function f ≡ true → go_together classes heap buffer args f ≡ fit_together classes heap args f
   unfolding go_together
-  together NewObjectArray built = absurd (cc)
   together (GetBuffer ArrayView) built = absurd (cc)
   together Throw built = absurd (cc)
   together ThrowNew built = absurd (cc)
@@ -98,6 +97,41 @@ module _ (classes : Classes) (in_use : BuffersInUse) (k : ℕ) (s : Shared) (t :
   deletes_global x None = refl
   deletes_global x (Some n) = refl
 
+  new_arrays : (class : ℕ) (z : ℤ) → new_array_effect s t class z (Number (pos 0)) ≡ effect_as classes s t (new_array class z)
+  new_arrays class (pos n) = refl
+  new_arrays class (negsuc n) = refl
+
+  new_object_arrays : (element : ℕ) (r : Reference) (z : ℤ) → new_array_effect s t (array_class classes element) z (Refers r) ≡ effect_as classes s t (new_object_array element r z)
+  new_object_arrays element r (pos n) = refl
+  new_object_arrays element r (negsuc n) = refl
+
+  -- what is done at an index that an array has, and else
+  at_place : (go : ℕ → CallEffect) (a : Option ℕ → Answer) → ((i : ℕ) → go i ≡ effect_as classes s t (a (Some i))) → Throws array_index_out_of_bounds ≡ effect_as classes s t (a None)
+      → (count : ℕ) (z : ℤ) → at_index array_index_out_of_bounds count z go ≡ effect_as classes s t (a (index_within count z))
+  at_place go a there past count (pos i) = by_test (nat_lt i count)
+    where
+      by_test : (b : Bool) → (if b then go i else Throws array_index_out_of_bounds) ≡ effect_as classes s t (a (if b then Some i else None))
+      by_test true = there i
+      by_test false = past
+  at_place go a there past count (negsuc i) = past
+
+  -- the arguments of functions of arrays
+  abbrev array : ℕ
+  array = object_given args 0
+
+  abbrev count : ℕ
+  count = length (values_of s.heap array)
+
+  gets : (z : ℤ) → at_index array_index_out_of_bounds count z (λ i. Leaves [] s t (ReferenceResult (reference_in (value_at s.heap array i)))) ≡ effect_as classes s t (element_given s.heap array (index_within count z))
+  gets = at_place (λ i. Leaves [] s t (ReferenceResult (reference_in (value_at s.heap array i)))) (element_given s.heap array) (λ i. refl) refl count
+
+  stores : (fits : Bool) (n : ℕ) (r : Reference) (i : ℕ) → store_effect s t fits n r i ≡ effect_as classes s t (element_set fits n r (Some i))
+  stores true n r i = refl
+  stores false n r i = refl
+
+  sets : (fits : Bool) (r : Reference) (z : ℤ) → at_index array_index_out_of_bounds count z (store_effect s t fits array r) ≡ effect_as classes s t (element_set fits array r (index_within count z))
+  sets fits r = at_place (store_effect s t fits array r) (element_set fits array r) (stores fits array r) refl count
+
   -- what is worked out is the effect
   effects : (f : JniFunction) → is_built_function f ≡ true → call_effect classes in_use k s t args f ≡ effect_as classes s t (worked_out classes s.heap t.variables t.frames args f)
   unfolding call_effect
@@ -109,6 +143,10 @@ module _ (classes : Classes) (in_use : BuffersInUse) (k : ℕ) (s : Shared) (t :
   effects PushLocalFrame built = pushes _
   effects GetFieldID built = field_found _
   effects GetStaticFieldID built = field_found _
+  effects (NewArray T) built = new_arrays (number_array T) (number_given args 0)
+  effects NewObjectArray built = new_object_arrays (object_given args 1) (reference_given args 2) (number_given args 0)
+  effects GetObjectArrayElement built = gets (number_given args 1)
+  effects SetObjectArrayElement built = sets (fits_element classes s.heap args) (reference_given args 2) (number_given args 1)
   effects f built = cc
 
 -- ---- what a call leaves
