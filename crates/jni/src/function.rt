@@ -135,12 +135,12 @@ static STRING_ROWS: [Prototype; 11] = rows! {
     b"NewStringUTF"    [TextBytes]                                                => NewLocal,     Other, false, true;
     b"GetStringLength" [StringObject]                                             => GivesInt,     Other, false, true;
     b"GetStringRegion" [StringObject, IntNumber, IntNumber, ArrayVariable(Jchar)] => GivesNothing, Other, false, false;
-    b"Throw"             [NonNull]                => GivesInt,     Other, false, false;
+    b"Throw"             [NonNull]                => GivesInt,     Other, false, true;
     b"ThrowNew"          [ClassObject, TextBytes] => GivesInt,     Other, false, false;
-    b"ExceptionOccurred" []                       => NewLocal,     Other, true,  false;
-    b"ExceptionCheck"    []                       => GivesFlag,    Other, true,  false;
-    b"ExceptionClear"    []                       => GivesNothing, Other, true,  false;
-    b"FatalError"        [TextBytes]              => GivesNothing, Other, false, false;
+    b"ExceptionOccurred" []                       => NewLocal,     Other, true,  true;
+    b"ExceptionCheck"    []                       => GivesFlag,    Other, true,  true;
+    b"ExceptionClear"    []                       => GivesNothing, Other, true,  true;
+    b"FatalError"        [TextBytes]              => GivesNothing, Other, false, true;
     b"MonitorEnter"      [NonNull]                => GivesInt,     Other, false, false;
     b"MonitorExit"       [NonNull]                => GivesInt,     Other, true,  false;
 };
