@@ -325,7 +325,7 @@ static TRAPS_0: [Explanation; 9] = [
     Explanation {
         number: 9,
         title: b"FatalError",
-        text: b"trap 9: FatalError\n\nThe program has called FatalError, which doesn't return (JNI Specification, chapter 4, \"FatalError\"). No run earns this trap today: FatalError can't be called yet.\n",
+        text: b"trap 9: FatalError\n\nThe program has called FatalError, which doesn't return (JNI Specification, chapter 4, \"FatalError\"). Throw an exception where the caller may go on.\n\n    JNIEXPORT void JNICALL Java_A_f(JNIEnv *env, jclass cls, jint n)\n    {\n        if (n < 0) {\n            (*env)->FatalError(env, \"n is negative\");\n        }\n        return;\n    }\n\n    heap 512\n    class A\n    thread Java_A_f -1\n\nT1 trap 9 line 4\n",
     },
 ];
 
