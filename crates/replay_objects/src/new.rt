@@ -1,6 +1,6 @@
 //! Objects that are to be made.
 
-ghost use Rattle.std.specs.Prelude.{◌≡◌, ◌++◌, ◌∷◌, [], IfOk, OnErr, length, map, pos, replicate};
+ghost use Rattle.std.specs.Prelude.{◌≡◌, ◌<◌, ◌^◌, ◌++◌, ◌∷◌, [], IfOk, OnErr, length, map, pos, replicate};
 ghost use Rattle.semantics.specs.Heap.{next_name};
 ghost use Rattle.semantics.specs.Object.{Number};
 ghost use Rattle.replay_objects.specs.New.{array_class, new_view, object_of};
@@ -61,7 +61,8 @@ fn values_of(
     classes: &ClassTable,
     new: New<'_>,
 ) -> Result<Vec<ObjectValue>, AllocError>
-    ensures { IfOk result (λ values. map object_value_view values.items ≡ (object_of classes.now (new_view new.entry)).values) }
+    ensures short { IfOk result (λ values. length values.items < 2 ^ 31) }
+    ensures values { IfOk result (λ values. map object_value_view values.items ≡ (object_of classes.now (new_view new.entry)).values) }
 {
     match new {
         New::Fresh(class) => fresh_values(alloc, classes, class),
@@ -75,14 +76,21 @@ fn values_of(
     }
 }
 
+/// An object has fewer values than this, as no heap has so many cells.
+const COUNT_LIMIT: usize = 1 << 20;
+
 /// This many times this value.
 fn equal_values(
     alloc: Global,
     count: usize,
     value: ObjectValue,
 ) -> Result<Vec<ObjectValue>, AllocError>
-    ensures { IfOk result (λ values. map object_value_view values.items ≡ replicate count (object_value_view value)) }
+    ensures short { IfOk result (λ values. length values.items < 2 ^ 31) }
+    ensures values { IfOk result (λ values. map object_value_view values.items ≡ replicate count (object_value_view value)) }
 {
+    if count >= COUNT_LIMIT {
+        return Err(AllocError);
+    }
     let mut values = Vec::new(alloc);
     values.resize(count, value)?;
     Ok(values)
@@ -90,8 +98,12 @@ fn equal_values(
 
 /// A number for each byte.
 fn units(alloc: Global, bytes: &[u8]) -> Result<Vec<ObjectValue>, AllocError>
-    ensures { IfOk result (λ values. map object_value_view values.items ≡ map (λ b. Number (pos b)) bytes.now) }
+    ensures short { IfOk result (λ values. length values.items < 2 ^ 31) }
+    ensures values { IfOk result (λ values. map object_value_view values.items ≡ map (λ b. Number (pos b)) bytes.now) }
 {
+    if bytes.len() >= COUNT_LIMIT {
+        return Err(AllocError);
+    }
     let mut values = Vec::new(alloc);
     for byte in bytes {
         values.push(ObjectValue::Number(i32::from(*byte)))?;
@@ -99,10 +111,7 @@ fn units(alloc: Global, bytes: &[u8]) -> Result<Vec<ObjectValue>, AllocError>
     Ok(values)
 }
 
-/// An object has fewer values than this.
-const COUNT_LIMIT: usize = 1 << 31;
-
-/// Makes the next object, and tells its name. One of more values than a `jint` counts has no room.
+/// Makes the next object, and tells its name. One that no heap has room for is refused before memory is asked for.
 pub fn make(
     alloc: Global,
     classes: &ClassTable,
@@ -114,9 +123,6 @@ pub fn make(
     ensures err { OnErr result (store.new ≡ store.old) }
 {
     let values = values_of(alloc, classes, new)?;
-    if values.len() >= COUNT_LIMIT {
-        return Err(AllocError);
-    }
     let class = class_of(classes, new)?;
     store.add(class, values)?;
     Ok(store.len())

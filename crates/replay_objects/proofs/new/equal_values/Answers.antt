@@ -9,7 +9,7 @@ equal : (n : ℕ) (v : InMemory) → map object_value_view (replicate n v) ≡ r
 equal zero v = refl
 equal (suc n) v = ap (λ vs. object_value_view v ∷ vs) (equal n v)
 
-pub returns : goal.returns
-returns c =
+pub returns-clause-values : goal.returns-clause-values
+returns-clause-values c =
     let are : c.resize.new.self.items ≡ replicate c.args.count c.args.value = search rules in
     ap (map object_value_view) are ∙ equal c.args.count c.args.value
