@@ -1,18 +1,33 @@
 -- Where a call's result is put when it is a local reference.
-use Rattle.std.proofs.Common.{◌≡◌, Bool, true, false, Option, Some, None, refl, ℕ, List}
-use Rattle.class_rules.specs.BuiltIns.{no_class_def_found_error}
+use Rattle.std.proofs.Common.{◌≡◌, Bool, true, false, Option, Some, None, refl, ℕ, List, [], ℤ, pos, negsuc, nat_lt, if◌then◌else◌}
+use Rattle.class_rules.specs.BuiltIns.{array_index_out_of_bounds, no_class_def_found_error}
 use Rattle.class_rules.specs.Class.{Classes, class_named}
-use Rattle.jni.specs.JniFunction.{JniFunction, FindClass, GetSuperclass, GetObjectClass, AllocObject, NewLocalRef, PopLocalFrame, GetObjectField, GetStaticObjectField, prototype, is_built_function}
+use Rattle.jni.specs.JniFunction.{JniFunction, FindClass, GetSuperclass, GetObjectClass, AllocObject, NewLocalRef, PopLocalFrame, GetObjectField, GetStaticObjectField, NewArray, NewObjectArray, GetObjectArrayElement, NewStringUTF, prototype, is_built_function}
 use Rattle.jni.specs.Prototype.{NewLocal}
-use Rattle.semantics.specs.Arguments.{Actual, text_given}
-use Rattle.semantics.specs.CallEffects.{found_class_effect}
+use Rattle.semantics.specs.Arguments.{Actual, number_given, text_given}
+use Rattle.semantics.specs.CallEffects.{Leaves, ReferenceResult, Throws, at_index, found_class_effect, new_array_effect}
 use Rattle.semantics.specs.CallStep.{makes_objects}
 use Rattle.semantics.specs.CallTable.{call_effect}
 use Rattle.semantics.specs.Checks.{frames_after}
+use Rattle.semantics.specs.Object.{ObjectValue, Reference}
 use Rattle.semantics.specs.Thread.{BuffersInUse, Shared, Thread}
 use Rattle.machine_calls.specs.CarriedOut.{frames_left}
 
 module _ (classes : Classes) (in_use : BuffersInUse) (k : ℕ) (shared : Shared) (s : Thread) (args : List Actual) where
+  -- a new array leaves the frames
+  of_array : (class : ℕ) (z : ℤ) (v : ObjectValue) → frames_left false s (new_array_effect shared s class z v) ≡ s.frames
+  of_array class (pos i) v = refl
+  of_array class (negsuc i) v = refl
+
+  -- so does an element that is given
+  at_element : (size : ℕ) (z : ℤ) (r : ℕ → Reference) → frames_left false s (at_index array_index_out_of_bounds size z (λ i. Leaves [] shared s (ReferenceResult (r i)))) ≡ s.frames
+  at_element size (negsuc i) r = refl
+  at_element size (pos i) r = by_test (nat_lt i size)
+    where
+      by_test : (b : Bool) → frames_left false s (if b then Leaves [] shared s (ReferenceResult (r i)) else Throws array_index_out_of_bounds) ≡ s.frames
+      by_test true = refl
+      by_test false = refl
+
   -- it is put into the frames that the call leaves, which are the frames that were checked for room
   pub left_is : (f : JniFunction) → is_built_function f ≡ true → (prototype f).result ≡ NewLocal → (refused : Bool) → (refused ≡ true → makes_objects (call_effect classes in_use k shared s args f) ≡ true)
       → frames_left refused s (call_effect classes in_use k shared s args f) ≡ frames_after f s.frames
@@ -35,6 +50,14 @@ module _ (classes : Classes) (in_use : BuffersInUse) (k : ℕ) (shared : Shared)
   left_is GetObjectField a n false could = refl
   left_is GetStaticObjectField a n true could = refl
   left_is GetStaticObjectField a n false could = refl
+  left_is (NewArray T) a n true could = refl
+  left_is (NewArray T) a n false could = of_array _ (number_given args 0) _
+  left_is NewObjectArray a n true could = refl
+  left_is NewObjectArray a n false could = of_array _ (number_given args 0) _
+  left_is GetObjectArrayElement a n true could = refl
+  left_is GetObjectArrayElement a n false could = at_element _ (number_given args 1) _
+  left_is NewStringUTF a n true could = refl
+  left_is NewStringUTF a n false could = refl
   left_is PopLocalFrame a n true could = absurd (let e = could refl in cc)
   left_is PopLocalFrame a n false could = refl
   left_is f a n refused could = absurd (cc)

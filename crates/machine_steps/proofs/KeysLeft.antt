@@ -12,14 +12,14 @@ use Rattle.code.specs.declared.instr.Operand.{Operand}
 use Rattle.code.specs.declared.instr.Operand.TheVariants as operand
 use Rattle.heap.specs.Heap.{Space, values_at}
 use Rattle.heap.specs.declared.value.Value.{Value}
-use Rattle.jni.specs.JniFunction.{JniFunction, FindClass, DeleteLocalRef, DeleteGlobalRef, EnsureLocalCapacity, PushLocalFrame, PopLocalFrame, GetFieldID, GetStaticFieldID, SetField, SetStaticField, SetObjectField, SetStaticObjectField}
+use Rattle.jni.specs.JniFunction.{JniFunction, FindClass, DeleteLocalRef, DeleteGlobalRef, EnsureLocalCapacity, PushLocalFrame, PopLocalFrame, GetFieldID, GetStaticFieldID, SetField, SetStaticField, SetObjectField, SetStaticObjectField, NewArray, NewObjectArray, GetObjectArrayElement, SetObjectArrayElement}
 use Rattle.semantics_safety.specs.Owners.{other_than}
 use Rattle.machine_calls.specs.declared.answer.Answer.{Answer}
 use Rattle.machine_calls.specs.declared.answer.Given.TheVariants.{Nothing}
 use Rattle.machine_calls.specs.declared.answer.Answer.TheVariants as answer
 use Rattle.machine_calls.specs.CarriedOut.{IsLeft}
 use Rattle.machine_calls.specs.Statics.{References}
-use Rattle.machine_calls.specs.WorkedOut.{IsFoundField, IsWorkedOut, deletes_global, found_class, frame_for, room_for, writes_there}
+use Rattle.machine_calls.specs.WorkedOut.{IsFoundField, IsWorkedOut, deletes_global, element_there, found_class, frame_for, new_array, room_for, stores_there, writes_there}
 
 -- ---- answers that end no local reference
 
@@ -53,6 +53,19 @@ none_write space (Some a) place v = by_test (nat_lt place (length (values_at spa
     by_test true = refl
     by_test false = refl
 
+none_array : (class : ℕ) (z : ℤ) (v : Value) → ends_none (new_array class z v) ≡ true
+none_array class (pos n) v = refl
+none_array class (negsuc n) v = refl
+
+none_element : (space : Space) (r i : Option ℕ) → ends_none (element_there space r i) ≡ true
+none_element space r None = refl
+none_element space r (Some i) = refl
+
+none_store : (space : Space) (r : Option ℕ) (fits : Bool) (i : Option ℕ) (v : Value) → ends_none (stores_there space r fits i v) ≡ true
+none_store space r fits None v = refl
+none_store space r false (Some i) v = refl
+none_store space r true (Some i) v = none_write space r i v
+
 none_field : (classes : Classes) (o : Option FieldId) (a : Answer) → IsFoundField classes o a → ends_none a ≡ true
 none_field classes None a h = ap ends_none h
 none_field classes (Some f) a h = ap ends_none h.1
@@ -77,6 +90,10 @@ module _ (classes : Classes) (space : Space) (loaded : List ℕ) (references : R
   others_end_none SetObjectField a m is = ap ends_none is ∙ none_write space _ _ _
   others_end_none (SetStaticField T) a m is = ap ends_none is ∙ none_write space _ _ _
   others_end_none SetStaticObjectField a m is = ap ends_none is ∙ none_write space _ _ _
+  others_end_none (NewArray T) a m is = ap ends_none is ∙ none_array _ _ _
+  others_end_none NewObjectArray a m is = ap ends_none is ∙ none_array _ _ _
+  others_end_none GetObjectArrayElement a m is = ap ends_none is ∙ none_element space _ _
+  others_end_none SetObjectArrayElement a m is = ap ends_none is ∙ none_store space _ _ _ _
   others_end_none GetFieldID a m is = none_field classes _ a is
   others_end_none GetStaticFieldID a m is = none_field classes _ a is
   others_end_none DeleteLocalRef a m is = absurd (cc)
