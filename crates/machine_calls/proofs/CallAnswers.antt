@@ -50,7 +50,7 @@ use Rattle.machine_calls.specs.declared.store.Store.{Store}
 use Rattle.machine_calls.specs.declared.activation.Activation.{Activation}
 use Rattle.machine_calls.specs.Answers.{HoldsObject, IsAnswer}
 use Rattle.machine_calls.specs.NewObjects.{IsMakeable, text_in}
-use Rattle.machine_calls.specs.Asked.{IsAsked, references_of}
+use Rattle.machine_calls.specs.Asked.{IsAsked, references_of, scene_of}
 use Rattle.machine_calls.specs.Statics.{References}
 use Rattle.machine_calls.specs.Checked.{some_misfit, some_missing, may_be_null}
 use Rattle.machine_calls.specs.Given.{key_at, operand_at, operand_of, class_of_given, class_there, fits_there, name_there, field_at, field_there}
@@ -76,7 +76,7 @@ module _ (p : Lowered) (w : World) (store : Store) (pending : Option ℕ) (call 
 
   -- what is worked out for it
   abbrev Works : JniFunction → Answer → Type 0
-  Works f answer = IsWorkedOut w.classes store.heap store.loaded.items references fields call.stack function f answer
+  Works f answer = IsWorkedOut (scene_of w.classes store call pending) function f answer
 
   -- the answer is what it does
   abbrev Does : JniFunction → Answer → Type 0

@@ -406,11 +406,11 @@ module _ (classes : Classes) (space : Space) (references : References) (fields :
     room_is kind has_room frame h = refl
 
     -- the trap that is found is the source's
-    pub found_is : (is_pending has_room : Bool) (f : JniFunction) (operands : List Operand) (args : List Actual) (s : Shared) (t : Thread) (target : Target) → is_built_function f ≡ true → s.heap ≡ heap → is_pending ≡ is_some t.pending
+    pub found_is : (loaded stack : List ℕ) (pending : Option ℕ) (has_room : Bool) (f : JniFunction) (operands : List Operand) (args : List Actual) (s : Shared) (t : Thread) (target : Target) → is_built_function f ≡ true → s.heap ≡ heap → is_some pending ≡ is_some t.pending
         → is_full (slice_get (frames_after f t.frames) 0) ≡ not has_room → AllZip ActualFits (prototype f).parameters args → AllZip (IsGiven classes space references fields) operands args
-        → trap_found classes space is_pending has_room references fields f operands ≡ trap_of_call classes s t target f args
+        → trap_found (record { classes = classes; space = space; loaded = loaded; references = references; fields = fields; stack = stack; pending = pending }) has_room f operands ≡ trap_of_call classes s t target f args
     unfolding call_trap
-    found_is is_pending has_room f operands args s t target built same pending room fit h =
+    found_is loaded stack exception has_room f operands args s t target built same pending room fit h =
         let buffer = target_element t.variables target in
         let deleted = all_deleted operands args h in
         let missing = all_missing (prototype f).parameters operands args fit h in

@@ -26,7 +26,7 @@ use Rattle.machine_calls.specs.declared.store.Store.{Store}
 use Rattle.machine_calls.specs.declared.activation.Activation.{Activation}
 use Rattle.machine_calls.specs.FieldIds.{FieldAgrees}
 use Rattle.machine_calls.specs.StoreAgrees.{HeldAgrees}
-use Rattle.machine_calls.specs.Asked.{IsAsked, references_of}
+use Rattle.machine_calls.specs.Asked.{IsAsked, references_of, scene_of}
 use Rattle.machine_calls.specs.Statics.{References, held_address, static_at}
 use Rattle.machine_calls.specs.declared.references.Held.{Held}
 use Rattle.machine_calls.specs.declared.references.Held.TheVariants as held
@@ -146,9 +146,9 @@ module _ (p : Lowered) (w : World) (store : Store) (pending : Option ℕ) (call 
   pub handles_there : AreHandles w.classes call.fields.items function.operands
   handles_there = all_handles w.classes store.heap (references_of store call) call.fields.items function.operands args h.given
 
-  pub found_is : (target : Target) → trap_found w.classes store.heap (is_some pending) (has_room (locals_after f call.locals)) (references_of store call) call.fields.items f function.operands ≡ trap_of_call w.classes shared s target f args
+  pub found_is : (target : Target) → trap_found (scene_of w.classes store call pending) (has_room (locals_after f call.locals)) f function.operands ≡ trap_of_call w.classes shared s target f args
   found_is target =
-      checks.found_is w.classes store.heap (references_of store call) call.fields.items shared.heap h.store_agrees.heap.blocks (is_some pending) (has_room (locals_after f call.locals)) f function.operands args shared s target h.answered refl
+      checks.found_is w.classes store.heap (references_of store call) call.fields.items shared.heap h.store_agrees.heap.blocks store.loaded.items call.stack pending (has_room (locals_after f call.locals)) f function.operands args shared s target h.answered refl
       (same_pending store.heap pending s.pending h.pending_agrees) (full_where store.heap (locals_after f call.locals) (frames_after f s.frames) (frames_left store.heap f call.locals s.frames h.frames_agree)) h.fit h.given
 
   module _ (target : Target) (free : trap_of_call w.classes shared s target f args ≡ None) where

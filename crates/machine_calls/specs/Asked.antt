@@ -1,6 +1,7 @@
 -- A call of a function with the arguments that the source's call has.
 use Rattle.std.specs.Prelude.{◌≡◌, ℕ, true, List, length, Option}
 use Rattle.std.specs.List.{AllZip}
+use Rattle.class_rules.specs.Class.{Classes}
 use Rattle.code.specs.Call.{Call}
 use Rattle.jni.specs.JniFunction.{JniFunction, prototype, is_built_function}
 use Rattle.semantics.specs.Arguments.{Actual}
@@ -14,11 +15,17 @@ use Rattle.machine_calls.specs.StoreAgrees.{StoreAgrees}
 use Rattle.machine_calls.specs.Locals.{FramesAgree}
 use Rattle.machine_calls.specs.Given.{IsGiven}
 use Rattle.machine_calls.specs.HeapAgrees.{ReferenceAgrees}
+use Rattle.machine_calls.specs.Scenes.{Scene}
 use Rattle.machine_calls.specs.Statics.{References, all_held}
 
 -- the references that the operands of a call name
 abbrev pub references_of : Store → Activation → References
 references_of store call = record { keys = call.references.items; locals = call.locals; statics = all_held store.globals store.statics.items }
+
+-- what a call sees
+abbrev pub scene_of : Classes → Store → Activation → (pending : Option ℕ) → Scene
+scene_of classes store call pending =
+    record { classes = classes; space = store.heap; loaded = store.loaded.items; references = references_of store call; fields = call.fields.items; stack = call.stack; pending = pending }
 
 -- Store, frames and pending exception agree with the source's, and each operand gives what the argument at its place is.
 pub record IsAsked (p : Lowered) (w : World) (store : Store) (pending : Option ℕ) (call : Activation) (function : Call) (shared : Shared) (s : Thread) (f : JniFunction) (args : List Actual) : Type 0 where

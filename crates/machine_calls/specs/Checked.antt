@@ -1,5 +1,5 @@
 -- What is checked of a call before it does anything, by what is in memory.
-use Rattle.std.specs.Prelude.{ℕ, Bool, true, false, not, ◌&&◌, ◌||◌, ◌==◌, List, [], ◌∷◌, ◌++◌, is_none, Option, Some, None}
+use Rattle.std.specs.Prelude.{ℕ, Bool, true, false, not, ◌&&◌, ◌||◌, ◌==◌, List, [], ◌∷◌, ◌++◌, is_none, is_some, Option, Some, None}
 use Rattle.std.specs.List.{list_any}
 use Rattle.class_rules.specs.BuiltIns.{class_class, has_own_making, string_class, number_array}
 use Rattle.class_rules.specs.Class.{Classes, FieldType, NumberField, ReferenceField, class_kind, is_plain, is_object_array, assignable}
@@ -14,6 +14,7 @@ use Rattle.semantics.specs.Checks.{first_trap}
 use Rattle.semantics.specs.Heap.{holds_number, holds_reference}
 use Rattle.semantics.specs.Value.{Trap, NullReference, ExceptionPending, WrongObject, DeletedReference, NoCapacity}
 use Rattle.machine_calls.specs.Given.{operand_at, field_at, operand_of, class_there, class_of_given, name_there, fits_there, field_there}
+use Rattle.machine_calls.specs.Scenes.{Scene}
 use Rattle.machine_calls.specs.Statics.{References, holds_deleted, holds_null, static_at}
 
 -- an operand gives NULL
@@ -116,11 +117,11 @@ arguments_asked classes space references fields f operands =
     ∷ (some_misfit classes space references (prototype f).parameters operands || not (fit_together classes space references fields operands f), WrongObject)
     ∷ []
 
--- the trap of a call before it does anything
-abbrev pub trap_found : Classes → Space → (is_pending has_room : Bool) → References → List (Option FieldHandle) → JniFunction → List Operand → Option Trap
-trap_found classes space is_pending has_room references fields f operands =
+-- the trap of a call that sees this, before it does anything
+abbrev pub trap_found : Scene → (has_room : Bool) → JniFunction → List Operand → Option Trap
+trap_found scene has_room f operands =
     first_trap (
-    (is_pending && not (is_allowed_pending f), ExceptionPending)
-    ∷ arguments_asked classes space references fields f operands
+    (is_some scene.pending && not (is_allowed_pending f), ExceptionPending)
+    ∷ arguments_asked scene.classes scene.space scene.references scene.fields f operands
     ++ (puts_local (prototype f).result && not has_room, NoCapacity)
     ∷ [])

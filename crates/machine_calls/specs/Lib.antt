@@ -4,6 +4,7 @@ pub mod Locals
 pub mod Statics
 pub mod StoreAgrees
 pub mod FieldIds
+pub mod Scenes
 pub mod Given
 pub mod Checked
 pub mod Asked

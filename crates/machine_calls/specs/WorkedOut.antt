@@ -21,7 +21,7 @@ use Rattle.machine_calls.specs.declared.answer.Given.TheVariants as given
 use Rattle.machine_calls.specs.declared.answer.Answer.{Answer}
 use Rattle.machine_calls.specs.declared.answer.Answer.TheVariants.{Gives, Writes, Makes, Throws, Ensures, Pushes, RefusesFrames, Pops, Deletes, MakesGlobal, DeletesGlobal}
 use Rattle.machine_calls.specs.declared.new_object.New.TheVariants.{Fresh, Array, Text}
-use Rattle.machine_calls.specs.Statics.{References}
+use Rattle.machine_calls.specs.Scenes.{Scene}
 use Rattle.machine_calls.specs.Given.{operand_at, key_at, operand_of, field_at, class_of_given, name_there, fits_there, field_there}
 
 -- the number of values of the object at an address, and 0 for NULL
@@ -132,11 +132,11 @@ stack_number stack = cast_signed w32 (top_word stack)
 
 -- ---- what a function does
 
--- A call with these words on the stack.
-module _ (classes : Classes) (space : Space) (loaded : List ℕ) (references : References) (fields : List (Option FieldHandle)) (stack : List ℕ) (call : Call) where
+-- A call that sees this.
+module _ (scene : Scene) (call : Call) where
   -- the reference of an operand
   abbrev pub reference : ℕ → Option ℕ
-  reference i = operand_at references (operand_of call.operands i)
+  reference i = operand_at scene.references (operand_of call.operands i)
 
   -- a text of the call
   abbrev pub text : ℕ → List ℕ
@@ -144,67 +144,67 @@ module _ (classes : Classes) (space : Space) (loaded : List ℕ) (references : R
 
   -- the field ID of operand 1
   abbrev pub handle : Option FieldHandle
-  handle = field_at fields (operand_of call.operands 1)
+  handle = field_at scene.fields (operand_of call.operands 1)
 
   -- its place among the fields of operand 0
   abbrev pub place : ℕ
-  place = place_there classes handle (layout classes (class_of_given space (reference 0)))
+  place = place_there scene.classes handle (layout scene.classes (class_of_given scene.space (reference 0)))
 
   -- the class that declares it
   abbrev pub class : ℕ
-  class = (field_there classes handle).class
+  class = (field_there scene.classes handle).class
 
   -- the class object that holds the static
   abbrev pub declaring : Option ℕ
-  declaring = class_object loaded (Some class)
+  declaring = class_object scene.loaded (Some class)
 
   -- its place there
   abbrev pub place_of_static : ℕ
-  place_of_static = place_there classes handle (own_statics classes class)
+  place_of_static = place_there scene.classes handle (own_statics scene.classes class)
 
   -- how a cell of this type holds the word on the stack
   abbrev pub stored : ElementType → Value
-  stored T = value.Number (element_word (element_of T) (top_word stack))
+  stored T = value.Number (element_word (element_of T) (top_word scene.stack))
 
   -- operand 2 fits the elements of operand 0
   abbrev pub fits_element : Bool
-  fits_element = fits_there classes space (reference 2) (element_class (class_kind classes (class_of_given space (reference 0))))
+  fits_element = fits_there scene.classes scene.space (reference 2) (element_class (class_kind scene.classes (class_of_given scene.space (reference 0))))
 
   -- the answer of a function that finds no field
   abbrev pub worked_out : JniFunction → Answer
-  worked_out FindClass = found_class loaded (class_named classes (text 0))
-  worked_out GetSuperclass = Gives (Reference (class_object loaded (superclass classes (name_there space (reference 0)))))
-  worked_out GetObjectClass = Gives (Reference (class_object loaded (Some (class_of_given space (reference 0)))))
-  worked_out IsInstanceOf = Gives (Number (truth_word (fits_there classes space (reference 0) (name_there space (reference 1)))))
-  worked_out IsAssignableFrom = Gives (Number (truth_word (assignable classes (name_there space (reference 0)) (name_there space (reference 1)))))
-  worked_out AllocObject = Makes (Fresh (name_there space (reference 0)))
+  worked_out FindClass = found_class scene.loaded (class_named scene.classes (text 0))
+  worked_out GetSuperclass = Gives (Reference (class_object scene.loaded (superclass scene.classes (name_there scene.space (reference 0)))))
+  worked_out GetObjectClass = Gives (Reference (class_object scene.loaded (Some (class_of_given scene.space (reference 0)))))
+  worked_out IsInstanceOf = Gives (Number (truth_word (fits_there scene.classes scene.space (reference 0) (name_there scene.space (reference 1)))))
+  worked_out IsAssignableFrom = Gives (Number (truth_word (assignable scene.classes (name_there scene.space (reference 0)) (name_there scene.space (reference 1)))))
+  worked_out AllocObject = Makes (Fresh (name_there scene.space (reference 0)))
   worked_out NewLocalRef = Gives (Reference (reference 0))
   worked_out NewGlobalRef = MakesGlobal (reference 0)
   worked_out DeleteGlobalRef = deletes_global (reference 0) (operand_of call.operands 0)
-  worked_out DeleteLocalRef = deletes (key_at references (operand_of call.operands 0))
-  worked_out IsSameObject = Gives (Number (truth_word (name_there space (reference 0) == name_there space (reference 1))))
-  worked_out EnsureLocalCapacity = room_for (stack_number stack)
-  worked_out PushLocalFrame = frame_for (stack_number stack)
+  worked_out DeleteLocalRef = deletes (key_at scene.references (operand_of call.operands 0))
+  worked_out IsSameObject = Gives (Number (truth_word (name_there scene.space (reference 0) == name_there scene.space (reference 1))))
+  worked_out EnsureLocalCapacity = room_for (stack_number scene.stack)
+  worked_out PushLocalFrame = frame_for (stack_number scene.stack)
   worked_out PopLocalFrame = Pops (reference 0)
-  worked_out (GetField T) = Gives (Number (word_in (value_there space (reference 0) place)))
-  worked_out (SetField T) = writes_there space (reference 0) place (stored T)
-  worked_out GetObjectField = Gives (Reference (address_in (value_there space (reference 0) place)))
-  worked_out SetObjectField = writes_there space (reference 0) place (held_reference (reference 2))
-  worked_out (GetStaticField T) = Gives (Number (word_in (value_there space declaring place_of_static)))
-  worked_out (SetStaticField T) = writes_there space declaring place_of_static (stored T)
-  worked_out GetStaticObjectField = Gives (Reference (address_in (value_there space declaring place_of_static)))
-  worked_out SetStaticObjectField = writes_there space declaring place_of_static (held_reference (reference 2))
-  worked_out GetArrayLength = Gives (Number (count_there space (reference 0)))
-  worked_out (NewArray T) = new_array (number_array T) (stack_number stack) (value.Number 0)
-  worked_out NewObjectArray = new_array (unwrap_or (array_class_of classes (name_there space (reference 1))) 0) (stack_number stack) (held_reference (reference 2))
-  worked_out GetObjectArrayElement = element_there space (reference 0) (index_there space (reference 0) (stack_number stack))
-  worked_out SetObjectArrayElement = stores_there space (reference 0) fits_element (index_there space (reference 0) (stack_number stack)) (held_reference (reference 2))
+  worked_out (GetField T) = Gives (Number (word_in (value_there scene.space (reference 0) place)))
+  worked_out (SetField T) = writes_there scene.space (reference 0) place (stored T)
+  worked_out GetObjectField = Gives (Reference (address_in (value_there scene.space (reference 0) place)))
+  worked_out SetObjectField = writes_there scene.space (reference 0) place (held_reference (reference 2))
+  worked_out (GetStaticField T) = Gives (Number (word_in (value_there scene.space declaring place_of_static)))
+  worked_out (SetStaticField T) = writes_there scene.space declaring place_of_static (stored T)
+  worked_out GetStaticObjectField = Gives (Reference (address_in (value_there scene.space declaring place_of_static)))
+  worked_out SetStaticObjectField = writes_there scene.space declaring place_of_static (held_reference (reference 2))
+  worked_out GetArrayLength = Gives (Number (count_there scene.space (reference 0)))
+  worked_out (NewArray T) = new_array (number_array T) (stack_number scene.stack) (value.Number 0)
+  worked_out NewObjectArray = new_array (unwrap_or (array_class_of scene.classes (name_there scene.space (reference 1))) 0) (stack_number scene.stack) (held_reference (reference 2))
+  worked_out GetObjectArrayElement = element_there scene.space (reference 0) (index_there scene.space (reference 0) (stack_number scene.stack))
+  worked_out SetObjectArrayElement = stores_there scene.space (reference 0) fits_element (index_there scene.space (reference 0) (stack_number scene.stack)) (held_reference (reference 2))
   worked_out NewStringUTF = Makes (Text 0)
-  worked_out GetStringLength = Gives (Number (count_there space (reference 0)))
+  worked_out GetStringLength = Gives (Number (count_there scene.space (reference 0)))
   worked_out f = Gives Nothing
 
   -- what is worked out of a call of a function
   abbrev pub IsWorkedOut : JniFunction → Answer → Type 0
-  IsWorkedOut GetFieldID answer = IsFoundField classes (find_field classes (name_there space (reference 0)) (text 0) (text 1)) answer
-  IsWorkedOut GetStaticFieldID answer = IsFoundField classes (find_static classes (name_there space (reference 0)) (text 0) (text 1)) answer
+  IsWorkedOut GetFieldID answer = IsFoundField scene.classes (find_field scene.classes (name_there scene.space (reference 0)) (text 0) (text 1)) answer
+  IsWorkedOut GetStaticFieldID answer = IsFoundField scene.classes (find_static scene.classes (name_there scene.space (reference 0)) (text 0) (text 1)) answer
   IsWorkedOut f answer = answer ≡ worked_out f

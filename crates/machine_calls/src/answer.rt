@@ -13,6 +13,7 @@ ghost use Rattle.jni.specs.Table.{function_value};
 ghost use Rattle.machine_calls.specs.CallGroups.{is_further, is_of_objects};
 ghost use Rattle.machine_calls.specs.Checked.{fit_together};
 ghost use Rattle.machine_calls.specs.Given.{class_of_given, field_at, field_there, name_there, operand_at, operand_of, AreAddresses, AreHandles};
+ghost use Rattle.machine_calls.specs.Scenes.{scene_view};
 ghost use Rattle.machine_calls.specs.WorkedOut.{address_in, class_object, count_there, deletes, deletes_global, found_class, frame_for, held_reference, place_there, room_for, top_word, value_there, word_in, writes_there, IsFoundField, IsWorkedOut};
 ghost use Rattle.syntax.specs.Views.{element_tree};
 
@@ -22,6 +23,7 @@ use crate::operands::{
     class_of_given, declaring, fits_there, handle_at, key_in, name_there, operand_of, reference_at,
 };
 use crate::references::References;
+use crate::scene::Scene;
 use crate::statics::StaticReference;
 use classes::built_ins::{NO_CLASS_DEF_FOUND_ERROR, NO_SUCH_FIELD_ERROR};
 use classes::class::FieldHandle;
@@ -74,158 +76,200 @@ pub enum Answer {
     DeletesGlobal(u32),
 }
 
-/// What a function does, all checks being passed. `loaded` has the addresses of the objects made at load, of which the class
-/// objects are the first. It takes no host memory.
-pub fn work_out(
-    classes: &ClassTable,
-    heap: &Heap,
-    loaded: &[Addr],
-    references: &References<'_>,
-    fields: &[Option<FieldHandle>],
-    stack: &Stack,
-    function: &Call,
-) -> Answer
-    requires grown { IsGrown classes.now }
-    requires loaded { (i a : ℕ) → slice_get loaded.now i ≡ Some a → IsAddress heap.now a }
-    requires objects { AreAddresses heap.now references.now function.now.operands.items }
-    requires handles { AreHandles classes.now fields.now function.now.operands.items }
+/// What a function does, all checks being passed. It takes no host memory.
+pub fn work_out(scene: &Scene<'_>, function: &Call) -> Answer
+    requires grown { IsGrown scene.now.classes.now }
+    requires loaded { (i a : ℕ) → slice_get scene.now.loaded.now i ≡ Some a → IsAddress scene.now.heap.now a }
+    requires objects { AreAddresses scene.now.heap.now scene.now.references function.now.operands.items }
+    requires handles { AreHandles scene.now.classes.now scene.now.fields.now function.now.operands.items }
     requires answered { is_built_function (function_value function.now.function) ≡ true }
-    requires passed { fit_together classes.now heap.now references.now fields.now function.now.operands.items (function_value function.now.function) ≡ true }
-    ensures { IsWorkedOut classes.now heap.now loaded.now references.now fields.now stack.now (call_view function.now) (function_value function.now.function) result }
+    requires passed { fit_together scene.now.classes.now scene.now.heap.now scene.now.references scene.now.fields.now function.now.operands.items (function_value function.now.function) ≡ true }
+    ensures { IsWorkedOut (scene_view scene.now) (call_view function.now) (function_value function.now.function) result }
 {
     match function.function {
-        JniFunction::FindClass => found_class(loaded, classes.find(text_at(&function.texts, 0))),
+        JniFunction::FindClass => found_class(
+            scene.loaded,
+            scene.classes.find(text_at(&function.texts, 0)),
+        ),
         JniFunction::GetSuperclass => {
             gives_class(
-                loaded,
-                classes.superclass(name_of(heap, references, function, 0)),
+                scene.loaded,
+                scene
+                    .classes
+                    .superclass(name_of(scene.heap, &scene.references, function, 0)),
             )
         }
         JniFunction::GetObjectClass => {
-            let first = argument(heap, references, function, 0);
-            gives_class(loaded, Some(class_of_given(heap, first)))
+            let first = argument(scene.heap, &scene.references, function, 0);
+            gives_class(scene.loaded, Some(class_of_given(scene.heap, first)))
         }
         JniFunction::IsInstanceOf => {
-            let first = argument(heap, references, function, 0);
-            let class = name_of(heap, references, function, 1);
-            gives_truth(fits_there(classes, heap, first, class))
+            let first = argument(scene.heap, &scene.references, function, 0);
+            let class = name_of(scene.heap, &scene.references, function, 1);
+            gives_truth(fits_there(scene.classes, scene.heap, first, class))
         }
         JniFunction::IsAssignableFrom => {
-            let below = name_of(heap, references, function, 0);
-            let above = name_of(heap, references, function, 1);
-            gives_truth(classes.assignable(below, above))
+            let below = name_of(scene.heap, &scene.references, function, 0);
+            let above = name_of(scene.heap, &scene.references, function, 1);
+            gives_truth(scene.classes.assignable(below, above))
         }
         JniFunction::AllocObject => {
-            Answer::Makes(New::Fresh(name_of(heap, references, function, 0)))
+            Answer::Makes(New::Fresh(name_of(scene.heap, &scene.references, function, 0)))
         }
-        _ => { work_out_further(classes, heap, loaded, references, fields, stack, function) }
+        _ => { work_out_further(scene, function) }
     }
 }
 
 /// What a function of references, of frames or of what objects hold does.
 #[inline(always)]
-fn work_out_further(
-    classes: &ClassTable,
-    heap: &Heap,
-    loaded: &[Addr],
-    references: &References<'_>,
-    fields: &[Option<FieldHandle>],
-    stack: &Stack,
-    function: &Call,
-) -> Answer
-    requires grown { IsGrown classes.now }
-    requires loaded { (i a : ℕ) → slice_get loaded.now i ≡ Some a → IsAddress heap.now a }
-    requires objects { AreAddresses heap.now references.now function.now.operands.items }
-    requires handles { AreHandles classes.now fields.now function.now.operands.items }
+fn work_out_further(scene: &Scene<'_>, function: &Call) -> Answer
+    requires grown { IsGrown scene.now.classes.now }
+    requires loaded { (i a : ℕ) → slice_get scene.now.loaded.now i ≡ Some a → IsAddress scene.now.heap.now a }
+    requires objects { AreAddresses scene.now.heap.now scene.now.references function.now.operands.items }
+    requires handles { AreHandles scene.now.classes.now scene.now.fields.now function.now.operands.items }
     requires further { is_further (function_value function.now.function) ≡ true }
-    requires passed { fit_together classes.now heap.now references.now fields.now function.now.operands.items (function_value function.now.function) ≡ true }
-    ensures { IsWorkedOut classes.now heap.now loaded.now references.now fields.now stack.now (call_view function.now) (function_value function.now.function) result }
+    requires passed { fit_together scene.now.classes.now scene.now.heap.now scene.now.references scene.now.fields.now function.now.operands.items (function_value function.now.function) ≡ true }
+    ensures { IsWorkedOut (scene_view scene.now) (call_view function.now) (function_value function.now.function) result }
 {
     match function.function {
         JniFunction::NewLocalRef => {
-            Answer::Gives(Given::Reference(argument(heap, references, function, 0)))
+            Answer::Gives(Given::Reference(argument(scene.heap, &scene.references, function, 0)))
         }
-        JniFunction::NewGlobalRef => Answer::MakesGlobal(argument(heap, references, function, 0)),
+        JniFunction::NewGlobalRef => Answer::MakesGlobal(argument(
+            scene.heap,
+            &scene.references,
+            function,
+            0,
+        )),
         JniFunction::DeleteGlobalRef => {
-            let first = argument(heap, references, function, 0);
+            let first = argument(scene.heap, &scene.references, function, 0);
             deletes_global(first, operand_of(&function.operands, 0))
         }
         JniFunction::IsSameObject => {
-            let first = name_of(heap, references, function, 0);
-            let second = name_of(heap, references, function, 1);
+            let first = name_of(scene.heap, &scene.references, function, 0);
+            let second = name_of(scene.heap, &scene.references, function, 1);
             gives_truth(first == second)
         }
         JniFunction::DeleteLocalRef => {
-            deletes(key_in(references, operand_of(&function.operands, 0)))
+            deletes(key_in(&scene.references, operand_of(&function.operands, 0)))
         }
-        JniFunction::EnsureLocalCapacity => room_for(stack_number(stack)),
-        JniFunction::PushLocalFrame => frame_for(stack_number(stack)),
-        JniFunction::PopLocalFrame => Answer::Pops(argument(heap, references, function, 0)),
-        _ => { work_out_field(classes, heap, loaded, references, fields, stack, function) }
+        JniFunction::EnsureLocalCapacity => room_for(stack_number(scene.stack)),
+        JniFunction::PushLocalFrame => frame_for(stack_number(scene.stack)),
+        JniFunction::PopLocalFrame => Answer::Pops(argument(
+            scene.heap,
+            &scene.references,
+            function,
+            0,
+        )),
+        _ => { work_out_field(scene, function) }
     }
 }
 
 /// What a function of fields, statics, arrays or strings does.
 #[inline(always)]
-fn work_out_field(
-    classes: &ClassTable,
-    heap: &Heap,
-    loaded: &[Addr],
-    references: &References<'_>,
-    fields: &[Option<FieldHandle>],
-    stack: &Stack,
-    function: &Call,
-) -> Answer
-    requires grown { IsGrown classes.now }
-    requires loaded { (i a : ℕ) → slice_get loaded.now i ≡ Some a → IsAddress heap.now a }
-    requires objects { AreAddresses heap.now references.now function.now.operands.items }
-    requires handles { AreHandles classes.now fields.now function.now.operands.items }
+fn work_out_field(scene: &Scene<'_>, function: &Call) -> Answer
+    requires grown { IsGrown scene.now.classes.now }
+    requires loaded { (i a : ℕ) → slice_get scene.now.loaded.now i ≡ Some a → IsAddress scene.now.heap.now a }
+    requires objects { AreAddresses scene.now.heap.now scene.now.references function.now.operands.items }
+    requires handles { AreHandles scene.now.classes.now scene.now.fields.now function.now.operands.items }
     requires of_objects { is_of_objects (function_value function.now.function) ≡ true }
-    requires passed { fit_together classes.now heap.now references.now fields.now function.now.operands.items (function_value function.now.function) ≡ true }
-    ensures { IsWorkedOut classes.now heap.now loaded.now references.now fields.now stack.now (call_view function.now) (function_value function.now.function) result }
+    requires passed { fit_together scene.now.classes.now scene.now.heap.now scene.now.references scene.now.fields.now function.now.operands.items (function_value function.now.function) ≡ true }
+    ensures { IsWorkedOut (scene_view scene.now) (call_view function.now) (function_value function.now.function) result }
 {
     match function.function {
         JniFunction::GetFieldID => {
-            let class = name_of(heap, references, function, 0);
-            find_field(classes, class, &function.texts, false)
+            let class = name_of(scene.heap, &scene.references, function, 0);
+            find_field(scene.classes, class, &function.texts, false)
         }
         JniFunction::GetStaticFieldID => {
-            let class = name_of(heap, references, function, 0);
-            find_field(classes, class, &function.texts, true)
+            let class = name_of(scene.heap, &scene.references, function, 0);
+            find_field(scene.classes, class, &function.texts, true)
         }
         JniFunction::GetField(_) => {
-            let value = value_of_field(classes, heap, references, fields, function);
+            let value = value_of_field(
+                scene.classes,
+                scene.heap,
+                &scene.references,
+                scene.fields,
+                function,
+            );
             Answer::Gives(Given::Number(word_in(value)))
         }
         JniFunction::SetField(element) => {
-            let value = stored(element, stack);
-            writes_field(classes, heap, references, fields, function, value)
+            let value = stored(element, scene.stack);
+            writes_field(
+                scene.classes,
+                scene.heap,
+                &scene.references,
+                scene.fields,
+                function,
+                value,
+            )
         }
         JniFunction::GetObjectField => {
-            let value = value_of_field(classes, heap, references, fields, function);
+            let value = value_of_field(
+                scene.classes,
+                scene.heap,
+                &scene.references,
+                scene.fields,
+                function,
+            );
             Answer::Gives(Given::Reference(address_in(value)))
         }
         JniFunction::SetObjectField => {
-            let value = held_reference(argument(heap, references, function, 2));
-            writes_field(classes, heap, references, fields, function, value)
+            let value = held_reference(argument(scene.heap, &scene.references, function, 2));
+            writes_field(
+                scene.classes,
+                scene.heap,
+                &scene.references,
+                scene.fields,
+                function,
+                value,
+            )
         }
         JniFunction::GetStaticField(_) => {
-            let value = value_of_static(classes, heap, loaded, fields, function);
+            let value = value_of_static(
+                scene.classes,
+                scene.heap,
+                scene.loaded,
+                scene.fields,
+                function,
+            );
             Answer::Gives(Given::Number(word_in(value)))
         }
         JniFunction::SetStaticField(element) => {
-            let value = stored(element, stack);
-            writes_static(classes, heap, loaded, fields, function, value)
+            let value = stored(element, scene.stack);
+            writes_static(
+                scene.classes,
+                scene.heap,
+                scene.loaded,
+                scene.fields,
+                function,
+                value,
+            )
         }
         JniFunction::GetStaticObjectField => {
-            let value = value_of_static(classes, heap, loaded, fields, function);
+            let value = value_of_static(
+                scene.classes,
+                scene.heap,
+                scene.loaded,
+                scene.fields,
+                function,
+            );
             Answer::Gives(Given::Reference(address_in(value)))
         }
         JniFunction::SetStaticObjectField => {
-            let value = held_reference(argument(heap, references, function, 2));
-            writes_static(classes, heap, loaded, fields, function, value)
+            let value = held_reference(argument(scene.heap, &scene.references, function, 2));
+            writes_static(
+                scene.classes,
+                scene.heap,
+                scene.loaded,
+                scene.fields,
+                function,
+                value,
+            )
         }
-        _ => work_out_array(classes, heap, references, stack, function),
+        _ => work_out_array(scene, function),
     }
 }
 

@@ -1,13 +1,13 @@
 //! What functions of arrays and strings do.
 
-ghost use Rattle.std.specs.Prelude.{◌≡◌, ℕ, true, List, Option, Some};
+ghost use Rattle.std.specs.Prelude.{◌≡◌, ℕ, true, Some};
 ghost use Rattle.class_rules.specs.Class.{class_kind, element_class};
-ghost use Rattle.classes.specs.declared.class.FieldHandle.{FieldHandle};
 ghost use Rattle.code.specs.Call.{call_view};
 ghost use Rattle.heap.specs.Heap.{IsAddress};
 ghost use Rattle.jni.specs.Table.{function_value};
 ghost use Rattle.machine_calls.specs.CallGroups.{is_of_arrays};
 ghost use Rattle.machine_calls.specs.Given.{class_of_given, fits_there, operand_at, operand_of, AreAddresses};
+ghost use Rattle.machine_calls.specs.Scenes.{scene_view};
 ghost use Rattle.machine_calls.specs.WorkedOut.{element_there, index_there, new_array, stack_number, stores_there, IsWorkedOut};
 
 use crate::answer::{
@@ -18,6 +18,7 @@ use crate::array_class::array_class_of;
 use crate::new_object::{New, NewArray};
 use crate::operands::{class_of_given, element_type, fits_there};
 use crate::references::References;
+use crate::scene::Scene;
 use classes::built_ins::{
     ARRAY_INDEX_OUT_OF_BOUNDS_EXCEPTION, ARRAY_STORE_EXCEPTION, NEGATIVE_ARRAY_SIZE_EXCEPTION,
     number_array,
@@ -31,40 +32,37 @@ use jni::JniFunction;
 
 /// What a function of arrays or strings does.
 #[inline(always)]
-pub(crate) fn work_out_array(
-    classes: &ClassTable,
-    heap: &Heap,
-    references: &References<'_>,
-    stack: &Stack,
-    function: &Call,
-) -> Answer
-    requires objects { AreAddresses heap.now references.now function.now.operands.items }
+pub(crate) fn work_out_array(scene: &Scene<'_>, function: &Call) -> Answer
+    requires objects { AreAddresses scene.now.heap.now scene.now.references function.now.operands.items }
     requires of_arrays { is_of_arrays (function_value function.now.function) ≡ true }
-    ensures { (loaded : List ℕ) (fields : List (Option FieldHandle)) → IsWorkedOut classes.now heap.now loaded references.now fields stack.now (call_view function.now) (function_value function.now.function) result }
+    ensures { IsWorkedOut (scene_view scene.now) (call_view function.now) (function_value function.now.function) result }
 {
     match function.function {
         JniFunction::GetArrayLength | JniFunction::GetStringLength => {
-            let first = argument(heap, references, function, 0);
-            Answer::Gives(Given::Number(count_there(heap, first)))
+            let first = argument(scene.heap, &scene.references, function, 0);
+            Answer::Gives(Given::Number(count_there(scene.heap, first)))
         }
         JniFunction::NewArray(element) => {
             let class = number_array(element_type(element));
-            new_array(class, stack_number(stack), Value::Number(0))
+            new_array(class, stack_number(scene.stack), Value::Number(0))
         }
         JniFunction::NewObjectArray => {
-            let class = array_class_of(classes, name_of(heap, references, function, 1));
-            let element = held_reference(argument(heap, references, function, 2));
-            new_array(class.unwrap_or(0), stack_number(stack), element)
+            let class = array_class_of(
+                scene.classes,
+                name_of(scene.heap, &scene.references, function, 1),
+            );
+            let element = held_reference(argument(scene.heap, &scene.references, function, 2));
+            new_array(class.unwrap_or(0), stack_number(scene.stack), element)
         }
         JniFunction::GetObjectArrayElement => {
-            let array = argument(heap, references, function, 0);
-            element_there(heap, array, stack_number(stack))
+            let array = argument(scene.heap, &scene.references, function, 0);
+            element_there(scene.heap, array, stack_number(scene.stack))
         }
         JniFunction::SetObjectArrayElement => {
-            let fits = fits_element(classes, heap, references, function);
-            let element = held_reference(argument(heap, references, function, 2));
-            let array = argument(heap, references, function, 0);
-            stores_there(heap, array, fits, stack_number(stack), element)
+            let fits = fits_element(scene.classes, scene.heap, &scene.references, function);
+            let element = held_reference(argument(scene.heap, &scene.references, function, 2));
+            let array = argument(scene.heap, &scene.references, function, 0);
+            stores_there(scene.heap, array, fits, stack_number(scene.stack), element)
         }
         JniFunction::NewStringUTF => Answer::Makes(New::Text(0)),
         _ => unreachable!(),

@@ -1,6 +1,6 @@
 //! What is checked of a call before it does anything, in one order for all functions.
 
-ghost use Rattle.std.specs.Prelude.{◌≡◌, ℕ, Bool, List, ◌++◌, ◌&&◌, not, Some, IfSome, IfNone, map, false};
+ghost use Rattle.std.specs.Prelude.{◌≡◌, ℕ, Bool, List, ◌++◌, ◌&&◌, not, is_some, Some, IfSome, IfNone, map, false};
 ghost use Rattle.std.specs.List.{list_any};
 ghost use Rattle.std.specs.Option.{option_map};
 ghost use Rattle.class_rules.specs.Class.{Classes};
@@ -13,6 +13,7 @@ ghost use Rattle.machine_calls.specs.Given.{field_at, field_there, operand_at, o
 ghost use Rattle.machine_calls.specs.Locals.{locals_after};
 ghost use Rattle.tables.specs.Locals.{has_room};
 ghost use Rattle.machine_calls.specs.Checked.{arguments_asked, has_field, has_static, gives_null, gives_deleted, may_be_null, some_missing, class_misfits, misfits, some_misfit, fits_type_there, fit_together, puts_local, trap_found};
+ghost use Rattle.machine_calls.specs.Scenes.{scene_view};
 ghost use Rattle.machine_calls.specs.Traps.{trap_view};
 ghost use Rattle.semantics.specs.Checks.{first_trap};
 ghost use Rattle.semantics.specs.Heap.{holds_number, holds_reference};
@@ -23,6 +24,7 @@ use crate::operands::{
     name_there, reference_at, reference_in, type_of,
 };
 use crate::references::{Held, References};
+use crate::scene::Scene;
 use crate::trap::Trap;
 use classes::built_ins::{CLASS, STRING, number_array};
 use classes::class::{ClassKind, ElementType, FieldHandle, FieldType};
@@ -370,10 +372,10 @@ fn argument_trap(
 }
 
 /// Whether a pending exception keeps a function from being called.
-fn is_kept_off(is_pending: bool, function: JniFunction) -> bool
-    ensures { result ≡ (is_pending && not (is_allowed_pending (function_value function))) }
+fn is_kept_off(pending: Option<Addr>, function: JniFunction) -> bool
+    ensures { result ≡ (is_some pending && not (is_allowed_pending (function_value function))) }
 {
-    is_pending && !function.prototype().pending
+    pending.is_some() && !function.prototype().pending
 }
 
 /// Whether a call gives a local reference for which there is no room.
@@ -384,25 +386,23 @@ fn lacks_room(locals: &Locals, function: &Call) -> bool
     puts_local(function.result) && !has_room(locals, function.function)
 }
 
-/// The trap of a call before it does anything. It takes no host memory.
-pub fn check(
-    classes: &ClassTable,
-    heap: &Heap,
-    is_pending: bool,
-    locals: &Locals,
-    references: &References<'_>,
-    fields: &[Option<FieldHandle>],
-    function: &Call,
-) -> Option<Trap>
+/// The trap of a call that sees this, before it does anything. It takes no host memory.
+pub fn check(scene: &Scene<'_>, locals: &Locals, function: &Call) -> Option<Trap>
     requires prepared { IsPrepared function.now }
-    requires objects { AreAddresses heap.now references.now function.now.operands.items }
-    requires handles { AreHandles classes.now fields.now function.now.operands.items }
-    ensures { option_map trap_view result ≡ trap_found classes.now heap.now is_pending (has_room (locals_after (function_value function.now.function) locals.now)) references.now fields.now (function_value function.now.function) function.now.operands.items }
+    requires objects { AreAddresses scene.now.heap.now scene.now.references function.now.operands.items }
+    requires handles { AreHandles scene.now.classes.now scene.now.fields.now function.now.operands.items }
+    ensures { option_map trap_view result ≡ trap_found (scene_view scene.now) (has_room (locals_after (function_value function.now.function) locals.now)) (function_value function.now.function) function.now.operands.items }
 {
-    if is_kept_off(is_pending, function.function) {
+    if is_kept_off(scene.pending, function.function) {
         return Some(Trap::ExceptionPending);
     }
-    if let Some(trap) = argument_trap(classes, heap, references, fields, function) {
+    if let Some(trap) = argument_trap(
+        scene.classes,
+        scene.heap,
+        &scene.references,
+        scene.fields,
+        function,
+    ) {
         return Some(trap);
     }
     if lacks_room(locals, function) {

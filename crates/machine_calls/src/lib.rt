@@ -12,6 +12,7 @@ mod make;
 pub mod new_object;
 mod operands;
 pub mod references;
+pub mod scene;
 pub mod statics;
 pub mod store;
 pub mod trap;

@@ -18,7 +18,7 @@ use Rattle.machine_calls.specs.declared.answer.Answer.{Answer}
 use Rattle.machine_calls.specs.declared.store.Store.{Store}
 use Rattle.machine_calls.specs.declared.activation.Activation.{Activation}
 use Rattle.machine_calls.specs.Answers.{IsAnswer}
-use Rattle.machine_calls.specs.Asked.{references_of}
+use Rattle.machine_calls.specs.Asked.{scene_of}
 use Rattle.machine_calls.specs.CarriedOut.{IsPossible}
 use Rattle.machine_calls.specs.Made.{cells_of}
 use Rattle.machine_calls.specs.NewObjects.{texts_in}
@@ -39,8 +39,8 @@ module _ (p : Lowered) (w : World) (store : Store) (pending : Option ℕ) (call 
   pub free : trap_of_call w.classes shared s it.target it.f it.args ≡ None
   free = sym (trap_is p w store pending call function own shared s task rest h) ∙ given.free
 
-  pub worked : IsWorkedOut w.classes store.heap store.loaded.items (references_of store call) call.fields.items call.stack (call_view function) it.f answer
-  worked = subst (λ (x : JniFunction). IsWorkedOut w.classes store.heap store.loaded.items (references_of store call) call.fields.items call.stack (call_view function) x answer) it.asked.same_function given.works
+  pub worked : IsWorkedOut (scene_of w.classes store call pending) (call_view function) it.f answer
+  worked = subst (λ (x : JniFunction). IsWorkedOut (scene_of w.classes store call pending) (call_view function) x answer) it.asked.same_function given.works
 
   -- the effect of the source's call
   abbrev pub does : BuffersInUse → ℕ → CallEffect

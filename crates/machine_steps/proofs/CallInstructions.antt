@@ -1,7 +1,7 @@
 -- A call that the machine makes does what the source's call does.
 use Rattle.std.proofs.Common.{◌≡◌, ◌≢◌, ◌⊎◌, inl, inr, map, ℕ, pos, Bool, true, false, not, List, [], ◌∷◌, length, Option, Some, None, refl, sym, ap, ◌∙◌, subst, arith, append-nil}
 use Rattle.std.specs.Global.{Vec}
-use Rattle.std.specs.Prelude.{slice_get, slice_set, is_some, ◌&&◌, nat_le, if◌then◌else◌}
+use Rattle.std.specs.Prelude.{slice_get, slice_set, ◌&&◌, nat_le, if◌then◌else◌}
 use Rattle.std.specs.List.{AllZip}
 use Rattle.class_rules.specs.Class.{Classes}
 use Rattle.heap.specs.Heap.{Space}
@@ -45,7 +45,7 @@ use Rattle.machine_steps.specs.Executes.{CallStands, Executes, GoesOn, WorkAgree
 use Rattle.machine_calls.specs.Locals.{FramesAgree}
 use Rattle.machine_calls.specs.WorkedOut.{IsWorkedOut, deletes}
 use Rattle.machine_calls.specs.Answers.{HoldsObject, IsAnswer}
-use Rattle.machine_calls.specs.Asked.{IsAsked, references_of}
+use Rattle.machine_calls.specs.Asked.{IsAsked, references_of, scene_of}
 use Rattle.machine_calls.specs.Statics.{all_held}
 use Rattle.machine_calls.specs.CarriedOut.{CarriesOut, GoesByRoom, IsLeft, IsPossible, IsShortOf, can_fail, frames_left, made_by, pending_after, result_after, shared_after}
 use Rattle.machine_calls.specs.Checked.{puts_local, trap_found}
@@ -264,7 +264,7 @@ module _ (p : Lowered) (w : World) (store : Store) (pending : Option ℕ) (call 
   -- the trap that is found of it is the source's
   pub trap_is : trap_at w store pending call in_memory ≡ trap_of_call w.classes shared s called.target called.f called.args
   trap_is =
-      (λ i. trap_found w.classes store.heap (is_some pending) (has_room (locals_after (called.asked.same_function i) call.locals)) (references_of store call) call.fields.items (called.asked.same_function i) in_memory.operands.items)
+      (λ i. trap_found (scene_of w.classes store call pending) (has_room (locals_after (called.asked.same_function i) call.locals)) (called.asked.same_function i) in_memory.operands.items)
       ∙ found_is p w store pending call function shared s called.f called.args called.asked called.target
 
   -- the key that DeleteLocalRef is given
@@ -313,9 +313,9 @@ module _ (p : Lowered) (w : World) (store : Store) (pending : Option ℕ) (call 
     among : (i level : ℕ) → slice_get owners i ≡ Some (Some level) → slice_get r.owners i ≡ Some (Some level)
     left : (i key level : ℕ) → slice_get call.references.items i ≡ Some (Some key) → slice_get owners i ≡ Some (Some level) → IsLeft answer (length call.locals.frames) key level
 
-  module _ (answer : Answer) (works : IsWorkedOut w.classes store.heap store.loaded.items (references_of store call) call.fields.items call.stack function called.f answer) where
+  module _ (answer : Answer) (works : IsWorkedOut (scene_of w.classes store call pending) function called.f answer) where
     abbrev Works : JniFunction → Type 0
-    Works f = IsWorkedOut w.classes store.heap store.loaded.items (references_of store call) call.fields.items call.stack function f answer
+    Works f = IsWorkedOut (scene_of w.classes store call pending) function f answer
 
     delete_leaves : called.f ≡ DeleteLocalRef → Works DeleteLocalRef → LeavesOwners DeleteLocalRef answer
     delete_leaves e is =
@@ -365,7 +365,7 @@ module _ (p : Lowered) (w : World) (store : Store) (pending : Option ℕ) (call 
       owners = r.owners;
       shows = subst (λ (o : Owners). Shows h.code r.known (visible_to o shared s) (slots_of call r.references r.owners r.fields)) (sym same) r.shows;
       among = λ i level at. at;
-      left = λ i key level found at. none_left_out answer (length call.locals.frames) key level (others_end_none w.classes store.heap store.loaded.items (references_of store call) call.fields.items call.stack function f answer none is);
+      left = λ i key level found at. none_left_out answer (length call.locals.frames) key level (others_end_none (scene_of w.classes store call pending) function f answer none is);
     }
 
     leaves : (f : JniFunction) → called.f ≡ f → Works f → LeavesOwners f answer
@@ -485,7 +485,7 @@ module _ (p : Lowered) (w : World) (store : Store) (pending : Option ℕ) (call 
 
     -- what was carried out and received is what the source's call leaves
     pub goes_on : (refused : Bool) (store' : Store) (pending' : Option ℕ) (locals : LocalTable) (g : Given) (after : Activation) (statics : Vec StaticReference) (answer : Answer) → AreStacked locals → (free : trap_of_call w.classes shared s called.target called.f called.args ≡ None)
-        → IsWorkedOut w.classes store.heap store.loaded.items (references_of store call) call.fields.items call.stack function called.f answer
+        → IsWorkedOut (scene_of w.classes store call pending) function called.f answer
         → IsAnswer w.classes function.texts store.heap call.locals (prototype called.f).result shared s answer (call_effect w.classes in_use k shared s called.args called.f)
         → CarriesOut p w store.heap call.locals answer (prototype called.f).result shared s (call_effect w.classes in_use k shared s called.args called.f) refused store' pending' locals g
         → Receives function.target (prototype called.f).result g (record call { locals = locals }) after

@@ -4,7 +4,6 @@ use Rattle.std.specs.Prelude.{slice_get, ◌==◌}
 use Rattle.std.specs.Option.{option_map}
 use Rattle.std.proofs.lemmas.Bool.Decides.{Decides-eqb}
 use Rattle.std.proofs.lemmas.Option.{slice_get-map}
-use Rattle.classes.specs.declared.class.FieldHandle.{FieldHandle}
 use Rattle.class_rules.specs.Class.{Classes}
 use Rattle.class_rules.specs.Fields.{FieldId}
 use Rattle.code.specs.Call.{Call}
@@ -18,7 +17,7 @@ use Rattle.machine_calls.specs.declared.answer.Answer.{Answer}
 use Rattle.machine_calls.specs.declared.answer.Given.TheVariants.{Nothing}
 use Rattle.machine_calls.specs.declared.answer.Answer.TheVariants as answer
 use Rattle.machine_calls.specs.CarriedOut.{IsLeft}
-use Rattle.machine_calls.specs.Statics.{References}
+use Rattle.machine_calls.specs.Scenes.{Scene}
 use Rattle.machine_calls.specs.WorkedOut.{IsFoundField, IsWorkedOut, deletes_global, element_there, found_class, frame_for, new_array, room_for, stores_there, writes_there}
 
 -- ---- answers that end no local reference
@@ -76,26 +75,26 @@ may_end DeleteLocalRef = true
 may_end PopLocalFrame = true
 may_end f = false
 
-module _ (classes : Classes) (space : Space) (loaded : List ℕ) (references : References) (fields : List (Option FieldHandle)) (stack : List ℕ) (call : Call) where
+module _ (scene : Scene) (call : Call) where
   abbrev Works : JniFunction → Answer → Type 0
-  Works f a = IsWorkedOut classes space loaded references fields stack call f a
+  Works f a = IsWorkedOut scene call f a
 
   -- the others end none
   pub others_end_none : (f : JniFunction) (a : Answer) → may_end f ≡ false → Works f a → ends_none a ≡ true
-  others_end_none FindClass a m is = ap ends_none is ∙ none_class loaded _
+  others_end_none FindClass a m is = ap ends_none is ∙ none_class scene.loaded _
   others_end_none EnsureLocalCapacity a m is = ap ends_none is ∙ none_room _
   others_end_none PushLocalFrame a m is = ap ends_none is ∙ none_frame _
   others_end_none DeleteGlobalRef a m is = ap ends_none is ∙ none_global _ _
-  others_end_none (SetField T) a m is = ap ends_none is ∙ none_write space _ _ _
-  others_end_none SetObjectField a m is = ap ends_none is ∙ none_write space _ _ _
-  others_end_none (SetStaticField T) a m is = ap ends_none is ∙ none_write space _ _ _
-  others_end_none SetStaticObjectField a m is = ap ends_none is ∙ none_write space _ _ _
+  others_end_none (SetField T) a m is = ap ends_none is ∙ none_write scene.space _ _ _
+  others_end_none SetObjectField a m is = ap ends_none is ∙ none_write scene.space _ _ _
+  others_end_none (SetStaticField T) a m is = ap ends_none is ∙ none_write scene.space _ _ _
+  others_end_none SetStaticObjectField a m is = ap ends_none is ∙ none_write scene.space _ _ _
   others_end_none (NewArray T) a m is = ap ends_none is ∙ none_array _ _ _
   others_end_none NewObjectArray a m is = ap ends_none is ∙ none_array _ _ _
-  others_end_none GetObjectArrayElement a m is = ap ends_none is ∙ none_element space _ _
-  others_end_none SetObjectArrayElement a m is = ap ends_none is ∙ none_store space _ _ _ _
-  others_end_none GetFieldID a m is = none_field classes _ a is
-  others_end_none GetStaticFieldID a m is = none_field classes _ a is
+  others_end_none GetObjectArrayElement a m is = ap ends_none is ∙ none_element scene.space _ _
+  others_end_none SetObjectArrayElement a m is = ap ends_none is ∙ none_store scene.space _ _ _ _
+  others_end_none GetFieldID a m is = none_field scene.classes _ a is
+  others_end_none GetStaticFieldID a m is = none_field scene.classes _ a is
   others_end_none DeleteLocalRef a m is = absurd (cc)
   others_end_none PopLocalFrame a m is = absurd (cc)
   others_end_none f a m is = ap ends_none is

@@ -1,5 +1,5 @@
 -- Where a call of a function of the JNI is made.
-use Rattle.std.specs.Prelude.{◌≡◌, ℕ, Bool, true, false, List, [], ◌∷◌, slice_get, Option, Some, None, is_some}
+use Rattle.std.specs.Prelude.{◌≡◌, ℕ, Bool, true, false, List, [], ◌∷◌, slice_get, Option, Some, None}
 use Rattle.code.specs.Call.{call_view}
 use Rattle.code.specs.Depth.{Listing}
 use Rattle.code.specs.declared.instr.Call.{Call as InMemory}
@@ -22,7 +22,7 @@ use Rattle.tables.specs.Locals.{has_room}
 use Rattle.machine_calls.specs.declared.answer.Answer.{Answer}
 use Rattle.machine_calls.specs.declared.store.Store.{Store}
 use Rattle.machine_calls.specs.declared.activation.Activation.{Activation}
-use Rattle.machine_calls.specs.Asked.{references_of}
+use Rattle.machine_calls.specs.Asked.{scene_of}
 use Rattle.machine_calls.specs.Checked.{trap_found}
 use Rattle.machine_calls.specs.Locals.{locals_after}
 use Rattle.machine_calls.specs.StoreAgrees.{StoreAgrees}
@@ -47,13 +47,13 @@ pub record AtCall (p : Lowered) (w : World) (store : Store) (pending : Option �
 -- the trap of a call before it does anything
 abbrev pub trap_at : World → Store → (pending : Option ℕ) → Activation → InMemory → Option SourceTrap
 trap_at w store pending call function =
-    trap_found w.classes store.heap (is_some pending) (has_room (locals_after (function_value function.function) call.locals)) (references_of store call) call.fields.items (function_value function.function) function.operands.items
+    trap_found (scene_of w.classes store call pending) (has_room (locals_after (function_value function.function) call.locals)) (function_value function.function) function.operands.items
 
 -- No check stops a call, and this is what it answers.
 pub record IsAnswered (w : World) (store : Store) (pending : Option ℕ) (call : Activation) (function : InMemory) (answer : Answer) : Type 0 where
   pub sound : IsSound w
   pub free : trap_at w store pending call function ≡ None
-  pub works : IsWorkedOut w.classes store.heap store.loaded.items (references_of store call) call.fields.items call.stack (call_view function) (function_value function.function) answer
+  pub works : IsWorkedOut (scene_of w.classes store call pending) (call_view function) (function_value function.function) answer
 
 -- what a call came to that wasn't stopped
 abbrev pub done_or_refused : (refused : Bool) → Invoked

@@ -26,6 +26,7 @@ use machine_calls::answer::{Answer, work_out};
 use machine_calls::carry_out::{carry_out, has_room};
 use machine_calls::check::check;
 use machine_calls::references::References;
+use machine_calls::scene::Scene;
 use machine_calls::store::Store;
 use machine_calls::trap::Trap;
 use std::alloc::AllocError;
@@ -113,33 +114,23 @@ fn answer_or_trap(
     ensures answer { IfOk result (IsAnswered world.now store.now pending call.now function.now) }
     ensures trap { IfErr result (λ trap. trap_at world.now store.now pending call.now function.now ≡ Some (trap_view trap)) }
 {
-    let classes = world.classes();
-    let references = References::new(
-        &call.references,
-        &call.locals,
-        &store.statics,
-        &store.globals,
-    );
-    let trap = check(
-        classes,
-        &store.heap,
-        pending.is_some(),
-        &call.locals,
-        &references,
-        &call.fields,
-        function,
-    );
-    match trap {
+    let scene = Scene {
+        classes: world.classes(),
+        heap: &store.heap,
+        loaded: &store.loaded,
+        references: References::new(
+            &call.references,
+            &call.locals,
+            &store.statics,
+            &store.globals,
+        ),
+        fields: &call.fields,
+        stack: &call.stack,
+        pending,
+    };
+    match check(&scene, &call.locals, function) {
         Some(trap) => Err(trap),
-        None => Ok(work_out(
-            classes,
-            &store.heap,
-            &store.loaded,
-            &references,
-            &call.fields,
-            &call.stack,
-            function,
-        )),
+        None => Ok(work_out(&scene, function)),
     }
 }
 

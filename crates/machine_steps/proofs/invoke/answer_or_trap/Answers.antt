@@ -1,4 +1,4 @@
-use Rattle.std.proofs.Common.{◌+◌, slice_get, ◌≡◌, ℕ, Bool, true, List, Option, None, is_some, sym, ap, ◌∙◌, subst}
+use Rattle.std.proofs.Common.{◌+◌, slice_get, ◌≡◌, ℕ, true, List, Option, None, sym, ap, ◌∙◌, subst}
 use Rattle.std.specs.Option.{option_map}
 use Rattle.class_rules.specs.Class.{Classes}
 use Rattle.classes.specs.declared.class.FieldHandle.{FieldHandle}
@@ -15,7 +15,8 @@ use Rattle.machine_calls.specs.declared.answer.Answer.{Answer}
 use Rattle.machine_calls.specs.declared.trap.Trap.{Trap}
 use Rattle.machine_calls.specs.declared.store.Store.{Store}
 use Rattle.machine_calls.specs.declared.activation.Activation.{Activation}
-use Rattle.machine_calls.specs.Asked.{references_of}
+use Rattle.machine_calls.specs.Asked.{references_of, scene_of}
+use Rattle.machine_calls.specs.Scenes.{Scene}
 use Rattle.machine_calls.specs.Statics.{References, all_held}
 use Rattle.machine_calls.specs.declared.statics.StaticReference.{StaticReference}
 use Rattle.machine_calls.specs.Checked.{fit_together, trap_found}
@@ -33,23 +34,20 @@ use Rattle.machine_steps.proofs.invoke.answer_or_trap.Goals as goal
 
 module _ (w : World) (store : Store) (pending : Option ℕ) (call : Activation) (function : Call) where
   -- what is looked at is the store's and the call's
-  module _ (classes : Classes) (references : References) (fields : List (Option FieldHandle)) (same_classes : classes ≡ w.classes) (same_references : references ≡ references_of store call) (same_fields : fields ≡ call.fields.items) where
+  seen : (classes : Classes) (loaded : List ℕ) (references : References) (fields : List (Option FieldHandle)) → classes ≡ w.classes → loaded ≡ store.loaded.items → references ≡ references_of store call → fields ≡ call.fields.items
+      → record { classes = classes; space = store.heap; loaded = loaded; references = references; fields = fields; stack = call.stack; pending = pending } ≡ scene_of w.classes store call pending
+  seen classes loaded references fields same_classes same_loaded same_references same_fields = λ i. record { classes = same_classes i; space = store.heap; loaded = same_loaded i; references = same_references i; fields = same_fields i; stack = call.stack; pending = pending }
+
+  module _ (scene : Scene) (same : scene ≡ scene_of w.classes store call pending) where
     -- the trap that was found is the call's
-    told : (is_pending : Bool) (o found : Option Trap) → is_pending ≡ is_some pending
-        → option_map trap_view o ≡ trap_found classes store.heap is_pending (has_room (locals_after (function_value function.function) call.locals)) references fields (function_value function.function) function.operands.items
-        → o ≡ found → trap_at w store pending call function ≡ option_map trap_view found
-    told is_pending o found same_pending checked is =
-        (λ i. trap_found (sym same_classes i) store.heap (sym same_pending i) (has_room (locals_after (function_value function.function) call.locals)) (sym same_references i) (sym same_fields i) (function_value function.function) function.operands.items)
-        ∙ sym checked ∙ ap (option_map trap_view) is
+    told : (o found : Option Trap) → option_map trap_view o ≡ trap_found scene (has_room (locals_after (function_value function.function) call.locals)) (function_value function.function) function.operands.items → o ≡ found
+        → trap_at w store pending call function ≡ option_map trap_view found
+    told o found checked is =
+        ap (λ (x : Scene). trap_found x (has_room (locals_after (function_value function.function) call.locals)) (function_value function.function) function.operands.items) (sym same) ∙ sym checked ∙ ap (option_map trap_view) is
 
     -- and so is what was worked out
-    worked : (loaded : List ℕ) (answer : Answer) → loaded ≡ store.loaded.items → IsWorkedOut classes store.heap loaded references fields call.stack (call_view function) (function_value function.function) answer
-        → IsWorkedOut w.classes store.heap store.loaded.items (references_of store call) call.fields.items call.stack (call_view function) (function_value function.function) answer
-    worked loaded answer same_loaded works =
-        subst (λ (l : List (Option FieldHandle)). IsWorkedOut w.classes store.heap store.loaded.items (references_of store call) l call.stack (call_view function) (function_value function.function) answer) same_fields
-        (subst (λ (l : References). IsWorkedOut w.classes store.heap store.loaded.items l fields call.stack (call_view function) (function_value function.function) answer) same_references
-        (subst (λ (l : List ℕ). IsWorkedOut w.classes store.heap l references fields call.stack (call_view function) (function_value function.function) answer) same_loaded
-        (subst (λ (t : Classes). IsWorkedOut t store.heap loaded references fields call.stack (call_view function) (function_value function.function) answer) same_classes works)))
+    worked : (answer : Answer) → IsWorkedOut scene (call_view function) (function_value function.function) answer → IsWorkedOut (scene_of w.classes store call pending) (call_view function) (function_value function.function) answer
+    worked answer works = subst (λ (x : Scene). IsWorkedOut x (call_view function) (function_value function.function) answer) same works
 
   -- the machine is at a call
   module _ (a : (p : Lowered) × (own : Owners) × (shared : Shared) × (s : Thread) × (task : Task) × (rest : List Task) × AtCall p w store pending call function own shared s task rest) where
@@ -77,50 +75,49 @@ module _ (w : World) (store : Store) (pending : Option ℕ) (call : Activation) 
 named_are : (store : Store) (call : Activation) (keys : List (Option ℕ)) (statics : List StaticReference) (r : References) → r ≡ record { keys = keys; locals = call.locals; statics = all_held store.globals statics } → keys ≡ call.references.items → statics ≡ store.statics.items → r ≡ references_of store call
 named_are store call keys statics r is same_keys same_statics = is ∙ (λ i. record { keys = same_keys i; locals = call.locals; statics = all_held store.globals (same_statics i) })
 
-pub check-trap-requires-clause-objects : goal.check-trap-requires-clause-objects
-check-trap-requires-clause-objects c =
-    there c.args.world.now c.args.store.now c.args.pending c.args.call.now c.args.function.now c.requires.at_call c.new-references.result
-    (named_are c.args.store.now c.args.call.now c.deref.result.now c.deref-2.result.now c.new-references.result c.new-references.ensures c.deref.ensures.value c.deref-2.ensures.value)
+pub check-requires-clause-objects : goal.check-requires-clause-objects
+check-requires-clause-objects c =
+    there c.args.world.now c.args.store.now c.args.pending c.args.call.now c.args.function.now c.requires.at_call c.new.result
+    (named_are c.args.store.now c.args.call.now c.deref-2.result.now c.deref-3.result.now c.new.result c.new.ensures c.deref-2.ensures.value c.deref-3.ensures.value)
 
-pub check-trap-requires-clause-handles : goal.check-trap-requires-clause-handles
-check-trap-requires-clause-handles c = handled c.args.world.now c.args.store.now c.args.pending c.args.call.now c.args.function.now c.requires.at_call c.classes-classes.result.now c.deref-3.result.now c.classes-classes.ensures.classes c.deref-3.ensures.value
+pub check-requires-clause-handles : goal.check-requires-clause-handles
+check-requires-clause-handles c = handled c.args.world.now c.args.store.now c.args.pending c.args.call.now c.args.function.now c.requires.at_call c.classes.result.now c.deref-4.result.now c.classes.ensures.classes c.deref-4.ensures.value
 
 pub returns-in-Some-clause-trap : goal.returns-in-Some-clause-trap
 returns-in-Some-clause-trap c =
-    let named = named_are c.args.store.now c.args.call.now c.deref.result.now c.deref-2.result.now c.new-references.result c.new-references.ensures c.deref.ensures.value c.deref-2.ensures.value in
-    told c.args.world.now c.args.store.now c.args.pending c.args.call.now c.args.function.now c.classes-classes.result.now c.new-references.result c.deref-3.result.now c.classes-classes.ensures.classes named c.deref-3.ensures.value
-    c.is_some.result c.check-trap.result _ c.is_some.ensures c.check-trap.ensures c.in-Some.is
+    let named = named_are c.args.store.now c.args.call.now c.deref-2.result.now c.deref-3.result.now c.new.result c.new.ensures c.deref-2.ensures.value c.deref-3.ensures.value in
+    let same = seen c.args.world.now c.args.store.now c.args.pending c.args.call.now c.args.function.now c.classes.result.now c.deref.result.now c.new.result c.deref-4.result.now c.classes.ensures.classes c.deref.ensures.value named c.deref-4.ensures.value in
+    told c.args.world.now c.args.store.now c.args.pending c.args.call.now c.args.function.now _ same c.check.result _ c.check.ensures c.in-Some.is
 
 pub work_out-requires-clause-loaded : goal.work_out-requires-clause-loaded
 work_out-requires-clause-loaded c i a at =
     let shares = c.requires.at_call.6.shares in
-    is_address c.args.store.now.heap a (i + 1) (shares.table.named i a (ap (λ (l : List ℕ). slice_get l i) (sym c.deref-in-None.ensures.value) ∙ at))
+    is_address c.args.store.now.heap a (i + 1) (shares.table.named i a (ap (λ (l : List ℕ). slice_get l i) (sym c.deref.ensures.value) ∙ at))
 
 pub work_out-requires-clause-objects : goal.work_out-requires-clause-objects
 work_out-requires-clause-objects c =
-    there c.args.world.now c.args.store.now c.args.pending c.args.call.now c.args.function.now c.requires.at_call c.new-references.result
-    (named_are c.args.store.now c.args.call.now c.deref.result.now c.deref-2.result.now c.new-references.result c.new-references.ensures c.deref.ensures.value c.deref-2.ensures.value)
+    there c.args.world.now c.args.store.now c.args.pending c.args.call.now c.args.function.now c.requires.at_call c.new.result
+    (named_are c.args.store.now c.args.call.now c.deref-2.result.now c.deref-3.result.now c.new.result c.new.ensures c.deref-2.ensures.value c.deref-3.ensures.value)
 
 pub work_out-requires-clause-handles : goal.work_out-requires-clause-handles
-work_out-requires-clause-handles c = handled c.args.world.now c.args.store.now c.args.pending c.args.call.now c.args.function.now c.requires.at_call c.classes-classes.result.now c.deref-in-None-2.result.now c.classes-classes.ensures.classes c.deref-in-None-2.ensures.value
+work_out-requires-clause-handles c = handled c.args.world.now c.args.store.now c.args.pending c.args.call.now c.args.function.now c.requires.at_call c.classes.result.now c.deref-4.result.now c.classes.ensures.classes c.deref-4.ensures.value
 
 pub work_out-requires-clause-answered : goal.work_out-requires-clause-answered
 work_out-requires-clause-answered c = is_built_there c.args.world.now c.args.store.now c.args.pending c.args.call.now c.args.function.now c.requires.at_call
 
 pub work_out-requires-clause-passed : goal.work_out-requires-clause-passed
 work_out-requires-clause-passed c =
-    let named = named_are c.args.store.now c.args.call.now c.deref.result.now c.deref-2.result.now c.new-references.result c.new-references.ensures c.deref.ensures.value c.deref-2.ensures.value in
-    let free = told c.args.world.now c.args.store.now c.args.pending c.args.call.now c.args.function.now c.classes-classes.result.now c.new-references.result c.deref-3.result.now c.classes-classes.ensures.classes named c.deref-3.ensures.value
-    c.is_some.result c.check-trap.result None c.is_some.ensures c.check-trap.ensures c.in-None.is in
-    passes c.args.world.now c.args.store.now c.args.pending c.args.call.now c.args.function.now c.requires.at_call c.classes-classes.result.now c.new-references.result c.deref-in-None-2.result.now c.classes-classes.ensures.classes named c.deref-in-None-2.ensures.value free
+    let named = named_are c.args.store.now c.args.call.now c.deref-2.result.now c.deref-3.result.now c.new.result c.new.ensures c.deref-2.ensures.value c.deref-3.ensures.value in
+    let same = seen c.args.world.now c.args.store.now c.args.pending c.args.call.now c.args.function.now c.classes.result.now c.deref.result.now c.new.result c.deref-4.result.now c.classes.ensures.classes c.deref.ensures.value named c.deref-4.ensures.value in
+    let free = told c.args.world.now c.args.store.now c.args.pending c.args.call.now c.args.function.now _ same c.check.result None c.check.ensures c.in-None.is in
+    passes c.args.world.now c.args.store.now c.args.pending c.args.call.now c.args.function.now c.requires.at_call c.classes.result.now c.new.result c.deref-4.result.now c.classes.ensures.classes named c.deref-4.ensures.value free
 
 pub returns-in-None-clause-answer : goal.returns-in-None-clause-answer
 returns-in-None-clause-answer c =
-    let named = named_are c.args.store.now c.args.call.now c.deref.result.now c.deref-2.result.now c.new-references.result c.new-references.ensures c.deref.ensures.value c.deref-2.ensures.value in
+    let named = named_are c.args.store.now c.args.call.now c.deref-2.result.now c.deref-3.result.now c.new.result c.new.ensures c.deref-2.ensures.value c.deref-3.ensures.value in
+    let same = seen c.args.world.now c.args.store.now c.args.pending c.args.call.now c.args.function.now c.classes.result.now c.deref.result.now c.new.result c.deref-4.result.now c.classes.ensures.classes c.deref.ensures.value named c.deref-4.ensures.value in
     record {
-      sound = c.classes-classes.ensures.sound;
-      free = told c.args.world.now c.args.store.now c.args.pending c.args.call.now c.args.function.now c.classes-classes.result.now c.new-references.result c.deref-3.result.now c.classes-classes.ensures.classes named c.deref-3.ensures.value
-          c.is_some.result c.check-trap.result None c.is_some.ensures c.check-trap.ensures c.in-None.is;
-      works = worked c.args.world.now c.args.store.now c.args.pending c.args.call.now c.args.function.now c.classes-classes.result.now c.new-references.result c.deref-in-None-2.result.now c.classes-classes.ensures.classes named c.deref-in-None-2.ensures.value
-          c.deref-in-None.result.now c.work_out.result c.deref-in-None.ensures.value c.work_out.ensures;
+      sound = c.classes.ensures.sound;
+      free = told c.args.world.now c.args.store.now c.args.pending c.args.call.now c.args.function.now _ same c.check.result None c.check.ensures c.in-None.is;
+      works = worked c.args.world.now c.args.store.now c.args.pending c.args.call.now c.args.function.now _ same c.work_out.result c.work_out.ensures;
     }

@@ -1,0 +1,22 @@
+//! What a call sees.
+
+use crate::references::References;
+use classes::class::FieldHandle;
+use classes::table::ClassTable;
+use code::stack::Stack;
+use heap::{Addr, Heap};
+
+/// What a call sees.
+#[derive(Drop)]
+pub struct Scene<'a> {
+    pub classes: &'a ClassTable,
+    pub heap: &'a Heap,
+    /// The addresses of the objects made at load, of which the class objects are the first.
+    pub loaded: &'a [Addr],
+    pub references: References<'a>,
+    /// The field IDs in the slots of variables.
+    pub fields: &'a [Option<FieldHandle>],
+    pub stack: &'a Stack,
+    /// The exception that is pending.
+    pub pending: Option<Addr>,
+}
