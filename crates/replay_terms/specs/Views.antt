@@ -13,7 +13,7 @@ use Rattle.semantics.specs.Sight.{Sight, in_range}
 use Rattle.semantics.specs.Task.{Operand, NumberOperand}
 use Rattle.semantics.specs.Task as task
 use Rattle.semantics.specs.Term.{Term, Done, Number, Named, Read, Element, IsNull, Prefix, And, Or, Binary, Reduction, binary_term, done, reduce}
-use Rattle.semantics.specs.Value.{Value, Word, Int, Flag, Truth, Trap, DivisionByZero, ShiftTooFar, OutOfRange, NullReference, ExceptionPending, WrongObject, DeletedReference, NoCapacity, Outcome, Gives, Traps, Stuck, outcome_then, outcome_map, convert}
+use Rattle.semantics.specs.Value.{Value, Word, Int, Flag, Truth, Trap, DivisionByZero, ShiftTooFar, OutOfRange, NullReference, ExceptionPending, WrongObject, DeletedReference, NoCapacity, Fatal, Outcome, Gives, Traps, Stuck, outcome_then, outcome_map, convert}
 use Rattle.semantics.specs.Variable.{Variable, Scalar, LocalRef, FieldHandle, Elements, LocalArray, NoBuffer, Copy, View, StaticReference, Empty, Live, Deleted, Variables, Statics, assign}
 use Rattle.replay_terms.specs.declared.given.Given.{Given}
 use Rattle.replay_terms.specs.declared.given.Given.TheVariants as given
@@ -45,6 +45,7 @@ trap_view trap.ExceptionPending = ExceptionPending
 trap_view trap.WrongObject = WrongObject
 trap_view trap.DeletedReference = DeletedReference
 trap_view trap.NoCapacity = NoCapacity
+trap_view trap.Fatal = Fatal
 
 abbrev pub value_view : ValueInMemory → Value
 value_view (value.Word n) = Word n

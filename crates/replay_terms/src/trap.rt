@@ -22,6 +22,8 @@ pub enum Trap {
     DeletedReference,
     /// The current frame can hold no more local references.
     NoCapacity,
+    /// The program ended the run itself.
+    Fatal,
 }
 
 /// The number under which a trap is reported.
@@ -37,5 +39,6 @@ pub fn trap_number(trap: Trap) -> u8
         Trap::WrongObject => 6,
         Trap::DeletedReference => 7,
         Trap::NoCapacity => 8,
+        Trap::Fatal => 9,
     }
 }
