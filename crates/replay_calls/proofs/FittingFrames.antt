@@ -10,8 +10,9 @@ use Rattle.semantics.specs.CallEffects.{with_capacity}
 use Rattle.semantics.specs.Heap.{Heap}
 use Rattle.semantics.specs.Object.{Reference}
 use Rattle.semantics.specs.Thread.{Frame, capacities}
+use Rattle.semantics.specs.Value.{Trap}
 use Rattle.semantics.specs.Variable.{Variables}
-use Rattle.replay_calls.specs.Answers.{Ensures, Pushes, RefusesFrames, FitsFrames}
+use Rattle.replay_calls.specs.Answers.{Ensures, Pushes, RefusesFrames, FitsFrames, answer_or_trap}
 use Rattle.replay_objects.specs.Frames.{new_frame}
 use Rattle.replay_calls.specs.WorkedOut.{element_given, element_set, ensured, found_class, found_field, global_deleted, local_deleted, made_global, new_array, new_object_array, pushed, worked_out}
 
@@ -69,17 +70,22 @@ module _ (frames : List Frame) where
   set_fits true n r (Some i) = tt
   set_fits false n r (Some i) = tt
 
-  pub answer_fits : (classes : Classes) (heap : Heap) (vs : Variables) (args : List Actual) (f : JniFunction) → FitsFrames frames (worked_out classes heap vs frames args f)
-  answer_fits classes heap vs args FindClass = class_fits _
-  answer_fits classes heap vs args NewGlobalRef = global_fits (reference_given args 0)
-  answer_fits classes heap vs args DeleteLocalRef = local_fits _ (reference_given args 0)
-  answer_fits classes heap vs args DeleteGlobalRef = deleted_fits (variable_given args 0) (reference_given args 0)
-  answer_fits classes heap vs args EnsureLocalCapacity = ensured_fits (number_given args 0)
-  answer_fits classes heap vs args PushLocalFrame = pushed_fits (number_given args 0)
-  answer_fits classes heap vs args GetFieldID = field_fits _
-  answer_fits classes heap vs args GetStaticFieldID = field_fits _
-  answer_fits classes heap vs args (NewArray T) = array_fits _ (number_given args 0)
-  answer_fits classes heap vs args NewObjectArray = object_array_fits _ _ (number_given args 0)
-  answer_fits classes heap vs args GetObjectArrayElement = element_fits heap _ _
-  answer_fits classes heap vs args SetObjectArrayElement = set_fits _ _ _ _
-  answer_fits classes heap vs args f = tt
+  answer_fits : (classes : Classes) (heap : Heap) (vs : Variables) (pending : Reference) (args : List Actual) (f : JniFunction) → FitsFrames frames (worked_out classes heap vs frames pending args f)
+  answer_fits classes heap vs pending args FindClass = class_fits _
+  answer_fits classes heap vs pending args NewGlobalRef = global_fits (reference_given args 0)
+  answer_fits classes heap vs pending args DeleteLocalRef = local_fits _ (reference_given args 0)
+  answer_fits classes heap vs pending args DeleteGlobalRef = deleted_fits (variable_given args 0) (reference_given args 0)
+  answer_fits classes heap vs pending args EnsureLocalCapacity = ensured_fits (number_given args 0)
+  answer_fits classes heap vs pending args PushLocalFrame = pushed_fits (number_given args 0)
+  answer_fits classes heap vs pending args GetFieldID = field_fits _
+  answer_fits classes heap vs pending args GetStaticFieldID = field_fits _
+  answer_fits classes heap vs pending args (NewArray T) = array_fits _ (number_given args 0)
+  answer_fits classes heap vs pending args NewObjectArray = object_array_fits _ _ (number_given args 0)
+  answer_fits classes heap vs pending args GetObjectArrayElement = element_fits heap _ _
+  answer_fits classes heap vs pending args SetObjectArrayElement = set_fits _ _ _ _
+  answer_fits classes heap vs pending args f = tt
+
+  -- so does it with a trap before it
+  pub told_fits : (classes : Classes) (heap : Heap) (vs : Variables) (pending : Reference) (args : List Actual) (f : JniFunction) (o : Option Trap) → FitsFrames frames (answer_or_trap o (worked_out classes heap vs frames pending args f))
+  told_fits classes heap vs pending args f None = answer_fits classes heap vs pending args f
+  told_fits classes heap vs pending args f (Some trap) = tt

@@ -1,27 +1,29 @@
 -- What calls do, as data, and what that leaves.
-use Rattle.std.specs.Prelude.{ℕ, pos, negsuc, Bool, true, false, List, [], ◌∷◌, ◌++◌, drop, nat_le, IsTrue, Some}
+use Rattle.std.specs.Prelude.{ℕ, pos, negsuc, Bool, true, false, List, [], ◌∷◌, ◌++◌, drop, nat_le, IsTrue, Option, Some, None}
 use Rattle.base.specs.Bytes.{Identifier}
 use Rattle.class_rules.specs.Class.{Classes}
 use Rattle.jni.specs.Prototype.{ResultKind, NewLocal}
 use Rattle.semantics.specs.CallEffects.{CallResult, NoResult, ScalarResult, ReferenceResult, CallEffect, Throws, Leaves, heap_effect, new_effect, out_of_memory, refuses_frames, with_capacity, with_local, without_local, without_one}
+use Rattle.semantics.specs.CallEffects as effects
 use Rattle.semantics.specs.CallStep.{failure}
 use Rattle.semantics.specs.Heap.{Heap, next_name, with_value_at}
 use Rattle.semantics.specs.Object.{ObjectValue, Reference}
 use Rattle.semantics.specs.Thread.{Frame, Shared, Thread, capacities}
-use Rattle.semantics.specs.Value.{Int}
+use Rattle.semantics.specs.Value.{Int, Trap}
 use Rattle.semantics.specs.Variable.{Deleted, assign}
 use Rattle.semantics.specs.World.{fresh_object}
 use Rattle.replay_calls.specs.declared.answer.Answer.{Answer as InMemory}
 use Rattle.replay_calls.specs.declared.answer.Answer.TheVariants as answer
 use Rattle.replay_objects.specs.Frames.{new_frame}
 use Rattle.replay_objects.specs.New.{New, new_view, object_of}
-use Rattle.replay_terms.specs.Views.{given_view}
+use Rattle.replay_terms.specs.Views.{given_view, trap_view}
 use Rattle.world_values.specs.Views.{object_value_view}
 
 -- What a call does: nothing changes and this is given, a value of an object is written, an object is made and given, an exception
 -- of a class is made, the current frame gets room for this many more and 0 is given, a frame of this capacity is made
 -- and 0 is given, the OutOfMemoryError object is pending and -4 is given, the current frame is dropped and this is given, a local
--- reference in the frame of a level is deleted, a global reference is made and given, or the one of a static is deleted.
+-- reference in the frame of a level is deleted, a global reference is made and given, the one of a static is deleted, a pending
+-- exception or none replaces that before it and this is given, or the run stops.
 pub data Answer : Type 0 where
   Gives : CallResult → Answer
   Writes : (object place : ℕ) → ObjectValue → Answer
@@ -34,6 +36,8 @@ pub data Answer : Type 0 where
   DeletesLocal : (level object : ℕ) → Answer
   MakesGlobal : (object : ℕ) → Answer
   DeletesGlobal : Identifier → (object : ℕ) → Answer
+  Pends : Reference → CallResult → Answer
+  Halts : Trap → Answer
 
 abbrev pub answer_view : InMemory → Answer
 answer_view (answer.Gives g) = Gives (given_view g)
@@ -47,6 +51,18 @@ answer_view (answer.Pops r) = Pops r
 answer_view (answer.DeletesLocal l n) = DeletesLocal l n
 answer_view (answer.MakesGlobal n) = MakesGlobal n
 answer_view (answer.DeletesGlobal x n) = DeletesGlobal x.now n
+answer_view (answer.Pends r g) = Pends r (given_view g)
+answer_view (answer.Halts trap) = Halts (trap_view trap)
+
+-- the trap with which the run stops
+abbrev pub trap_in : Answer → Option Trap
+trap_in (Halts trap) = Some trap
+trap_in a = None
+
+-- the trap of the first check that fails, or else what is worked out
+abbrev pub answer_or_trap : Option Trap → Answer → Answer
+answer_or_trap None a = a
+answer_or_trap (Some trap) a = Halts trap
 
 -- these frames can have what it asks for
 abbrev pub FitsFrames : List Frame → Answer → Type 0
@@ -75,6 +91,8 @@ effect_as classes s t (Pops r) = Leaves [] s (record t { frames = drop 1 t.frame
 effect_as classes s t (DeletesLocal l n) = Leaves [] s (record t { frames = without_local l n t.frames }) NoResult
 effect_as classes s t (MakesGlobal n) = Leaves [] (record s { globals = n ∷ s.globals }) t (ReferenceResult (Some n))
 effect_as classes s t (DeletesGlobal x n) = Leaves [] (without_global x n s) t NoResult
+effect_as classes s t (Pends r g) = Leaves [] s (record t { pending = r }) g
+effect_as classes s t (Halts trap) = effects.Halts trap
 
 -- whether it is done to the frames of a call alone
 abbrev pub is_of_frames : Answer → Bool
@@ -120,6 +138,7 @@ frames_after frames a = frames
 abbrev pub pending_after : Classes → Heap → Reference → Answer → Reference
 pending_after classes heap pending (Raises c) = Some (next_name heap)
 pending_after classes heap pending RefusesFrames = Some (out_of_memory classes)
+pending_after classes heap pending (Pends r g) = r
 pending_after classes heap pending a = pending
 
 -- what a call of this kind of result gives
@@ -135,6 +154,8 @@ given_after heap kind (Pops r) = ReferenceResult r
 given_after heap kind (DeletesLocal l n) = NoResult
 given_after heap kind (MakesGlobal n) = ReferenceResult (Some n)
 given_after heap kind (DeletesGlobal x n) = NoResult
+given_after heap kind (Pends r g) = g
+given_after heap kind (Halts trap) = NoResult
 
 -- the frames with what a call of this kind of result gave
 abbrev pub frames_with : ResultKind → CallResult → List Frame → List Frame

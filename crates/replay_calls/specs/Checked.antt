@@ -1,10 +1,10 @@
 -- What is checked of a call before it does anything.
 use Rattle.std.specs.Prelude.{ℕ, Bool, true, false, not, ◌&&◌, ◌||◌, ◌==◌, List, [], ◌∷◌, zip, slice_get, Option}
 use Rattle.std.specs.List.{list_any}
-use Rattle.class_rules.specs.BuiltIns.{class_class, has_own_making, string_class, number_array}
+use Rattle.class_rules.specs.BuiltIns.{class_class, has_own_making, string_class, throwable_class, number_array}
 use Rattle.class_rules.specs.Class.{Classes, class_kind, is_plain, is_object_array, assignable}
 use Rattle.class_rules.specs.Fields.{FieldId}
-use Rattle.jni.specs.JniFunction.{is_allowed_pending, JniFunction, AllocObject, GetField, SetField, GetStaticField, SetStaticField, GetObjectField, SetObjectField, GetStaticObjectField, SetStaticObjectField, NewObjectArray, prototype}
+use Rattle.jni.specs.JniFunction.{is_allowed_pending, JniFunction, AllocObject, GetField, SetField, GetStaticField, SetStaticField, GetObjectField, SetObjectField, GetStaticObjectField, SetStaticObjectField, NewObjectArray, Throw, prototype}
 use Rattle.jni.specs.Prototype.{ParameterKind, ClassObject, AnyArray, ObjectArray, StringObject, NumberArray}
 use Rattle.semantics.specs.Arguments.{Actual, reference_given, object_given, field_given}
 use Rattle.semantics.specs.Checks.{first_trap, frames_after, is_deleted, is_misfit, is_missing, lacks_room}
@@ -50,6 +50,7 @@ module _ (classes : Classes) (heap : Heap) (args : List Actual) where
   fit_together GetStaticObjectField = has_static classes args && holds_reference field.field.type
   fit_together SetStaticObjectField = has_static classes args && fits_type classes heap (reference_given args 2) field.field.type
   fit_together NewObjectArray = fits_new_array
+  fit_together Throw = is_instance classes heap (object_given args 0) throwable_class
   fit_together f = true
 
 -- The trap of a call before it does anything.

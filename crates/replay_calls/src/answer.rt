@@ -1,6 +1,6 @@
 //! What a function of the JNI does, as data.
 
-ghost use Rattle.std.specs.Prelude.{◌≡◌, IsTrue, List, if◌then◌else◌, map};
+ghost use Rattle.std.specs.Prelude.{◌≡◌, IsTrue, List, if◌then◌else◌, is_some, map};
 ghost use Rattle.std.specs.Option.{option_map};
 ghost use Rattle.base.specs.Bytes.{lookup};
 ghost use Rattle.classes.specs.FieldViews.{field_id_view};
@@ -13,20 +13,23 @@ ghost use Rattle.jni.specs.Table.{function_value};
 ghost use Rattle.semantics.specs.CallEffects.{level_of, same_reference};
 ghost use Rattle.semantics.specs.Heap.{Heap, field_place, fits_class, number_in, reference_in, static_place};
 ghost use Rattle.semantics.specs.Arguments.{field_given, number_given, object_given, reference_given, text_given, variable_given};
+ghost use Rattle.semantics.specs.Object.{Reference};
 ghost use Rattle.semantics.specs.Thread.{Frame};
 ghost use Rattle.semantics.specs.Variable.{Variables as VariablesOfCall};
 ghost use Rattle.replay_calls.specs.Actuals.{actual_view};
-ghost use Rattle.replay_calls.specs.Answers.{answer_view};
+ghost use Rattle.replay_calls.specs.Answers.{answer_or_trap, answer_view, trap_in};
+ghost use Rattle.replay_calls.specs.Checked.{trap_found};
 ghost use Rattle.replay_calls.specs.WorkedOut.{element_given, element_set, ensured, fits_element, found_class, found_field, global_deleted, index_given, local_deleted, made_global, new_array, new_object_array, pushed, subject_of, worked_out};
 ghost use Rattle.replay_calls.specs.declared.answer.Subject.TheVariants as subject;
-ghost use Rattle.replay_terms.specs.Views.{variables_view};
+ghost use Rattle.replay_terms.specs.Views.{trap_view, variables_view};
 ghost use Rattle.world_values.specs.Views.{object_value_view};
 
 use crate::actual::{
     Actual, field_given, level_of, number_given, object_given, reference_given, text_given,
     variable_given,
 };
-use crate::check::{element_type, fits_class};
+use crate::check::{check, element_type, fits_class};
+use crate::exceptions::exception_answer;
 use crate::field;
 use classes::built_ins::{
     ARRAY_INDEX_OUT_OF_BOUNDS_EXCEPTION, ARRAY_STORE_EXCEPTION, NEGATIVE_ARRAY_SIZE_EXCEPTION,
@@ -37,7 +40,7 @@ use classes::fields::FieldId;
 use classes::table::ClassTable;
 use jni::JniFunction;
 use replay_objects::{Frames, New, Store};
-use replay_terms::{Given, Variables, convert};
+use replay_terms::{Given, Trap, Variables, convert};
 use world_values::ObjectValue;
 
 /// What a call does.
@@ -65,11 +68,15 @@ pub enum Answer<'a> {
     MakesGlobal(usize),
     /// A global reference to the object of this name is deleted, and the static is marked.
     DeletesGlobal(&'a [u8], usize),
+    /// The exception of this name is pending, or none is, whatever was pending before, and this is given.
+    Pends(Option<usize>, Given<'a>),
+    /// The run stops.
+    Halts(Trap),
 }
 
 /// What a function works on.
 #[derive(Clone, Copy)]
-enum Subject {
+pub(crate) enum Subject {
     Classes,
     /// Local and global references, and frames.
     References,
@@ -78,6 +85,8 @@ enum Subject {
     Statics,
     /// Arrays and strings.
     Arrays,
+    /// The pending exception.
+    Exceptions,
 }
 
 /// What a function works on.
@@ -98,22 +107,61 @@ fn subject_of(function: JniFunction) -> Subject
         JniFunction::NewArray(_) | JniFunction::NewObjectArray => Subject::Arrays,
         JniFunction::GetObjectArrayElement | JniFunction::SetObjectArrayElement => Subject::Arrays,
         JniFunction::NewStringUTF => Subject::Arrays,
+        JniFunction::Throw | JniFunction::FatalError => Subject::Exceptions,
+        JniFunction::ExceptionOccurred | JniFunction::ExceptionCheck => Subject::Exceptions,
+        JniFunction::ExceptionClear => Subject::Exceptions,
         _ => Subject::Classes,
     }
 }
 
-/// What a function does, all checks being passed.
-pub fn work_out<'a>(
+/// What a call does, its arguments being looked up: the run stops by the first check that fails, or else it does what its function
+/// does.
+pub fn answer_or_trap<'a>(
     classes: &'a ClassTable,
     store: &Store,
     variables: &Variables<'_>,
     frames: &Frames,
+    pending: Option<usize>,
     function: JniFunction,
     actuals: &[Actual<'a>],
 ) -> Answer<'a>
     requires built { IsTrue (is_built_function (function_value function)) }
     requires grown { IsGrown classes.now }
-    ensures { answer_view result ≡ worked_out classes.now store.now (variables_view variables.now) frames.now (map actual_view actuals.now) (function_value function) }
+    ensures { answer_view result ≡ answer_or_trap (trap_found classes.now store.now frames.now (is_some pending) (function_value function) (map actual_view actuals.now))
+        (worked_out classes.now store.now (variables_view variables.now) frames.now pending (map actual_view actuals.now) (function_value function)) }
+{
+    let is_pending = pending.is_some();
+    match check(classes, store, frames, is_pending, function, actuals) {
+        Some(trap) => Answer::Halts(trap),
+        None => work_out(
+            classes, store, variables, frames, pending, function, actuals,
+        ),
+    }
+}
+
+/// The trap with which the run stops.
+pub fn trap_in(answer: Answer<'_>) -> Option<Trap>
+    ensures { option_map trap_view result ≡ trap_in (answer_view answer.entry) }
+{
+    match answer {
+        Answer::Halts(trap) => Some(trap),
+        _ => None,
+    }
+}
+
+/// What a function does, all checks being passed.
+fn work_out<'a>(
+    classes: &'a ClassTable,
+    store: &Store,
+    variables: &Variables<'_>,
+    frames: &Frames,
+    pending: Option<usize>,
+    function: JniFunction,
+    actuals: &[Actual<'a>],
+) -> Answer<'a>
+    requires built { IsTrue (is_built_function (function_value function)) }
+    requires grown { IsGrown classes.now }
+    ensures { answer_view result ≡ worked_out classes.now store.now (variables_view variables.now) frames.now pending (map actual_view actuals.now) (function_value function) }
 {
     match subject_of(function) {
         Subject::Classes => class_answer(classes, store, function, actuals),
@@ -121,6 +169,7 @@ pub fn work_out<'a>(
         Subject::Fields => field_answer(classes, store, function, actuals),
         Subject::Statics => static_answer(classes, store, function, actuals),
         Subject::Arrays => array_answer(classes, store, function, actuals),
+        Subject::Exceptions => exception_answer(pending, function, actuals),
     }
 }
 
@@ -134,7 +183,7 @@ fn class_answer<'a>(
 ) -> Answer<'a>
     requires built { IsTrue (is_built_function (function_value function)) }
     requires subject { subject_of (function_value function) ≡ subject.Classes }
-    ensures { (variables : VariablesOfCall) (frames : List Frame) → answer_view result ≡ worked_out classes.now store.now variables frames (map actual_view actuals.now) (function_value function) }
+    ensures { (variables : VariablesOfCall) (frames : List Frame) (pending : Reference) → answer_view result ≡ worked_out classes.now store.now variables frames pending (map actual_view actuals.now) (function_value function) }
 {
     let first = object_given(actuals, 0);
     let second = object_given(actuals, 1);
@@ -167,7 +216,7 @@ fn reference_answer<'a>(
     actuals: &[Actual<'a>],
 ) -> Answer<'a>
     requires { subject_of (function_value function) ≡ subject.References }
-    ensures { (classes : Classes) (heap : Heap) → answer_view result ≡ worked_out classes heap (variables_view variables.now) frames.now (map actual_view actuals.now) (function_value function) }
+    ensures { (classes : Classes) (heap : Heap) (pending : Reference) → answer_view result ≡ worked_out classes heap (variables_view variables.now) frames.now pending (map actual_view actuals.now) (function_value function) }
 {
     match function {
         JniFunction::NewLocalRef => { Answer::Gives(Given::Reference(reference_given(actuals, 0))) }
@@ -195,7 +244,7 @@ fn field_answer<'a>(
 ) -> Answer<'a>
     requires subject { subject_of (function_value function) ≡ subject.Fields }
     requires grown { IsGrown classes.now }
-    ensures { (variables : VariablesOfCall) (frames : List Frame) → answer_view result ≡ worked_out classes.now store.now variables frames (map actual_view actuals.now) (function_value function) }
+    ensures { (variables : VariablesOfCall) (frames : List Frame) (pending : Reference) → answer_view result ≡ worked_out classes.now store.now variables frames pending (map actual_view actuals.now) (function_value function) }
 {
     let object = object_given(actuals, 0);
     let place = place_of_field(classes, store, actuals);
@@ -231,7 +280,7 @@ fn static_answer<'a>(
 ) -> Answer<'a>
     requires subject { subject_of (function_value function) ≡ subject.Statics }
     requires grown { IsGrown classes.now }
-    ensures { (variables : VariablesOfCall) (frames : List Frame) → answer_view result ≡ worked_out classes.now store.now variables frames (map actual_view actuals.now) (function_value function) }
+    ensures { (variables : VariablesOfCall) (frames : List Frame) (pending : Reference) → answer_view result ≡ worked_out classes.now store.now variables frames pending (map actual_view actuals.now) (function_value function) }
 {
     let class = declarer(actuals);
     let place = place_of_static(classes, actuals);
@@ -266,7 +315,7 @@ fn array_answer<'a>(
     actuals: &[Actual<'a>],
 ) -> Answer<'a>
     requires { subject_of (function_value function) ≡ subject.Arrays }
-    ensures { (variables : VariablesOfCall) (frames : List Frame) → answer_view result ≡ worked_out classes.now store.now variables frames (map actual_view actuals.now) (function_value function) }
+    ensures { (variables : VariablesOfCall) (frames : List Frame) (pending : Reference) → answer_view result ≡ worked_out classes.now store.now variables frames pending (map actual_view actuals.now) (function_value function) }
 {
     match function {
         JniFunction::GetArrayLength | JniFunction::GetStringLength => {

@@ -1,12 +1,12 @@
 //! What the answer of a function does to what all threads share, to the frames and to the pending exception.
 
-ghost use Rattle.std.specs.Prelude.{◌≡◌, IfOk, Some, true};
+ghost use Rattle.std.specs.Prelude.{◌≡◌, IfOk, None, Some, true};
 ghost use Rattle.jni.specs.Prototype.{ResultKind as SourceKind};
 ghost use Rattle.jni.specs.Table.{result_value};
 ghost use Rattle.semantics.specs.CallEffects.{out_of_memory};
 ghost use Rattle.semantics.specs.CallStep.{failure};
 ghost use Rattle.semantics.specs.Heap.{Heap};
-ghost use Rattle.replay_calls.specs.Answers.{FitsFrames, answer_view, frames_after, frames_with, given_after, is_of_frames, is_of_references, makes_object, pending_after, shared_after};
+ghost use Rattle.replay_calls.specs.Answers.{FitsFrames, answer_view, frames_after, frames_with, given_after, is_of_frames, is_of_references, makes_object, pending_after, shared_after, trap_in};
 ghost use Rattle.replay_terms.specs.Views.{given_view};
 ghost use Rattle.replay_calls.specs.Shares.{shared_view};
 
@@ -18,7 +18,7 @@ use replay_objects::{Frames, New, make};
 use replay_terms::{Given, StaticReference};
 use std::alloc::{AllocError, Global};
 
-/// Does what a function of this kind of result answers, and tells what it gives.
+/// Does what a function of this kind of result answers, where the run goes on, and tells what it gives.
 pub fn carry_out<'a>(
     alloc: Global,
     classes: &ClassTable,
@@ -28,7 +28,8 @@ pub fn carry_out<'a>(
     kind: ResultKind,
     answer: Answer<'a>,
 ) -> Result<Given<'a>, AllocError>
-    requires { FitsFrames frames.old (answer_view answer) }
+    requires goes { trap_in (answer_view answer) ≡ None }
+    requires fits { FitsFrames frames.old (answer_view answer) }
     ensures shared { IfOk result (λ _. shared_view shared.new ≡ shared_after classes.now (shared_view shared.old) (answer_view answer.entry)) }
     ensures frames { IfOk result (λ _. frames.new ≡ frames_after frames.old (answer_view answer.entry)) }
     ensures pending { IfOk result (λ _. pending.new ≡ pending_after classes.now shared.old.store pending.old (answer_view answer.entry)) }
@@ -49,6 +50,11 @@ pub fn carry_out<'a>(
             *pending = Some(name);
             Ok(failed(kind))
         }
+        Answer::Pends(reference, given) => {
+            *pending = reference;
+            Ok(given)
+        }
+        Answer::Halts(_) => unreachable!(),
         _ => carry_out_references(alloc, classes, shared, frames, pending, answer),
     }
 }
@@ -144,6 +150,7 @@ pub fn makes_object(answer: Answer<'_>) -> bool
         Answer::Ensures(_) | Answer::Pushes(_) | Answer::RefusesFrames => false,
         Answer::Pops(_) | Answer::DeletesLocal(_, _) => false,
         Answer::MakesGlobal(_) | Answer::DeletesGlobal(_, _) => false,
+        Answer::Pends(_, _) | Answer::Halts(_) => false,
     }
 }
 

@@ -3,10 +3,11 @@
 ghost use Rattle.std.specs.Prelude.{◌≡◌, ◌||◌, map, slice_get, zip};
 ghost use Rattle.std.specs.List.{list_any};
 ghost use Rattle.std.specs.Option.{option_map};
+ghost use Rattle.class_rules.specs.BuiltIns.{throwable_class};
 ghost use Rattle.classes.specs.Views.{element_view, field_type_view};
 ghost use Rattle.jni.specs.Table.{function_value, parameter_value, result_value};
 ghost use Rattle.semantics.specs.Checks.{frames_after, is_deleted, is_full, is_misfit, is_missing, lacks_room};
-ghost use Rattle.semantics.specs.Heap.{fits_class, fits_type, holds_number, holds_reference};
+ghost use Rattle.semantics.specs.Heap.{fits_class, fits_type, holds_number, holds_reference, is_instance};
 ghost use Rattle.syntax.specs.Views.{element_tree};
 ghost use Rattle.replay_calls.specs.Actuals.{actual_view};
 ghost use Rattle.replay_calls.specs.Checked.{fit_together, fits_new_array, has_field, has_static, misfits, trap_found};
@@ -14,7 +15,7 @@ ghost use Rattle.replay_terms.specs.Views.{trap_view};
 
 use crate::actual::{Actual, field_given, object_given, reference_given};
 use crate::field::{declaring, is_static, type_of};
-use classes::built_ins::{CLASS, STRING, number_array};
+use classes::built_ins::{CLASS, STRING, THROWABLE, number_array};
 use classes::class::{ClassKind, ElementType, FieldType};
 use classes::table::ClassTable;
 use jni::{JniFunction, ParameterKind, ResultKind};
@@ -202,6 +203,7 @@ fn fit_together(
                 && fits_type(classes, store, reference_given(actuals, 2), type_of(field))
         }
         JniFunction::NewObjectArray => fits_new_array(classes, store, actuals),
+        JniFunction::Throw => is_throwable(classes, store, object_given(actuals, 0)),
         _ => true,
     }
 }
@@ -230,6 +232,13 @@ fn fits_new_array(classes: &ClassTable, store: &Store, actuals: &[Actual<'_>]) -
     let element = object_given(actuals, 1);
     let is_plain = matches!(classes.kind(element), ClassKind::Plain);
     is_plain && fits_class(classes, store, reference_given(actuals, 2), element)
+}
+
+/// Whether an object can be thrown.
+fn is_throwable(classes: &ClassTable, store: &Store, name: usize) -> bool
+    ensures { result ≡ is_instance classes.now store.now name throwable_class }
+{
+    classes.assignable(store.class_of(name), THROWABLE)
 }
 
 /// Whether a type is that of these numbers.

@@ -6,8 +6,9 @@ pub mod actual;
 mod answer;
 pub mod carry_out;
 pub mod check;
+mod exceptions;
 pub mod field;
 mod shared;
 
-pub use answer::{Answer, work_out};
+pub use answer::{Answer, answer_or_trap, trap_in};
 pub use shared::Shared;

@@ -1,0 +1,37 @@
+//! What functions of exceptions do, as data.
+
+ghost use Rattle.std.specs.Prelude.{◌≡◌, List, map};
+ghost use Rattle.class_rules.specs.Class.{Classes};
+ghost use Rattle.jni.specs.Table.{function_value};
+ghost use Rattle.semantics.specs.Heap.{Heap};
+ghost use Rattle.semantics.specs.Thread.{Frame};
+ghost use Rattle.semantics.specs.Variable.{Variables};
+ghost use Rattle.replay_calls.specs.Actuals.{actual_view};
+ghost use Rattle.replay_calls.specs.Answers.{answer_view};
+ghost use Rattle.replay_calls.specs.WorkedOut.{subject_of, worked_out};
+ghost use Rattle.replay_calls.specs.declared.answer.Subject.TheVariants as subject;
+
+use crate::actual::{Actual, reference_given};
+use crate::answer::Answer;
+use jni::JniFunction;
+use replay_terms::{Given, Trap};
+
+/// What a function does that works on the pending exception.
+#[inline]
+pub(crate) fn exception_answer<'a>(
+    pending: Option<usize>,
+    function: JniFunction,
+    actuals: &[Actual<'a>],
+) -> Answer<'a>
+    requires { subject_of (function_value function) ≡ subject.Exceptions }
+    ensures { (classes : Classes) (heap : Heap) (variables : Variables) (frames : List Frame) → answer_view result ≡ worked_out classes heap variables frames pending (map actual_view actuals.now) (function_value function) }
+{
+    match function {
+        JniFunction::Throw => Answer::Pends(reference_given(actuals, 0), Given::Number(0)),
+        JniFunction::ExceptionOccurred => Answer::Gives(Given::Reference(pending)),
+        JniFunction::ExceptionCheck => Answer::Gives(Given::Flag(pending.is_some())),
+        JniFunction::ExceptionClear => Answer::Pends(None, Given::Nothing),
+        JniFunction::FatalError => Answer::Halts(Trap::Fatal),
+        _ => unreachable!(),
+    }
+}
