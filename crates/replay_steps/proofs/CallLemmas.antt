@@ -8,7 +8,7 @@ use Rattle.class_rules.specs.BuiltIns.{array_index_out_of_bounds, no_class_def_f
 use Rattle.class_rules.specs.Class.{Classes}
 use Rattle.class_rules.specs.Fields.{FieldId}
 use Rattle.jni.specs.Access.{ArrayView}
-use Rattle.jni.specs.JniFunction.{is_built_function, JniFunction, FindClass, NewGlobalRef, DeleteLocalRef, DeleteGlobalRef, EnsureLocalCapacity, PushLocalFrame, GetFieldID, GetStaticFieldID, prototype, NewArray, NewObjectArray, GetObjectArrayElement, SetObjectArrayElement, GetBuffer, Throw, ThrowNew}
+use Rattle.jni.specs.JniFunction.{is_built_function, JniFunction, FindClass, NewGlobalRef, DeleteLocalRef, DeleteGlobalRef, EnsureLocalCapacity, PushLocalFrame, GetFieldID, GetStaticFieldID, prototype, NewArray, NewObjectArray, GetObjectArrayElement, SetObjectArrayElement, GetBuffer, ThrowNew}
 use Rattle.jni.specs.Prototype.{ResultKind, NewLocal}
 use Rattle.semantics.specs.Arguments.{Actual, number_given, object_given, reference_given, variable_given}
 use Rattle.semantics.specs.CallEffects.{CallResult, NoResult, ReferenceResult, CallEffect, Leaves, Throws, at_index, delete_global_effect, delete_local_effect, ensure_effect, found_class_effect, found_field_effect, level_of, new_array_effect, out_of_memory, push_effect, refuses_frames, store_effect, with_capacity, without_local}
@@ -33,7 +33,7 @@ use Rattle.replay_tasks.specs.declared.outcome.Purpose.TheVariants as purposes
 use Rattle.replay_tasks.specs.declared.outcome.Target.TheVariants as target
 use Rattle.replay_tasks.specs.declared.task.Task.{Task as TaskInMemory}
 use Rattle.replay_terms.specs.declared.trap.Trap.{Trap as TrapInMemory}
-use Rattle.replay_calls.specs.Answers.{Answer, Gives, Writes, Makes, Raises, Ensures, Pushes, RefusesFrames, Pops, DeletesLocal, MakesGlobal, DeletesGlobal, effect_as, frames_after, frames_with, given_after, makes_object, pending_after, shared_after, without_global, zero_result}
+use Rattle.replay_calls.specs.Answers.{Answer, Gives, Writes, Makes, Raises, Ensures, Pushes, RefusesFrames, Pops, DeletesLocal, MakesGlobal, DeletesGlobal, Pends, Halts, answer_or_trap, effect_as, frames_after, frames_with, given_after, makes_object, pending_after, shared_after, trap_in, without_global, zero_result}
 use Rattle.replay_terms.specs.Views.{given_view, Contents, trap_view, variables_view}
 use Rattle.replay_steps.specs.Calls.{MakesCall}
 use Rattle.replay_calls.specs.Checked.{fit_together, trap_found}
@@ -52,7 +52,6 @@ module _ (classes : Classes) (heap : Heap) (buffer : ElementType) (args : List A
   together : (f : JniFunction) → is_built_function f ≡ true → go_together classes heap buffer args f ≡ fit_together classes heap args f
   unfolding go_together
   together (GetBuffer ArrayView) built = absurd (cc)
-  together Throw built = absurd (cc)
   together ThrowNew built = absurd (cc)
   together f built = refl
 
@@ -133,7 +132,7 @@ module _ (classes : Classes) (in_use : BuffersInUse) (k : ℕ) (s : Shared) (t :
   sets fits r = at_place (store_effect s t fits array r) (element_set fits array r) (stores fits array r) refl count
 
   -- what is worked out is the effect
-  effects : (f : JniFunction) → is_built_function f ≡ true → call_effect classes in_use k s t args f ≡ effect_as classes s t (worked_out classes s.heap t.variables t.frames args f)
+  effects : (f : JniFunction) → is_built_function f ≡ true → call_effect classes in_use k s t args f ≡ effect_as classes s t (worked_out classes s.heap t.variables t.frames t.pending args f)
   unfolding call_effect
   effects FindClass built = class_found _
   effects NewGlobalRef built = makes_global _
@@ -205,6 +204,24 @@ makes_alike classes s t (Pops r) = refl
 makes_alike classes s t (DeletesLocal l n) = refl
 makes_alike classes s t (MakesGlobal n) = refl
 makes_alike classes s t (DeletesGlobal x n) = refl
+makes_alike classes s t (Pends r g) = refl
+makes_alike classes s t (Halts trap) = refl
+
+-- an answer with a trap is the one that stops the run
+halts_with : (a : Answer) (trap : Trap) → trap_in a ≡ Some trap → a ≡ Halts trap
+halts_with (Gives g) trap is = absurd (cc)
+halts_with (Writes n i v) trap is = absurd (cc)
+halts_with (Makes n) trap is = absurd (cc)
+halts_with (Raises c) trap is = absurd (cc)
+halts_with (Ensures n) trap is = absurd (cc)
+halts_with (Pushes n) trap is = absurd (cc)
+halts_with RefusesFrames trap is = absurd (cc)
+halts_with (Pops r) trap is = absurd (cc)
+halts_with (DeletesLocal l n) trap is = absurd (cc)
+halts_with (MakesGlobal n) trap is = absurd (cc)
+halts_with (DeletesGlobal x n) trap is = absurd (cc)
+halts_with (Pends r g) trap is = absurd (cc)
+halts_with (Halts found) trap is = let same : found ≡ trap = cc in ap Halts same
 
 module _ (classes : Classes) (in_use : BuffersInUse) (k : ℕ) (s : Shared) (t : Thread) (line : ℕ) (purpose : PurposeInMemory) (f : JniFunction) (args : List Actual) (rest : List Task) (frames : List Frame) (pending : Reference) where
   abbrev kind : ResultKind
@@ -242,21 +259,23 @@ module _ (classes : Classes) (in_use : BuffersInUse) (k : ℕ) (s : Shared) (t :
       finished [] s' fs r c g new same
       ∙ ap (λ (heap : Heap). let after : Shared = record s' { heap = heap } in left_by k after (in_frames t (frames_with kind (given_view g) fs) r) rest (outcome_for line purpose g) new) (append-nil s'.heap)
 
-  -- so it is after each answer
-  answered : (a : Answer) (g : Given) (new : TaskInMemory) → given_view g ≡ given_after s.heap kind a
+  -- so it is after each answer that lets the run go on
+  answered : (a : Answer) (g : Given) (new : TaskInMemory) → trap_in a ≡ None → given_view g ≡ given_after s.heap kind a
       → after_call classes in_use k s caller line (purpose_view line purpose) f args rest (effect_as classes s caller a)
       ≡ left_by k (shared_after classes s a) (in_frames t (frames_with kind (given_view g) (frames_after frames a)) (pending_after classes s.heap pending a)) rest (outcome_for line purpose g) new
-  answered (Gives c) g new same = plain s frames pending c g new same
-  answered (Writes n i v) g new same = plain (shared_after classes s (Writes n i v)) frames pending NoResult g new same
-  answered (Makes n) g new same = finished (object_of classes n ∷ []) s frames pending (ReferenceResult (Some (next_name s.heap))) g new same
-  answered (Raises c) g new same = finished (fresh_object classes c ∷ []) s frames (Some (next_name s.heap)) (failure kind) g new same
-  answered (Ensures n) g new same = plain s (with_capacity n frames) pending zero_result g new same
-  answered (Pushes n) g new same = plain s (new_frame n ∷ frames) pending zero_result g new same
-  answered RefusesFrames g new same = plain s frames (Some (out_of_memory classes)) (given_after s.heap kind RefusesFrames) g new same
-  answered (Pops r) g new same = plain s (drop 1 frames) pending (ReferenceResult r) g new same
-  answered (DeletesLocal l n) g new same = plain s (without_local l n frames) pending NoResult g new same
-  answered (MakesGlobal n) g new same = plain (shared_after classes s (MakesGlobal n)) frames pending (ReferenceResult (Some n)) g new same
-  answered (DeletesGlobal x n) g new same = plain (without_global x n s) frames pending NoResult g new same
+  answered (Gives c) g new goes same = plain s frames pending c g new same
+  answered (Writes n i v) g new goes same = plain (shared_after classes s (Writes n i v)) frames pending NoResult g new same
+  answered (Makes n) g new goes same = finished (object_of classes n ∷ []) s frames pending (ReferenceResult (Some (next_name s.heap))) g new same
+  answered (Raises c) g new goes same = finished (fresh_object classes c ∷ []) s frames (Some (next_name s.heap)) (failure kind) g new same
+  answered (Ensures n) g new goes same = plain s (with_capacity n frames) pending zero_result g new same
+  answered (Pushes n) g new goes same = plain s (new_frame n ∷ frames) pending zero_result g new same
+  answered RefusesFrames g new goes same = plain s frames (Some (out_of_memory classes)) (given_after s.heap kind RefusesFrames) g new same
+  answered (Pops r) g new goes same = plain s (drop 1 frames) pending (ReferenceResult r) g new same
+  answered (DeletesLocal l n) g new goes same = plain s (without_local l n frames) pending NoResult g new same
+  answered (MakesGlobal n) g new goes same = plain (shared_after classes s (MakesGlobal n)) frames pending (ReferenceResult (Some n)) g new same
+  answered (DeletesGlobal x n) g new goes same = plain (without_global x n s) frames pending NoResult g new same
+  answered (Pends r c) g new goes same = plain s frames r c g new same
+  answered (Halts trap) g new goes same = absurd (cc)
 
   -- and where its object is refused
   refused_is : (g : Given) (new : TaskInMemory) → given_view g ≡ failure kind
@@ -265,7 +284,7 @@ module _ (classes : Classes) (in_use : BuffersInUse) (k : ℕ) (s : Shared) (t :
       plain s frames (Some (out_of_memory classes)) (failure kind) g new same
       ∙ ap (λ (fs : List Frame). left_by k s (in_frames t fs (Some (out_of_memory classes))) rest (outcome_for line purpose g) new) (ap (λ (c : CallResult). frames_with kind c frames) same ∙ failed_frames kind frames)
 
--- ---- the call of a function that is built
+-- ---- the call of a function that is implemented
 
 module _ (classes : Classes) (in_use : BuffersInUse) (k : ℕ) (s : Shared) (vs : Contents) (frames : List Frame) (pending : Reference) (line : ℕ) (purpose : PurposeInMemory) (f : JniFunction) (args : List Actual) (built : is_built_function f ≡ true) where
   abbrev scene : Scene
@@ -274,8 +293,11 @@ module _ (classes : Classes) (in_use : BuffersInUse) (k : ℕ) (s : Shared) (vs 
   abbrev trap : Option Trap
   trap = trap_found classes s.heap frames (is_some pending) f args
 
+  abbrev untrapped : Variables → Answer
+  untrapped us = worked_out classes s.heap us frames pending args f
+
   abbrev told : Answer
-  told = worked_out classes s.heap (variables_view vs) frames args f
+  told = answer_or_trap trap (untrapped (variables_view vs))
 
   module _ (t : Thread) (rest : List Task) (sees : Sees scene t) where
     abbrev calls : Thread
@@ -292,76 +314,62 @@ module _ (classes : Classes) (in_use : BuffersInUse) (k : ℕ) (s : Shared) (vs 
     steps false = refl
     steps true = refl
 
-    by_trap : (refused : Bool) → call_step classes in_use k s t line (purpose_view line purpose) f args rest refused ≡ by_effect refused (checks trap)
-    by_trap refused =
+    checks_alike : (o : Option Trap) → checks o ≡ effect_as classes s calls (answer_or_trap o (untrapped (variables_view vs)))
+    checks_alike None = effects classes in_use k s calls args f built ∙ ap (λ (us : Variables). effect_as classes s calls (untrapped us)) sees.variables
+    checks_alike (Some found) = refl
+
+    -- the step goes by an answer that is told
+    by_told : (refused : Bool) (a : Answer) → a ≡ told → call_step classes in_use k s t line (purpose_view line purpose) f args rest refused ≡ by_effect refused (effect_as classes s calls a)
+    by_told refused a same =
         ap (λ (u : Thread). call_step classes in_use k s u line (purpose_view line purpose) f args rest refused) (as_it_is t frames pending sees.frames sees.pending)
         ∙ steps refused
-        ∙ ap (λ (o : Option Trap). by_effect refused (checks o)) (trap_is classes s.heap (target_element t.variables (purpose_view line purpose)) args f calls built)
+        ∙ ap (by_effect refused) (ap checks (trap_is classes s.heap (target_element t.variables (purpose_view line purpose)) args f calls built) ∙ checks_alike trap)
+        ∙ ap (λ (b : Answer). by_effect refused (effect_as classes s calls b)) (sym same)
 
-    passed : (refused : Bool) → trap ≡ None → call_step classes in_use k s t line (purpose_view line purpose) f args rest refused ≡ by_effect refused (effect_as classes s calls told)
-    passed refused none =
-        by_trap refused
-        ∙ ap (λ (o : Option Trap). by_effect refused (checks o)) none
-        ∙ ap (by_effect refused) (effects classes in_use k s calls args f built ∙ ap (λ (us : Variables). effect_as classes s calls (worked_out classes s.heap us frames args f)) sees.variables)
-
-  -- a trap
-  call_traps : (found : TrapInMemory) → trap ≡ Some (trap_view found) → MakesCall false scene line purpose f args (outcome.Trapped found line) scene
-  call_traps found some = λ t rest new sees has.
-      by_trap t rest sees false
-      ∙ ap (λ (o : Option Trap). by_effect t rest sees false (checks t rest sees o)) some
+  -- the run stops; no object can be refused
+  pub call_stopped : (refused : Bool) (a : Answer) (found : TrapInMemory) → a ≡ told → trap_in a ≡ Some (trap_view found)
+      → MakesCall refused scene line purpose f args (if refused then outcome.Impossible else outcome.Trapped found line) scene
+  call_stopped false a found same stops = λ t rest new sees has.
+      by_told t rest sees false (Halts (trap_view found)) (sym (halts_with a (trap_view found) stops) ∙ same)
       ∙ ap (λ (u : Thread). Advances s u (Trapped (trap_view found) line)) (same_thread (in_frames t frames pending) (task_view new ∷ rest) has)
       ∙ in_variables k s t vs frames pending rest (outcome.Trapped found line) new sees.variables
+  call_stopped true a found same stops = λ t rest new sees has. by_told t rest sees true (Halts (trap_view found)) (sym (halts_with a (trap_view found) stops) ∙ same)
 
-  -- a call that traps has no object that can be refused
-  trap_refuses : (found : Trap) → trap ≡ Some found → MakesCall true scene line purpose f args outcome.Impossible scene
-  trap_refuses found some = λ t rest new sees has.
-      by_trap t rest sees true
-      ∙ ap (λ (o : Option Trap). by_effect t rest sees true (checks t rest sees o)) some
+  -- the call is made
+  pub call_made : (a : Answer) (g : Given) → a ≡ told → trap_in a ≡ None → given_view g ≡ given_after s.heap (prototype f).result a
+      → MakesCall false scene line purpose f args (outcome_for line purpose g)
+      (scene_with classes in_use k (shared_after classes s a) vs (frames_with (prototype f).result (given_view g) (frames_after frames a)) (pending_after classes s.heap pending a))
+  call_made a g same goes given = λ t rest new sees has.
+      by_told t rest sees false a same
+      ∙ answered classes in_use k s t line purpose f args rest frames pending a g new goes given
+      ∙ in_variables k (shared_after classes s a) t vs (frames_with (prototype f).result (given_view g) (frames_after frames a)) (pending_after classes s.heap pending a) rest (outcome_for line purpose g) new sees.variables
 
-  -- so it is, refused or not
-  pub call_stopped : (refused : Bool) (found : TrapInMemory) → trap ≡ Some (trap_view found)
-      → MakesCall refused scene line purpose f args (if refused then outcome.Impossible else outcome.Trapped found line) scene
-  call_stopped true found some = trap_refuses (trap_view found) some
-  call_stopped false found some = call_traps found some
+  by_makes : (a : Answer) (b : Bool) → makes_object a ≡ b → a ≡ told → (t : Thread) (rest : List Task) → Sees scene t
+      → call_step classes in_use k s t line (purpose_view line purpose) f args rest true ≡ after_refusal classes in_use k s (in_frames t frames pending) line (purpose_view line purpose) f args rest b
+  by_makes a b makes same = λ t rest sees.
+      by_told t rest sees true a same
+      ∙ ap (after_refusal classes in_use k s (in_frames t frames pending) line (purpose_view line purpose) f args rest) (makes_alike classes s (in_frames t frames pending) a ∙ makes)
 
-  module _ (none : trap ≡ None) where
-    -- the call is made
-    pub call_made : (a : Answer) (g : Given) → a ≡ told → given_view g ≡ given_after s.heap (prototype f).result a
-        → MakesCall false scene line purpose f args (outcome_for line purpose g)
-        (scene_with classes in_use k (shared_after classes s a) vs (frames_with (prototype f).result (given_view g) (frames_after frames a)) (pending_after classes s.heap pending a))
-    call_made a g same given = λ t rest new sees has.
-        passed t rest sees false none
-        ∙ ap (λ (b : Answer). by_effect t rest sees false (effect_as classes s (in_frames t frames pending) b)) (sym same)
-        ∙ answered classes in_use k s t line purpose f args rest frames pending a g new given
-        ∙ in_variables k (shared_after classes s a) t vs (frames_with (prototype f).result (given_view g) (frames_after frames a)) (pending_after classes s.heap pending a) rest (outcome_for line purpose g) new sees.variables
+  -- it makes no object that can be refused
+  pub none_refused : (a : Answer) → a ≡ told → makes_object a ≡ false → MakesCall true scene line purpose f args outcome.Impossible scene
+  none_refused a same makes = λ t rest new sees has. by_makes a false makes same t rest sees
 
-    by_makes : (a : Answer) (b : Bool) → makes_object a ≡ b → a ≡ told → (t : Thread) (rest : List Task) → Sees scene t
-        → call_step classes in_use k s t line (purpose_view line purpose) f args rest true ≡ after_refusal classes in_use k s (in_frames t frames pending) line (purpose_view line purpose) f args rest b
-    by_makes a b makes same = λ t rest sees.
-        passed t rest sees true none
-        ∙ ap (λ (c : Answer). by_effect t rest sees true (effect_as classes s (in_frames t frames pending) c)) (sym same)
-        ∙ ap (after_refusal classes in_use k s (in_frames t frames pending) line (purpose_view line purpose) f args rest) (makes_alike classes s (in_frames t frames pending) a ∙ makes)
+  -- its object is refused
+  pub object_refused : (a : Answer) (g : Given) → a ≡ told → makes_object a ≡ true → given_view g ≡ failure (prototype f).result
+      → MakesCall true scene line purpose f args (outcome_for line purpose g) (scene_with classes in_use k s vs frames (Some (out_of_memory classes)))
+  object_refused a g same makes failed = λ t rest new sees has.
+      by_makes a true makes same t rest sees
+      ∙ refused_is classes in_use k s t line purpose f args rest frames pending g new failed
+      ∙ in_variables k s t vs frames (Some (out_of_memory classes)) rest (outcome_for line purpose g) new sees.variables
 
-    -- it makes no object that can be refused
-    pub none_refused : (a : Answer) → a ≡ told → makes_object a ≡ false → MakesCall true scene line purpose f args outcome.Impossible scene
-    none_refused a same makes = λ t rest new sees has. by_makes a false makes same t rest sees
+  -- the same, by what it leaves
+  pub call_made_so : (refused : Bool) (a : Answer) (g : Given) (kind : ResultKind) (s' : Shared) (between frames' : List Frame) (pending' : Reference) (took : Outcome) → refused ≡ false → a ≡ told → trap_in a ≡ None → kind ≡ (prototype f).result
+      → given_view g ≡ given_after s.heap kind a → s' ≡ shared_after classes s a → between ≡ frames_after frames a → frames' ≡ frames_with kind (given_view g) between → pending' ≡ pending_after classes s.heap pending a → took ≡ outcome_for line purpose g
+      → MakesCall refused scene line purpose f args took (scene_with classes in_use k s' vs frames' pending')
+  call_made_so refused a g kind s' between frames' pending' took possible same goes is given left changed framed pended is_for =
+      rw (possible, left, framed, changed, pended, is, is_for) (call_made a g same goes (given ∙ ap (λ (k : ResultKind). given_after s.heap k a) is))
 
-    -- its object is refused
-    pub object_refused : (a : Answer) (g : Given) → a ≡ told → makes_object a ≡ true → given_view g ≡ failure (prototype f).result
-        → MakesCall true scene line purpose f args (outcome_for line purpose g) (scene_with classes in_use k s vs frames (Some (out_of_memory classes)))
-    object_refused a g same makes failed = λ t rest new sees has.
-        by_makes a true makes same t rest sees
-        ∙ refused_is classes in_use k s t line purpose f args rest frames pending g new failed
-        ∙ in_variables k s t vs frames (Some (out_of_memory classes)) rest (outcome_for line purpose g) new sees.variables
-
-    -- the same, by what it leaves
-    pub call_made_so : (refused : Bool) (a : Answer) (g : Given) (kind : ResultKind) (s' : Shared) (between frames' : List Frame) (pending' : Reference) (took : Outcome) → refused ≡ false → a ≡ told → kind ≡ (prototype f).result
-        → given_view g ≡ given_after s.heap kind a → s' ≡ shared_after classes s a → between ≡ frames_after frames a → frames' ≡ frames_with kind (given_view g) between → pending' ≡ pending_after classes s.heap pending a → took ≡ outcome_for line purpose g
-        → MakesCall refused scene line purpose f args took (scene_with classes in_use k s' vs frames' pending')
-    call_made_so refused a g kind s' between frames' pending' took possible same is given left changed framed pended is_for =
-        rw (possible, left, framed, changed, pended, is, is_for) (call_made a g same (given ∙ ap (λ (k : ResultKind). given_after s.heap k a) is))
-
-    pub object_refused_so : (refused : Bool) (a : Answer) (g : Given) (kind : ResultKind) (pending' : Reference) (took : Outcome) → refused ≡ true → a ≡ told → makes_object a ≡ true → kind ≡ (prototype f).result
-        → given_view g ≡ failure kind → pending' ≡ Some (out_of_memory classes) → took ≡ outcome_for line purpose g → MakesCall refused scene line purpose f args took (scene_with classes in_use k s vs frames pending')
-    object_refused_so refused a g kind pending' took marked same makes is failed pended is_for =
-        rw (marked, pended, is_for) (object_refused a g same makes (failed ∙ ap failure is))
+  pub object_refused_so : (refused : Bool) (a : Answer) (g : Given) (kind : ResultKind) (pending' : Reference) (took : Outcome) → refused ≡ true → a ≡ told → makes_object a ≡ true → kind ≡ (prototype f).result
+      → given_view g ≡ failure kind → pending' ≡ Some (out_of_memory classes) → took ≡ outcome_for line purpose g → MakesCall refused scene line purpose f args took (scene_with classes in_use k s vs frames pending')
+  object_refused_so refused a g kind pending' took marked same makes is failed pended is_for =
+      rw (marked, pended, is_for) (object_refused a g same makes (failed ∙ ap failure is))

@@ -17,7 +17,7 @@ use Rattle.replay_tasks.specs.declared.task.Task.{Task as TaskInMemory}
 use Rattle.replay_terms.specs.declared.reduction.Reduction.{Reduction as ReductionInMemory}
 use Rattle.replay_terms.specs.declared.reduction.Reduction.TheVariants as reduction
 use Rattle.replay_tasks.specs.Outcomes.{purpose_view}
-use Rattle.replay_calls.specs.Answers.{Answer}
+use Rattle.replay_calls.specs.Answers.{Answer, answer_or_trap}
 use Rattle.replay_calls.specs.Checked.{trap_found}
 use Rattle.replay_calls.specs.WorkedOut.{worked_out}
 use Rattle.replay_steps.specs.Steps.{Scene, Sees, in_scene, left_by}
@@ -50,9 +50,8 @@ abbrev pub MakesInvocation : (refused : Bool) → Scene → Invocation → Outco
 MakesInvocation refused before i took after =
     MakesCall refused before i.line i.purpose (function_value i.function) (actuals (sight_in before.shared before.variables) (function_value i.function) (map operand_view i.operands.items)) took after
 
--- A call of this function, with these arguments, passes the checks in this scene, and this is its answer.
+-- This is the answer to a call of this function, with these arguments, in this scene.
 abbrev pub HasAnswer : Scene → JniFunction → List Actual → Answer → Type 0
 HasAnswer scene f args a =
     (is_built_function f ≡ true)
-    × (trap_found scene.classes scene.shared.heap scene.frames (is_some scene.pending) f args ≡ None)
-    × (a ≡ worked_out scene.classes scene.shared.heap (variables_view scene.variables) scene.frames args f)
+    × (a ≡ answer_or_trap (trap_found scene.classes scene.shared.heap scene.frames (is_some scene.pending) f args) (worked_out scene.classes scene.shared.heap (variables_view scene.variables) scene.frames scene.pending args f))

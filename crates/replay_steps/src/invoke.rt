@@ -1,7 +1,6 @@
 //! Calls of functions of the JNI (JNI Specification, chapter 4).
 
-ghost use Rattle.std.specs.Prelude.{◌≡◌, IfOk, IsTrue, List, None, if◌then◌else◌, is_some, map, true, false};
-ghost use Rattle.std.specs.Option.{option_map};
+ghost use Rattle.std.specs.Prelude.{◌≡◌, IfOk, IsTrue, List, None, if◌then◌else◌, map, true, false};
 ghost use Rattle.class_rules.specs.Grown.{IsGrown};
 ghost use Rattle.jni.specs.JniFunction.{is_built_function};
 ghost use Rattle.jni.specs.Table.{function_value};
@@ -10,26 +9,21 @@ ghost use Rattle.replay_tasks.specs.declared.task.Task.TheVariants as task;
 ghost use Rattle.semantics.specs.Arguments.{Actual as ActualOfCall};
 ghost use Rattle.semantics.specs.Thread.{Shared as SharedOfThreads};
 ghost use Rattle.replay_calls.specs.Actuals.{actual_view};
-ghost use Rattle.replay_calls.specs.Answers.{FitsFrames, answer_view};
-ghost use Rattle.replay_calls.specs.Checked.{trap_found};
+ghost use Rattle.replay_calls.specs.Answers.{FitsFrames, answer_view, trap_in};
 ghost use Rattle.replay_steps.specs.Calls.{HasAnswer, MakesCall, MakesInvocation, ReducesFirst, ReducesOne};
 ghost use Rattle.replay_tasks.specs.Outcomes.{outcome_for};
 ghost use Rattle.replay_steps.specs.declared.activation.Locals.{Locals as LocalsInMemory};
 ghost use Rattle.replay_steps.specs.Steps.{Does, scene_of};
 ghost use Rattle.replay_calls.specs.Shares.{shared_view, sight_in};
 ghost use Rattle.replay_tasks.specs.Tasks.{OperandInRange, OperandsInRange, OutcomeInRange, PurposeInRange};
-ghost use Rattle.replay_terms.specs.Views.{trap_view};
 
 use crate::activation::Locals;
 use crate::turn::Turn;
-use classes::table::ClassTable;
 use replay_calls::actual::{Actual, actuals};
 use replay_calls::carry_out::{carry_out, makes_object, put_local, refuse};
-use replay_calls::check::check;
-use replay_calls::{Answer, Shared, work_out};
-use replay_objects::Frames;
+use replay_calls::{Answer, Shared, answer_or_trap, trap_in};
 use replay_tasks::{Invocation, Outcome, Purpose, reduced};
-use replay_terms::{Given, Operand, Reduction, Term, Trap, Variables, is_zero, reduce};
+use replay_terms::{Given, Operand, Reduction, Term, Variables, is_zero, reduce};
 use std::alloc::AllocError;
 
 /// The step of a call: the first of its numbers that isn't worked out takes a step, or else the call is made. With its object
@@ -164,29 +158,6 @@ pub(crate) fn unless_refused<'a>(refused: bool, took: Outcome<'a>) -> Outcome<'a
     took
 }
 
-/// The trap of a call, if a check of it fails.
-#[inline]
-fn trap_of(
-    classes: &ClassTable,
-    shared: &Shared<'_>,
-    frames: &Frames,
-    pending: &Option<usize>,
-    i: &Invocation<'_>,
-    actuals: &[Actual<'_>],
-) -> Option<Trap>
-    ensures { option_map trap_view result ≡ trap_found classes.now shared.now.store frames.now (is_some pending.now) (function_value i.now.function) (map actual_view actuals.now) }
-{
-    let is_pending = pending.is_some();
-    check(
-        classes,
-        &shared.store,
-        frames,
-        is_pending,
-        i.function,
-        actuals,
-    )
-}
-
 /// The call's own step: what is checked, and what is done.
 fn call<'a>(
     turn: Turn<'a>,
@@ -203,17 +174,18 @@ fn call<'a>(
         (scene_of turn.entry (shared_view shared.new) locals.new pending.new)) }
     ensures range { IfOk result OutcomeInRange }
 {
-    if let Some(trap) = trap_of(turn.classes, shared, &locals.frames, pending, i, actuals) {
-        return Ok(unless_refused(turn.refused, Outcome::Trapped(trap, i.line)));
-    }
-    let answer = work_out(
+    let answer = answer_or_trap(
         turn.classes,
         &shared.store,
         &locals.variables,
         &locals.frames,
+        *pending,
         i.function,
         actuals,
     );
+    if let Some(trap) = trap_in(answer) {
+        return Ok(unless_refused(turn.refused, Outcome::Trapped(trap, i.line)));
+    }
     if turn.refused {
         return Ok(refuse_object(turn, pending, i, answer));
     }
@@ -252,6 +224,7 @@ fn complete<'a>(
     answer: Answer<'a>,
 ) -> Result<Outcome<'a>, AllocError>
     requires ways { PurposeInRange i.now.purpose }
+    requires goes { trap_in (answer_view answer) ≡ None }
     requires fits { FitsFrames locals.old.frames (answer_view answer) }
     ensures step { (args : List ActualOfCall)
         → HasAnswer (scene_of turn.entry (shared_view shared.old) locals.old pending.old) (function_value i.now.function) args (answer_view answer.entry)
