@@ -8,7 +8,7 @@ use Rattle.class_rules.specs.BuiltIns.{array_index_out_of_bounds, no_class_def_f
 use Rattle.class_rules.specs.Class.{Classes}
 use Rattle.class_rules.specs.Fields.{FieldId}
 use Rattle.jni.specs.Access.{ArrayView}
-use Rattle.jni.specs.JniFunction.{is_built_function, JniFunction, FindClass, NewGlobalRef, DeleteLocalRef, DeleteGlobalRef, EnsureLocalCapacity, PushLocalFrame, GetFieldID, GetStaticFieldID, prototype, NewArray, NewObjectArray, GetObjectArrayElement, SetObjectArrayElement, GetBuffer, Throw, ThrowNew}
+use Rattle.jni.specs.JniFunction.{is_built_function, JniFunction, FindClass, NewGlobalRef, DeleteLocalRef, DeleteGlobalRef, EnsureLocalCapacity, PushLocalFrame, GetFieldID, GetStaticFieldID, prototype, NewArray, NewObjectArray, GetObjectArrayElement, SetObjectArrayElement, GetBuffer, ThrowNew}
 use Rattle.jni.specs.Prototype.{ResultKind, NewLocal}
 use Rattle.semantics.specs.Arguments.{Actual, number_given, object_given, reference_given, variable_given}
 use Rattle.semantics.specs.CallEffects.{CallResult, NoResult, ReferenceResult, CallEffect, Leaves, Throws, at_index, delete_global_effect, delete_local_effect, ensure_effect, found_class_effect, found_field_effect, level_of, new_array_effect, out_of_memory, push_effect, refuses_frames, store_effect, with_capacity, without_local}
@@ -52,7 +52,6 @@ module _ (classes : Classes) (heap : Heap) (buffer : ElementType) (args : List A
   together : (f : JniFunction) → is_built_function f ≡ true → go_together classes heap buffer args f ≡ fit_together classes heap args f
   unfolding go_together
   together (GetBuffer ArrayView) built = absurd (cc)
-  together Throw built = refl
   together ThrowNew built = absurd (cc)
   together f built = refl
 
@@ -317,7 +316,7 @@ module _ (classes : Classes) (in_use : BuffersInUse) (k : ℕ) (s : Shared) (vs 
 
     checks_alike : (o : Option Trap) → checks o ≡ effect_as classes s calls (answer_or_trap o (untrapped (variables_view vs)))
     checks_alike None = effects classes in_use k s calls args f built ∙ ap (λ (us : Variables). effect_as classes s calls (untrapped us)) sees.variables
-    checks_alike (Some trap) = refl
+    checks_alike (Some found) = refl
 
     -- the step goes by an answer that is told
     by_told : (refused : Bool) (a : Answer) → a ≡ told → call_step classes in_use k s t line (purpose_view line purpose) f args rest refused ≡ by_effect refused (effect_as classes s calls a)
