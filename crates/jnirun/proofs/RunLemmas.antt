@@ -19,7 +19,7 @@ use Rattle.semantics.specs.Journal.{Journal}
 use Rattle.semantics.specs.World.{World}
 use Rattle.world_values.specs.WorldRules.{IsWorldText}
 use Rattle.semantics.specs.State.{State}
-use Rattle.semantics.specs.Run.{Over, Collects, Waits, Steps, Follows, JournalFollows, UnmarkedFit, replay}
+use Rattle.semantics.specs.Run.{Over, Collects, Waits, Steps, Follows, JournalFollows, MarkedAreFair, UnmarkedFit, replay}
 use Rattle.report.specs.RunText.{Writes}
 use Rattle.semantics.specs.Start.{start}
 use Rattle.lower.specs.declared.fault.LowerFault.{LowerFault}
@@ -30,6 +30,7 @@ use Rattle.machine_steps.specs.declared.fault.LoadFault.TheVariants as loading
 use Rattle.machine.specs.declared.fault.ReportFault.{ReportFault}
 use Rattle.machine.specs.declared.fault.ReportFault.TheVariants as reporting
 use Rattle.machine_steps.specs.Loading.{IsLoadFault}
+use Rattle.machine.specs.declared.fault.RunFault.TheVariants.{Full}
 use Rattle.machine.specs.Run.{Run, IsUnstarted, RunsAlong, RunsInto, ReportsRun, StoppedBy, replay_of}
 use Rattle.machine.specs.declared.stop.Stop.{Stop}
 use Rattle.machine.specs.Stops.{stop_view}
@@ -55,12 +56,13 @@ follows_short (Waits s end k journal words e h) = let short : length journal ≤
 follows_short (Steps s next end k refused journal words c e h) = let short : length journal ≤ length words = follows_short h in omega (arith, short)
 
 -- so the journal is never full before the last of a schedule's words
-pub never_full : (items : List Item) (meant : World) (begun ended : Run) (words : Schedule) → IsUnstarted items meant begun → RunsInto begun ended words → length words ≤ 1000000 → 1000000 ≤ length ended.journal → ⊥
-never_full items meant begun ended words un into few full =
+pub never_full : (items : List Item) (meant : World) (begun ended : Run) (words : Schedule) → IsUnstarted items meant begun → RunsInto begun ended words Full → length words ≤ 1000000 → ⊥
+never_full items meant begun ended words un into few =
     let steps : ended.journal ≡ into.along.steps = into.along.journal ∙ ap (λ (j : List Entry). j ++ into.along.steps) un.unstarted in
     let short : length into.along.steps ≤ length into.taken = follows_short into.along.follows in
     let parts : length words ≡ length into.taken + suc (length into.left) = ap length into.is ∙ length-append into.taken (into.next ∷ into.left) in
-    absurd (omega (arith, ap length steps, short, parts))
+    let full : 1000000 ≤ length ended.journal = into.ends.0 in
+    absurd (omega (arith, ap length steps, short, parts, full))
 
 -- what a report answered is what the run answers
 abbrev pub as_run : {T : Type 0} → Option TrapAt → Result T ReportFault → Result (Option TrapAt) RunError
@@ -139,8 +141,8 @@ module _ (program world schedule : List ℕ) (old : Written) where
   -- the run that a machine wrote
   abbrev is_run : (items : List Item) (meant : World) (words : Schedule) (begun ended : Run) (text : List ℕ) (is : IsProgram program (unit_tree items)) → (IsTooLong (unit_tree items) → ⊥) → (w : world_of_text world ≡ Ok meant) (s : schedule_of schedule (length meant.threads) ≡ Ok words) (l : first_load_fault (unit_tree items) meant ≡ None)
       → IsWorldText world meant → IsScheduleText (length meant.threads) schedule words
-      → IsUnstarted items meant begun → RunsAlong begun ended words → Writes (unit_tree ended.unit) ended.world ended.journal text → UnmarkedFit (unit_tree ended.unit) ended.world ended.journal → IsRun program world schedule text
-  is_run items meant words begun ended text is short w s l of_world of_schedule un along writes fits = record {
+      → IsUnstarted items meant begun → RunsAlong begun ended words → Writes (unit_tree ended.unit) ended.world ended.journal text → UnmarkedFit (unit_tree ended.unit) ended.world ended.journal → MarkedAreFair (unit_tree ended.unit) ended.world ended.journal → IsRun program world schedule text
+  is_run items meant words begun ended text is short w s l of_world of_schedule un along writes fits fair = record {
     meaning = meaning_of items meant words is w s l;
     short = short;
     of_world = of_world;
@@ -149,6 +151,7 @@ module _ (program world schedule : List ℕ) (old : Written) where
     writes = subst (λ (r : Run). Writes (unit_tree r.unit) r.world ended.journal text) (same_parts items meant begun ended words un along) writes;
     follows = follows_all items meant begun ended words un along;
     fits = subst (λ (r : Run). UnmarkedFit (unit_tree r.unit) r.world ended.journal) (same_parts items meant begun ended words un along) fits;
+    fair = subst (λ (r : Run). MarkedAreFair (unit_tree r.unit) r.world ended.journal) (same_parts items meant begun ended words un along) fair;
   }
 
   pub ran : (items : List Item) (meant : World) (words : Schedule) (begun ended : Run) (stop : Option Stop) (new : Written) {T : Type 0} (result : Result T ReportFault) → StoppedBy ended stop → OnOk result (new.waiting ≡ 0)
@@ -157,7 +160,7 @@ module _ (program world schedule : List ℕ) (old : Written) where
       → IsUnstarted items meant begun → RunsAlong begun ended words → ReportsRun ended old new result
       → RunsTexts old new (as_run (option_map (λ s. trap_at (stop_view s)) stop) result) (EndsRun program world schedule) (AreRefused program world schedule)
   ran items meant words begun ended stop new (Ok x) halts none is short w s l of_world of_schedule un along h =
-      let run : IsRun program world schedule h.text = is_run items meant words begun ended h.text is short w s l of_world of_schedule un along h.is h.fits in
+      let run : IsRun program world schedule h.text = is_run items meant words begun ended h.text is short w s l of_world of_schedule un along h.is h.fits h.fair in
       let there : replay_of ended ≡ Some run.writes.end = ap replay_of (same_parts items meant begun ended words un along) ∙ run.writes.replays in
       let same : run.writes.end ≡ halts.0 = cc (there, halts.1) in
       record {
@@ -168,7 +171,7 @@ module _ (program world schedule : List ℕ) (old : Written) where
       }
   ran items meant words begun ended stop new (Err reporting.Memory) halts none is short w s l of_world of_schedule un along h = h
   ran items meant words begun ended stop new (Err reporting.Sink) halts none is short w s l of_world of_schedule un along h =
-      let run : IsRun program world schedule h.text = is_run items meant words begun ended h.text is short w s l of_world of_schedule un along h.is h.fits in
+      let run : IsRun program world schedule h.text = is_run items meant words begun ended h.text is short w s l of_world of_schedule un along h.is h.fits h.fair in
       record { text = h.text; runs = (option_map trap_at run.writes.end.stop, record { run = run; stopped = refl }); stopped = h.written }
 
   -- texts that mean a run load

@@ -6,7 +6,7 @@ use Rattle.semantics.specs.Journal.{Journal}
 use Rattle.world_schedules.specs.ScheduleText.{IsScheduleText}
 use Rattle.report.specs.Sink.{Written, AppendsText, StopsWithin}
 use Rattle.world_values.specs.WorldRules.{IsWorldText}
-use Rattle.semantics.specs.Run.{JournalFollows, UnmarkedFit}
+use Rattle.semantics.specs.Run.{JournalFollows, MarkedAreFair, UnmarkedFit}
 use Rattle.report.specs.RunText.{Writes}
 use Rattle.replay.specs.declared.trap_at.TrapAt.{TrapAt}
 use Rattle.replay.specs.TrapAt.{trap_at}
@@ -19,7 +19,8 @@ use Rattle.program_check.specs.declared.fault.RunError.TheVariants.{Memory, Faul
 
 -- The text is the report of the source run that its journal names, on a heap where objects have names and never move,
 -- and then that journal. The code of no function is too long. The journal has the schedule's thread steps in order, none left out but where the
--- thread is blocked, ended or stopped, and an allocation that it doesn't mark as refused has room beside what can be reached.
+-- thread is blocked, ended or stopped; an allocation that it doesn't mark as refused has room beside what can be reached, and one that it
+-- marks had none beside it, or something was pinned.
 pub record IsRun (program world schedule text : List ℕ) : Type 0 where
   pub meaning : Meaning program world schedule
   pub short : IsTooLong meaning.unit → ⊥
@@ -29,6 +30,7 @@ pub record IsRun (program world schedule text : List ℕ) : Type 0 where
   pub writes : Writes meaning.unit meaning.world journal text
   pub follows : JournalFollows meaning.unit meaning.world journal meaning.words
   pub fits : UnmarkedFit meaning.unit meaning.world journal
+  pub fair : MarkedAreFair meaning.unit meaning.world journal
 
 -- the same, and the trap that stopped the run, if one did
 pub record EndsRun (program world schedule : List ℕ) (trap : Option TrapAt) (text : List ℕ) : Type 0 where

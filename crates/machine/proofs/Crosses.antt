@@ -98,4 +98,4 @@ thread_send = search (locals_send, vec.the_send, crosses, sendable) depth 60 fit
 
 pub machine_send : (k : _) → IsSend (machine.the_row k)
 machine_send k = view_send (machine-inside.the_row k) _ _ _ _ (recorded_send (machine-inside.the_field k).row _ _ (machine-inside.the_type k).to_one (struct_send (shape (machine-inside.the_type k))
-    (program_send k, (world_send, (store_send, (Vec-send thread.the_row thread_send, (search (crosses, sendable) depth 60 fits 20000, (search (crosses, sendable) depth 60 fits 20000, (search (crosses, sendable) depth 60 fits 20000, tt)))))))))
+    (search (crosses, sendable) depth 60 fits 20000, (program_send k, (world_send, (store_send, (Vec-send thread.the_row thread_send, (search (crosses, sendable) depth 60 fits 20000, (search (crosses, sendable) depth 60 fits 20000, (search (crosses, sendable) depth 60 fits 20000, tt))))))))))

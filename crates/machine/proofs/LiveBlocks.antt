@@ -57,7 +57,7 @@ from_one_apart zero = tt
 from_one_apart (suc n) = apart_push (from_one n) (suc n) (from_one_apart n) (λ k. let b = from_one-bounds n (suc n) (to_contains (from_one n) (suc n) k) in omega (arith, b.1))
 
 -- the names but one
-abbrev others : ℕ → List ℕ → List ℕ
+abbrev pub others : ℕ → List ℕ → List ℕ
 others n xs = filter (λ x. not (x == n)) xs
 
 none_other : (n : ℕ) (xs : List ℕ) → (In xs n → ⊥) → others n xs ≡ xs
@@ -94,7 +94,7 @@ later m ms n other k =
 
 -- ---- blocks
 
-abbrev births : List Block → List ℕ
+abbrev pub births : List Block → List ℕ
 births bs = map (λ (b : Block). b.birth) bs
 
 found_birth : (bs : List Block) (a n : ℕ) → option_map (λ (b : Block). b.birth) (find (λ (b : Block). eqb b.address a) bs) ≡ Some n → In (births bs) n
@@ -107,7 +107,7 @@ found_birth (b ∷ bs) a n e = by_test (eqb b.address a) (found_birth bs a n) e
     by_test false further e = in_tail b.birth (births bs) n (further e)
 
 -- an object takes as many cells as its block
-size_is : (space : Space) (heap : Heap) (b : Block) → BlockAgrees space heap b → size_at heap b.birth ≡ block_size b
+pub size_is : (space : Space) (heap : Heap) (b : Block) → BlockAgrees space heap b → size_at heap b.birth ≡ block_size b
 size_is space heap b h =
     let values : values_of heap b.birth ≡ h.object.values = ap (λ (o : Option Object). option_map_or (λ (x : Object). x.values) o []) h.is in
     ap (λ (vs : List ObjectValue). 3 + length vs) values ∙ ap (λ (n : ℕ). 3 + n) (sym (agree_length space b.values h.object.values h.values))

@@ -27,7 +27,7 @@ use Rattle.machine.proofs.RootNames.{CallFrames, HasRootsOf}
 
 -- ---- among as often
 
-in_times : (xs : List ℕ) (n : ℕ) → In xs n → 0 < times n xs
+pub in_times : (xs : List ℕ) (n : ℕ) → In xs n → 0 < times n xs
 in_times [] n h = absurd (false≢true h)
 in_times (m ∷ xs) n h =
     ⊎_elim
@@ -37,7 +37,7 @@ in_times (m ∷ xs) n h =
     ⊎_elim (λ (same : m ≡ n). absurd (t.1 (sym same))) (λ (l : In xs n). omega (arith, e, in_times xs n l)) (in_cases m xs n h))
     (eqb_tells n m)
 
-times_in : (xs : List ℕ) (n : ℕ) → 0 < times n xs → In xs n
+pub times_in : (xs : List ℕ) (n : ℕ) → 0 < times n xs → In xs n
 times_in [] n h = absurd (omega (arith, h))
 times_in (m ∷ xs) n h =
     ⊎_elim

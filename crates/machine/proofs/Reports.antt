@@ -2,7 +2,7 @@
 use Rattle.std.proofs.Common.{append-nil, append_assoc, ⊎_elim, ◌≡◌, ℕ, zero, suc, ◌+◌, Bool, false, cond, List, [], ◌∷◌, ◌++◌, length, map, Option, Some, None, Result, refl, sym, ap, ◌∙◌, subst}
 use Rattle.std.specs.Prelude.{slice_get, flat_map, ◌==◌, is_some, not, ◌||◌, ◌&&◌}
 use Rattle.std.specs.List.{list_all, enumerate_from, AllZip}
-use Rattle.std.specs.Option.{option_map}
+use Rattle.std.specs.Option.{option_map, option_map_or}
 use Rattle.std.proofs.lemmas.List.Concat.{flat_map-cons}
 use Rattle.syntax.specs.Views.{unit_tree}
 use Rattle.class_rules.specs.Class.{Classes}
@@ -29,7 +29,7 @@ use Rattle.semantics.specs.Value.{trap_number}
 use Rattle.semantics.specs.Step.{is_waiting, is_blocked, is_unfinished}
 use Rattle.semantics.specs.Thread as source
 use Rattle.semantics.specs.Thread.{Shared, Monitor, viewed_by}
-use Rattle.heap.specs.Heap.{Space, left_of}
+use Rattle.heap.specs.Heap.{Space, left_of, name_at}
 use Rattle.code_meaning.specs.Lowered.{Lowered, IsLowered}
 use Rattle.code_meaning.specs.Slots.{Visible, visible_to}
 use Rattle.report_objects.specs.Rows.{AreReported}
@@ -40,25 +40,27 @@ use Rattle.machine_steps.specs.declared.thread.Thread.{Thread}
 use Rattle.machine.specs.declared.stop.Stop.{Stop}
 use Rattle.machine_steps.specs.ThreadAgrees.{ThreadsAgree, ending_view}
 use Rattle.machine_steps.specs.Executes.{WorkAgrees}
-use Rattle.machine_calls.specs.HeapAgrees.{IsNamed, times}
+use Rattle.machine_calls.specs.HeapAgrees.{IsNamed}
 use Rattle.machine.specs.Rows.{AreSeen}
 use Rattle.machine.proofs.ReachableNames.{loaded_named, reachable_named, slots_named, threads_named}
-use Rattle.semantics.proofs.ReachableLemmas.{In, contains_in, in_append_cases}
+use Rattle.semantics.proofs.ReachableLemmas.{In, contains_in, in_append_cases, in_append_left, in_append_right, to_contains}
 use Rattle.semantics_safety.specs.Owners.{AllOwners, owners_after}
 use Rattle.machine.specs.Stops as machine
 use Rattle.machine.specs.Stops.{stop_view}
 use Rattle.machine_calls.specs.Traps.{trap_view}
 use Rattle.machine.specs.Run as run
-use Rattle.semantics.specs.Run.{UnmarkedFit}
+use Rattle.semantics.specs.Run.{MarkedAreFair, UnmarkedFit}
 use Rattle.machine_calls.specs.declared.store.Store.{Store}
 use Rattle.machine.specs.Run.{Run, Corresponds, WritesRun, AreShown, ShowsObjects, IsFinished}
 use Rattle.machine.proofs.Standings.{standings}
 use Rattle.machine_steps.proofs.Threads.{unblocked}
-use Rattle.machine.specs.Roots.{AreAddresses, name_of, thread_names, ThreadsAreStacked, ThreadsAreThere}
+use Rattle.machine.specs.Roots.{AreAddresses, name_of, root_places, ThreadsAreStacked}
 use Rattle.std.specs.Prelude.{Contains}
-use Rattle.machine_calls.proofs.GlobalLaws.{among_both}
+use Rattle.compact.proofs.Blocks.{Contains-from_get}
+use Rattle.machine_calls.proofs.BlocksOfNames.{is_address}
 use Rattle.tables.specs.References.{references_in}
-use Rattle.machine.proofs.RootNames.{CallFrames, HasRootsOf, names_are, names_there, threads_same, threads_there, times_both}
+use Rattle.machine.proofs.GatheredRoots.{gathered_roots, in_map, in_place, map_in, place_in, places_are, roots_gathered}
+use Rattle.machine.proofs.RootNames.{CallFrames, HasRootsOf}
 
 -- ---- the statuses of threads
 
@@ -139,12 +141,6 @@ is_finished p world store ts printed stop journal c now view answer h =
 
 -- ---- the rows
 
--- a name among some stays where those at the end are others, each as often
-among_last : (front xs ys : List ℕ) → ((n : ℕ) → times n xs ≡ times n ys) → (n : ℕ) → Contains (front ++ xs) n → Contains (front ++ ys) n
-among_last front xs ys same n h =
-    subst (λ (l : List ℕ). Contains (front ++ l) n) (append-nil ys)
-    (among_both front xs ys [] same n (subst (λ (l : List ℕ). Contains (front ++ l) n) (sym (append-nil xs)) h))
-
 -- the frames and the pending exception of a thread stand for those of its thread of the source
 frames_in : (p : Lowered) (classes : Classes) (space : Space) (visible : Visible) (call : Option Activation) (frames : List source.Frame) (tasks : Option (List Task)) → WorkAgrees p classes space visible call frames tasks → CallFrames space call frames
 frames_in p classes space visible None frames None h = h
@@ -173,18 +169,6 @@ no_views p classes space made owners k shared (t ∷ ts) (s ∷ ss) h =
 module _ (p : Lowered) (world : World) (store : Store) (ts : List Thread) (printed : List Printed) (stop : Option Stop) (journal : List Entry) (c : Corresponds p world store ts printed stop journal) where
   roots_in : AllZip (HasRootsOf store.heap) ts c.state.threads
   roots_in = roots_of p world.classes store.heap (length (loaded_objects world)) (owners_after (unit_tree p.unit) world journal) 1 c.state.shared ts c.state.threads c.threads_agree
-
-  -- what threads refer to is there
-  pub roots_there : ThreadsAreThere store.heap ts
-  roots_there = threads_there store.heap ts c.state.threads roots_in
-
-  -- the names of the global references, as their table has them
-  globals_are : map (name_of store.heap) (references_in store.globals) ≡ c.store_agrees.globals.names
-  globals_are = names_are store.heap (references_in store.globals) c.store_agrees.globals.names c.store_agrees.globals.agree
-
-  -- their objects are there
-  pub globals_there : AreAddresses store.heap (references_in store.globals)
-  globals_there = names_there store.heap (references_in store.globals) c.store_agrees.globals.names c.store_agrees.globals.agree
 
   -- the state's roots are the objects made at load, the global references and what the threads refer to
   roots_are : roots world c.state ≡ from_one (length store.loaded.items) ++ (c.state.shared.globals ++ flat_map thread_roots c.state.threads)
@@ -219,33 +203,62 @@ module _ (p : Lowered) (world : World) (store : Store) (ts : List Thread) (print
   pub reachable_there : (n : ℕ) → Reachable world c.state n → IsNamed store.heap n
   reachable_there = reachable_named store.heap world c.state c.store_agrees.heap root_there
 
-  -- each is there as often among the names that the tables have
-  roots_same : ThreadsAreStacked ts → (n : ℕ) → times n (map (name_of store.heap) (references_in store.globals) ++ flat_map (thread_names store.heap) ts) ≡ times n (c.state.shared.globals ++ flat_map thread_roots c.state.threads)
-  roots_same stacked n =
-      times_both n (map (name_of store.heap) (references_in store.globals)) c.state.shared.globals (flat_map (thread_names store.heap) ts) (flat_map thread_roots c.state.threads)
-      (ap (times n) globals_are ∙ c.store_agrees.globals.same n) (threads_same store.heap ts c.state.threads roots_in stacked n)
+  -- ---- the roots, place by place
+
+  -- what the roots' names are
+  abbrev source_roots : List ℕ
+  source_roots = from_one (length store.loaded.items) ++ (c.state.shared.globals ++ flat_map thread_roots c.state.threads)
+
+  -- each gathered address has the name of a root
+  pub gathered_name : ThreadsAreStacked ts → (a : ℕ) → Contains (root_places store ts) (Some a) → (n : ℕ) × (name_at store.heap a ≡ Some n) × Contains (roots world c.state) n
+  gathered_name stacked a there =
+      let among = subst (λ (l : List ℕ). In l a) (places_are store ts) (place_in (root_places store ts) a there) in
+      let r = gathered_roots store.heap store (length (loaded_objects world)) ts c.state.threads c.state.shared.globals a c.store_agrees.table c.store_agrees.globals roots_in stacked among in
+      (r.0, r.1, subst (λ (l : List ℕ). Contains l r.0) (sym roots_are) (to_contains source_roots r.0 r.2))
+
+  -- and each root's name that of a gathered address
+  pub name_gathered : (n : ℕ) → Contains (roots world c.state) n → (a : ℕ) × (name_at store.heap a ≡ Some n) × Contains (root_places store ts) (Some a)
+  name_gathered n k =
+      let r = roots_gathered store.heap store (length (loaded_objects world)) ts c.state.threads c.state.shared.globals n c.store_agrees.table c.store_agrees.globals roots_in
+      (contains_in source_roots n (subst (λ (l : List ℕ). Contains l n) roots_are k)) in
+      (r.0, r.1, in_place (root_places store ts) r.0 (subst (λ (l : List ℕ). In l r.0) (sym (places_are store ts)) r.2))
+
+  -- their objects are there
+  pub places_there : ThreadsAreStacked ts → AreAddresses store.heap (references_in (root_places store ts))
+  places_there stacked i a at =
+      let r = gathered_name stacked a (in_place (root_places store ts) a (contains_in (references_in (root_places store ts)) a (Contains-from_get (references_in (root_places store ts)) i a at))) in
+      is_address store.heap a r.0 r.1
 
   -- the rows of what can be reached from them are the state's
   pub rows_are : (classes : Classes) (objects : Heap) (loaded : ℕ) (names : List ℕ) (rows : List ShownRow)
-      → classes ≡ world.classes → AreSeen store.heap c.state.shared.heap objects → loaded ≡ length store.loaded.items → names ≡ map (name_of store.heap) (references_in store.globals) ++ flat_map (thread_names store.heap) ts → ThreadsAreStacked ts
+      → classes ≡ world.classes → AreSeen store.heap c.state.shared.heap objects → loaded ≡ length store.loaded.items → names ≡ map (name_of store.heap) (references_in (root_places store ts)) → ThreadsAreStacked ts
       → AreReported classes objects loaded names rows → rows ≡ map (shown_row world.classes c.state.shared.heap) (shown world c.state)
   unfolding report
   rows_are classes objects loaded names rows k h l n stacked told =
-      let source_names = c.state.shared.globals ++ flat_map thread_roots c.state.threads in
-      let same : roots world c.state ≡ from_one loaded ++ source_names = roots_are ∙ ap (λ m. from_one m ++ source_names) (sym l) in
-      let often : (i : ℕ) → times i names ≡ times i source_names = λ i. ap (times i) n ∙ roots_same stacked i in
       told world c.state (record {
         classes = sym k;
         count = sym h.count;
         same = λ m r. sym (h.same m (reachable_there m r));
-        sound = λ m there. among_last (from_one loaded) source_names names (λ i. sym (often i)) m (subst (λ (ns : List ℕ). Contains ns m) same there);
-        complete = λ m there. subst (λ (ns : List ℕ). Contains ns m) (sym same) (among_last (from_one loaded) names source_names often m there);
+        sound = λ m there.
+            let r = name_gathered m there in
+            let named : name_of store.heap r.0 ≡ m = ap (λ (o : Option ℕ). option_map_or (λ (x : ℕ). x) o 0) r.1 in
+            let among = subst (λ (x : ℕ). In (map (name_of store.heap) (references_in (root_places store ts))) x) named (in_map (name_of store.heap) (references_in (root_places store ts)) r.0 (place_in (root_places store ts) r.0 r.2)) in
+            to_contains (from_one loaded ++ names) m (in_append_right (from_one loaded) names m (subst (λ (ns : List ℕ). In ns m) (sym n) among));
+        complete = λ m there. ⊎_elim
+            (λ (f : In (from_one loaded) m).
+            subst (λ (ns : List ℕ). Contains ns m) (sym roots_are) (to_contains source_roots m (in_append_left (from_one (length store.loaded.items)) (c.state.shared.globals ++ flat_map thread_roots c.state.threads) m (subst (λ (x : ℕ). In (from_one x) m) l f))))
+            (λ (f : In names m).
+            let back = map_in (name_of store.heap) (references_in (root_places store ts)) m (subst (λ (ns : List ℕ). In ns m) n f) in
+            let r = gathered_name stacked back.0 (in_place (root_places store ts) back.0 back.1) in
+            let same : r.0 ≡ m = sym (ap (λ (o : Option ℕ). option_map_or (λ (x : ℕ). x) o 0) r.1) ∙ back.2 in
+            subst (λ (x : ℕ). Contains (roots world c.state) x) same r.2)
+            (in_append_cases (from_one loaded) names m (contains_in (from_one loaded ++ names) m there));
       })
 
 module _ (p : Lowered) (world : World) (store : Store) (ts : List Thread) (printed : List Printed) (stop : Option Stop) (journal : List Entry) (c : Corresponds p world store ts printed stop journal) (now : Run)
     (view : ◌≡◌ {A = Run} (record { unit = p.unit; world = world; journal = journal; left = left_of store.heap }) now) where
   -- the names of the tables lead to what is shown
-  pub are_shown : (objects : Heap) (names : List ℕ) → AreSeen store.heap c.state.shared.heap objects → names ≡ map (name_of store.heap) (references_in store.globals) ++ flat_map (thread_names store.heap) ts → ThreadsAreStacked ts → AreShown now objects names
+  pub are_shown : (objects : Heap) (names : List ℕ) → AreSeen store.heap c.state.shared.heap objects → names ≡ map (name_of store.heap) (references_in (root_places store ts)) → ThreadsAreStacked ts → AreShown now objects names
   are_shown objects names h n stacked =
       subst (λ (r : Run). AreShown r objects names) view
       (λ rows told. (c.state, c.replays, rows_are p world store ts printed stop journal c world.classes objects (length (loaded_objects world)) names rows refl h (sym c.store_agrees.table.counted) n stacked told))
@@ -276,5 +289,6 @@ module _ (p : Lowered) (world : World) (store : Store) (ts : List Thread) (print
         text = report_text (report_with numbers told rows) ++ journal_line entries;
         is = subst (λ (r : Run). run_text.Writes (unit_tree r.unit) r.world r.journal (report_text (report_with numbers told rows) ++ journal_line entries)) view written;
         fits = subst (λ (r : Run). UnmarkedFit (unit_tree r.unit) r.world r.journal) view c.fits;
+        fair = subst (λ (r : Run). MarkedAreFair (unit_tree r.unit) r.world r.journal) view c.fair;
         written = h;
       }

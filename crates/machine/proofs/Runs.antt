@@ -26,7 +26,9 @@ use Rattle.semantics.proofs.RunLaws.{replay_from-append, follows-replay, follows
 use Rattle.machine.specs.declared.turn.Turn.{Turn as Answer}
 use Rattle.machine.specs.declared.turn.Turn.TheVariants as turn
 use Rattle.machine_steps.proofs.Lists.{take_next}
-use Rattle.machine.specs.Run.{Run, replay_of, can_turn, HasEnded, TurnHolds, GivesNoStep, GivesStep, RunsAlong, RunsInto}
+use Rattle.machine.specs.declared.fault.RunFault.{RunFault}
+use Rattle.machine.specs.declared.fault.RunFault.TheVariants as running
+use Rattle.machine.specs.Run.{Run, replay_of, can_turn, EndsAt, HasEnded, IsCollected, TurnHolds, GivesNoStep, RunsAlong, RunsInto}
 
 -- the walk from a state of a run along these words
 abbrev pub Walk : Run → State → List Entry → Schedule → State → Type 0
@@ -74,30 +76,30 @@ along_both a b c words more p q =
     }
 
 -- one walk and a beginning of another
-pub along_into : (a b c : Run) (words more : Schedule) → RunsAlong a b words → RunsInto b c more → RunsInto a c (words ++ more)
-along_into a b c words more p q = record {
+pub along_into : (a b c : Run) (words more : Schedule) (fault : RunFault) → RunsAlong a b words → RunsInto b c more fault → RunsInto a c (words ++ more) fault
+along_into a b c words more fault p q = record {
   taken = words ++ q.taken;
   next = q.next;
   left = q.left;
   is = ap (λ (w : Schedule). words ++ w) q.is ∙ sym (append_assoc words q.taken (q.next ∷ q.left));
   along = along_both a b c words q.taken p q.along;
-  gives = q.gives;
+  ends = q.ends;
 }
 
 -- a beginning of a schedule's beginning
-pub into_more : (a b : Run) (words more : Schedule) → RunsInto a b words → RunsInto a b (words ++ more)
-into_more a b words more p = record {
+pub into_more : (a b : Run) (words more : Schedule) (fault : RunFault) → RunsInto a b words fault → RunsInto a b (words ++ more) fault
+into_more a b words more fault p = record {
   taken = p.taken;
   next = p.next;
   left = p.left ++ more;
   is = ap (λ (w : Schedule). w ++ more) p.is ∙ append_assoc p.taken (p.next ∷ p.left) more;
   along = p.along;
-  gives = p.gives;
+  ends = p.ends;
 }
 
--- a walk is a beginning where the next word would have given a step
-pub begun : (a b : Run) (words : Schedule) (next : ScheduleWord) (left : Schedule) → RunsAlong a b words → GivesStep b next → RunsInto a b (words ++ next ∷ left)
-begun a b words next left p h = record { taken = words; next = next; left = left; is = refl; along = p; gives = h }
+-- a walk is a beginning where the run ends at the next word
+pub begun : (a b : Run) (words : Schedule) (next : ScheduleWord) (left : Schedule) (fault : RunFault) → RunsAlong a b words → EndsAt b fault next → RunsInto a b (words ++ next ∷ left) fault
+begun a b words next left fault p h = record { taken = words; next = next; left = left; is = refl; along = p; ends = h }
 
 -- nothing was done yet
 pub none_yet : (r : Run) → IsSome (replay_of r) → RunsAlong r r []
@@ -116,11 +118,38 @@ no_step r (Turn k) h = record { same_unit = refl; same_world = refl; steps = [];
 pub word_without_step : (r : Run) (word : ScheduleWord) → GivesNoStep r word → RunsAlong r r (word ∷ [])
 word_without_step r word h = no_step r word h
 
--- a thread that has ended can't step
 pub words_without_step : (r : Run) (word : ScheduleWord) (n : ℕ) → GivesNoStep r word → IsSome (replay_of r) → RunsAlong r r (replicate n word)
 words_without_step r word zero h d = none_yet r d
 words_without_step r word (suc n) h d = along_both r r r (word ∷ []) (replicate n word) (word_without_step r word h) (words_without_step r word n h d)
 
+-- ---- collections
+
+-- a collection gives no entry
+collected_once : (r new : Run) → IsCollected r new → IsSome (replay_of r) → RunsAlong r new (Collect ∷ [])
+collected_once r new h d = by_state (replay_of r) refl d
+  where
+    by_state : (o : Option State) → replay_of r ≡ o → IsSome o → RunsAlong r new (Collect ∷ [])
+    by_state None e d = absurd (let f : false ≡ true = d in cc)
+    by_state (Some s) e d = subst (λ (x : Run). RunsAlong r x (Collect ∷ [])) (sym h.same)
+        (record { same_unit = refl; same_world = refl; steps = []; journal = sym (append-nil r.journal); before = s; replays = e; after = s; follows = Collects s s [] [] (Over s) })
+
+-- nor do more of them, if there is one
+pub collected_often : (r new : Run) (times : ℕ) → (times ≡ 0 → ⊥) → IsCollected r new → IsSome (replay_of r) → IsSome (replay_of new) → RunsAlong r new (replicate times Collect)
+collected_often r new zero some h d e = absurd (some refl)
+collected_often r new (suc n) some h d e = along_both r new new (Collect ∷ []) (replicate n Collect) (collected_once r new h d) (words_without_step new Collect n (standing (replay_of new) refl e) e)
+  where
+    standing : (o : Option State) → replay_of new ≡ o → IsSome o → GivesNoStep new Collect
+    standing None is e = absurd (let f : false ≡ true = e in cc)
+    standing (Some s) is e = (s, is, tt)
+
+-- a run ends at a collection that memory is refused to
+pub collection_refused : (r new : Run) (times : ℕ) → (times ≡ 0 → ⊥) → new ≡ r → IsSome (replay_of r) → RunsInto r new (replicate times Collect) running.Memory
+collection_refused r new zero some same d = absurd (some refl)
+collection_refused r new (suc n) some same d = subst (λ (x : Run). RunsInto r x (replicate (suc n) Collect) running.Memory) (sym same) (begun r r [] Collect (replicate n Collect) running.Memory (none_yet r d) tt)
+
+-- ---- turns that give no step
+
+-- a thread that has ended can't step
 ended_waits : (classes : Classes) (s : State) (k : ℕ) → HasEnded s k → can_step classes s k ≡ false
 ended_waits classes s k h =
     and_left (is_none s.stop && is_live (thread_at s k)) (not (is_waiting classes k s.shared (thread_at s k)))
@@ -213,8 +242,8 @@ one_repetition a b c reps i d h p q =
     subst (λ (w : Schedule). RunsAlong a c w) (sym (words_more reps i (get_or reps i d) (slice_get-get_or reps i d h))) (along_both a b c (words_to reps i) (repeated_words (get_or reps i d)) p q)
 
 -- a beginning of one repetition more
-pub part_of_repetition : (a b c : Run) (reps : List Repetition) (i : ℕ) (d : Repetition) (schedule : Schedule) → flat_map repeated_words reps ≡ schedule → i < length reps → RunsAlong a b (words_to reps i) → RunsInto b c (repeated_words (get_or reps i d)) → RunsInto a c schedule
-part_of_repetition a b c reps i d schedule whole h p q =
-    subst (λ (w : Schedule). RunsInto a c w) (sym (words_all reps (i + 1)) ∙ whole)
-    (into_more a c (words_to reps (i + 1)) (flat_map repeated_words (drop (i + 1) reps))
-    (subst (λ (w : Schedule). RunsInto a c w) (sym (words_more reps i (get_or reps i d) (slice_get-get_or reps i d h))) (along_into a b c (words_to reps i) (repeated_words (get_or reps i d)) p q)))
+pub part_of_repetition : (a b c : Run) (reps : List Repetition) (i : ℕ) (d : Repetition) (schedule : Schedule) (fault : RunFault) → flat_map repeated_words reps ≡ schedule → i < length reps → RunsAlong a b (words_to reps i) → RunsInto b c (repeated_words (get_or reps i d)) fault → RunsInto a c schedule fault
+part_of_repetition a b c reps i d schedule fault whole h p q =
+    subst (λ (w : Schedule). RunsInto a c w fault) (sym (words_all reps (i + 1)) ∙ whole)
+    (into_more a c (words_to reps (i + 1)) (flat_map repeated_words (drop (i + 1) reps)) fault
+    (subst (λ (w : Schedule). RunsInto a c w fault) (sym (words_more reps i (get_or reps i d) (slice_get-get_or reps i d h))) (along_into a b c (words_to reps i) (repeated_words (get_or reps i d)) fault p q)))

@@ -1,5 +1,5 @@
 -- A step of the machine is a step of the state that its journal leads to.
-use Rattle.std.proofs.Common.{◌≡◌, ℕ, suc, ◌<◌, ◌≤◌, Bool, true, false, List, [], ◌∷◌, ◌++◌, ◌+◌, length, drop, arith, length-append, Option, Some, None, refl, sym, ap, ◌∙◌, subst}
+use Rattle.std.proofs.Common.{◌≡◌, ℕ, suc, ◌<◌, ◌≤◌, ◌-◌, Bool, true, false, List, [], ◌∷◌, ◌++◌, ◌+◌, length, drop, arith, inl, length-append, Option, Some, None, refl, sym, ap, ◌∙◌, subst}
 use Rattle.std.specs.Prelude.{slice_get, slice_set}
 use Rattle.std.specs.Option.{option_map}
 use Rattle.std.proofs.Math.ListN.{length-set}
@@ -17,9 +17,9 @@ use Rattle.semantics.specs.ThreadStep.{thread_step}
 use Rattle.semantics.specs.Thread as source
 use Rattle.semantics.specs.Thread.{BuffersInUse, Shared}
 use Rattle.semantics.proofs.RunLaws.{replay_more, each-more}
-use Rattle.semantics.specs.Run.{Fits, FitsUnmarked, made, made_between}
+use Rattle.semantics.specs.Run.{Fits, FitsUnmarked, IsFairMarked, made, made_between}
 use Rattle.semantics.specs.Object.{sizes}
-use Rattle.semantics.specs.Reachable.{Reachable}
+use Rattle.semantics.specs.Reachable.{live_size, Reachable}
 use Rattle.machine_calls.specs.HeapAgrees.{IsNamed}
 use Rattle.machine.proofs.Reports.{reachable_there}
 use Rattle.semantics.specs.Start.{start}
@@ -42,7 +42,7 @@ use Rattle.machine_steps.specs.ThreadAgrees.{ThreadAgrees, ThreadsAgree, ending_
 use Rattle.machine_steps.specs.Advances.{Advances}
 use Rattle.machine_steps.specs.declared.advance.Advanced.{Advanced}
 use Rattle.machine_steps.specs.declared.advance.Advanced.TheVariants as advanced
-use Rattle.machine.specs.Run.{Run, AdvancesAlways, Corresponds, CouldStep, HadNoRoom, TurnHolds, entry_of, event_of, is_refused, printed_after, turn_after, HasEnded}
+use Rattle.machine.specs.Run.{Run, AdvancesAlways, Corresponds, CouldStep, HadNoRoom, LeavesAll, TurnHolds, entry_of, event_of, is_refused, printed_after, turn_after, HasEnded}
 use Rattle.machine.proofs.KeptThreads.{threads_stay}
 use Rattle.machine.proofs.OwnerSteps.{Found, changed, found, owner_elsewhere, owner_here, owners_stepped}
 use Rattle.machine_steps.proofs.Threads.{unblocked}
@@ -149,10 +149,29 @@ module _ (p : Lowered) (world : World) (store : Store) (ts : List Thread) (print
   fits_entry true next room step = tt
   fits_entry false next room step = has_room p world store c.state next k c.store_agrees (reachable_there p world store ts printed stop journal c) room step
 
+  -- a step that was refused had no room for what it would have made
+  no_room : (store' : Store) (after : Thread) → stop ≡ None → t.ending ≡ Unfinished → StepsAlways p world store store' t after true event.Quiet → (left_of store.heap < sizes (made (unit_tree p.unit) world c.state k)) × (left_of store'.heap ≡ left_of store.heap)
+  no_room store' after goes live advances =
+      let f = the_thread in
+      let a = advances (in_use c.state) k (owners k) c.state.shared f.source c.store_agrees f.agrees steady in
+      let short = a.short refl in
+      let step = ap (made_between c.state) (step-thread (unit_tree p.unit) classes c.state k f.source false (steps_here goes live)) in
+      let cells : sizes (made (unit_tree p.unit) world c.state k) ≡ cells_made c.state.shared (thread_step (unit_tree p.unit) classes (in_use c.state) k c.state.shared f.source false) =
+      ap sizes step ∙ made_cells c.state k (thread_step (unit_tree p.unit) classes (in_use c.state) k c.state.shared f.source false) in
+      (omega (arith, short.0, cells), ap left_of short.1)
+
+  -- so it was fair, where all cells were left but those of what can be reached
+  fair_entry : (store' : Store) (after : Thread) (refused : Bool) (e : Event) → stop ≡ None → t.ending ≡ Unfinished → StepsAlways p world store store' t after refused e → (refused ≡ true → e ≡ event.Quiet) → (refused ≡ true → left_of store.heap ≡ world.cells - live_size world c.state)
+      → IsFairMarked (unit_tree p.unit) world c.state (Step k refused)
+  fair_entry store' after false e goes live advances quiet left = tt
+  fair_entry store' after true e goes live advances quiet left =
+      let short = no_room store' after goes live (subst (λ (x : Event). StepsAlways p world store store' t after true x) (quiet refl) advances) in
+      inl (omega (arith, short.0, left refl))
+
   -- the machine after the step
-  pub steps_on : (store' : Store) (after : Thread) (refused : Bool) (e : Event) → stop ≡ None → t.ending ≡ Unfinished → StepsAlways p world store store' t after refused e
+  pub steps_on : (store' : Store) (after : Thread) (refused : Bool) (e : Event) → stop ≡ None → t.ending ≡ Unfinished → StepsAlways p world store store' t after refused e → (refused ≡ true → e ≡ event.Quiet) → (refused ≡ true → left_of store.heap ≡ world.cells - live_size world c.state)
       → Corresponds p world store' (slice_set ts i after) (printed_after printed k e) (stop_after stop k e) (journal ++ Step k refused ∷ [])
-  steps_on store' after refused e goes live advances =
+  steps_on store' after refused e goes live advances quiet left =
       let f = the_thread in
       let entry : Entry = Step k refused in
       let a = advances (in_use c.state) k (owners k) c.state.shared f.source c.store_agrees f.agrees steady in
@@ -182,6 +201,8 @@ module _ (p : Lowered) (world : World) (store : Store) (ts : List Thread) (print
         same_stop = stop_next c.state k a.next_shared a.next e stop c.same_stop;
         fits = each-more (unit_tree p.unit) world (FitsUnmarked (unit_tree p.unit) world) (Some (start (unit_tree p.unit) world)) journal entry c.fits
             (λ s there. let same : c.state ≡ s = cc (sym c.replays, there) in subst (λ (x : State). FitsUnmarked (unit_tree p.unit) world x (Step k refused)) same (fits_entry refused next room step));
+        fair = each-more (unit_tree p.unit) world (IsFairMarked (unit_tree p.unit) world) (Some (start (unit_tree p.unit) world)) journal entry c.fair
+            (λ s there. let same : c.state ≡ s = cc (sym c.replays, there) in subst (λ (x : State). IsFairMarked (unit_tree p.unit) world x (Step k refused)) same (fair_entry store' after refused e goes live advances quiet left));
         born =
             let before : store.births ≡ length c.state.shared.heap = c.store_agrees.births in
             let now : store'.births ≡ length a.next_shared.heap = a.store_agrees.births in
@@ -190,33 +211,25 @@ module _ (p : Lowered) (world : World) (store : Store) (ts : List Thread) (print
         few = subst (λ n. n ≤ 8) (sym (length-set ts i after)) c.few;
       }
 
-  -- a step that was refused had no room for what it would have made
-  no_room : (store' : Store) (after : Thread) → stop ≡ None → t.ending ≡ Unfinished → StepsAlways p world store store' t after true event.Quiet → left_of store'.heap < sizes (made (unit_tree p.unit) world c.state k)
-  no_room store' after goes live advances =
-      let f = the_thread in
-      let a = advances (in_use c.state) k (owners k) c.state.shared f.source c.store_agrees f.agrees steady in
-      let short = a.short refl in
-      let same : left_of store'.heap ≡ left_of store.heap = ap left_of short.1 in
-      let step = ap (made_between c.state) (step-thread (unit_tree p.unit) classes c.state k f.source false (steps_here goes live)) in
-      let cells : sizes (made (unit_tree p.unit) world c.state k) ≡ cells_made c.state.shared (thread_step (unit_tree p.unit) classes (in_use c.state) k c.state.shared f.source false) =
-      ap sizes step ∙ made_cells c.state k (thread_step (unit_tree p.unit) classes (in_use c.state) k c.state.shared f.source false) in
-      omega (arith, short.0, same, cells)
-
   -- the same by what is told of the step
-  pub steps_by : (store' : Store) (after : Thread) (x : Advanced) → stop ≡ None → t.ending ≡ Unfinished
-      → AdvancesAlways p world store store' t after x
+  pub steps_by : (store' : Store) (after : Thread) (x : Advanced) → stop ≡ None → t.ending ≡ Unfinished → AdvancesAlways p world store store' t after x → (x ≡ advanced.Refused → left_of store.heap ≡ world.cells - live_size world c.state)
       → Corresponds p world store' (slice_set ts i after) (printed_after printed k (event_of x)) (stop_after stop k (event_of x)) (journal ++ Step k (is_refused x) ∷ [])
-  steps_by store' after (advanced.Did e) goes live advances = steps_on store' after false e goes live advances
-  steps_by store' after advanced.Refused goes live advances = steps_on store' after true event.Quiet goes live advances
+  steps_by store' after (advanced.Did e) goes live advances left = steps_on store' after false e goes live advances (λ h. absurd (cc)) (λ h. absurd (cc))
+  steps_by store' after advanced.Refused goes live advances left = steps_on store' after true event.Quiet goes live advances (λ h. refl) (λ h. left refl)
 
-  pub short_by : (store' : Store) (after : Thread) (x : Advanced) → stop ≡ None → t.ending ≡ Unfinished → AdvancesAlways p world store store' t after x
-      → x ≡ advanced.Refused → left_of store'.heap < sizes (made (unit_tree p.unit) world c.state k)
-  short_by store' after (advanced.Did e) goes live advances is = absurd (cc)
-  short_by store' after advanced.Refused goes live advances is = no_room store' after goes live advances
+  -- a step that was refused had no room, and left all cells but those of what can be reached
+  pub short_by : (store' : Store) (after : Thread) (x : Advanced) → stop ≡ None → t.ending ≡ Unfinished → AdvancesAlways p world store store' t after x → (x ≡ advanced.Refused → left_of store.heap ≡ world.cells - live_size world c.state)
+      → x ≡ advanced.Refused → (left_of store'.heap < sizes (made (unit_tree p.unit) world c.state k)) × (left_of store'.heap ≡ world.cells - live_size world c.state)
+  short_by store' after (advanced.Did e) goes live advances left is = absurd (cc)
+  short_by store' after advanced.Refused goes live advances left is =
+      let short = no_room store' after goes live advances in
+      let first : left_of store.heap < sizes (made (unit_tree p.unit) world c.state k) = short.0 in
+      let same : left_of store'.heap ≡ left_of store.heap = short.1 in
+      (omega (arith, first, same), same ∙ left refl)
 
 -- the turn was the step that the run has more
 pub turn_holds : (old : Run) (unit : List Item) (world : World) (before after : List Entry) (had left : ℕ) (k : ℕ) (x : Advanced) → record { unit = unit; world = world; journal = before; left = had } ≡ old → after ≡ before ++ Step k (is_refused x) ∷ []
-    → CouldStep old k → (x ≡ advanced.Refused → HadNoRoom old k left) → TurnHolds old k (record { unit = unit; world = world; journal = after; left = left }) (turn_after x)
+    → CouldStep old k → (x ≡ advanced.Refused → HadNoRoom old k left × LeavesAll old left) → TurnHolds old k (record { unit = unit; world = world; journal = after; left = left }) (turn_after x)
 turn_holds old unit world before after had left k (advanced.Did e) is more could short = (
   ap (λ (j : List Entry). let r : Run = record { unit = unit; world = world; journal = j; left = left } in r) more ∙ ap (λ (r : Run). let s : Run = record r { journal = r.journal ++ Step k false ∷ []; left = left } in s) is,
   could,
@@ -224,5 +237,6 @@ turn_holds old unit world before after had left k (advanced.Did e) is more could
 turn_holds old unit world before after had left k advanced.Refused is more could short = (
   ap (λ (j : List Entry). let r : Run = record { unit = unit; world = world; journal = j; left = left } in r) more ∙ ap (λ (r : Run). let s : Run = record r { journal = r.journal ++ Step k true ∷ []; left = left } in s) is,
   could,
-  short refl,
+  (short refl).0,
+  (short refl).1,
 )

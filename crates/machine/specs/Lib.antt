@@ -1,6 +1,7 @@
 pub mod Stops
 pub mod Rows
 pub mod Roots
+pub mod Moving
 pub mod Run
 -- why the machine stops
 pub use Rattle.machine_calls.specs.Traps

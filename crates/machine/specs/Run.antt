@@ -1,5 +1,5 @@
 -- A run, as its program, its world, the steps taken and the room that is left.
-use Rattle.std.specs.Prelude.{◌≡◌, ℕ, ◌+◌, ◌*◌, ◌<◌, ◌≤◌, Bool, true, false, List, [], ◌∷◌, ◌++◌, length, map, Option, Some, None, Result, Ok, Err, IsSome, is_some, not, ◌||◌}
+use Rattle.std.specs.Prelude.{◌≡◌, ◌≢◌, ℕ, ◌+◌, ◌-◌, ◌*◌, ◌<◌, ◌≤◌, ◌⊎◌, Bool, true, false, List, [], ◌∷◌, ◌++◌, length, map, slice_get, slice_set, Option, Some, None, Result, Ok, Err, IsSome, is_some, not, ◌||◌}
 use Rattle.std.specs.Option.{option_map}
 use Rattle.std.specs.List.{list_all, enumerate_from}
 use Rattle.syntax.specs.declared.unit.Item.{Item}
@@ -20,8 +20,9 @@ use Rattle.semantics.specs.ReportOf.{shown, shown_row}
 use Rattle.semantics.specs.Heap.{Heap}
 use Rattle.report_objects.specs.Rows.{AreReported}
 use Rattle.semantics.specs.Object.{sizes}
-use Rattle.semantics.specs.Run.{replay, made, Follows, UnmarkedFit}
-use Rattle.semantics.specs.State.{State, thread_at}
+use Rattle.semantics.specs.Reachable.{live_size}
+use Rattle.semantics.specs.Run.{replay, made, Follows, MarkedAreFair, UnmarkedFit}
+use Rattle.semantics.specs.State.{State, thread_at, views}
 use Rattle.semantics.specs.Step.{can_step, is_blocked, is_unfinished}
 use Rattle.semantics.specs.Thread.{BuffersInUse, Shared, Thread as SourceThread}
 use Rattle.semantics_safety.specs.Owners.{Owners, owners_after}
@@ -36,6 +37,8 @@ use Rattle.machine_steps.specs.declared.execute.Event.{Event}
 use Rattle.machine_steps.specs.declared.execute.Event.TheVariants as event
 use Rattle.machine.specs.declared.fault.ReportFault.{ReportFault}
 use Rattle.machine.specs.declared.fault.ReportFault.TheVariants as reporting
+use Rattle.machine.specs.declared.fault.RunFault.{RunFault}
+use Rattle.machine.specs.declared.fault.RunFault.TheVariants as running
 use Rattle.machine.specs.declared.turn.Turn.{Turn as Answer}
 use Rattle.machine.specs.declared.turn.Turn.TheVariants as turn
 use Rattle.machine.specs.declared.stop.Stop.{Stop}
@@ -44,6 +47,7 @@ use Rattle.machine_calls.specs.StoreAgrees.{StoreAgrees}
 use Rattle.machine_steps.specs.Advances.{AdvancesBy}
 use Rattle.machine_steps.specs.Executes.{IsSteady}
 use Rattle.machine_steps.specs.ThreadAgrees.{ThreadAgrees, ThreadsAgree}
+use Rattle.machine.specs.Moving.{AreCollected}
 use Rattle.machine.specs.Stops.{stop_view}
 
 -- a program's items, the world, the steps taken, and the cells after the heap's highest block
@@ -76,8 +80,9 @@ pub record Corresponds (p : Lowered) (world : World) (store : Store) (threads : 
   pub same_stop : state.stop ≡ option_map stop_view stop
   -- fewer objects were made at load than a heap has cells, and each step makes two at most
   pub born : store.births ≤ 1048576 + 2 * length journal
-  -- the steps that made objects had room
+  -- the steps that made objects had room, and those whose allocation was refused had none
   pub fits : UnmarkedFit (unit_tree p.unit) world journal
+  pub fair : MarkedAreFair (unit_tree p.unit) world journal
   pub count : length threads ≡ length world.threads
   pub few : length threads ≤ 8
 
@@ -97,6 +102,31 @@ abbrev pub AdvancesAlways : Lowered → World → (store after : Store) → Thre
 AdvancesAlways p w store after t t' x =
     (in_use : BuffersInUse) (k : ℕ) (own : Owners) (shared : Shared) (s : SourceThread) → StoreAgrees p w store shared → ThreadAgrees p w.classes store.heap (length (loaded_objects w)) own shared t s → IsSteady own shared s
     → AdvancesBy p w store.heap after in_use k own shared s t' x
+
+-- The thread at a place hasn't ended, in a store and threads that stand for the state that a journal leads to.
+pub record CanAdvance (p : Lowered) (w : World) (store : Store) (threads : List Thread) (index : ℕ) : Type 0 where
+  pub printed : List Printed
+  pub stop : Option Stop
+  pub journal : List Entry
+  pub stands : Corresponds p w store threads printed stop journal
+  pub thread : Thread
+  pub at : slice_get threads index ≡ Some thread
+  pub lives : thread.ending ≡ Unfinished
+
+-- what a step began with: the store and the threads as they were, if nothing was refused, or what a collection left of them
+abbrev pub IsBetween : Store → List Thread → (between : Store) → List Thread → Advanced → Type 0
+IsBetween store threads between threads' x = ((between ≡ store) × (threads' ≡ threads) × (x ≢ advanced.Refused)) ⊎ AreCollected store threads between threads'
+
+-- the thread at a place took its step, with a collection before it or without one
+pub record AdvancesFrom (p : Lowered) (w : World) (store : Store) (threads : List Thread) (index : ℕ) (after : Store) (later : List Thread) (x : Advanced) : Type 0 where
+  pub between : Store
+  pub among : List Thread
+  pub is : IsBetween store threads between among x
+  pub old : Thread
+  pub new : Thread
+  pub at : slice_get among index ≡ Some old
+  pub advances : AdvancesAlways p w between after old new x
+  pub follow : later ≡ slice_set among index new
 
 -- whether its allocation was refused
 abbrev pub is_refused : Advanced → Bool
@@ -160,13 +190,22 @@ turn_after advanced.Refused = turn.Short
 abbrev pub HadNoRoom : Run → ℕ → (left : ℕ) → Type 0
 HadNoRoom r k left = InState r (λ s. left < sizes (made (unit_tree r.unit) r.world s k))
 
--- what a turn of thread k was; an allocation was refused only where it had no room
+-- where nothing is viewed, all cells are left but those of what can be reached
+abbrev pub LeavesAll : Run → (left : ℕ) → Type 0
+LeavesAll r left = InState r (λ s. views s ≡ [] → left ≡ r.world.cells - live_size r.world s)
+
+-- what a collection leaves: the run as it was, but for the cells that are left
+pub record IsCollected (old new : Run) : Type 0 where
+  pub same : new ≡ record old { left = new.left }
+  pub left : LeavesAll old new.left
+
+-- what a turn of thread k was; an allocation was refused only where it had no room after a collection
 abbrev pub TurnHolds : Run → ℕ → Run → Answer → Type 0
 TurnHolds old k new turn.Stopped = (new ≡ old) × InState old (λ s. IsSome s.stop)
 TurnHolds old k new turn.Ended = (new ≡ old) × InState old (λ s. HasEnded s k)
 TurnHolds old k new (turn.Blocked all) = (new ≡ old) × InState old (λ s. IsWaiting old.world.classes s k all)
 TurnHolds old k new turn.Full = (new ≡ old) × (1000000 ≤ length old.journal) × InState old (λ s. can_turn old s k ≡ true)
-TurnHolds old k new turn.Short = (new ≡ refused old k new.left) × CouldStep old k × HadNoRoom old k new.left
+TurnHolds old k new turn.Short = (new ≡ refused old k new.left) × CouldStep old k × HadNoRoom old k new.left × LeavesAll old new.left
 TurnHolds old k new turn.Stepped = (new ≡ stepped old k new.left) × CouldStep old k
 
 -- the turn of a thread that takes no step, by what is known before
@@ -192,6 +231,13 @@ abbrev pub GivesStep : Run → ScheduleWord → Type 0
 GivesStep r Collect = ⊥
 GivesStep r (Turn k) = InState r (λ s. can_turn r s k ≡ true)
 
+-- A word at which a run ends by a fault: the turn of a thread that can step, where the journal is full or where it has room and memory
+-- was refused, or a collection that memory was refused to.
+abbrev pub EndsAt : Run → RunFault → ScheduleWord → Type 0
+EndsAt r running.Full word = (1000000 ≤ length r.journal) × GivesStep r word
+EndsAt r running.Memory Collect = Unit {0}
+EndsAt r running.Memory (Turn k) = (length r.journal < 1000000) × GivesStep r (Turn k)
+
 -- The steps taken follow the schedule.
 pub record RunsAlong (old new : Run) (schedule : Schedule) : Type 0 where
   pub same_unit : new.unit ≡ old.unit
@@ -203,14 +249,14 @@ pub record RunsAlong (old new : Run) (schedule : Schedule) : Type 0 where
   pub after : State
   pub follows : Follows (unit_tree old.unit) old.world before steps schedule after
 
--- the steps of a beginning of the schedule were taken, and the next word would have given a step
-pub record RunsInto (old new : Run) (schedule : Schedule) : Type 0 where
+-- the steps of a beginning of the schedule were taken, and the next word is one at which a run ends by this fault
+pub record RunsInto (old new : Run) (schedule : Schedule) (fault : RunFault) : Type 0 where
   pub taken : Schedule
   pub next : ScheduleWord
   pub left : Schedule
   pub is : schedule ≡ taken ++ next ∷ left
   pub along : RunsAlong old new taken
-  pub gives : GivesStep new next
+  pub ends : EndsAt new fault next
 
 -- ---- the end
 
@@ -243,6 +289,7 @@ pub record WritesRun {T E : Type 0} (r : Run) (old new : Written) (result : Resu
   pub text : List ℕ
   pub is : run_text.Writes (unit_tree r.unit) r.world r.journal text
   pub fits : UnmarkedFit (unit_tree r.unit) r.world r.journal
+  pub fair : MarkedAreFair (unit_tree r.unit) r.world r.journal
   pub written : sink.Writes old new result text
 
 -- nothing was written where memory was refused, and else what the run writes in all, or a beginning of it

@@ -1,6 +1,7 @@
 //! The machine, which runs lowered programs on their worlds.
 #![tactic(auto)]
 
+mod collecting;
 mod fault;
 mod machine;
 mod roots;

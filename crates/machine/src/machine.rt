@@ -8,6 +8,7 @@ ghost use Rattle.report.specs.ThreadStatus.{standing_view};
 ghost use Rattle.heap.specs.Heap.{left_of};
 ghost use Rattle.semantics.specs.Load.{first_load_fault};
 ghost use Rattle.semantics.specs.Object.{sizes};
+ghost use Rattle.semantics.specs.Run.{MarkedAreFair, UnmarkedFit};
 ghost use Rattle.semantics.specs.World.{loaded_objects};
 ghost use Rattle.semantics_safety.specs.Owners.{Owners};
 ghost use Rattle.semantics.specs.Thread.{Shared, Thread as SourceThread};
@@ -17,11 +18,12 @@ ghost use Rattle.machine_steps.specs.Executes.{IsSteady};
 ghost use Rattle.machine_steps.specs.Loading.{IsLoadFault};
 ghost use Rattle.machine_steps.specs.ThreadAgrees.{ThreadAgrees};
 ghost use Rattle.semantics.specs.declared.journal.Entry.TheVariants.{Step};
-ghost use Rattle.machine.specs.Run.{replay_of, AdvancesAlways, Corresponds, IsUnstarted, CouldStep, TurnHolds, RunsAlong, RunsInto, PrintedBy, IsFinished, has_ended, ReportsRun, AreShown, ShowsObjects, GivesNoStep, GivesStep, StoppedBy, event_of, is_refused, printed_after, turn_after, turn_without_step};
+ghost use Rattle.machine.specs.Run.{replay_of, AdvancesFrom, CanAdvance, Corresponds, EndsAt, IsCollected, IsUnstarted, CouldStep, TurnHolds, RunsAlong, RunsInto, PrintedBy, IsFinished, has_ended, ReportsRun, AreShown, ShowsObjects, GivesNoStep, StoppedBy, event_of, is_refused, printed_after, turn_after, turn_without_step};
 ghost use Rattle.machine.specs.Stops.{stop_after, standing_of, standing_by_ending};
 
+use crate::collecting::collect_blocks;
 use crate::fault::{ReportFault, RunFault};
-use crate::roots::root_names;
+use crate::roots::{gather, root_names};
 use crate::rows::{NamedBlocks, named_blocks};
 use crate::stop::Stop;
 use crate::turn::Turn;
@@ -49,6 +51,7 @@ pub const MOST_ENTRIES: usize = 1_000_000;
 
 /// A lowered program on a world, with the steps that were taken. It stands for the replay of its journal.
 pub struct Machine<'a> {
+    alloc: Global,
     program: Program<'a>,
     world: World,
     store: Store,
@@ -62,6 +65,7 @@ pub struct Machine<'a> {
 impl Drop for Machine<'_> {
     fn drop(self) {
         let Machine {
+            alloc: _,
             program,
             world,
             store,
@@ -95,7 +99,7 @@ impl<'a> Model for Machine<'a> {
 }
 
 impl<'a> Machine<'a> {
-    /// A machine before its first step.
+    /// A machine before its first step, which keeps the allocator for what it does later.
     ///
     /// Fault 82 exactly where a call of the world doesn't fit the program: its function or the function's class is
     /// unknown, or the arguments don't fit the parameters in number and kind. The objects that the world begins with lie in its heap.
@@ -107,6 +111,7 @@ impl<'a> Machine<'a> {
     {
         match load_parts(alloc, &program, &world) {
             Ok((store, threads)) => Ok(Machine {
+                alloc,
                 program,
                 world,
                 store,
@@ -123,6 +128,8 @@ impl<'a> Machine<'a> {
     pub fn journal(&self) -> &[Entry]
         ensures entries { result.now ≡ self.now.journal }
         ensures runs { IsSome (replay_of self.now) }
+        ensures fits { UnmarkedFit (unit_tree self.now.unit) self.now.world self.now.journal }
+        ensures fair { MarkedAreFair (unit_tree self.now.unit) self.now.world self.now.journal }
     {
         // Here the proof takes up the machine's invariant.
         let _ = &self.world;
@@ -152,10 +159,22 @@ impl<'a> Machine<'a> {
         &self.printed
     }
 
-    /// Lets thread `k`, counted from 1, take one step.
+    /// Moves the objects that can still be reached, and those that are viewed, together; the others are gone. It gives no entry.
     ///
-    /// An `Err` says that the thread could step and the journal has room, but host memory was refused. Nothing has
-    /// changed then, and the same turn can be asked again.
+    /// An `Err` says that host memory was refused. Nothing has moved then.
+    pub fn collect(&mut self) -> Result<(), AllocError>
+        ensures ok { OnOk result (IsCollected self.old self.new) }
+        ensures err { OnErr result (self.new ≡ self.old) }
+        ensures runs { IsSome (replay_of self.new) }
+    {
+        collect_blocks(self.alloc, &mut self.store, &mut self.threads)
+    }
+
+    /// Lets thread `k`, counted from 1, take one step. Where the objects that it makes have no room, the machine collects first, and
+    /// the allocation is refused where they have none then.
+    ///
+    /// An `Err` says that the thread could step and the journal has room, but host memory was refused, to the step or to its
+    /// collection. Nothing has changed then, and the same turn can be asked again.
     pub fn step(&mut self, k: u8) -> Result<Turn, AllocError>
         requires counted { 0 < k }
         requires is_thread { k ≤ length self.old.world.threads }
@@ -169,11 +188,13 @@ impl<'a> Machine<'a> {
             return Ok(turn);
         }
         make_room(&mut self.printed, &mut self.journal)?;
-        let advanced = advance_or_refuse(
+        let advanced = advance_or_collect(
+            self.alloc,
             &self.program,
             &self.world,
             &mut self.store,
-            &mut self.threads[index],
+            &mut self.threads,
+            index,
         )?;
         Ok(write_step(
             &mut self.printed,
@@ -202,9 +223,7 @@ impl<'a> Machine<'a> {
         requires counted { 0 < k }
         requires is_thread { k ≤ length self.old.world.threads }
         ensures ok { OnOk result (RunsAlong self.old self.new (ScheduleWord.Turn k ∷ [])) }
-        ensures err { OnErr result ((self.new ≡ self.old) × GivesStep self.old (ScheduleWord.Turn k)) }
-        ensures full { result ≡ Err RunFault.Full → 1000000 ≤ length self.new.journal }
-        ensures memory { result ≡ Err RunFault.Memory → length self.new.journal < 1000000 }
+        ensures err { IfErr result (λ fault. (self.new ≡ self.old) × EndsAt self.old fault (ScheduleWord.Turn k)) }
         ensures runs { IsSome (replay_of self.new) }
     {
         match self.step(k) {
@@ -216,16 +235,35 @@ impl<'a> Machine<'a> {
         }
     }
 
-    /// Takes a word this many times.
-    fn repeat(&mut self, word: ScheduleWord, times: u32) -> Result<(), RunFault>
-        ensures ok { OnOk result (RunsAlong self.old self.new (replicate times word)) }
-        ensures err { OnErr result (RunsInto self.old self.new (replicate times word)) }
-        ensures full { result ≡ Err RunFault.Full → 1000000 ≤ length self.new.journal }
-        ensures memory { result ≡ Err RunFault.Memory → length self.new.journal < 1000000 }
+    /// Takes the word for a collection this many times. A second one right after the first would change nothing that is seen, so
+    /// one serves for all.
+    fn collect_for(&mut self, times: u32) -> Result<(), RunFault>
+        ensures ok { OnOk result (RunsAlong self.old self.new (replicate times ScheduleWord.Collect)) }
+        ensures err { IfErr result (RunsInto self.old self.new (replicate times ScheduleWord.Collect)) }
         ensures runs { IsSome (replay_of self.new) }
     {
         // Here the proof takes up the machine's invariant.
         let _ = &self.world;
+        if times == 0 {
+            return Ok(());
+        }
+        match self.collect() {
+            Ok(()) => Ok(()),
+            Err(_) => Err(RunFault::Memory),
+        }
+    }
+
+    /// Takes a word this many times.
+    fn repeat(&mut self, word: ScheduleWord, times: u32) -> Result<(), RunFault>
+        ensures ok { OnOk result (RunsAlong self.old self.new (replicate times word)) }
+        ensures err { IfErr result (RunsInto self.old self.new (replicate times word)) }
+        ensures runs { IsSome (replay_of self.new) }
+    {
+        // Here the proof takes up the machine's invariant.
+        let _ = &self.world;
+        if let ScheduleWord::Collect = word {
+            return self.collect_for(times);
+        }
         let Some(k) = self.turn_of(word) else {
             return Ok(());
         };
@@ -238,16 +276,15 @@ impl<'a> Machine<'a> {
         Ok(())
     }
 
-    /// Lets the threads take steps in the order of the schedule. A collection and a turn of a thread that the world
-    /// lacks give none.
+    /// Lets the threads take steps in the order of the schedule, with its collections between them. A collection and a turn of a
+    /// thread that the world lacks give none.
     ///
     /// After an `Err` the steps of a beginning of the schedule stay, and the next word is the turn of a thread that
-    /// could step: the journal was full, or it had room and host memory was refused.
+    /// could step, where the journal was full, or had room and host memory was refused, or it is a collection that host memory was
+    /// refused to.
     pub fn run(&mut self, schedule: &Schedule) -> Result<(), RunFault>
         ensures ok { OnOk result (RunsAlong self.old self.new schedule.now) }
-        ensures err { OnErr result (RunsInto self.old self.new schedule.now) }
-        ensures full { result ≡ Err RunFault.Full → 1000000 ≤ length self.new.journal }
-        ensures memory { result ≡ Err RunFault.Memory → length self.new.journal < 1000000 }
+        ensures err { IfErr result (RunsInto self.old self.new schedule.now) }
         ensures runs { IsSome (replay_of self.new) }
     {
         // Here the proof takes up the machine's invariant.
@@ -304,7 +341,8 @@ impl<'a> Machine<'a> {
     {
         let heap = &self.store.heap;
         let objects = named_blocks(alloc, heap, self.store.births)?;
-        let names = root_names(alloc, heap, &self.store.globals, &self.threads)?;
+        let roots = gather(alloc, &self.store, &self.threads)?;
+        let names = root_names(alloc, heap, &roots)?;
         Ok((objects, names))
     }
 
@@ -379,31 +417,34 @@ fn make_room(printed: &mut Vec<Printed>, journal: &mut Vec<Entry>) -> Result<(),
     printed.reserve(1)
 }
 
-/// Takes one step of a thread that has not ended. Its allocation is refused where what it makes has no room, which a step is asked for
-/// before anything has changed: there a collection will stand, between two steps. Only a step that makes nothing takes host memory,
-/// so what is refused can't fail.
+/// Takes one step of the thread at a place, which has not ended. Where what it makes has no room, which a step is asked for before
+/// anything has changed, there is a collection, one for all objects of the step, and then the allocation is refused where it has none
+/// still. Only a step that makes nothing takes host memory, so after the collection nothing can fail.
 #[inline(always)]
-fn advance_or_refuse(
+fn advance_or_collect(
+    alloc: Global,
     program: &Program<'_>,
     world: &World,
     store: &mut Store,
-    thread: &mut Thread,
+    threads: &mut [Thread],
+    index: usize,
 ) -> Result<Advanced, AllocError>
-    requires lowered { IsLowered program.now }
     requires few { store.old.births + 2 < 2 ^ 32 }
-    requires agrees { (own : Owners) × (shared : Shared) × (s : SourceThread) × StoreAgrees program.now world.now store.old shared
-        × ThreadAgrees program.now world.now.classes store.old.heap (length (loaded_objects world.now)) own shared thread.old s × (thread.old.ending ≡ Ending.Unfinished) × IsSteady own shared s }
-    ensures advances { IfOk result (AdvancesAlways program.now world.now store.old store.new thread.old thread.new) }
+    requires stands { CanAdvance program.now world.now store.old threads.old index }
+    ensures advances { IfOk result (AdvancesFrom program.now world.now store.old threads.old index store.new threads.new) }
     ensures store { OnErr result (store.new ≡ store.old) }
-    ensures thread { OnErr result (thread.new ≡ thread.old) }
+    ensures threads { OnErr result (threads.new ≡ threads.old) }
 {
-    match advance(program, world, store, thread, false) {
+    match advance(program, world, store, &mut threads[index], false) {
         Ok(advanced) => Ok(advanced),
         Err(StepFault::Memory) => Err(AllocError),
-        Err(StepFault::NoRoom) => match advance(program, world, store, thread, true) {
-            Ok(advanced) => Ok(advanced),
-            Err(_) => unreachable!(),
-        },
+        Err(StepFault::NoRoom) => {
+            collect_blocks(alloc, store, threads)?;
+            match advance(program, world, store, &mut threads[index], true) {
+                Ok(advanced) => Ok(advanced),
+                Err(_) => unreachable!(),
+            }
+        }
     }
 }
 

@@ -29,7 +29,7 @@ module _ (p : Lowered) (w : World) (texts : List (List ℕ)) (store after : Stor
   b = new_block w.classes texts store new
 
   next : IsNext store.heap shared.heap b o
-  next = record { after = refl; birth = ap (λ (n : ℕ). n + 1) h.births; class = same_class w.classes texts store.heap new o d.object; values = new_agree w.classes texts store.heap new o d.object made.bytes }
+  next = record { after = refl; birth = ap (λ (n : ℕ). n + 1) h.births; class = same_class w.classes texts store.heap new o d.object; values = new_agree w.classes texts store.heap new o d.object made.bytes; unpinned = refl }
 
   room : size o ≤ left_of store.heap
   room =

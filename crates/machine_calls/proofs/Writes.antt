@@ -144,11 +144,12 @@ module _ (space : Space) (heap : Heap) (a place : ℕ) (v : Value) (name : ℕ) 
           is = ap (object_at heap_after) birth ∙ object_here h.object is;
           class = h.class ∙ sym class;
           values = values_set b.values (values_of heap name) place (subst (λ (us : List ObjectValue). ValuesAgree space b.values us) (sym values) h.values) agrees;
+          unpinned = h.unpinned;
         }
 
     -- another block
     block_elsewhere : (b : Block) → b.birth ≢ name → BlockAgrees space heap b → BlockAgrees written heap_after b
-    block_elsewhere b other h = record { object = h.object; is = object_elsewhere b.birth h.object object_there.0 object_there.1 other h.is; class = h.class; values = values_stay b.values h.object.values h.values }
+    block_elsewhere b other h = record { object = h.object; is = object_elsewhere b.birth h.object object_there.0 object_there.1 other h.is; class = h.class; values = values_stay b.values h.object.values h.values; unpinned = h.unpinned }
 
     block_after : (b : Block) → block_at space b.address ≡ Some b → BlockAgrees space heap b → BlockAgrees written heap_after (changed a change b)
     block_after b found h =

@@ -59,6 +59,8 @@ pub record BlockAgrees (space : Space) (heap : Heap) (b : Block) : Type 0 where
   pub is : object_at heap b.birth ≡ Some object
   pub class : b.class ≡ object.class
   pub values : ValuesAgree space b.values object.values
+  -- no function that gives a view can be called yet
+  pub unpinned : b.pins ≡ 0
 
 -- block by block
 abbrev pub BlocksAgree : Space → Heap → List Block → Type 0

@@ -51,5 +51,6 @@ filled_made s addresses objects class i vs h room given l =
       birth = ap (λ n. n + 1) counted;
       class = refl;
       values = subst (λ (ws : List Value). ValuesAgree s ws vs) (sym whole) (values_agree s addresses (length objects) vs h.table given);
+      unpinned = refl;
     } in
     made_more s addresses objects (filled_block s class (length addresses + 1) held i) o h next room

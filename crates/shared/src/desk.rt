@@ -1,6 +1,6 @@
 // What lies under the lock.
-ghost use Rattle.std.specs.Prelude.{◌≡◌, ◌+◌, ◌<◌, ◌≤◌, length, IfOk, OnErr, IsSome, All, vec_len, vec_capacity};
-ghost use Rattle.machine.specs.Run.{TurnHolds, replay_of};
+ghost use Rattle.std.specs.Prelude.{◌≡◌, ◌+◌, ◌<◌, ◌≤◌, length, IfOk, OnOk, OnErr, IsSome, All, vec_len, vec_capacity};
+ghost use Rattle.machine.specs.Run.{IsCollected, TurnHolds, replay_of};
 ghost use Rattle.shared.specs.Accounts.{account_of, kept_after, Agrees, more_of, number_at, taken, EndsSo};
 
 use crate::seat::{Seat, kept_after};
@@ -71,6 +71,15 @@ impl<'a, J: Naming> Desk<'a, J> {
         );
         seat.kept = kept;
         answer
+    }
+
+    /// Lets the machine collect.
+    pub fn collect(&mut self) -> Result<(), AllocError>
+        ensures ok { OnOk result (IsCollected self.old self.new) }
+        ensures err { OnErr result (self.new ≡ self.old) }
+        ensures runs { IsSome (replay_of self.new) }
+    {
+        self.machine.collect()
     }
 
     /// The machine. The seats agree with it.

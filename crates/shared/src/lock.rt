@@ -66,6 +66,11 @@ impl<'a, J: Naming> Shared<'a, J> {
         self.desk.lock(rt).turn(rt, &self.cell, seat)
     }
 
+    /// Lets the machine collect. No seat's account changes. An `Err` says that host memory was refused; then nothing has moved.
+    pub fn collect<R: Wait>(&self, rt: &R) -> Result<(), AllocError> {
+        self.desk.lock(rt).collect()
+    }
+
     /// The numbers that the seat's thread has printed.
     pub fn lines(&self, seat: &Seat<J>) -> Result<Vec<i32>, AllocError>
         ensures { IfOk result (λ lines. lines.items ≡ seat.now.account.printed) }

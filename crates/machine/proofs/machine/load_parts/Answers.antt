@@ -55,6 +55,7 @@ returns-in-Ok-clause-begins c =
       same_stop = refl;
       born = let births : c.in_ok-store.store.births ≡ length (loaded_objects w) = c.in_ok-store.ensures.births in omega (arith, births, few_loaded w c.threads.ensures.sound);
       fits = tt;
+      fair = tt;
       count = count;
       few = omega (arith, count, c.threads.ensures.sound.few_threads);
     }

@@ -1,7 +1,5 @@
-use Rattle.std.proofs.Common.{◌≡◌, ◌++◌, map, drop}
-use Rattle.tables.specs.References.{references_in}
-use Rattle.machine.specs.Roots.{name_of}
+use Rattle.std.proofs.Common.{◌≡◌, ◌++◌, drop}
 use Rattle.machine.proofs.roots.push_locals.Given as goal
 
 abbrev pub invariant-loop-place : goal.invariant-loop-place
-invariant-loop-place l = l.names.items ++ map (name_of l.heap) (references_in (drop l.place l.locals.slots)) ≡ l.fn.names.items ++ map (name_of l.heap) (references_in l.locals.slots)
+invariant-loop-place l = l.places.items ++ drop l.place l.locals.slots ≡ l.fn.places.items ++ l.locals.slots

@@ -10,7 +10,7 @@ loop-repetition-init c =
 
 pub returns-in-Err-clause-err : goal.returns-in-Err-clause-err
 returns-in-Err-clause-err c =
-    part_of_repetition c.args.self.now c.loop-repetition.self c.repeat.new.self c.repetitions-repetition-items.result.now c.loop-repetition.repetition-index _ c.args.schedule.now c.repetitions-repetition-items.ensures c.loop-repetition-test.true
+    part_of_repetition c.args.self.now c.loop-repetition.self c.repeat.new.self c.repetitions-repetition-items.result.now c.loop-repetition.repetition-index _ c.args.schedule.now c.in-Err.fault c.repetitions-repetition-items.ensures c.loop-repetition-test.true
     c.loop-repetition.invariant.along c.in-Err.ensures.err
 
 pub loop-repetition-preserved : goal.loop-repetition-preserved

@@ -1,4 +1,5 @@
-use Rattle.std.proofs.Common.{◌≡◌, ℕ, suc, ◌-◌, ◌<◌, ◌≤◌, Bool, true, false, Option, Some, None, [], ◌∷◌, ◌++◌, List, length, get_or, refl, sym, ap, ◌∙◌, subst, arith}
+use Rattle.std.proofs.lemmas.List.{with_items_is, places}
+use Rattle.std.proofs.Common.{rules, ◌≡◌, ℕ, suc, ◌-◌, ◌<◌, ◌≤◌, Bool, true, false, Option, Some, None, [], ◌∷◌, ◌++◌, List, length, get_or, refl, sym, ap, ◌∙◌, subst, arith}
 use Rattle.std.specs.Prelude.{slice_get, is_some, nat_le, Result, Ok, Err, OnErr, IsSome}
 use Rattle.std.specs.Option.{option_map}
 use Rattle.std.proofs.lemmas.Bool.{leb-false, leb-true}
@@ -14,14 +15,18 @@ use Rattle.machine_steps.specs.declared.thread.Ending.TheVariants.{Unfinished, E
 use Rattle.machine.specs.declared.stop.Stop.{Stop}
 use Rattle.machine.specs.declared.turn.Turn.{Turn}
 use Rattle.machine.specs.declared.turn.Turn.TheVariants as turn
-use Rattle.machine.specs.Stops.{stop_view}
+use Rattle.machine.specs.Stops.{stop_after, stop_view}
 use Rattle.machine_steps.specs.declared.thread.Thread.{Thread}
-use Rattle.machine.specs.Run.{has_ended as ended, Run, InState, CouldStep, TurnHolds, turn_without_step, replay_of, printed_after, can_turn, event_of, is_refused}
+use Rattle.machine_steps.specs.declared.advance.Advanced.{Advanced}
+use Rattle.machine_steps.specs.declared.advance.Advanced.TheVariants as advanced
+use Rattle.machine.specs.Run.{has_ended as ended, AdvancesFrom, Corresponds, Run, InState, CouldStep, HadNoRoom, LeavesAll, TurnHolds, turn_without_step, replay_of, printed_after, can_turn, event_of, is_refused}
 use Rattle.machine_calls.specs.declared.store.Store.{Store}
 use Rattle.semantics.specs.Object.{sizes}
+use Rattle.semantics.specs.Reachable.{live_size}
 use Rattle.semantics.specs.Run.{made}
 use Rattle.syntax.specs.Views.{unit_tree}
-use Rattle.machine.proofs.Steps.{steady, the_thread, can_turn_here, has_ended, short_by, steps_by, turn_holds}
+use Rattle.machine.proofs.Collected.{StandsBetween, lives_between, stands_between}
+use Rattle.machine.proofs.Steps.{can_turn_here, has_ended, short_by, steps_by, turn_holds}
 use Rattle.machine.proofs.machine.Machine.step.Goals as goal
 use Rattle.machine.proofs.machine.Machine.step.Goals.{After-index, After-make_room}
 
@@ -154,31 +159,58 @@ returns-in_err-make_room-clause-err c =
 
 pub returns-in_err-advanced-clause-err : goal.returns-in_err-advanced-clause-err
 returns-in_err-advanced-clause-err c =
-    err_so c.self.inside.program.unit c.self.inside.world _ _ c.advance_or_refuse.new.store _ _ _ _ c.make_room.ensures.journal c.in_err-advanced.ensures.store c.self.view_is (could_step (goal.at.returns-in_err-advanced-clause-err c).After-index (tested (goal.at.returns-in_err-advanced-clause-err c).After-make_room))
+    err_so c.self.inside.program.unit c.self.inside.world _ _ c.advance_or_collect.new.store _ _ _ _ c.make_room.ensures.journal c.in_err-advanced.ensures.store c.self.view_is (could_step (goal.at.returns-in_err-advanced-clause-err c).After-index (tested (goal.at.returns-in_err-advanced-clause-err c).After-make_room))
 
--- the thread that steps is the one that was looked at
-same_thread : (ts : List Thread) (i : ℕ) (a b : Thread) → slice_get ts i ≡ Some a → slice_get ts i ≡ Some b → a.ending ≡ Unfinished → b.ending ≡ Unfinished
-same_thread ts i a b e f live = let same : a ≡ b = cc in ap (λ (t : Thread). t.ending) (sym same) ∙ live
-
-pub advance_or_refuse-requires-clause-agrees : goal.advance_or_refuse-requires-clause-agrees
-advance_or_refuse-requires-clause-agrees c =
-    let a = (goal.at.advance_or_refuse-requires-clause-agrees c).After-index in
-    let free = tested (goal.at.advance_or_refuse-requires-clause-agrees c).After-make_room in
-    let seen = there a c.index.result.now c.index.ensures in
-    let at = there a c.index_mut.result.now c.index_mut.ensures.value in
-    let f = the_thread _ _ _ _ _ _ _ c.self.invariant c.args.k (c.from-index.result - 1) c.index_mut.result.now (number a) at in
-    (_, c.self.invariant.state.shared, f.source, c.self.invariant.store_agrees, f.agrees, same_thread c.self.inside.threads.items (c.from-index.result - 1) _ _ seen at (live a free), steady _ _ _ _ _ _ _ c.self.invariant c.args.k (c.from-index.result - 1) c.index_mut.result.now (number a) at)
+pub advance_or_collect-requires-clause-stands : goal.advance_or_collect-requires-clause-stands
+advance_or_collect-requires-clause-stands c =
+    let a = (goal.at.advance_or_collect-requires-clause-stands c).After-index in
+    let free = tested (goal.at.advance_or_collect-requires-clause-stands c).After-make_room in
+    let i = c.self.inside in
+    record {
+      printed = i.printed.items;
+      stop = i.stop;
+      journal = i.journal.items;
+      stands = subst (λ (ts : List Thread). Corresponds i.program i.world i.store ts i.printed.items i.stop i.journal.items) (sym c.deref_mut.ensures.value) c.self.invariant;
+      thread = c.index.result.now;
+      at = ap (λ (ts : List Thread). slice_get ts (c.from-index.result - 1)) c.deref_mut.ensures.value ∙ there a c.index.result.now c.index.ensures;
+      lives = live a free;
+    }
 
 -- few objects have been made
-pub advance_or_refuse-requires-clause-few : goal.advance_or_refuse-requires-clause-few
-advance_or_refuse-requires-clause-few c =
-    let a = (goal.at.advance_or_refuse-requires-clause-few c).After-index in
-    let free = tested (goal.at.advance_or_refuse-requires-clause-few c).After-make_room in
+pub advance_or_collect-requires-clause-few : goal.advance_or_collect-requires-clause-few
+advance_or_collect-requires-clause-few c =
+    let a = (goal.at.advance_or_collect-requires-clause-few c).After-index in
+    let free = tested (goal.at.advance_or_collect-requires-clause-few c).After-make_room in
     omega (arith, c.self.invariant.born, a.len-entries.ensures, below a.len-entries.result free.2)
 
 -- the journal has one more entry
 one_more : (old before after : List Entry) (e : Entry) → after ≡ before ++ e ∷ [] → before ≡ old → after ≡ old ++ e ∷ []
 one_more old before after e written kept = written ∙ ap (λ (j : List Entry). j ++ e ∷ []) kept
+
+-- what the step began with, and the machine after it
+module _ (a : After-index) (free : Free a) (store' : Store) (later : List Thread) (x : Advanced) (f : AdvancesFrom a.self.inside.program a.self.inside.world a.self.inside.store a.self.inside.threads.items (a.from-index.result - 1) store' later x) where
+  abbrev Between : Type 0
+  Between = StandsBetween a.self.inside.program a.self.inside.world a.self.invariant.state f.between f.among a.self.inside.printed.items a.self.inside.stop a.self.inside.journal.items (x ≡ advanced.Refused)
+
+  between : Between
+  between = stands_between a.self.inside.program a.self.inside.world a.self.inside.store a.self.inside.threads.items a.self.inside.printed.items a.self.inside.stop a.self.inside.journal.items a.self.invariant f.between f.among x f.is
+
+  still_live : f.old.ending ≡ Unfinished
+  still_live = lives_between a.self.inside.store a.self.inside.threads.items f.between f.among x f.is (a.from-index.result - 1) a.index.result.now f.old (there a a.index.result.now a.index.ensures) f.at ∙ live a free
+
+  next : Corresponds a.self.inside.program a.self.inside.world store' later (printed_after a.self.inside.printed.items a.args.k (event_of x)) (stop_after a.self.inside.stop a.args.k (event_of x)) (a.self.inside.journal.items ++ Step a.args.k (is_refused x) ∷ [])
+  next =
+      subst (λ (l : List Thread). Corresponds a.self.inside.program a.self.inside.world store' l (printed_after a.self.inside.printed.items a.args.k (event_of x)) (stop_after a.self.inside.stop a.args.k (event_of x)) (a.self.inside.journal.items ++ Step a.args.k (is_refused x) ∷ [])) (sym f.follow)
+      (steps_by _ _ _ _ _ _ _ between.stands a.args.k (a.from-index.result - 1) f.old (number a) f.at store' f.new x (running a free) still_live f.advances between.left)
+
+  -- where it was refused
+  no_room : x ≡ advanced.Refused → HadNoRoom a.args.self.now a.args.k (left_of store'.heap) × LeavesAll a.args.self.now (left_of store'.heap)
+  no_room refused =
+      let short = short_by _ _ _ _ _ _ _ between.stands a.args.k (a.from-index.result - 1) f.old (number a) f.at store' f.new x (running a free) still_live f.advances between.left refused in
+      let here = subst (λ (r : Run). replay_of r ≡ Some between.stands.state) a.self.view_is between.stands.replays in (
+        (between.stands.state, here, subst (λ (r : Run). left_of store'.heap < sizes (made (unit_tree r.unit) r.world between.stands.state a.args.k)) a.self.view_is short.0),
+        (between.stands.state, here, λ none. subst (λ (r : Run). left_of store'.heap ≡ r.world.cells - live_size r.world between.stands.state) a.self.view_is short.1),
+      )
 
 pub invariant_of-self-2 : goal.invariant_of-self-2
 invariant_of-self-2 c =
@@ -186,13 +218,13 @@ invariant_of-self-2 c =
     let free = tested (goal.at.invariant_of-self-2 c).After-make_room in
     let i = c.self.inside in
     let x = c.in_ok-advanced.advanced in
-    let seen = there a c.index.result.now c.index.ensures in
-    let at = there a c.index_mut.result.now c.index_mut.ensures.value in
-    let stays = same_thread i.threads.items (c.from-index.result - 1) _ _ seen at (live a free) in
-    let s = steps_by _ _ _ _ _ _ _ c.self.invariant c.args.k (c.from-index.result - 1) c.index_mut.result.now (number a) at c.advance_or_refuse.new.store c.advance_or_refuse.new.thread x (running a free) stays c.in_ok-advanced.ensures.advances in
+    let later = c.advance_or_collect.new.threads in
+    let advances = subst (λ (ts : List Thread). AdvancesFrom i.program i.world i.store ts (c.from-index.result - 1) c.advance_or_collect.new.store later x) c.deref_mut.ensures.value c.in_ok-advanced.ensures.advances in
+    let s = next a free c.advance_or_collect.new.store later x advances in
     let printed : c.write_step.new.printed.items ≡ printed_after i.printed.items c.args.k (event_of x) = c.write_step.ensures.printed ∙ ap (λ l. printed_after l c.args.k (event_of x)) c.make_room.ensures.printed in
     let journal = one_more i.journal.items c.make_room.new.journal.items c.write_step.new.journal.items (Step c.args.k (is_refused x)) c.write_step.ensures.journal c.make_room.ensures.journal in
-    rw (printed, c.write_step.ensures.stop, journal) s
+    subst (λ (ts : List Thread). Corresponds i.program i.world c.advance_or_collect.new.store ts c.write_step.new.printed.items c.write_step.new.stop c.write_step.new.journal.items) (sym (with_items_is i.threads later (search (rules, places))))
+    (rw (printed, c.write_step.ensures.stop, journal) s)
 
 pub returns-clause-turn : goal.returns-clause-turn
 returns-clause-turn c =
@@ -200,18 +232,10 @@ returns-clause-turn c =
     let free = tested (goal.at.returns-clause-turn c).After-make_room in
     let i = c.self.inside in
     let x = c.in_ok-advanced.advanced in
-    let seen = there a c.index.result.now c.index.ensures in
-    let at = there a c.index_mut.result.now c.index_mut.ensures.value in
-    let stays = same_thread i.threads.items (c.from-index.result - 1) _ _ seen at (live a free) in
     let journal = one_more i.journal.items c.make_room.new.journal.items c.write_step.new.journal.items (Step c.args.k (is_refused x)) c.write_step.ensures.journal c.make_room.ensures.journal in
-    let left = left_of c.advance_or_refuse.new.store.heap in
-    rw c.write_step.ensures.turn (turn_holds c.args.self.now i.program.unit i.world i.journal.items c.write_step.new.journal.items (left_of i.store.heap) left c.args.k x c.self.view_is journal
-    (could_step a free) (λ refused. (
-      c.self.invariant.state,
-      replays a,
-      subst (λ (r : Run). left < sizes (made (unit_tree r.unit) r.world c.self.invariant.state c.args.k)) c.self.view_is
-          (short_by _ _ _ _ _ _ _ c.self.invariant c.args.k (c.from-index.result - 1) c.index_mut.result.now (number a) at c.advance_or_refuse.new.store c.advance_or_refuse.new.thread x (running a free) stays c.in_ok-advanced.ensures.advances refused),
-    )))
+    let advances = subst (λ (ts : List Thread). AdvancesFrom i.program i.world i.store ts (c.from-index.result - 1) c.advance_or_collect.new.store c.advance_or_collect.new.threads x) c.deref_mut.ensures.value c.in_ok-advanced.ensures.advances in
+    rw c.write_step.ensures.turn (turn_holds c.args.self.now i.program.unit i.world i.journal.items c.write_step.new.journal.items (left_of i.store.heap) (left_of c.advance_or_collect.new.store.heap) c.args.k x c.self.view_is journal
+    (could_step a free) (no_room a free c.advance_or_collect.new.store c.advance_or_collect.new.threads x advances))
 
 pub returns-clause-runs : goal.returns-clause-runs
 returns-clause-runs c = rw (invariant_of-self-2 c).replays refl

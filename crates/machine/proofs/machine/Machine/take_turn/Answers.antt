@@ -5,7 +5,5 @@ pub returns-in_default : goal.returns-in_default
 returns-in_default c = record {
   ok = turned c.args.self.now c.step.new.self c.args.k c.in-Ok.turn c.in-Ok.ensures.turn c.in-Ok.ensures.runs c.in_default.not-Full;
   err = tt;
-  full = λ e. absurd (cc);
-  memory = λ e. absurd (cc);
   runs = c.in-Ok.ensures.runs;
 }

@@ -1,0 +1,232 @@
+-- What a collection leaves stands for the same state, and the cells that it leaves are those of what can't be reached.
+use Rattle.std.proofs.Common.{◌≡◌, ◌≢◌, ℕ, suc, ◌-◌, Bool, true, false, cond, eqb, List, [], ◌∷◌, ◌++◌, Option, Some, None, Result, Ok, Err, OnOk, OnErr, refl, sym, ap, ◌∙◌, subst, arith, IsSome, ⊎_elim}
+use Rattle.std.specs.Prelude.{find, flat_map, slice_get}
+use Rattle.std.specs.Option.{option_map, option_map_or, option_to_list}
+use Rattle.std.proofs.lemmas.Bool.{false≢true}
+use Rattle.std.proofs.lemmas.List.Concat.{flat_map-cons}
+use Rattle.heap.specs.declared.value.Value.{Value}
+use Rattle.heap.specs.declared.value.Value.TheVariants.{Number, Null, Block as Address}
+use Rattle.heap.specs.Heap.{Block, Space, block_at, end_of, left_of, name_at, pins_at, values_at}
+use Rattle.heap.proofs.Lookups.{block_at-place}
+use Rattle.heap.proofs.Places.{IsAddress-from_place}
+use Rattle.compact.specs.Reach as compact
+use Rattle.compact.specs.Reach.{IsClosed, IsKept, Refers}
+use Rattle.compact.specs.Reach.IsKept.{root, referred}
+use Rattle.compact.proofs.Tight.{get_map}
+use Rattle.compact.proofs.Blocks.{IsAddress-from_kept}
+use Rattle.tables.specs.References.{references_in}
+use Rattle.code_meaning.specs.Lowered.{Lowered}
+use Rattle.semantics.specs.declared.journal.Entry.{Entry}
+use Rattle.semantics.specs.declared.printed.Printed.{Printed}
+use Rattle.semantics.specs.Heap.{Heap}
+use Rattle.semantics.specs.Reachable.{live_size, Reachable}
+use Rattle.semantics.specs.State.{State}
+use Rattle.semantics.specs.World.{World}
+use Rattle.semantics.proofs.ReachableLemmas.{In, in_append_left, in_append_right, in_cases, in_head}
+use Rattle.machine_calls.specs.declared.store.Store.{Store}
+use Rattle.machine_calls.specs.HeapAgrees.{BlocksAgree}
+use Rattle.machine_calls.proofs.BlocksOfNames.{is_address, named}
+use Rattle.machine_steps.specs.declared.advance.Advanced.{Advanced}
+use Rattle.machine_steps.specs.declared.advance.Advanced.TheVariants as advanced
+use Rattle.machine_steps.specs.declared.thread.Thread.{Thread}
+use Rattle.machine.specs.declared.stop.Stop.{Stop}
+use Rattle.machine.specs.Moving.{AreCollected, AreReferred, moved_thread}
+use Rattle.machine.specs.Roots.{ThreadsAreStacked, root_places, slots_of}
+use Rattle.machine.specs.Run.{Run, Corresponds, IsBetween, IsCollected, replay_of}
+use Rattle.machine.proofs.CollectedRuns.{corresponds_moved}
+use Rattle.machine.proofs.Collections.{name_moved}
+use Rattle.machine.proofs.GatheredRoots.{gathered, in_place, places_are, thread_addresses}
+use Rattle.machine.proofs.KeptCells.{live_is}
+use Rattle.machine.proofs.KeptNames.{kept_reachable, referred_name}
+use Rattle.machine.proofs.KeptReferences.{AreKept, CallIsKept, IsClosedUnder, ThreadsAreKept, ValueIsKept, ValuesAreKept}
+use Rattle.machine.proofs.LiveBlocks.{births}
+use Rattle.machine.proofs.Reports.{gathered_name, reachable_there}
+
+-- ---- blocks
+
+-- no block is pinned
+unpinned : (space : Space) (heap : Heap) (bs : List Block) (a : ℕ) → BlocksAgree space heap bs → option_map_or (λ (b : Block). b.pins) (find (λ (b : Block). eqb b.address a) bs) 0 ≡ 0
+unpinned space heap [] a h = refl
+unpinned space heap (b ∷ bs) a h = by_test (eqb b.address a) (unpinned space heap bs a h.1)
+  where
+    by_test : (t : Bool) → option_map_or (λ (b : Block). b.pins) (find (λ (b : Block). eqb b.address a) bs) 0 ≡ 0 → option_map_or (λ (b : Block). b.pins) (cond t (Some b) (find (λ (b : Block). eqb b.address a) bs)) 0 ≡ 0
+    by_test true later = h.0.unpinned
+    by_test false later = later
+
+some_name : (o : Option Block) → IsSome o → (n : ℕ) × (option_map (λ (b : Block). b.birth) o ≡ Some n)
+some_name None h = absurd (false≢true h)
+some_name (Some b) h = (b.birth, refl)
+
+birth_at : (bs : List Block) (n : ℕ) → In (births bs) n → (i : ℕ) × (b : Block) × (slice_get bs i ≡ Some b) × (b.birth ≡ n)
+birth_at [] n h = absurd (false≢true h)
+birth_at (b ∷ bs) n h =
+    ⊎_elim
+    (λ (e : b.birth ≡ n). (0, b, refl, e))
+    (λ (l : In (births bs) n). let r = birth_at bs n l in (suc r.0, r.1, r.2, r.3))
+    (in_cases b.birth (births bs) n h)
+
+-- ---- what is kept
+
+each_kept : (Kept : ℕ → Type 0) (xs : List ℕ) → ((a : ℕ) → In xs a → Kept a) → AreKept Kept xs
+each_kept Kept [] h = tt
+each_kept Kept (x ∷ xs) h = (h x (in_head x xs), each_kept Kept xs (λ a k. h a (in_later x xs a k)))
+  where
+    in_later : (x : ℕ) (xs : List ℕ) (a : ℕ) → In xs a → In (x ∷ xs) a
+    in_later x xs a k = in_append_right (x ∷ []) xs a k
+
+values_kept : (Kept : ℕ → Type 0) (vs : List Value) → ((place x : ℕ) → slice_get vs place ≡ Some (Address x) → Kept x) → ValuesAreKept Kept vs
+values_kept Kept [] h = tt
+values_kept Kept (v ∷ vs) h = (one v (λ x e. h 0 x (ap (λ (w : Value). Some w) e)), values_kept Kept vs (λ place x e. h (suc place) x e))
+  where
+    one : (v : Value) → ((x : ℕ) → v ≡ Address x → Kept x) → ValueIsKept Kept v
+    one (Number n) h = tt
+    one Null h = tt
+    one (Address x) h = h x refl
+
+call_kept : (Kept : ℕ → Type 0) (t : Thread) → ((a : ℕ) → In (references_in (slots_of t.call)) a → Kept a) → CallIsKept Kept t.call
+call_kept Kept t h = by_call t.call h
+  where
+    by_call : (o : _) → ((a : ℕ) → In (references_in (slots_of o)) a → Kept a) → CallIsKept Kept o
+    by_call None h = tt
+    by_call (Some call) h = each_kept Kept (references_in call.locals.slots) h
+
+in_option : (o : Option ℕ) (a : ℕ) → o ≡ Some a → In (option_to_list o) a
+in_option o a e = subst (λ (x : Option ℕ). In (option_to_list x) a) (sym e) (in_head a [])
+
+threads_kept : (Kept : ℕ → Type 0) (ts : List Thread) → ((a : ℕ) → In (flat_map thread_addresses ts) a → Kept a) → ThreadsAreKept Kept ts
+threads_kept Kept [] h = tt
+threads_kept Kept (t ∷ ts) h =
+    let all : (a : ℕ) → In (thread_addresses t ++ flat_map thread_addresses ts) a → Kept a = λ a k. h a (subst (λ (l : List ℕ). In l a) (sym (flat_map-cons thread_addresses t ts)) k) in
+    let own : (a : ℕ) → In (thread_addresses t) a → Kept a = λ a k. all a (in_append_left (thread_addresses t) (flat_map thread_addresses ts) a k) in (
+      call_kept Kept t (λ a k. own a (in_append_left (references_in (slots_of t.call)) (option_to_list t.pending) a k)),
+      (λ a e. own a (in_append_right (references_in (slots_of t.call)) (option_to_list t.pending) a (in_option t.pending a e))),
+      threads_kept Kept ts (λ a k. all a (in_append_right (thread_addresses t) (flat_map thread_addresses ts) a k)),
+    )
+
+-- ---- the machine
+
+module _ (p : Lowered) (world : World) (store : Store) (ts : List Thread) (printed : List Printed) (stop : Option Stop) (journal : List Entry) (c : Corresponds p world store ts printed stop journal) where
+  no_pins : (a : ℕ) → pins_at store.heap a ≡ 0
+  no_pins a = unpinned store.heap c.state.shared.heap store.heap.blocks a c.store_agrees.heap.blocks
+
+  is_closed : IsClosed store.heap
+  is_closed a b there r =
+      let name = some_name (block_at store.heap a) there in
+      let d = named store.heap c.state.shared.heap a name.0 c.store_agrees.heap name.1 in
+      let values : values_at store.heap a ≡ d.block.values = ap (λ (o : Option Block). option_map_or (λ (x : Block). x.values) o []) d.at in
+      let to = referred_name store.heap d.block.values d.agrees.object.values r.place b d.agrees.values (sym (ap (λ (l : List Value). slice_get l r.place) values) ∙ r.value) in
+      is_address store.heap b to.0 to.1
+
+  roots_there : ThreadsAreStacked ts → compact.AreAddresses store.heap (root_places store ts)
+  roots_there stacked a there = let r = gathered_name p world store ts printed stop journal c stacked a there in is_address store.heap a r.0 r.1
+
+  -- what blocks and roots refer to is there
+  pub are_referred : AreReferred store ts
+  are_referred = record { closed = is_closed; roots = roots_there }
+
+  module _ (after : Store) (later : List Thread) (h : AreCollected store ts after later) where
+    abbrev Kept : ℕ → Type 0
+    Kept = IsKept store.heap (root_places store ts)
+
+    gathered_kept : (a : ℕ) → In (gathered store ts) a → Kept a
+    gathered_kept a k = root (in_place (root_places store ts) a (subst (λ (l : List ℕ). In l a) (sym (places_are store ts)) k))
+
+    kept_closed : IsClosedUnder Kept store.heap
+    kept_closed = record {
+      there = λ a k. IsAddress-from_kept store.heap (root_places store ts) is_closed (roots_there h.stacked) a k;
+      values = λ a b k at. values_kept Kept b.values (λ place x e. referred k (record {
+        place = place;
+        value = ap (λ (o : Option Block). slice_get (option_map_or (λ (y : Block). y.values) o []) place) at ∙ e;
+      }));
+    }
+
+    -- the machine stands for the state that it stood for
+    pub corresponds_collected : Corresponds p world after later printed stop journal
+    corresponds_collected =
+        let items = store.loaded.items in
+        let globals = references_in store.globals in
+        let threads = flat_map thread_addresses ts in
+        subst (λ (l : List Thread). Corresponds p world after l printed stop journal) (sym h.follow)
+        (corresponds_moved Kept h.to p world store after after.heap h.blocks kept_closed h.moved ts printed stop journal
+        (each_kept Kept items (λ a k. gathered_kept a (in_append_left items (globals ++ threads) a k)))
+        (each_kept Kept globals (λ a k. gathered_kept a (in_append_right items (globals ++ threads) a (in_append_left globals threads a k))))
+        (threads_kept Kept ts (λ a k. gathered_kept a (in_append_right items (globals ++ threads) a (in_append_right globals threads a k))))
+        c)
+
+    -- each block that is left can be reached
+    left_reachable : (n : ℕ) → In (births after.heap.blocks) n → Reachable world c.state n
+    left_reachable n k =
+        let t = after.heap in
+        let at = birth_at t.blocks n k in
+        let b : Block = at.1 in
+        let place = get_map (λ (x : Block). x.address) t.blocks at.0 b at.2 in
+        let here : block_at t b.address ≡ Some b = block_at-place t at.0 b.address h.blocks.laid_out place ∙ at.2 in
+        let old = h.blocks.only b.address (IsAddress-from_place t at.0 b.address h.blocks.laid_out place) in
+        let r = kept_reachable world c.state store.heap c.store_agrees.heap (root_places store ts) (gathered_name p world store ts printed stop journal c h.stacked) no_pins old.0 old.1 in
+        let now : name_at t b.address ≡ Some r.0 = subst (λ (x : ℕ). name_at t x ≡ Some r.0) old.2 (name_moved Kept h.to store.heap t h.blocks old.0 r.0 old.1 r.1) in
+        let birth : Some b.birth ≡ Some r.0 = sym (ap (option_map (λ (x : Block). x.birth)) here) ∙ now in
+        let same : r.0 ≡ n = let first : b.birth ≡ r.0 = cc in sym first ∙ at.3 in
+        subst (λ (m : ℕ). Reachable world c.state m) same r.2
+
+    -- all cells are left but those of what can be reached
+    pub left_collected : left_of after.heap ≡ world.cells - live_size world c.state
+    left_collected =
+        let d = corresponds_collected in
+        let same : c.state ≡ d.state = cc (sym c.replays, d.replays) in
+        let live : end_of after.heap ≡ live_size world d.state = live_is world d.state after.heap d.store_agrees.heap d.store_agrees.laid_out (reachable_there p world after later printed stop journal d)
+        (λ n k. subst (λ (s : State). Reachable world s n) same (left_reachable n k)) (h.blocks.lowest no_pins) in
+        let cells : after.heap.cells ≡ world.cells = d.store_agrees.cells in
+        let back : live_size world d.state ≡ live_size world c.state = ap (live_size world) (sym same) in
+        omega (arith, live, cells, back)
+
+-- ---- a collection by itself
+
+module _ (p : Lowered) (world : World) (store : Store) (ts : List Thread) (printed : List Printed) (stop : Option Stop) (journal : List Entry) (c : Corresponds p world store ts printed stop journal) {T E : Type 0} where
+  -- the machine stands for the state that it stood for, whether memory was refused or not
+  pub stands_after : (r : Result T E) (after : Store) (later : List Thread) → OnOk r (AreCollected store ts after later) → OnErr r (after ≡ store) → OnErr r (later ≡ ts) → Corresponds p world after later printed stop journal
+  stands_after (Ok x) after later h e f = corresponds_collected p world store ts printed stop journal c after later h
+  stands_after (Err x) after later h e f = subst (λ (y : Store). Corresponds p world y later printed stop journal) (sym e) (subst (λ (l : List Thread). Corresponds p world store l printed stop journal) (sym f) c)
+
+  -- and the run is as it was, but for the cells that are left
+  pub run_after : (r : Result T E) (after : Store) (later : List Thread) (old : Run) → ◌≡◌ {A = Run} (record { unit = p.unit; world = world; journal = journal; left = left_of store.heap }) old → OnOk r (AreCollected store ts after later)
+      → OnOk r (IsCollected old (record { unit = p.unit; world = world; journal = journal; left = left_of after.heap }))
+  run_after (Ok x) after later old view h = record {
+    same = ap (λ (r : Run). let s : Run = record r { left = left_of after.heap } in s) view;
+    left = (
+      c.state,
+      subst (λ (r : Run). replay_of r ≡ Some c.state) view c.replays,
+      λ none. subst (λ (r : Run). left_of after.heap ≡ r.world.cells - live_size r.world c.state) view (left_collected p world store ts printed stop journal c after later h),
+    );
+  }
+  run_after (Err x) after later old view h = tt
+
+-- ---- between two steps
+
+-- a machine that stands for the same state as another, and has all cells left but those of what can be reached, where it has to
+pub record StandsBetween (p : Lowered) (world : World) (state : State) (store : Store) (ts : List Thread) (printed : List Printed) (stop : Option Stop) (journal : List Entry) (refused : Type 0) : Type 0 where
+  pub stands : Corresponds p world store ts printed stop journal
+  pub same : stands.state ≡ state
+  pub left : refused → left_of store.heap ≡ world.cells - live_size world stands.state
+
+module _ (p : Lowered) (world : World) (store : Store) (ts : List Thread) (printed : List Printed) (stop : Option Stop) (journal : List Entry) (c : Corresponds p world store ts printed stop journal) where
+  pub stands_between : (between : Store) (among : List Thread) (x : Advanced) → IsBetween store ts between among x → StandsBetween p world c.state between among printed stop journal (x ≡ advanced.Refused)
+  stands_between between among x is =
+      ⊎_elim
+      (λ (h : (between ≡ store) × (among ≡ ts) × (x ≢ advanced.Refused)).
+      let d : Corresponds p world between among printed stop journal = subst (λ (y : Store). Corresponds p world y among printed stop journal) (sym h.0) (subst (λ (l : List Thread). Corresponds p world store l printed stop journal) (sym h.1) c) in
+      record { stands = d; same = cc (sym d.replays, c.replays); left = λ refused. absurd (h.2 refused) })
+      (λ (h : AreCollected store ts between among).
+      let d = corresponds_collected p world store ts printed stop journal c between among h in
+      let same : d.state ≡ c.state = cc (sym d.replays, c.replays) in
+      record { stands = d; same = same; left = λ refused. left_collected p world store ts printed stop journal c between among h ∙ ap (λ (s : State). world.cells - live_size world s) (sym same) })
+      is
+
+-- threads go on where they have moved
+pub lives_between : (store : Store) (ts : List Thread) (between : Store) (among : List Thread) (x : Advanced) → IsBetween store ts between among x → (i : ℕ) (t u : Thread) → slice_get ts i ≡ Some t → slice_get among i ≡ Some u → u.ending ≡ t.ending
+lives_between store ts between among x is i t u at there =
+    ⊎_elim
+    (λ (h : (between ≡ store) × (among ≡ ts) × (x ≢ advanced.Refused)).
+    let same : u ≡ t = let both : Some u ≡ Some t = sym there ∙ ap (λ (l : List Thread). slice_get l i) h.1 ∙ at in cc in ap (λ (y : Thread). y.ending) same)
+    (λ (h : AreCollected store ts between among).
+    let same : u ≡ moved_thread h.to t = let both : Some u ≡ Some (moved_thread h.to t) = sym there ∙ ap (λ (l : List Thread). slice_get l i) h.follow ∙ get_map (moved_thread h.to) ts i t at in cc in ap (λ (y : Thread). y.ending) same)
+    is

@@ -1,0 +1,177 @@
+-- A collection leaves the run as it was.
+use Rattle.std.proofs.Common.{◌≡◌, ℕ, zero, suc, ◌+◌, ◌*◌, ◌≤◌, List, [], ◌∷◌, length, map, take, drop, Option, Some, None, refl, sym, ap, ◌∙◌, subst, IsSome}
+use Rattle.std.specs.Prelude.{slice_get, reverse}
+use Rattle.std.specs.Option.{option_map}
+use Rattle.std.proofs.lemmas.List.{length-map}
+use Rattle.syntax.specs.Views.{unit_tree}
+use Rattle.class_rules.specs.Class.{Classes}
+use Rattle.heap.specs.Heap.{Space, IsLaidOut}
+use Rattle.semantics.specs.Task.{Task}
+use Rattle.semantics.specs.Thread as source
+use Rattle.semantics.specs.Thread.{Shared}
+use Rattle.semantics.specs.World.{World, loaded_objects}
+use Rattle.semantics.specs.declared.journal.Entry.{Entry}
+use Rattle.semantics.specs.declared.printed.Printed.{Printed}
+use Rattle.code_meaning.specs.Lowered.{Lowered}
+use Rattle.code_meaning.specs.Slots.{Visible, visible_to}
+use Rattle.semantics_safety.specs.Owners.{AllOwners, owners_after}
+use Rattle.tables.specs.Locals.{Frame, slots_by_frame}
+use Rattle.tables.specs.References.{address_at, references_in}
+use Rattle.machine_calls.specs.declared.activation.Activation.{Activation}
+use Rattle.machine_calls.specs.declared.store.Store.{Store}
+use Rattle.machine_calls.specs.declared.references.Held.{Held}
+use Rattle.machine_calls.specs.declared.statics.StaticReference.{StaticReference}
+use Rattle.machine_calls.specs.declared.statics.StaticReference.TheVariants as static
+use Rattle.machine_calls.specs.HeapAgrees.{HeapAgrees, IsTable, SlotsAgree}
+use Rattle.machine_calls.specs.Statics.{all_held, held, held_at}
+use Rattle.machine_calls.specs.StoreAgrees.{StaticsAgree, StoreAgrees}
+use Rattle.machine_steps.specs.declared.thread.Thread.{Thread}
+use Rattle.machine_steps.specs.Executes.{CallStands, WorkAgrees}
+use Rattle.machine_steps.specs.ThreadAgrees.{ThreadsAgree}
+use Rattle.machine.specs.declared.stop.Stop.{Stop}
+use Rattle.compact.specs.Same.{MovesBy}
+use Rattle.machine.specs.Moving.{IsMoved, moved_call, moved_slots, moved_thread}
+use Rattle.machine.proofs.KeptReferences.{AllHeldAreKept, AreKept, CallIsKept, HeldIsKept, IsClosedUnder, ThreadsAreKept, moved_held}
+use Rattle.machine.specs.Run.{Corresponds}
+use Rattle.machine.proofs.Collections.{FramesKept, address_moved, heap_moved, kept_at, keys_moved, locals_moved, reference_moved, slots_moved, statics_moved, table_moved}
+
+-- ---- what is kept, frame by frame
+
+module _ (Kept : ℕ → Type 0) where
+  kept_drop : (n : ℕ) (slots : List (Option ℕ)) → AreKept Kept (references_in slots) → AreKept Kept (references_in (drop n slots))
+  kept_drop zero slots h = h
+  kept_drop (suc n) [] h = h
+  kept_drop (suc n) (None ∷ slots) h = kept_drop n slots h
+  kept_drop (suc n) (Some a ∷ slots) h = kept_drop n slots h.1
+
+  kept_take : (n : ℕ) (slots : List (Option ℕ)) → AreKept Kept (references_in slots) → AreKept Kept (references_in (take n slots))
+  kept_take zero slots h = tt
+  kept_take (suc n) [] h = h
+  kept_take (suc n) (None ∷ slots) h = kept_take n slots h
+  kept_take (suc n) (Some a ∷ slots) h = (h.0, kept_take n slots h.1)
+
+  held_kept : (globals : List (Option ℕ)) (x : StaticReference) → AreKept Kept (references_in globals) → HeldIsKept Kept (held globals x)
+  held_kept globals static.Empty h = tt
+  held_kept globals static.Deleted h = tt
+  held_kept globals (static.Live key) h = by_address (address_at globals key) refl
+    where
+      by_address : (o : Option ℕ) → address_at globals key ≡ o → HeldIsKept Kept (held_at o)
+      by_address None e = tt
+      by_address (Some a) e = kept_at Kept globals key a h e
+
+  all_kept : (globals : List (Option ℕ)) (xs : List StaticReference) → AreKept Kept (references_in globals) → AllHeldAreKept Kept (all_held globals xs)
+  all_kept globals [] h = tt
+  all_kept globals (x ∷ xs) h = (held_kept globals x h, all_kept globals xs h)
+
+-- ---- statics
+
+at_moved : (f : ℕ → ℕ) (o : Option ℕ) → held_at (option_map f o) ≡ moved_held f (held_at o)
+at_moved f None = refl
+at_moved f (Some a) = refl
+
+one_moved : (f : ℕ → ℕ) (globals : List (Option ℕ)) (x : StaticReference) → held (moved_slots f globals) x ≡ moved_held f (held globals x)
+one_moved f globals static.Empty = refl
+one_moved f globals static.Deleted = refl
+one_moved f globals (static.Live key) = ap held_at (address_moved f globals key) ∙ at_moved f (address_at globals key)
+
+helds_moved : (f : ℕ → ℕ) (globals : List (Option ℕ)) (xs : List StaticReference) → all_held (moved_slots f globals) xs ≡ map (moved_held f) (all_held globals xs)
+helds_moved f globals [] = refl
+helds_moved f globals (x ∷ xs) = ap (λ (h : Held). h ∷ all_held (moved_slots f globals) xs) (one_moved f globals x) ∙ ap (λ (l : List Held). moved_held f (held globals x) ∷ l) (helds_moved f globals xs)
+
+some_moved : (f : ℕ → ℕ) (o : Option ℕ) → IsSome o → IsSome (option_map f o)
+some_moved f None h = h
+some_moved f (Some a) h = refl
+
+-- ---- the store and the threads
+
+module _ (Kept : ℕ → Type 0) (to : ℕ → ℕ) (p : Lowered) (w : World) (store after : Store) (t : Space) (m : MovesBy Kept to store.heap t) (closed : IsClosedUnder Kept store.heap) (is : IsMoved to store t after) where
+  store_moved : (shared : Shared) → AreKept Kept store.loaded.items → AreKept Kept (references_in store.globals) → StoreAgrees p w store shared → StoreAgrees p w after shared
+  store_moved shared loaded globals h = record {
+    heap = subst (λ (x : Space). HeapAgrees x shared.heap) (sym is.heap) (heap_moved Kept to store.heap t m shared.heap h.heap closed);
+    laid_out = subst IsLaidOut (sym is.heap) m.laid_out;
+    cells = ap (λ (x : Space). x.cells) is.heap ∙ m.cells ∙ h.cells;
+    table = subst (λ (x : Space). IsTable x after.loaded.items (length (loaded_objects w))) (sym is.heap)
+        (subst (λ (l : List ℕ). IsTable t l (length (loaded_objects w))) (sym is.loaded) (table_moved Kept to store.heap t m store.loaded.items (length (loaded_objects w)) loaded h.table));
+    begun = h.begun;
+    births = is.births ∙ h.births;
+    classed = h.classed;
+    statics =
+        subst (λ (x : Space). StaticsAgree x (all_held after.globals after.statics.items) shared.statics) (sym is.heap)
+        (subst (λ (helds : List Held). StaticsAgree t helds shared.statics) (sym same_held) (statics_moved Kept to store.heap t m (all_held store.globals store.statics.items) shared.statics (all_kept Kept store.globals store.statics.items globals) h.statics));
+    named = h.named;
+    keys = record {
+      live = λ i key at. subst (λ (l : List (Option ℕ)). IsSome (address_at l key)) (sym is.globals)
+          (subst (λ (o : Option ℕ). IsSome o) (sym (address_moved to store.globals key)) (some_moved to (address_at store.globals key) (h.keys.live i key (sym (ap (λ v. slice_get v.items i) is.statics) ∙ at))));
+      own = λ i j key a b. h.keys.own i j key (sym (ap (λ v. slice_get v.items i) is.statics) ∙ a) (sym (ap (λ v. slice_get v.items j) is.statics) ∙ b);
+    };
+    globals =
+        subst (λ (x : Space). SlotsAgree x after.globals shared.globals) (sym is.heap)
+        (subst (λ (l : List (Option ℕ)). SlotsAgree t l shared.globals) (sym is.globals) (slots_moved Kept to store.heap t m store.globals shared.globals globals h.globals));
+    monitors = h.monitors;
+  }
+    where
+      same_held : all_held after.globals after.statics.items ≡ map (moved_held to) (all_held store.globals store.statics.items)
+      same_held = ap (λ (l : List (Option ℕ)). all_held l after.statics.items) is.globals ∙ ap (λ v. all_held (moved_slots to store.globals) v.items) is.statics ∙ helds_moved to store.globals store.statics.items
+
+  frames_kept : (fs : List Frame) (slots : List (Option ℕ)) → AreKept Kept (references_in slots) → FramesKept Kept to store.heap t m (slots_by_frame fs slots)
+  frames_kept [] slots h = tt
+  frames_kept (f ∷ below) slots h = (kept_drop Kept f.first slots h, frames_kept below (take f.first slots) (kept_take Kept f.first slots h))
+
+  call_moved : (classes : Classes) (call : Activation) (visible : Visible) (frames : List source.Frame) (tasks : List Task) → AreKept Kept (references_in call.locals.slots) → CallStands p classes store.heap call visible frames tasks → CallStands p classes t (moved_call to call) visible frames tasks
+  call_moved classes call visible frames tasks kept h = record {
+    code = h.code;
+    of_function = h.of_function;
+    known = h.known;
+    stands = h.stands;
+    references = h.references;
+    owners = h.owners;
+    agree = keys_moved Kept to store.heap t m call.locals call.references.items h.references h.owners kept h.agree;
+    fields = h.fields;
+    fields_agree = h.fields_agree;
+    shows = h.shows;
+    depth = h.depth;
+    frames_agree = locals_moved Kept to store.heap t m call.locals frames (frames_kept (reverse call.locals.frames) call.locals.slots kept) h.frames_agree;
+  }
+
+  work_moved : (classes : Classes) (visible : Visible) (o : Option Activation) (frames : List source.Frame) (tasks : Option (List Task)) → CallIsKept Kept o → WorkAgrees p classes store.heap visible o frames tasks → WorkAgrees p classes t visible (option_map (moved_call to) o) frames tasks
+  work_moved classes visible None frames None kept h = h
+  work_moved classes visible None frames (Some tasks) kept h = h
+  work_moved classes visible (Some call) frames None kept h = h
+  work_moved classes visible (Some call) frames (Some tasks) kept h = call_moved classes call visible frames tasks kept h
+
+  threads_moved : (classes : Classes) (made : ℕ) (owners : AllOwners) (k : ℕ) (shared : Shared) (ts : List Thread) (ss : List source.Thread) → ThreadsAreKept Kept ts → ThreadsAgree p classes store.heap made owners k shared ts ss → ThreadsAgree p classes t made owners k shared (map (moved_thread to) ts) ss
+  threads_moved classes made owners k shared [] [] kept h = h
+  threads_moved classes made owners k shared [] (s ∷ ss) kept h = h
+  threads_moved classes made owners k shared (x ∷ ts) [] kept h = h
+  threads_moved classes made owners k shared (x ∷ ts) (s ∷ ss) kept h = (
+    record {
+      calls = (h.0).calls;
+      work = work_moved classes (visible_to (owners k) shared s) x.call s.frames s.tasks kept.0 (h.0).work;
+      pending = reference_moved Kept to store.heap t m x.pending s.pending kept.1 (h.0).pending;
+      ending = (h.0).ending;
+      busy = (h.0).busy;
+      caught = (h.0).caught;
+      viewless = (h.0).viewless;
+    },
+    threads_moved classes made owners (suc k) shared ts ss kept.2 h.1,
+  )
+
+  -- the machine stands for the state that it stood for
+  pub corresponds_moved : (ts : List Thread) (printed : List Printed) (stop : Option Stop) (journal : List Entry) → AreKept Kept store.loaded.items → AreKept Kept (references_in store.globals) → ThreadsAreKept Kept ts → Corresponds p w store ts printed stop journal
+      → Corresponds p w after (map (moved_thread to) ts) printed stop journal
+  corresponds_moved ts printed stop journal loaded globals threads c = record {
+    lowered = c.lowered;
+    safe = c.safe;
+    state = c.state;
+    replays = c.replays;
+    store_agrees = store_moved c.state.shared loaded globals c.store_agrees;
+    threads_agree = subst (λ (x : Space). ThreadsAgree p w.classes x (length (loaded_objects w)) (owners_after (unit_tree p.unit) w journal) 1 c.state.shared (map (moved_thread to) ts) c.state.threads) (sym is.heap)
+        (threads_moved w.classes (length (loaded_objects w)) (owners_after (unit_tree p.unit) w journal) 1 c.state.shared ts c.state.threads threads c.threads_agree);
+    same_printed = c.same_printed;
+    same_stop = c.same_stop;
+    born = subst (λ (n : ℕ). n ≤ 1048576 + 2 * length journal) (sym is.births) c.born;
+    fits = c.fits;
+    fair = c.fair;
+    count = length-map ts (moved_thread to) ∙ c.count;
+    few = subst (λ (n : ℕ). n ≤ 8) (sym (length-map ts (moved_thread to))) c.few;
+  }

@@ -1,0 +1,20 @@
+use Rattle.std.proofs.Common.{ℕ, IsSome, refl, replicate, subst, sym}
+use Rattle.semantics.specs.declared.schedule.ScheduleWord.TheVariants.{Collect}
+use Rattle.machine.specs.Run.{Run, RunsAlong, replay_of}
+use Rattle.machine.proofs.Runs.{collected_often, collection_refused, none_yet}
+use Rattle.machine.proofs.machine.Machine.collect_for.Goals as goal
+
+pub returns-then-times-eq0-clause-ok : goal.returns-then-times-eq0-clause-ok
+returns-then-times-eq0-clause-ok c =
+    let runs : IsSome (replay_of c.args.self.now) = subst (λ (r : Run). IsSome (replay_of r)) c.self.view_is (rw c.self.invariant.replays refl) in
+    subst (λ (n : ℕ). RunsAlong c.args.self.now c.args.self.now (replicate n Collect)) (sym c.if-times-eq0.true) (none_yet c.args.self.now runs)
+
+pub returns-in-Ok-clause-ok : goal.returns-in-Ok-clause-ok
+returns-in-Ok-clause-ok c =
+    let runs : IsSome (replay_of c.args.self.now) = subst (λ (r : Run). IsSome (replay_of r)) c.self.view_is (rw c.self.invariant.replays refl) in
+    collected_often c.args.self.now c.collect.new.self c.args.times c.if-times-eq0.false c.in-Ok.ensures.ok runs c.in-Ok.ensures.runs
+
+pub returns-in-Err-clause-err : goal.returns-in-Err-clause-err
+returns-in-Err-clause-err c =
+    let runs : IsSome (replay_of c.args.self.now) = subst (λ (r : Run). IsSome (replay_of r)) c.self.view_is (rw c.self.invariant.replays refl) in
+    collection_refused c.args.self.now c.collect.new.self c.args.times c.if-times-eq0.false c.in-Err.ensures.err runs
