@@ -1,5 +1,5 @@
 -- What a turn changes of what is known of a machine.
-use Rattle.std.proofs.Common.{◌≡◌, ◌≢◌, ◌⊎◌, ℕ, zero, suc, ◌+◌, ◌<◌, ◌==◌, List, [], ◌∷◌, ◌++◌, length, map, Option, Some, None, Result, Ok, Err, IfOk, OnErr, true, false, refl, sym, ap, ◌∙◌, subst, inl, inr, ⊎_elim, arith, eq-eqb, length-append}
+use Rattle.std.proofs.Common.{◌≡◌, ◌≢◌, ℕ, zero, suc, ◌+◌, ◌<◌, ◌==◌, List, [], ◌∷◌, ◌++◌, length, map, Option, Some, None, Result, Ok, Err, IfOk, OnErr, true, false, refl, sym, ap, ◌∙◌, subst, ⊎_elim, arith, eq-eqb, length-append}
 use Rattle.std.specs.Prelude.{slice_get, nat_le, ℤ, Bool, IsSome, is_some, is_none, not, ◌||◌, ◌&&◌}
 use Rattle.std.specs.List.{filter, list_all, enumerate_from}
 use Rattle.std.specs.Option.{option_map, option_map_or, option_and_then}
@@ -8,7 +8,6 @@ use Rattle.std.proofs.lemmas.List.Elements.{filter-append, filter_more}
 use Rattle.std.proofs.lemmas.List.{map-append}
 use Rattle.std.proofs.lemmas.Option.{slice_get_past}
 use Rattle.std.proofs.Common.{take, cond, if◌then◌else◌, get_or}
-use Rattle.syntax.specs.Tree.{SourceUnit}
 use Rattle.syntax.specs.Views.{unit_tree}
 use Rattle.class_rules.specs.Class.{Classes}
 use Rattle.semantics.specs.declared.journal.Entry.{Entry}
@@ -16,10 +15,9 @@ use Rattle.semantics.specs.declared.journal.Entry.TheVariants.{Step}
 use Rattle.semantics.specs.declared.printed.Printed.{Printed}
 use Rattle.semantics.specs.Journal.{is_step_of}
 use Rattle.semantics.specs.Start.{start}
-use Rattle.semantics.specs.State.{State, Stop, thread_at, set_thread, in_use, advanced, with_event}
-use Rattle.semantics.specs.Step.{can_step, step_of, is_unfinished, is_live, is_blocked, world_step}
-use Rattle.semantics.specs.Thread.{Thread, Event, Quiet, PrintedNumber, Trapped, Advance, Advances, NoAdvance, Ending, Unfinished, Ended as Over, Uncaught}
-use Rattle.semantics.specs.ThreadStep.{thread_step}
+use Rattle.semantics.specs.State.{State, Stop, thread_at}
+use Rattle.semantics.specs.Step.{can_step, is_unfinished, is_live, is_blocked, world_step}
+use Rattle.semantics.specs.Thread.{Thread, Ending, Unfinished, Ended as Over, Uncaught}
 use Rattle.semantics.specs.Run.{replay_from, account_at, entries_of, ending_of}
 use Rattle.semantics.proofs.RunLaws.{replay_from-append}
 use Rattle.semantics.proofs.AccountLaws.{others_stay, steps_print}
