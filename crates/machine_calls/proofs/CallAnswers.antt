@@ -6,7 +6,7 @@ use Rattle.std.specs.List.{AllByRecursion, AllZip}
 use Rattle.std.specs.Option.{option_map_or}
 use Rattle.std.proofs.Math.Facts.{to_z-of_z}
 use Rattle.std.proofs.lemmas.Bool.Decides.{nat_tests}
-use Rattle.class_rules.specs.BuiltIns.{array_index_out_of_bounds, array_store_exception, class_class, has_own_making, negative_array_size, no_class_def_found_error, no_such_field_error, number_array, string_class}
+use Rattle.class_rules.specs.BuiltIns.{array_index_out_of_bounds, array_store_exception, class_class, has_own_making, negative_array_size, no_class_def_found_error, no_such_field_error, number_array, string_class, throwable_class}
 use Rattle.class_rules.specs.Class.{ArrayOfObjects, Plain, array_class_of, array_name, class_kind, class_name, class_named, element_class, is_plain, superclass, assignable}
 use Rattle.class_rules.specs.Fields.{FieldId, find_field, find_static, layout, own_statics}
 use Rattle.class_rules.proofs.GrownTables.{grown_is_ordered}
@@ -16,10 +16,10 @@ use Rattle.code.specs.Effect.{truth_word, element_word}
 use Rattle.code.specs.declared.instr.Operand.{Operand}
 use Rattle.code.specs.declared.instr.Operand.TheVariants as operand
 use Rattle.heap.specs.Heap.{name_at, values_at}
-use Rattle.jni.specs.JniFunction.{JniFunction, FindClass, AllocObject, NewLocalRef, NewGlobalRef, DeleteLocalRef, DeleteGlobalRef, IsSameObject, EnsureLocalCapacity, PushLocalFrame, PopLocalFrame, GetFieldID, GetStaticFieldID, GetArrayLength, NewArray, NewObjectArray, GetObjectArrayElement, SetObjectArrayElement, NewStringUTF, GetStringLength, GetSuperclass, GetObjectClass, IsInstanceOf, IsAssignableFrom, GetField, SetField, GetObjectField, SetObjectField, GetStaticField, SetStaticField, GetStaticObjectField, SetStaticObjectField, prototype, is_built_function}
-use Rattle.jni.specs.Prototype.{ParameterKind, ClassObject, FieldID, IntNumber, NonNull, ObjectArray, NewLocal, GivesField, GivesInt, Nullable, GivesNothing}
+use Rattle.jni.specs.JniFunction.{JniFunction, FindClass, AllocObject, NewLocalRef, NewGlobalRef, DeleteLocalRef, DeleteGlobalRef, IsSameObject, EnsureLocalCapacity, PushLocalFrame, PopLocalFrame, GetFieldID, GetStaticFieldID, GetArrayLength, NewArray, NewObjectArray, GetObjectArrayElement, SetObjectArrayElement, NewStringUTF, GetStringLength, Throw, ThrowNew, ExceptionOccurred, ExceptionCheck, ExceptionClear, FatalError, GetSuperclass, GetObjectClass, IsInstanceOf, IsAssignableFrom, GetField, SetField, GetObjectField, SetObjectField, GetStaticField, SetStaticField, GetStaticObjectField, SetStaticObjectField, prototype, is_built_function}
+use Rattle.jni.specs.Prototype.{ParameterKind, ClassObject, FieldID, IntNumber, NonNull, ObjectArray, TextBytes, NewLocal, GivesField, GivesInt, Nullable, GivesNothing}
 use Rattle.semantics.specs.Arguments.{Actual, variable_given, reference_given, object_given, name_or_zero, text_given, field_given, number_given}
-use Rattle.semantics.specs.CallEffects.{Leaves, ReferenceResult, Throws, at_index, new_array_effect, store_effect, string_object, delete_global_effect, delete_local_effect, ensure_effect, push_effect, found_class_effect, found_field_effect, heap_effect, same_reference, CallEffect, level_of}
+use Rattle.semantics.specs.CallEffects.{throw_new_effect, NoResult, ScalarResult, Leaves, ReferenceResult, Throws, at_index, new_array_effect, store_effect, string_object, delete_global_effect, delete_local_effect, ensure_effect, push_effect, found_class_effect, found_field_effect, heap_effect, same_reference, CallEffect, level_of}
 use Rattle.semantics.specs.CallStep.{trap_of_call}
 use Rattle.semantics.specs.CallTable.{call_effect}
 use Rattle.semantics.specs.Heap.{class_of, fits_class, values_of, object_at, field_place, number_in, place_in, value_at, reference_in, static_place, with_value_at}
@@ -46,6 +46,7 @@ use Rattle.code_meaning.proofs.ElementWords.{convert_fits, element_words}
 use Rattle.machine_calls.specs.StoreAgrees.{StoreAgrees}
 use Rattle.machine_calls.proofs.Handles.{class_of_field, class_within}
 use Rattle.machine_calls.specs.declared.answer.Answer.{Answer}
+use Rattle.machine_calls.specs.declared.answer.Answer.TheVariants.{Raises}
 use Rattle.machine_calls.specs.declared.store.Store.{Store}
 use Rattle.machine_calls.specs.declared.activation.Activation.{Activation}
 use Rattle.machine_calls.specs.Answers.{HoldsObject, IsAnswer}
@@ -58,9 +59,9 @@ use Rattle.machine_calls.specs.HeapAgrees.{HeapAgrees, ReferenceAgrees, ValueAgr
 use Rattle.machine_calls.specs.WorkedOut.{deletes, deletes_global, frame_for, class_object, found_class, IsFoundField, IsWorkedOut, place_there, value_there, word_in, address_in, held_reference, room_for, top_word, writes_there, count_there, element_there, index_there, new_array, stack_number, stores_there}
 use Rattle.machine_calls.proofs.CallChecks.{class_given_is, class_is, field_at_place, fits_is, name_is, reference_at_place, handle_of}
 use Rattle.machine_calls.proofs.BlocksOfNames.{Named, named, name_within}
-use Rattle.machine_calls.proofs.CallTraps.{has_passed, none_deleted, none_lacking, none_unfit, handles_there}
-use Rattle.machine_calls.proofs.LongTables.{class_is_plain, classes_loaded, grown_long}
-use Rattle.machine_calls.proofs.CallOperands.{GivenObject, IsWordless, OnTop, count_is, few_there, class_object_is, super_known, only_text, two_texts, object_at_place, on_top, is_class, second_field, only_static, own_making}
+use Rattle.machine_calls.proofs.CallTraps.{same_pending, has_passed, none_deleted, none_lacking, none_unfit, handles_there}
+use Rattle.machine_calls.proofs.LongTables.{class_is_no_throwable, class_is_plain, classes_loaded, grown_long}
+use Rattle.machine_calls.proofs.CallOperands.{GivenObject, IsWordless, OnTop, count_is, few_there, class_object_is, super_known, only_text, second_text, two_texts, object_at_place, on_top, is_class, second_field, only_static, own_making}
 
 -- a call that is asked and passed its checks
 module _ (p : Lowered) (w : World) (store : Store) (pending : Option ℕ) (call : Activation) (function : Call) (shared : Shared) (s : Thread) (sound : IsSound w) (in_use : BuffersInUse) (k : ℕ) (args : List Actual) where
@@ -624,6 +625,40 @@ module _ (p : Lowered) (w : World) (store : Store) (pending : Option ℕ) (call 
       let text : text_in function.texts 0 ≡ text_given args 0 = ap (λ (l : List (List ℕ)). text_in l 0) h.texts ∙ only_text w.classes store.heap references fields function.operands args h.kinds h.given in
       subst (λ (x : Answer). Does NewStringUTF x) (sym is) (refl, refl, refl, refl, record { object = ap string_object (sym text); makeable = built_in_class string_class (omega arith) (omega arith) })
 
+  -- ---- exceptions
+
+  answers_throw : Asked Throw → (answer : Answer) → Works Throw answer → Does Throw answer
+  unfolding call_effect
+  answers_throw h answer is = subst (λ (x : Answer). Does Throw x) (sym is) (reference_given args 0, agrees Throw h 0, (ScalarResult (Int (pos 0)), (refl, record { sfits = omega arith }), refl))
+
+  answers_throw_new : Asked ThrowNew → (target : Target) → trap_of_call w.classes shared s target ThrowNew args ≡ None → (answer : Answer) → Works ThrowNew answer → Does ThrowNew answer
+  unfolding call_effect
+  answers_throw_new h target free answer is =
+      let class = class_given ThrowNew [] (TextBytes ∷ []) refl h target free in
+      let name = name_of ThrowNew h 0 in
+      let text : text_in function.texts 0 ≡ text_given args 1 = ap (λ (l : List (List ℕ)). text_in l 0) h.texts ∙ second_text w.classes store.heap references fields function.operands args h.kinds h.given in
+      let passed = has_passed p w store pending call function shared s ThrowNew args h target free in
+      let below : assignable w.classes (object_given args 0) throwable_class ≡ true = ap (λ (c : ℕ). assignable w.classes c throwable_class) (sym name) ∙ passed in
+      let makeable : IsMakeable w.classes (object_given args 0) = record { low = class.low; high = class.high; no_class = λ e. absurd (let clash : false ≡ true = sym (class_is_no_throwable w.classes sound.grown) ∙ ap (λ (c : ℕ). assignable w.classes c throwable_class) (sym e) ∙ below in cc) } in
+      subst (λ (x : Answer). Does ThrowNew x) (sym (is ∙ ap (λ (c : ℕ). Raises c 0) name))
+      (refl, built_in_class string_class (omega arith) (omega arith), makeable, ap (throw_new_effect w.classes shared s (object_given args 0)) (sym text))
+
+  answers_occurred : Asked ExceptionOccurred → (answer : Answer) → Works ExceptionOccurred answer → Does ExceptionOccurred answer
+  unfolding call_effect
+  answers_occurred h answer is = subst (λ (x : Answer). Does ExceptionOccurred x) (sym is) (refl, refl, h.pending_agrees)
+
+  answers_check : Asked ExceptionCheck → (answer : Answer) → Works ExceptionCheck answer → Does ExceptionCheck answer
+  unfolding call_effect
+  answers_check h answer is = subst (λ (x : Answer). Does ExceptionCheck x) (sym is) (refl, refl, ap truth_word (same_pending store.heap pending s.pending h.pending_agrees))
+
+  answers_clear : (answer : Answer) → Works ExceptionClear answer → Does ExceptionClear answer
+  unfolding call_effect
+  answers_clear answer is = subst (λ (x : Answer). Does ExceptionClear x) (sym is) (None, tt, (NoResult, tt, refl))
+
+  answers_fatal : (answer : Answer) → Works FatalError answer → Does FatalError answer
+  unfolding call_effect
+  answers_fatal answer is = subst (λ (x : Answer). Does FatalError x) (sym is) refl
+
   -- the answer is what the call does
   pub answers : (f : JniFunction) → Asked f → (target : Target) → trap_of_call w.classes shared s target f args ≡ None → (answer : Answer) → Works f answer → HasKey f → IsHeld f → Does f answer
   answers FindClass h target free answer is keyed held = answers_find h answer is
@@ -656,5 +691,11 @@ module _ (p : Lowered) (w : World) (store : Store) (pending : Option ℕ) (call 
   answers GetObjectArrayElement h target free answer is keyed held = answers_element h target free answer is
   answers SetObjectArrayElement h target free answer is keyed held = answers_store h target free answer is
   answers NewStringUTF h target free answer is keyed held = answers_string h answer is
+  answers Throw h target free answer is keyed held = answers_throw h answer is
+  answers ThrowNew h target free answer is keyed held = answers_throw_new h target free answer is
+  answers ExceptionOccurred h target free answer is keyed held = answers_occurred h answer is
+  answers ExceptionCheck h target free answer is keyed held = answers_check h answer is
+  answers ExceptionClear h target free answer is keyed held = answers_clear answer is
+  answers FatalError h target free answer is keyed held = answers_fatal answer is
   answers GetStringLength h target free answer is keyed held = answers_string_length h answer is
   answers f h target free answer is keyed held = absurd (let no : is_built_function f ≡ true = h.answered in cc)

@@ -4,7 +4,7 @@ use Rattle.std.specs.Prelude.{◌&&◌, ◌||◌, unwrap_or, is_some, IsSome}
 use Rattle.std.specs.List.{AllZip, list_any}
 use Rattle.base.specs.Bytes.{Identifier}
 use Rattle.base.specs.Element.{ElementType}
-use Rattle.class_rules.specs.BuiltIns.{has_own_making}
+use Rattle.class_rules.specs.BuiltIns.{has_own_making, throwable_class}
 use Rattle.class_rules.specs.Class.{Classes, FieldType, NumberField, ReferenceField, assignable, class_kind, is_plain}
 use Rattle.class_rules.specs.Fields.{FieldId}
 use Rattle.classes.specs.FieldViews.{field_of}
@@ -395,8 +395,10 @@ module _ (classes : Classes) (space : Space) (references : References) (fields :
         let fit = ap (fits_there classes space (operand_at references (operand_of operands 2))) name ∙ fits_is (operand_at references (operand_of operands 2)) (reference_given args 2) (name_or_zero (reference_given args 1)) (reference_at_place operands args 2 h) in
         λ i. is_plain (class_kind classes (name i)) && fit i
     together_is buffer operands args h (GetBuffer ArrayView) e = absurd (cc)
-    together_is buffer operands args h Throw e = absurd (cc)
-    together_is buffer operands args h ThrowNew e = absurd (cc)
+    together_is buffer operands args h Throw e =
+        ap (λ (c : ℕ). assignable classes c throwable_class) (class_given_is (operand_at references (operand_of operands 0)) (reference_given args 0) (reference_at_place operands args 0 h))
+    together_is buffer operands args h ThrowNew e =
+        ap (λ (c : ℕ). assignable classes c throwable_class) (name_is (operand_at references (operand_of operands 0)) (reference_given args 0) (reference_at_place operands args 0 h))
     together_is buffer operands args h f e = refl
 
     -- ---- all of them

@@ -111,6 +111,21 @@ module _ (classes : Classes) (space : Space) (references : References) (fields :
   only_text (x ∷ []) (a ∷ b ∷ more) fits given = absurd given.1
   only_text (x ∷ []) (a ∷ []) fits given = ap (λ (l : List (List ℕ)). unwrap_or (slice_get (l ++ []) 0) []) (one_text x a fits.0 given.0)
 
+  -- the text of a call that takes a class and a text
+  pub second_text : (operands : List Operand) (args : List Actual) → AllZip OperandFits (ClassObject ∷ TextBytes ∷ []) operands → AllZip (IsGiven classes space references fields) operands args
+      → unwrap_or (slice_get (texts_given args) 0) [] ≡ text_given args 1
+  second_text [] args fits given = absurd fits
+  second_text (c ∷ []) args fits given = absurd fits.1
+  second_text (c ∷ x ∷ y ∷ more) args fits given = absurd fits.1.1
+  second_text (c ∷ x ∷ []) [] fits given = absurd given
+  second_text (c ∷ x ∷ []) (a ∷ []) fits given = absurd given.1
+  second_text (c ∷ x ∷ []) (a ∷ b ∷ d ∷ more) fits given = absurd given.1.1
+  second_text (c ∷ x ∷ []) (a ∷ b ∷ []) fits given =
+      let none = no_text c a fits.0 given.0 in
+      let one = one_text x b fits.1.0 given.1.0 in
+      let all : texts_given (a ∷ b ∷ []) ≡ text_in_actual (Some b) ∷ [] = λ i. none i ++ (one i ++ []) in
+      ap (λ (l : List (List ℕ)). unwrap_or (slice_get l 0) []) all
+
   -- the texts of a call that takes a class and two texts
   pub two_texts : (operands : List Operand) (args : List Actual) → AllZip OperandFits (ClassObject ∷ TextBytes ∷ TextBytes ∷ []) operands → AllZip (IsGiven classes space references fields) operands args
       → (unwrap_or (slice_get (texts_given args) 0) [] ≡ text_given args 1) × (unwrap_or (slice_get (texts_given args) 1) [] ≡ text_given args 2)

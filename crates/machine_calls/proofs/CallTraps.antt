@@ -133,7 +133,7 @@ neither true b h = absurd (cc)
 neither false true h = (refl, refl)
 neither false false h = absurd (cc)
 
-same_pending : (space : Space) (o : Option ℕ) (q : Reference) → ReferenceAgrees space o q → is_some o ≡ is_some q
+pub same_pending : (space : Space) (o : Option ℕ) (q : Reference) → ReferenceAgrees space o q → is_some o ≡ is_some q
 same_pending space None None h = refl
 same_pending space None (Some n) h = absurd h
 same_pending space (Some a) None h = absurd h

@@ -1,5 +1,5 @@
 -- What is carried out is what the source's call leaves.
-use Rattle.std.proofs.Common.{◌≤◌, drop, ◌≡◌, ℕ, pos, negsuc, zero, suc, ◌-◌, ◌<◌, ◌^◌, Bool, true, false, List, [], ◌∷◌, ◌++◌, length, inl, inr, Option, Some, None, refl, sym, ap, ◌∙◌, subst, arith, append-nil}
+use Rattle.std.proofs.Common.{◌≤◌, drop, ◌≡◌, ℕ, pos, negsuc, zero, suc, ◌-◌, ◌<◌, ◌^◌, Bool, true, false, List, [], ◌∷◌, ◌++◌, length, inl, inr, Option, Some, None, refl, sym, ap, ◌∙◌, subst, arith, append-nil, ◌+◌, length-append, append_assoc}
 use Rattle.std.specs.Global.{Vec}
 use Rattle.std.specs.Option.{option_to_list}
 use Rattle.base.specs.Bytes.{Identifier}
@@ -21,7 +21,7 @@ use Rattle.class_rules.specs.Class.{Classes}
 use Rattle.heap.specs.Heap.{Space, left_of, with_value}
 use Rattle.heap.specs.declared.value.Value.{Value}
 use Rattle.jni.specs.Prototype.{ResultKind, NewLocal, NewGlobal, GivesFlag, GivesInt, GivesField, GivesNothing, GivesBuffer}
-use Rattle.semantics.specs.CallEffects.{frames_effect, without_local, CallResult, Leaves, NoResult, ReferenceResult, ScalarResult, CallEffect, out_of_memory, refuses_frames, with_capacity}
+use Rattle.semantics.specs.CallEffects.{string_object, with_message, frames_effect, without_local, CallResult, Leaves, NoResult, ReferenceResult, ScalarResult, CallEffect, out_of_memory, refuses_frames, with_capacity}
 use Rattle.semantics.specs.CallStep.{failure, makes_objects}
 use Rattle.semantics.specs.Heap.{Heap, next_name}
 use Rattle.semantics.specs.Thread as source
@@ -35,7 +35,7 @@ use Rattle.machine_calls.specs.declared.answer.Answer.TheVariants as answer
 use Rattle.machine_calls.specs.declared.answer.Given.{Given}
 use Rattle.machine_calls.specs.declared.answer.Given.TheVariants as given
 use Rattle.machine_calls.specs.declared.new_object.New.{New}
-use Rattle.machine_calls.specs.declared.new_object.New.TheVariants.{Fresh}
+use Rattle.machine_calls.specs.declared.new_object.New.TheVariants.{Exception, Fresh, Text}
 use Rattle.machine_calls.specs.declared.store.Store.{Store}
 use Rattle.machine_calls.specs.StoreAgrees.{HeldAgrees, StoreAgrees, Keeps}
 use Rattle.machine_calls.specs.Answers.{GivenAgrees, IsAnswer}
@@ -45,10 +45,12 @@ use Rattle.tables.specs.Locals as tables
 use Rattle.tables.specs.Locals.{Frame, LocalTable, capacities, popped}
 use Rattle.machine_calls.specs.HeapAgrees.{ReferenceAgrees}
 use Rattle.machine_calls.specs.Made.{HasMade, MakesGlobal}
-use Rattle.machine_calls.specs.NewObjects.{Describes, cells_of_new}
+use Rattle.machine_calls.specs.NewObjects.{Describes, cells_of_new, text_in}
 use Rattle.machine_calls.proofs.AnswerCases.{gives_it, makes_it, throws_it, writes_it}
-use Rattle.machine_calls.proofs.CellsMade.{cells_made, described_size, nothing_asked}
-use Rattle.machine_calls.proofs.Keeping.{frames_stay, keeps_same, key_stays, reference_stays}
+use Rattle.machine_calls.proofs.CellsMade.{both_sizes, cells_made, described_size, nothing_asked}
+use Rattle.machine_calls.proofs.HeapLaws.{object_kept}
+use Rattle.machine_calls.proofs.Keeping.{frames_stay, keeps_same, key_stays, more_made, reference_stays}
+use Rattle.machine_calls.proofs.NewValues.{same_cells}
 use Rattle.machine_calls.proofs.Makes as making
 use Rattle.machine_calls.proofs.LocalFrames.{frame_ended, frame_made, key_deleted, key_ensured, key_popped, key_pushed, no_frames, reference_deleted, room_ensured, same_capacities}
 use Rattle.machine_calls.proofs.Writes as writing
@@ -382,3 +384,80 @@ module _ (p : Lowered) (w : World) (store : Store) (pending : Option ℕ) (local
           could_refuse = λ e. absurd (cc);
           room = object_fits after (Fresh class) a made o described;
         })
+
+  -- a message and an exception were made
+  module _ (class place : ℕ) (effect : CallEffect) (does : Does (answer.Raises class place) effect) where
+    pub refuses_raise : left_of store.heap < cells_of_new w.classes texts (Text place) + cells_of_new w.classes texts (Fresh class) → Carries (answer.Raises class place) effect true store (slice_get store.loaded.items (length w.classes)) (failed kind)
+    refuses_raise short =
+        refuses (answer.Raises class place) effect (ap makes_objects does.3)
+        (omega (arith, short, cells_made w.classes texts store.heap locals kind shared s (answer.Raises class place) effect does))
+
+    module _ (between after : Store) (message a : ℕ) (first : HasMade w.classes texts store (Text place) between message) (second : HasMade w.classes texts between (Exception class message) after a) where
+      abbrev string : Object
+      string = string_object (text_in texts place)
+
+      abbrev exception : Object
+      exception = with_message (fresh_object w.classes class) (Some (next_name shared.heap))
+
+      -- the shared state with the message
+      abbrev told : Shared
+      told = record shared { heap = shared.heap ++ string ∷ [] }
+
+      described : Describes w.classes texts store.heap (Text place) string
+      described = record { object = refl; makeable = does.1 }
+
+      agrees : StoreAgrees p w between told
+      agrees = making.made_agrees p w texts store between shared (Text place) string message h.store_agrees first described
+
+      described_so : Describes w.classes texts between.heap (Exception class message) exception
+      described_so = record { object = (next_name shared.heap, making.made_named p w texts store between shared (Text place) string message h.store_agrees first described, refl); makeable = does.2 }
+
+      names : (x n : ℕ) → name_at store.heap x ≡ Some n → name_at after.heap x ≡ Some n
+      names x n at =
+          making.names_stay p w texts between after told (Exception class message) exception a agrees second described_so x n
+          (making.names_stay p w texts store between shared (Text place) string message h.store_agrees first described x n at)
+
+      one_after : (shared.heap ++ string ∷ []) ++ exception ∷ [] ≡ shared.heap ++ string ∷ exception ∷ []
+      one_after = append_assoc shared.heap (string ∷ []) (exception ∷ [])
+
+      -- both have room
+      both_fit : sizes (string ∷ exception ∷ []) ≤ left_of store.heap
+      both_fit =
+          omega (arith, making.left_after w.classes texts store between (Text place) message first, second.room, same_cells w.classes texts class message, both_sizes w.classes texts store.heap class place (Some (next_name shared.heap)))
+
+      pub raises : Carries (answer.Raises class place) effect false after (Some a) (given.Number 0)
+      raises =
+          subst (λ (e : CallEffect). Carries (answer.Raises class place) e false after (Some a) (given.Number 0)) (sym does.3) (record {
+            store_agrees = subst (λ (l : Heap). StoreAgrees p w after (record shared { heap = l })) one_after (making.made_agrees p w texts between after told (Exception class message) exception a agrees second described_so);
+            keeps = record {
+              names = names;
+              statics = inl refl;
+              shapes = λ n x at. (x, object_kept shared.heap (string ∷ exception ∷ []) n x at, refl, refl);
+              room = more_made store.heap shared.heap (string ∷ exception ∷ []) both_fit;
+              few = omega (arith, length-append shared.heap (string ∷ exception ∷ []));
+            };
+            pending_agrees =
+                making.made_named p w texts between after told (Exception class message) exception a agrees second described_so
+                ∙ ap (λ (n : ℕ). Some (n + 1)) (length-append shared.heap (string ∷ []));
+            frames_agree = frames_stay store.heap after.heap names locals s.frames h.frames_agree;
+            left = λ key n level is left. key_stays store.heap after.heap names locals key n level is;
+            given_agrees = result_agrees w.classes after kind _ _ (subst (λ (k : ResultKind). GivenAgrees w.classes after.heap k (given.Number 0) (ScalarResult (Int (pos 0)))) (sym does.0) (refl, record { sfits = omega arith }));
+            still = λ same. refl;
+            could_refuse = λ e. absurd (cc);
+            room = both_fit;
+          })
+
+  -- another exception is pending, or none
+  pub pends : (a : Option ℕ) (g : Given) (effect : CallEffect) → Does (answer.Pends a g) effect → Carries (answer.Pends a g) effect false store a g
+  pends a g effect (r, agrees, (c, given_agrees, is)) =
+      subst (λ (e : CallEffect). Carries (answer.Pends a g) e false store a g) (sym is) (record {
+        store_agrees = subst (StoreAgrees p w store) (sym (same_heap shared)) h.store_agrees;
+        keeps = subst (Keeps store.heap shared store.heap) (sym (same_heap shared)) (keeps_same store.heap shared);
+        pending_agrees = agrees;
+        frames_agree = h.frames_agree;
+        left = λ key n level is left. is;
+        given_agrees = result_agrees w.classes store kind g c given_agrees;
+        still = λ same. refl;
+        could_refuse = λ e. absurd (cc);
+        room = nothing_asked store.heap;
+      })

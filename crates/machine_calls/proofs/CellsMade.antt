@@ -1,13 +1,15 @@
 -- What an answer makes takes as many cells as the objects of its effect.
-use Rattle.std.proofs.Common.{◌≡◌, ℕ, ◌≤◌, true, List, [], ◌∷◌, length, refl, ap, ◌∙◌, arith}
+use Rattle.std.proofs.Common.{◌≡◌, ℕ, ◌≤◌, true, List, [], ◌∷◌, length, refl, ap, ◌∙◌, arith, ◌+◌, Some}
 use Rattle.std.specs.Prelude.{nat_le}
 use Rattle.std.proofs.lemmas.Bool.{cond_both}
+use Rattle.std.proofs.lemmas.List.{length-set}
 use Rattle.std.proofs.lemmas.List.Sums.{sum_by-cons}
 use Rattle.class_rules.specs.Class.{Classes}
 use Rattle.heap.specs.Heap.{Space, left_of}
 use Rattle.jni.specs.Prototype.{ResultKind}
-use Rattle.semantics.specs.CallEffects.{CallEffect, frames_effect, refuses_frames, with_capacity}
-use Rattle.semantics.specs.Object.{Object, size, sizes}
+use Rattle.semantics.specs.CallEffects.{string_object, with_message, CallEffect, frames_effect, refuses_frames, with_capacity}
+use Rattle.semantics.specs.Heap.{next_name}
+use Rattle.semantics.specs.Object.{Object, Reference, Refers, size, sizes}
 use Rattle.semantics.specs.Thread as source
 use Rattle.semantics.specs.Thread.{Shared, Thread}
 use Rattle.semantics.specs.World.{fresh_object}
@@ -15,11 +17,11 @@ use Rattle.tables.specs.Locals.{LocalTable}
 use Rattle.machine_calls.specs.declared.answer.Answer.{Answer}
 use Rattle.machine_calls.specs.declared.answer.Answer.TheVariants as answer
 use Rattle.machine_calls.specs.declared.new_object.New.{New}
-use Rattle.machine_calls.specs.declared.new_object.New.TheVariants.{Fresh}
+use Rattle.machine_calls.specs.declared.new_object.New.TheVariants.{Fresh, Text}
 use Rattle.machine_calls.specs.Answers.{IsAnswer}
 use Rattle.machine_calls.specs.CarriedOut.{is_of_references, made_by}
 use Rattle.machine_calls.specs.Made.{cells_of}
-use Rattle.machine_calls.specs.NewObjects.{IsObject, cells_of_new, values_of_new}
+use Rattle.machine_calls.specs.NewObjects.{IsObject, cells_of_new, text_in, values_of_new}
 use Rattle.machine_calls.proofs.NewValues.{as_many}
 use Rattle.machine_calls.proofs.AnswerCases.{gives_it, makes_it, throws_it, writes_it}
 
@@ -35,6 +37,24 @@ described_size classes texts space new o is = let long : length (values_of_new c
 pub fresh_size : (classes : Classes) (texts : List (List ℕ)) (space : Space) (class : ℕ) → sizes (fresh_object classes class ∷ []) ≡ cells_of_new classes texts (Fresh class)
 fresh_size classes texts space class = described_size classes texts space (Fresh class) (fresh_object classes class) refl
 
+-- a message and its exception
+pub both_sizes : (classes : Classes) (texts : List (List ℕ)) (space : Space) (class place : ℕ) (r : Reference) → sizes (string_object (text_in texts place) ∷ with_message (fresh_object classes class) r ∷ []) ≡ cells_of_new classes texts (Text place) + cells_of_new classes texts (Fresh class)
+both_sizes classes texts space class place r =
+    let message = string_object (text_in texts place) in
+    let fresh = fresh_object classes class in
+    let exception = with_message fresh r in
+    let long : length exception.values ≡ length fresh.values = length-set fresh.values 0 (Refers r) in
+    omega (
+      arith,
+      long,
+      described_size classes texts space (Text place) message refl,
+      fresh_size classes texts space class,
+      sum_by-cons size message (exception ∷ []),
+      sum_by-cons size message [],
+      sum_by-cons size exception [],
+      sum_by-cons size fresh [],
+    )
+
 module _ (classes : Classes) (texts : List (List ℕ)) (space : Space) (locals : LocalTable) (kind : ResultKind) (shared : Shared) (s : Thread) where
   abbrev Cells : CallEffect → ℕ
   Cells effect = sizes (made_by classes effect)
@@ -49,6 +69,9 @@ module _ (classes : Classes) (texts : List (List ℕ)) (space : Space) (locals :
       let it = makes_it classes texts space locals kind shared s new effect does in
       ap Cells it.is ∙ described_size classes texts space new it.object it.describes.object
   cells_made (answer.Throws class) effect does = ap Cells (throws_it classes texts space locals kind shared s class effect does).is ∙ fresh_size classes texts space class
+  cells_made (answer.Raises class place) effect does = ap Cells does.3 ∙ both_sizes classes texts space class place (Some (next_name shared.heap))
+  cells_made (answer.Pends a g) effect does = ap Cells does.2.2
+  cells_made (answer.Halts trap) effect does = ap Cells does
   cells_made (answer.Ensures more) effect does = ap Cells does.1 ∙ of_frames (with_capacity more s.frames)
   cells_made (answer.Pushes capacity) effect does = ap Cells does.1 ∙ of_frames (record { capacity = capacity; references = [] } ∷ s.frames)
   cells_made answer.RefusesFrames effect does = ap Cells does.1
@@ -63,6 +86,9 @@ references_free classes texts (answer.Gives g) h = refl
 references_free classes texts (answer.Writes a place v) h = refl
 references_free classes texts (answer.Makes new) h = absurd (cc)
 references_free classes texts (answer.Throws class) h = absurd (cc)
+references_free classes texts (answer.Raises class place) h = absurd (cc)
+references_free classes texts (answer.Pends a g) h = refl
+references_free classes texts (answer.Halts trap) h = refl
 references_free classes texts (answer.Ensures more) h = refl
 references_free classes texts (answer.Pushes capacity) h = refl
 references_free classes texts answer.RefusesFrames h = refl

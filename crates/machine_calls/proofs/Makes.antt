@@ -2,8 +2,9 @@
 use Rattle.std.specs.Global.{Vec}
 use Rattle.std.proofs.Common.{inl, ◌≡◌, ℕ, ◌+◌, ◌≤◌, List, Option, [], ◌∷◌, ◌++◌, length, Some, refl, sym, ap, ◌∙◌, subst, arith, length-append}
 use Rattle.std.proofs.lemmas.List.Sums.{sum_by-cons}
-use Rattle.heap.specs.Heap.{Block, Space, IsLaidOut, left_of, name_at, with_block}
-use Rattle.heap.proofs.Layouts.{LieFrom-push}
+use Rattle.class_rules.specs.Class.{Classes}
+use Rattle.heap.specs.Heap.{Block, Space, IsLaidOut, end_of, left_of, name_at, with_block}
+use Rattle.heap.proofs.Layouts.{LieFrom-push, end_from-push}
 use Rattle.semantics.specs.Heap.{next_name}
 use Rattle.semantics.specs.Object.{Object, size}
 use Rattle.semantics.specs.Thread.{Shared}
@@ -18,7 +19,7 @@ use Rattle.machine_calls.specs.declared.statics.StaticReference.{StaticReference
 use Rattle.machine_calls.specs.declared.new_object.New.{New}
 use Rattle.machine_calls.specs.HeapAgrees.{HeapAgrees, IsTable}
 use Rattle.machine_calls.specs.Made.{HasMade, new_block}
-use Rattle.machine_calls.specs.NewObjects.{Describes, IsMakeable, values_of_new}
+use Rattle.machine_calls.specs.NewObjects.{Describes, IsMakeable, cells_of_new, values_of_new}
 use Rattle.machine_calls.proofs.Classed.{classed_more}
 use Rattle.machine_calls.proofs.HeapLaws.{IsNext, agrees_with_block, name_kept, name_new, object_kept, table_kept}
 use Rattle.machine_calls.proofs.Keeping.{more_made, slots_stay, statics_stay}
@@ -81,3 +82,10 @@ module _ (p : Lowered) (w : World) (texts : List (List ℕ)) (store after : Stor
       ∙ ap (name_at (with_block store.heap b)) made.address
       ∙ name_new store.heap b h.laid_out refl
       ∙ ap (λ (n : ℕ). Some n) next.birth
+
+-- the cells that are left then
+pub left_after : (classes : Classes) (texts : List (List ℕ)) (before after : Store) (new : New) (a : ℕ) → HasMade classes texts before new after a → left_of before.heap ≡ left_of after.heap + cells_of_new classes texts new
+left_after classes texts before after new a made =
+    let end : end_of after.heap ≡ end_of before.heap + cells_of_new classes texts new = ap end_of made.heap ∙ end_from-push 0 before.heap.blocks (new_block classes texts before new) in
+    let cells : after.heap.cells ≡ before.heap.cells = ap (λ (s : Space). s.cells) made.heap in
+    omega (arith, made.room, end, cells)

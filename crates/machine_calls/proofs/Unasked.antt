@@ -7,7 +7,7 @@ use Rattle.code.specs.Call.{asks, is_static, takes_any}
 use Rattle.code.specs.declared.instr.Operand.{Operand}
 use Rattle.code.specs.declared.instr.Operand.TheVariants as operand
 use Rattle.heap.specs.Heap.{Space}
-use Rattle.jni.specs.JniFunction.{JniFunction, AllocObject, GetField, SetField, GetStaticField, SetStaticField, GetObjectField, SetObjectField, GetStaticObjectField, SetStaticObjectField, NewObjectArray, prototype}
+use Rattle.jni.specs.JniFunction.{JniFunction, AllocObject, GetField, SetField, GetStaticField, SetStaticField, GetObjectField, SetObjectField, GetStaticObjectField, SetStaticObjectField, NewObjectArray, Throw, ThrowNew, prototype}
 use Rattle.jni.specs.Prototype.{ParameterKind, Nullable, LocalVariable}
 use Rattle.semantics.specs.Checks.{first_trap}
 use Rattle.semantics.specs.Value.{Trap}
@@ -80,6 +80,8 @@ together classes space references fields operands (SetStaticField t) h = absurd 
 together classes space references fields operands GetStaticObjectField h = absurd (cc)
 together classes space references fields operands SetStaticObjectField h = absurd (cc)
 together classes space references fields operands NewObjectArray h = absurd (cc)
+together classes space references fields operands Throw h = absurd (cc)
+together classes space references fields operands ThrowNew h = absurd (cc)
 together classes space references fields operands f h = refl
 
 -- three tests that don't hold

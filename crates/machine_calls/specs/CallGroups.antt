@@ -1,6 +1,16 @@
 -- Functions by groups, as they are worked out. Private to the calls.
 use Rattle.std.specs.Prelude.{Bool, true, false}
-use Rattle.jni.specs.JniFunction.{JniFunction, NewLocalRef, NewGlobalRef, DeleteLocalRef, DeleteGlobalRef, IsSameObject, EnsureLocalCapacity, PushLocalFrame, PopLocalFrame, GetFieldID, GetStaticFieldID, GetField, SetField, GetStaticField, SetStaticField, GetObjectField, SetObjectField, GetStaticObjectField, SetStaticObjectField, GetArrayLength, GetStringLength, NewArray, NewObjectArray, GetObjectArrayElement, SetObjectArrayElement, NewStringUTF}
+use Rattle.jni.specs.JniFunction.{JniFunction, NewLocalRef, NewGlobalRef, DeleteLocalRef, DeleteGlobalRef, IsSameObject, EnsureLocalCapacity, PushLocalFrame, PopLocalFrame, GetFieldID, GetStaticFieldID, GetField, SetField, GetStaticField, SetStaticField, GetObjectField, SetObjectField, GetStaticObjectField, SetStaticObjectField, GetArrayLength, GetStringLength, NewArray, NewObjectArray, GetObjectArrayElement, SetObjectArrayElement, NewStringUTF, Throw, ThrowNew, ExceptionOccurred, ExceptionCheck, ExceptionClear, FatalError}
+
+-- a function of exceptions
+abbrev pub is_of_exceptions : JniFunction → Bool
+is_of_exceptions Throw = true
+is_of_exceptions ThrowNew = true
+is_of_exceptions ExceptionOccurred = true
+is_of_exceptions ExceptionCheck = true
+is_of_exceptions ExceptionClear = true
+is_of_exceptions FatalError = true
+is_of_exceptions f = false
 
 -- a function of arrays or strings
 abbrev pub is_of_arrays : JniFunction → Bool

@@ -1,14 +1,14 @@
 -- What is checked of a call before it does anything, by what is in memory.
 use Rattle.std.specs.Prelude.{ℕ, Bool, true, false, not, ◌&&◌, ◌||◌, ◌==◌, List, [], ◌∷◌, ◌++◌, is_none, is_some, Option, Some, None}
 use Rattle.std.specs.List.{list_any}
-use Rattle.class_rules.specs.BuiltIns.{class_class, has_own_making, string_class, number_array}
+use Rattle.class_rules.specs.BuiltIns.{class_class, has_own_making, string_class, throwable_class, number_array}
 use Rattle.class_rules.specs.Class.{Classes, FieldType, NumberField, ReferenceField, class_kind, is_plain, is_object_array, assignable}
 use Rattle.class_rules.specs.Fields.{FieldId}
 use Rattle.classes.specs.declared.class.FieldHandle.{FieldHandle}
 use Rattle.code.specs.declared.instr.Operand.{Operand}
 use Rattle.code.specs.declared.instr.Operand.TheVariants as operand
 use Rattle.heap.specs.Heap.{Space}
-use Rattle.jni.specs.JniFunction.{is_allowed_pending, JniFunction, AllocObject, GetField, SetField, GetStaticField, SetStaticField, GetObjectField, SetObjectField, GetStaticObjectField, SetStaticObjectField, NewObjectArray, prototype}
+use Rattle.jni.specs.JniFunction.{is_allowed_pending, JniFunction, AllocObject, GetField, SetField, GetStaticField, SetStaticField, GetObjectField, SetObjectField, GetStaticObjectField, SetStaticObjectField, NewObjectArray, Throw, ThrowNew, prototype}
 use Rattle.jni.specs.Prototype.{ParameterKind, Nullable, ClassObject, AnyArray, ObjectArray, StringObject, NumberArray, LocalVariable, StaticVariable, IsCopy, ResultKind, NewLocal}
 use Rattle.semantics.specs.Checks.{first_trap}
 use Rattle.semantics.specs.Heap.{holds_number, holds_reference}
@@ -102,6 +102,8 @@ module _ (classes : Classes) (space : Space) (references : References) (fields :
   fit_together GetStaticObjectField = has_static && holds_reference field.field.type
   fit_together SetStaticObjectField = has_static && fits_type_there classes space (reference 2) field.field.type
   fit_together NewObjectArray = is_plain (class_kind classes (name_there space (reference 1))) && fits_there classes space (reference 2) (name_there space (reference 1))
+  fit_together Throw = assignable classes (class_of_given space (reference 0)) throwable_class
+  fit_together ThrowNew = assignable classes (name_there space (reference 0)) throwable_class
   fit_together f = true
 
 -- a call of this kind of result puts a local reference into the frame

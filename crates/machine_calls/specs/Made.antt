@@ -8,7 +8,7 @@ use Rattle.tables.specs.Keys.{Gains}
 use Rattle.machine_calls.specs.declared.answer.Answer.{Answer}
 use Rattle.machine_calls.specs.declared.answer.Answer.TheVariants as answer
 use Rattle.machine_calls.specs.declared.new_object.New.{New}
-use Rattle.machine_calls.specs.declared.new_object.New.TheVariants.{Fresh}
+use Rattle.machine_calls.specs.declared.new_object.New.TheVariants.{Fresh, Text, Exception}
 use Rattle.machine_calls.specs.declared.statics.StaticReference.{StaticReference}
 use Rattle.machine_calls.specs.declared.statics.StaticReference.TheVariants as static
 use Rattle.machine_calls.specs.declared.store.Store.{Store}
@@ -43,6 +43,12 @@ abbrev pub Makes : Classes → (texts : List (List ℕ)) → Store → New → S
 Makes classes texts before new after None = (after ≡ before) × (left_of before.heap < cells_of_new classes texts new)
 Makes classes texts before new after (Some a) = HasMade classes texts before new after a
 
+-- a new string of a text and a new exception with it as message, where both have room, and else the store as it was
+abbrev pub Raises : Classes → (texts : List (List ℕ)) → Store → (class place : ℕ) → Store → Option ℕ → Type 0
+Raises classes texts before class place after None = (after ≡ before) × (left_of before.heap < cells_of_new classes texts (Text place) + cells_of_new classes texts (Fresh class))
+Raises classes texts before class place after (Some a) =
+    (between : Store) × (message : ℕ) × HasMade classes texts before (Text place) between message × HasMade classes texts between (Exception class message) after a
+
 -- a global reference to the object at an address is made, and none for NULL
 abbrev pub MakesGlobal : (old : List (Option ℕ)) → Option ℕ → (new : List (Option ℕ)) → StaticReference → Type 0
 MakesGlobal old None new held = (new ≡ old) × (held ≡ static.Empty)
@@ -52,4 +58,5 @@ MakesGlobal old (Some a) new held = (key : ℕ) × (held ≡ static.Live key) ×
 abbrev pub cells_of : Classes → (texts : List (List ℕ)) → Answer → ℕ
 cells_of classes texts (answer.Makes new) = cells_of_new classes texts new
 cells_of classes texts (answer.Throws class) = cells_of_new classes texts (Fresh class)
+cells_of classes texts (answer.Raises class place) = cells_of_new classes texts (Text place) + cells_of_new classes texts (Fresh class)
 cells_of classes texts a = 0

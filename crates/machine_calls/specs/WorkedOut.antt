@@ -1,5 +1,5 @@
 -- What the machine works out of a call, by what is in memory.
-use Rattle.std.specs.Prelude.{◌==◌, ◌≡◌, ℕ, ◌-◌, ℤ, pos, negsuc, nat_lt, Bool, true, false, List, [], ◌∷◌, length, slice_get, unwrap_or, if◌then◌else◌, Option, Some, None}
+use Rattle.std.specs.Prelude.{◌==◌, ◌≡◌, ℕ, ◌-◌, ℤ, pos, negsuc, nat_lt, Bool, true, false, List, [], ◌∷◌, length, slice_get, unwrap_or, is_some, if◌then◌else◌, Option, Some, None}
 use Rattle.std.specs.Int.{w32, cast_signed}
 use Rattle.base.specs.Element.{ElementType}
 use Rattle.class_rules.specs.BuiltIns.{array_index_out_of_bounds, array_store_exception, negative_array_size, no_class_def_found_error, no_such_field_error, number_array}
@@ -15,13 +15,14 @@ use Rattle.code_meaning.specs.Coding.{element_of}
 use Rattle.heap.specs.Heap.{Space, values_at}
 use Rattle.heap.specs.declared.value.Value.{Value}
 use Rattle.heap.specs.declared.value.Value.TheVariants as value
-use Rattle.jni.specs.JniFunction.{JniFunction, FindClass, GetSuperclass, GetObjectClass, IsInstanceOf, IsAssignableFrom, AllocObject, NewLocalRef, NewGlobalRef, DeleteLocalRef, DeleteGlobalRef, IsSameObject, EnsureLocalCapacity, PushLocalFrame, PopLocalFrame, GetFieldID, GetStaticFieldID, GetField, SetField, GetStaticField, SetStaticField, GetObjectField, SetObjectField, GetStaticObjectField, SetStaticObjectField, GetArrayLength, GetStringLength, NewArray, NewObjectArray, GetObjectArrayElement, SetObjectArrayElement, NewStringUTF}
+use Rattle.jni.specs.JniFunction.{JniFunction, FindClass, GetSuperclass, GetObjectClass, IsInstanceOf, IsAssignableFrom, AllocObject, NewLocalRef, NewGlobalRef, DeleteLocalRef, DeleteGlobalRef, IsSameObject, EnsureLocalCapacity, PushLocalFrame, PopLocalFrame, GetFieldID, GetStaticFieldID, GetField, SetField, GetStaticField, SetStaticField, GetObjectField, SetObjectField, GetStaticObjectField, SetStaticObjectField, GetArrayLength, GetStringLength, NewArray, NewObjectArray, GetObjectArrayElement, SetObjectArrayElement, NewStringUTF, Throw, ThrowNew, ExceptionOccurred, ExceptionCheck, ExceptionClear, FatalError}
 use Rattle.machine_calls.specs.declared.answer.Given.TheVariants.{Nothing, Number, Reference}
 use Rattle.machine_calls.specs.declared.answer.Given.TheVariants as given
 use Rattle.machine_calls.specs.declared.answer.Answer.{Answer}
-use Rattle.machine_calls.specs.declared.answer.Answer.TheVariants.{Gives, Writes, Makes, Throws, Ensures, Pushes, RefusesFrames, Pops, Deletes, MakesGlobal, DeletesGlobal}
+use Rattle.machine_calls.specs.declared.answer.Answer.TheVariants.{Gives, Writes, Makes, Throws, Raises, Pends, Halts, Ensures, Pushes, RefusesFrames, Pops, Deletes, MakesGlobal, DeletesGlobal}
 use Rattle.machine_calls.specs.declared.new_object.New.TheVariants.{Fresh, Array, Text}
 use Rattle.machine_calls.specs.Scenes.{Scene}
+use Rattle.machine_calls.specs.declared.trap.Trap.TheVariants.{Fatal}
 use Rattle.machine_calls.specs.Given.{operand_at, key_at, operand_of, field_at, class_of_given, name_there, fits_there, field_there}
 
 -- the number of values of the object at an address, and 0 for NULL
@@ -201,6 +202,12 @@ module _ (scene : Scene) (call : Call) where
   worked_out SetObjectArrayElement = stores_there scene.space (reference 0) fits_element (index_there scene.space (reference 0) (stack_number scene.stack)) (held_reference (reference 2))
   worked_out NewStringUTF = Makes (Text 0)
   worked_out GetStringLength = Gives (Number (count_there scene.space (reference 0)))
+  worked_out Throw = Pends (reference 0) (Number 0)
+  worked_out ThrowNew = Raises (name_there scene.space (reference 0)) 0
+  worked_out ExceptionOccurred = Gives (Reference scene.pending)
+  worked_out ExceptionCheck = Gives (Number (truth_word (is_some scene.pending)))
+  worked_out ExceptionClear = Pends None Nothing
+  worked_out FatalError = Halts Fatal
   worked_out f = Gives Nothing
 
   -- what is worked out of a call of a function

@@ -18,6 +18,7 @@ ghost use Rattle.machine_calls.specs.WorkedOut.{address_in, class_object, count_
 ghost use Rattle.syntax.specs.Views.{element_tree};
 
 use crate::arrays::{stack_number, work_out_array};
+use crate::exceptions::work_out_exception;
 use crate::new_object::{New, text_at};
 use crate::operands::{
     class_of_given, declaring, fits_there, handle_at, key_in, name_there, operand_of, reference_at,
@@ -25,6 +26,7 @@ use crate::operands::{
 use crate::references::References;
 use crate::scene::Scene;
 use crate::statics::StaticReference;
+use crate::trap::Trap;
 use classes::built_ins::{NO_CLASS_DEF_FOUND_ERROR, NO_SUCH_FIELD_ERROR};
 use classes::class::FieldHandle;
 use classes::table::ClassTable;
@@ -58,6 +60,13 @@ pub enum Answer {
     Makes(New),
     /// An exception of the class of this number is made and is pending.
     Throws(usize),
+    /// A string of the call's text at this place is made, and an exception of the class of this number with it as message, which is
+    /// pending; 0 is given.
+    Raises(usize, usize),
+    /// This exception is pending, or none, and this is given.
+    Pends(Option<Addr>, Given),
+    /// The machine stops, all checks being passed.
+    Halts(Trap),
     /// The current frame gets room for this number of references more, and 0 is given, where the frames can have them; else as
     /// `RefusesFrames`.
     Ensures(u32),
@@ -116,7 +125,14 @@ pub fn work_out(scene: &Scene<'_>, function: &Call) -> Answer
         JniFunction::AllocObject => {
             Answer::Makes(New::Fresh(name_of(scene.heap, &scene.references, function, 0)))
         }
-        _ => { work_out_further(scene, function) }
+        JniFunction::Throw | JniFunction::ThrowNew | JniFunction::FatalError => {
+            work_out_exception(scene, function)
+        }
+        JniFunction::ExceptionOccurred | JniFunction::ExceptionCheck => {
+            work_out_exception(scene, function)
+        }
+        JniFunction::ExceptionClear => work_out_exception(scene, function),
+        _ => work_out_further(scene, function),
     }
 }
 
@@ -312,7 +328,7 @@ fn gives_class(loaded: &[Addr], class: Option<usize>) -> Answer
 
 /// A truth is given.
 #[inline(always)]
-fn gives_truth(truth: bool) -> Answer
+pub(crate) fn gives_truth(truth: bool) -> Answer
     ensures { result ≡ Answer.Gives (Given.Number (truth_word truth)) }
 {
     Answer::Gives(Given::Number(u32::from(truth)))

@@ -9,14 +9,14 @@ ghost use Rattle.semantics.specs.Thread.{Shared, Thread as SourceThread};
 ghost use Rattle.code_meaning.specs.Lowered.{Lowered};
 ghost use Rattle.tables.specs.declared.locals.TheConstants.{MOST_LOCALS};
 ghost use Rattle.tables.specs.Locals.{capacities, ensured, popped};
-ghost use Rattle.machine_calls.specs.Answers.{IsAnswer};
+ghost use Rattle.machine_calls.specs.Answers.{IsAnswer, is_halt};
 ghost use Rattle.machine_calls.specs.CarriedOut.{CarriesOut, IsPossible, failed, is_of_frames, is_of_references};
 ghost use Rattle.machine_calls.specs.Made.{cells_of};
 ghost use Rattle.machine_calls.specs.NewObjects.{texts_in};
 ghost use Rattle.machine_calls.specs.declared.answer.Given.TheVariants.{Number};
 
 use crate::answer::{Answer, Given};
-use crate::make::make;
+use crate::make::{can_raise, make, raise};
 use crate::new_object::New;
 use crate::statics::{StaticReference, delete_global, make_global};
 use crate::store::Store;
@@ -41,6 +41,7 @@ pub fn has_room(classes: &ClassTable, texts: &[Vec<u8>], heap: &Heap, answer: &A
     match *answer {
         Answer::Makes(new) => new.cells(classes, texts) <= heap.left(),
         Answer::Throws(class) => New::Fresh(class).cells(classes, texts) <= heap.left(),
+        Answer::Raises(class, place) => can_raise(classes, texts, heap, class, place),
         _ => true,
     }
 }
@@ -61,6 +62,7 @@ pub fn carry_out(
     requires possible { (p : Lowered) × (shared : Shared) × (s : SourceThread) × (effect : CallEffect) × IsPossible p world.now store.old pending.old locals.old (result_value kind) shared s
         × IsAnswer world.now.classes (texts_in texts.now) store.old.heap locals.old (result_value kind) shared s answer effect }
     requires few { store.old.births + 2 < 2 ^ 32 }
+    requires runs { is_halt answer ≡ false }
     ensures carried { IfOk result (λ carried. (p : Lowered) (shared : Shared) (s : SourceThread) (effect : CallEffect) → IsPossible p world.now store.old pending.old locals.old (result_value kind) shared s
         → IsAnswer world.now.classes (texts_in texts.now) store.old.heap locals.old (result_value kind) shared s answer effect
         → CarriesOut p world.now store.old.heap locals.old answer (result_value kind) shared s effect carried.refused store.new pending.new locals.new carried.given) }
@@ -100,6 +102,25 @@ pub fn carry_out(
             }
             None => Ok(refuse(world, store, pending, kind)),
         },
+        Answer::Raises(class, place) => {
+            match raise(world.classes(), texts, store, class, place) {
+                Some(exception) => {
+                    *pending = Some(exception);
+                    Ok(Carried {
+                        given: Given::Number(0),
+                        refused: false,
+                    })
+                }
+                None => Ok(refuse(world, store, pending, kind)),
+            }
+        }
+        Answer::Pends(exception, given) => {
+            *pending = exception;
+            Ok(Carried {
+                given,
+                refused: false,
+            })
+        }
         _ => carry_out_references(world, store, pending, locals, answer),
     }
 }

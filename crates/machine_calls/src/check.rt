@@ -26,7 +26,7 @@ use crate::operands::{
 use crate::references::{Held, References};
 use crate::scene::Scene;
 use crate::trap::Trap;
-use classes::built_ins::{CLASS, STRING, number_array};
+use classes::built_ins::{CLASS, STRING, THROWABLE, number_array};
 use classes::class::{ClassKind, ElementType, FieldHandle, FieldType};
 use classes::table::ClassTable;
 use code::instr::{Call, Operand};
@@ -307,6 +307,14 @@ fn fit_together(
             let class = name_there(heap, reference_at(heap, references, operands, 1));
             let element = reference_at(heap, references, operands, 2);
             !classes.is_array(class) && fits_there(classes, heap, element, class)
+        }
+        JniFunction::Throw => {
+            let exception = reference_at(heap, references, operands, 0);
+            classes.assignable(class_of_given(heap, exception), THROWABLE)
+        }
+        JniFunction::ThrowNew => {
+            let class = name_there(heap, reference_at(heap, references, operands, 0));
+            classes.assignable(class, THROWABLE)
         }
         _ => true,
     }

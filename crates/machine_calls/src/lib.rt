@@ -8,6 +8,7 @@ mod array_class;
 mod arrays;
 pub mod carry_out;
 pub mod check;
+mod exceptions;
 mod make;
 pub mod new_object;
 mod operands;

@@ -1,10 +1,11 @@
 //! Making objects.
 
-ghost use Rattle.std.specs.Prelude.{◌≡◌, ◌+◌, ◌<◌, ◌^◌, replicate, IfSome};
+ghost use Rattle.std.specs.Prelude.{◌≡◌, ◌+◌, ◌<◌, ◌^◌, nat_le, replicate, IfSome};
 ghost use Rattle.class_rules.specs.BuiltIns.{string_class};
 ghost use Rattle.classes.specs.Views.{field_type_view};
-ghost use Rattle.machine_calls.specs.Made.{Allocates, Makes};
-ghost use Rattle.machine_calls.specs.NewObjects.{class_of_new, initial_value, initial_values, texts_in, units, values_of_new, AreBytes, IsOfBytes};
+ghost use Rattle.heap.specs.Heap.{left_of};
+ghost use Rattle.machine_calls.specs.Made.{Allocates, Makes, Raises};
+ghost use Rattle.machine_calls.specs.NewObjects.{cells_of_new, class_of_new, initial_value, initial_values, texts_in, units, values_of_exception, values_of_new, AreBytes, IsOfBytes};
 
 use crate::new_object::{New, NewArray, text_at};
 use crate::store::Store;
@@ -30,6 +31,41 @@ pub fn make(classes: &ClassTable, texts: &[Vec<u8>], store: &mut Store, new: New
     }
 }
 
+/// Makes a string of a text, and an exception of a class with it as message, if the heap has room for both. It takes no host
+/// memory.
+pub fn raise(
+    classes: &ClassTable,
+    texts: &[Vec<u8>],
+    store: &mut Store,
+    class: usize,
+    place: usize,
+) -> Option<Addr>
+    requires class { class < 2 ^ 32 }
+    requires few { store.old.births + 2 < 2 ^ 32 }
+    ensures { Raises classes.now (texts_in texts.now) store.old class place store.new result }
+{
+    if !can_raise(classes, texts, &store.heap, class, place) {
+        return None;
+    }
+    let message = make(classes, texts, store, New::Text(place)).unwrap();
+    make(classes, texts, store, New::Exception(class, message))
+}
+
+/// Whether a string of a text and an exception of a class with it as message have room.
+pub fn can_raise(
+    classes: &ClassTable,
+    texts: &[Vec<u8>],
+    heap: &Heap,
+    class: usize,
+    place: usize,
+) -> bool
+    ensures { result ≡ nat_le (cells_of_new classes.now (texts_in texts.now) (New.Text place) + cells_of_new classes.now (texts_in texts.now) (New.Fresh class)) (left_of heap.now) }
+{
+    let left = heap.left();
+    let message = New::Text(place).cells(classes, texts);
+    message <= left && New::Fresh(class).cells(classes, texts) <= left - message
+}
+
 /// Makes its block, if there is room.
 fn allocate(
     classes: &ClassTable,
@@ -46,6 +82,9 @@ fn allocate(
         New::Fresh(class) => allocate_fresh(classes, heap, class, birth),
         New::Array(array) => allocate_array(heap, &array, birth),
         New::Text(place) => allocate_text(heap, text_at(texts, place), birth),
+        New::Exception(class, message) => {
+            allocate_exception(classes, heap, class, message, birth)
+        }
     }
 }
 
@@ -63,6 +102,30 @@ fn allocate_fresh(classes: &ClassTable, heap: &mut Heap, class: usize, birth: u3
             for place in 0..count {
                 let id = classes.layout_field(class, place).unwrap();
                 heap.set(addr, place, initial_value(id.field.field_type));
+            }
+            Some(addr)
+        }
+    }
+}
+
+/// Makes the block of an exception with a message, which is its first field.
+fn allocate_exception(
+    classes: &ClassTable,
+    heap: &mut Heap,
+    class: usize,
+    message: Addr,
+    birth: u32,
+) -> Option<Addr>
+    requires { class < 2 ^ 32 }
+    ensures { Allocates heap.old class birth (values_of_exception classes.now class message) heap.new result }
+{
+    // The proof reads off this call how the heap lies.
+    let _ = heap.count();
+    match allocate_fresh(classes, heap, class, birth) {
+        None => None,
+        Some(addr) => {
+            if heap.len_of(addr) > 0 {
+                heap.set(addr, 0, Value::Block(message));
             }
             Some(addr)
         }

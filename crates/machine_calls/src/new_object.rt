@@ -4,7 +4,7 @@ ghost use Rattle.std.specs.Prelude.{◌≡◌, ◌+◌, ◌≤◌, ◌^◌};
 ghost use Rattle.machine_calls.specs.NewObjects.{cells_of_new, text_in, texts_in};
 
 use classes::table::ClassTable;
-use heap::{HEADER, Value};
+use heap::{Addr, HEADER, Value};
 
 /// An array to be made: its class by number, how many elements it has, and what each of them is.
 #[derive(Clone, Copy)]
@@ -22,6 +22,8 @@ pub enum New {
     Array(NewArray),
     /// A string of the call's text at this place, one UTF-16 unit a byte.
     Text(usize),
+    /// An exception of the class of this number, with the string at this address as message.
+    Exception(usize, Addr),
 }
 
 impl New {
@@ -31,7 +33,7 @@ impl New {
         ensures few { result ≤ 2 ^ 63 + 2 }
     {
         match self {
-            New::Fresh(class) => HEADER + classes.layout_len(class),
+            New::Fresh(class) | New::Exception(class, _) => HEADER + classes.layout_len(class),
             New::Array(array) => HEADER + array.count as usize,
             New::Text(place) => HEADER + text_at(texts, place).len(),
         }

@@ -19,7 +19,7 @@ use Rattle.machine_calls.specs.Answers.{IsAnswer}
 use Rattle.machine_calls.specs.CarriedOut.{CarriesOut, failed}
 use Rattle.tables.specs.Locals.{LocalTable}
 use Rattle.machine_calls.specs.declared.answer.Answer.TheVariants as answer
-use Rattle.machine_calls.specs.Made.{HasMade, Makes}
+use Rattle.machine_calls.specs.Made.{HasMade, Makes, Raises}
 use Rattle.machine_calls.specs.declared.new_object.New.{New}
 use Rattle.machine_calls.specs.declared.new_object.New.TheVariants.{Fresh}
 use Rattle.machine_calls.specs.NewObjects.{cells_of_new, class_of_new, texts_in}
@@ -142,3 +142,53 @@ returns-in_default-clause-carried c =
 
 pub carry_out_references-requires-clause-possible : goal.carry_out_references-requires-clause-possible
 carry_out_references-requires-clause-possible c = let r = c.requires.possible in (r.0, result_value c.args.kind, texts_in c.args.texts.now, r.1, r.2, r.3, r.4, r.5)
+
+-- a message and an exception were made in the store of the world's classes
+both_made : (classes table : Classes) (texts : List (List ℕ)) (old after : Store) (class place a : ℕ) (o : Option ℕ) → table ≡ classes → Raises table texts old class place after o → o ≡ Some a → Raises classes texts old class place after (Some a)
+both_made classes table texts old after class place a o same made is = subst (λ (t : Classes). Raises t texts old class place after (Some a)) same (subst (Raises table texts old class place after) is made)
+
+none_made : (classes table : Classes) (texts : List (List ℕ)) (old after : Store) (class place : ℕ) (o : Option ℕ) → table ≡ classes → Raises table texts old class place after o → o ≡ None → Raises classes texts old class place after None
+none_made classes table texts old after class place o same made is = subst (λ (t : Classes). Raises t texts old class place after None) same (subst (Raises table texts old class place after) is made)
+
+pub raise-requires-clause-class : goal.raise-requires-clause-class
+raise-requires-clause-class c =
+    let r = c.requires.possible in
+    let w = c.args.world.now in
+    let k = result_value c.args.kind in
+    let texts = texts_in c.args.texts.now in
+    let does = subst (λ (a : Answer). IsAnswer w.classes texts c.args.store.now.heap c.args.locals.now k r.1 r.2 a r.3) c.in-Raises.is r.5 in
+    small w c.in-Raises.class c.threads.ensures.sound does.2.high
+
+pub returns-in-Some-raise-clause-carried : goal.returns-in-Some-raise-clause-carried
+returns-in-Some-raise-clause-carried c p shared s effect h does =
+    let w = c.args.world.now in
+    let k = result_value c.args.kind in
+    let texts = texts_in c.args.texts.now in
+    let old = c.args.store.now in
+    let class = c.in-Raises.class in
+    let place = c.in-Raises.place in
+    let made = both_made w.classes c.classes-in-Raises.result.now texts old c.raise.new.store class place c.in-Some-raise.exception c.raise.result c.classes-in-Raises.ensures.classes c.raise.ensures c.in-Some-raise.is in
+    carries.by_answer p w old.heap c.args.locals.now k shared s effect texts c.args.answer (answer.Raises class place) c.in-Raises.is _ _ _ _ _ (λ raises.
+    carries.raises p w old c.args.pending.now c.args.locals.now k shared s h texts class place effect raises made.0 c.raise.new.store made.1 c.in-Some-raise.exception made.2 made.3) does
+
+pub returns-in-None-raise-clause-carried : goal.returns-in-None-raise-clause-carried
+returns-in-None-raise-clause-carried c p shared s effect h does =
+    let w = c.args.world.now in
+    let k = result_value c.args.kind in
+    let texts = texts_in c.args.texts.now in
+    let old = c.args.store.now in
+    let class = c.in-Raises.class in
+    let place = c.in-Raises.place in
+    let none = none_made w.classes c.classes-in-Raises.result.now texts old c.raise.new.store class place c.raise.result c.classes-in-Raises.ensures.classes c.raise.ensures c.in-None-raise.is in
+    carries.by_answer p w old.heap c.args.locals.now k shared s effect texts c.args.answer (answer.Raises class place) c.in-Raises.is _ _ _ _ _ (λ raises.
+    refused_in p w old.heap c.args.locals.now (answer.Raises class place) k shared s effect old c.raise.new.store c.refuse-in-None-raise.new.pending c.args.locals.now c.refuse-in-None-raise.result none.0 c.refuse-in-None-raise.ensures.pending c.refuse-in-None-raise.ensures.carried
+    (carries.refuses_raise p w old c.args.pending.now c.args.locals.now k shared s h texts class place effect raises none.1)) does
+
+pub returns-in-Pends-clause-carried : goal.returns-in-Pends-clause-carried
+returns-in-Pends-clause-carried c p shared s effect h does =
+    let w = c.args.world.now in
+    let k = result_value c.args.kind in
+    let texts = texts_in c.args.texts.now in
+    let old = c.args.store.now in
+    carries.by_answer p w old.heap c.args.locals.now k shared s effect texts c.args.answer (answer.Pends c.in-Pends.exception c.in-Pends.given) c.in-Pends.is _ _ _ _ _ (λ pends.
+    carries.pends p w old c.args.pending.now c.args.locals.now k shared s h texts c.in-Pends.exception c.in-Pends.given effect pends) does
