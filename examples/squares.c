@@ -1,17 +1,25 @@
-/* The squares of the first numbers in a local array, and their sum. */
-JNIEXPORT void JNICALL Java_A_squares(JNIEnv *env, jclass cls)
+/* Makes an array of objects, each with the square of its place, and adds the squares up. */
+JNIEXPORT jint JNICALL Java_Box_squares(JNIEnv *env, jclass cls, jint count)
 {
-    jint squares[5] = {0};
-    uint32_t place = 0u;
-    while (place < 5u) {
-        squares[place] = (jint)(place * place);
-        place = place + 1u;
+    jfieldID value = (*env)->GetFieldID(env, cls, "value", "I");
+    jobjectArray boxes = (*env)->NewObjectArray(env, count, cls, NULL);
+    uint32_t i = 0u;
+    while (i < (uint32_t)count) {
+        jobject box = (*env)->AllocObject(env, cls);
+        (*env)->SetIntField(env, box, value, (jint)(i * i));
+        (*env)->SetObjectArrayElement(env, boxes, (jint)i, box);
+        (*env)->DeleteLocalRef(env, box);
+        i = i + 1u;
     }
     uint32_t sum = 0u;
-    while (place > 0u) {
-        place = place - 1u;
-        sum = sum + (uint32_t)squares[place];
+    i = 0u;
+    while (i < (uint32_t)count) {
+        jobject kept = (*env)->GetObjectArrayElement(env, boxes, (jint)i);
+        jint square = (*env)->GetIntField(env, kept, value);
+        (*env)->DeleteLocalRef(env, kept);
+        sum = sum + (uint32_t)square;
+        i = i + 1u;
     }
     put_jint((jint)sum);
-    return;
+    return (jint)sum;
 }
