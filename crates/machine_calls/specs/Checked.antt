@@ -106,6 +106,10 @@ module _ (classes : Classes) (space : Space) (references : References) (fields :
   fit_together ThrowNew = assignable classes (name_there space (reference 0)) throwable_class
   fit_together f = true
 
+-- the arguments of a call that sees this go together
+abbrev pub arguments_fit : Scene → List Operand → JniFunction → Bool
+arguments_fit scene operands f = fit_together scene.classes scene.space scene.references scene.fields operands f
+
 -- a call of this kind of result puts a local reference into the frame
 abbrev pub puts_local : ResultKind → Bool
 puts_local NewLocal = true

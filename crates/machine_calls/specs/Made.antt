@@ -43,9 +43,16 @@ abbrev pub Makes : Classes → (texts : List (List ℕ)) → Store → New → S
 Makes classes texts before new after None = (after ≡ before) × (left_of before.heap < cells_of_new classes texts new)
 Makes classes texts before new after (Some a) = HasMade classes texts before new after a
 
+-- the cells that an answer takes, where a call has these texts
+abbrev pub cells_of : Classes → (texts : List (List ℕ)) → Answer → ℕ
+cells_of classes texts (answer.Makes new) = cells_of_new classes texts new
+cells_of classes texts (answer.Throws class) = cells_of_new classes texts (Fresh class)
+cells_of classes texts (answer.Raises class place) = cells_of_new classes texts (Text place) + cells_of_new classes texts (Fresh class)
+cells_of classes texts a = 0
+
 -- a new string of a text and a new exception with it as message, where both have room, and else the store as it was
 abbrev pub Raises : Classes → (texts : List (List ℕ)) → Store → (class place : ℕ) → Store → Option ℕ → Type 0
-Raises classes texts before class place after None = (after ≡ before) × (left_of before.heap < cells_of_new classes texts (Text place) + cells_of_new classes texts (Fresh class))
+Raises classes texts before class place after None = (after ≡ before) × (left_of before.heap < cells_of classes texts (answer.Raises class place))
 Raises classes texts before class place after (Some a) =
     (between : Store) × (message : ℕ) × HasMade classes texts before (Text place) between message × HasMade classes texts between (Exception class message) after a
 
@@ -53,10 +60,3 @@ Raises classes texts before class place after (Some a) =
 abbrev pub MakesGlobal : (old : List (Option ℕ)) → Option ℕ → (new : List (Option ℕ)) → StaticReference → Type 0
 MakesGlobal old None new held = (new ≡ old) × (held ≡ static.Empty)
 MakesGlobal old (Some a) new held = (key : ℕ) × (held ≡ static.Live key) × Gains old key a new
-
--- the cells that an answer takes, where a call has these texts
-abbrev pub cells_of : Classes → (texts : List (List ℕ)) → Answer → ℕ
-cells_of classes texts (answer.Makes new) = cells_of_new classes texts new
-cells_of classes texts (answer.Throws class) = cells_of_new classes texts (Fresh class)
-cells_of classes texts (answer.Raises class place) = cells_of_new classes texts (Text place) + cells_of_new classes texts (Fresh class)
-cells_of classes texts a = 0

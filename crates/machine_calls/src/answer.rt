@@ -11,7 +11,7 @@ ghost use Rattle.heap.specs.Heap.{IsAddress};
 ghost use Rattle.jni.specs.JniFunction.{is_built_function};
 ghost use Rattle.jni.specs.Table.{function_value};
 ghost use Rattle.machine_calls.specs.CallGroups.{is_further, is_of_objects};
-ghost use Rattle.machine_calls.specs.Checked.{fit_together};
+ghost use Rattle.machine_calls.specs.Checked.{arguments_fit};
 ghost use Rattle.machine_calls.specs.Given.{class_of_given, field_at, field_there, name_there, operand_at, operand_of, AreAddresses, AreHandles};
 ghost use Rattle.machine_calls.specs.Scenes.{scene_view};
 ghost use Rattle.machine_calls.specs.WorkedOut.{address_in, class_object, count_there, deletes, deletes_global, found_class, frame_for, held_reference, place_there, room_for, top_word, value_there, word_in, writes_there, IsFoundField, IsWorkedOut};
@@ -92,7 +92,7 @@ pub fn work_out(scene: &Scene<'_>, function: &Call) -> Answer
     requires objects { AreAddresses scene.now.heap.now scene.now.references function.now.operands.items }
     requires handles { AreHandles scene.now.classes.now scene.now.fields.now function.now.operands.items }
     requires answered { is_built_function (function_value function.now.function) ≡ true }
-    requires passed { fit_together scene.now.classes.now scene.now.heap.now scene.now.references scene.now.fields.now function.now.operands.items (function_value function.now.function) ≡ true }
+    requires passed { arguments_fit (scene_view scene.now) function.now.operands.items (function_value function.now.function) ≡ true }
     ensures { IsWorkedOut (scene_view scene.now) (call_view function.now) (function_value function.now.function) result }
 {
     match function.function {
@@ -144,7 +144,7 @@ fn work_out_further(scene: &Scene<'_>, function: &Call) -> Answer
     requires objects { AreAddresses scene.now.heap.now scene.now.references function.now.operands.items }
     requires handles { AreHandles scene.now.classes.now scene.now.fields.now function.now.operands.items }
     requires further { is_further (function_value function.now.function) ≡ true }
-    requires passed { fit_together scene.now.classes.now scene.now.heap.now scene.now.references scene.now.fields.now function.now.operands.items (function_value function.now.function) ≡ true }
+    requires passed { arguments_fit (scene_view scene.now) function.now.operands.items (function_value function.now.function) ≡ true }
     ensures { IsWorkedOut (scene_view scene.now) (call_view function.now) (function_value function.now.function) result }
 {
     match function.function {
@@ -189,7 +189,7 @@ fn work_out_field(scene: &Scene<'_>, function: &Call) -> Answer
     requires objects { AreAddresses scene.now.heap.now scene.now.references function.now.operands.items }
     requires handles { AreHandles scene.now.classes.now scene.now.fields.now function.now.operands.items }
     requires of_objects { is_of_objects (function_value function.now.function) ≡ true }
-    requires passed { fit_together scene.now.classes.now scene.now.heap.now scene.now.references scene.now.fields.now function.now.operands.items (function_value function.now.function) ≡ true }
+    requires passed { arguments_fit (scene_view scene.now) function.now.operands.items (function_value function.now.function) ≡ true }
     ensures { IsWorkedOut (scene_view scene.now) (call_view function.now) (function_value function.now.function) result }
 {
     match function.function {

@@ -6,9 +6,9 @@ ghost use Rattle.code.specs.Call.{call_view};
 ghost use Rattle.heap.specs.Heap.{IsAddress};
 ghost use Rattle.jni.specs.Table.{function_value};
 ghost use Rattle.machine_calls.specs.CallGroups.{is_of_arrays};
-ghost use Rattle.machine_calls.specs.Given.{class_of_given, fits_there, operand_at, operand_of, AreAddresses};
+ghost use Rattle.machine_calls.specs.Given.{AreAddresses};
 ghost use Rattle.machine_calls.specs.Scenes.{scene_view};
-ghost use Rattle.machine_calls.specs.WorkedOut.{element_there, index_there, new_array, stack_number, stores_there, IsWorkedOut};
+ghost use Rattle.machine_calls.specs.WorkedOut.{element_there, fits_element, index_there, new_array, stack_number, stores_there, IsWorkedOut};
 
 use crate::answer::{
     Answer, Given, address_in, argument, count_there, held_reference, name_of, top_word,
@@ -59,7 +59,7 @@ pub(crate) fn work_out_array(scene: &Scene<'_>, function: &Call) -> Answer
             element_there(scene.heap, array, stack_number(scene.stack))
         }
         JniFunction::SetObjectArrayElement => {
-            let fits = fits_element(scene.classes, scene.heap, &scene.references, function);
+            let fits = fits_element(scene, function);
             let element = held_reference(argument(scene.heap, &scene.references, function, 2));
             let array = argument(scene.heap, &scene.references, function, 0);
             stores_there(scene.heap, array, fits, stack_number(scene.stack), element)
@@ -92,23 +92,14 @@ fn new_array(class: usize, count: i32, value: Value) -> Answer
 }
 
 /// Whether operand 2 fits the elements of operand 0.
-fn fits_element(
-    classes: &ClassTable,
-    heap: &Heap,
-    references: &References<'_>,
-    function: &Call,
-) -> bool
-    requires { AreAddresses heap.now references.now function.now.operands.items }
-    ensures { result ≡ fits_there classes.now heap.now (operand_at references.now (operand_of function.now.operands.items 2)) (element_class (class_kind classes.now (class_of_given heap.now (operand_at references.now (operand_of function.now.operands.items 0))))) }
+fn fits_element(scene: &Scene<'_>, function: &Call) -> bool
+    requires { AreAddresses scene.now.heap.now scene.now.references function.now.operands.items }
+    ensures { result ≡ fits_element (scene_view scene.now) (call_view function.now) }
 {
-    let array = argument(heap, references, function, 0);
-    let class = element_class(classes, class_of_given(heap, array));
-    fits_there(
-        classes,
-        heap,
-        argument(heap, references, function, 2),
-        class,
-    )
+    let array = argument(scene.heap, &scene.references, function, 0);
+    let class = element_class(scene.classes, class_of_given(scene.heap, array));
+    let element = argument(scene.heap, &scene.references, function, 2);
+    fits_there(scene.classes, scene.heap, element, class)
 }
 
 /// The class of the elements of a class of arrays of objects, and 0 for another.

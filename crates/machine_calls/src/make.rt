@@ -4,8 +4,9 @@ ghost use Rattle.std.specs.Prelude.{◌≡◌, ◌+◌, ◌<◌, ◌^◌, nat_le
 ghost use Rattle.class_rules.specs.BuiltIns.{string_class};
 ghost use Rattle.classes.specs.Views.{field_type_view};
 ghost use Rattle.heap.specs.Heap.{left_of};
-ghost use Rattle.machine_calls.specs.Made.{Allocates, Makes, Raises};
-ghost use Rattle.machine_calls.specs.NewObjects.{cells_of_new, class_of_new, initial_value, initial_values, texts_in, units, values_of_exception, values_of_new, AreBytes, IsOfBytes};
+ghost use Rattle.machine_calls.specs.declared.answer.Answer.TheVariants as answer;
+ghost use Rattle.machine_calls.specs.Made.{cells_of, Allocates, Makes, Raises};
+ghost use Rattle.machine_calls.specs.NewObjects.{class_of_new, initial_value, initial_values, texts_in, units, values_of_exception, values_of_new, AreBytes, IsOfBytes};
 
 use crate::new_object::{New, NewArray, text_at};
 use crate::store::Store;
@@ -59,7 +60,7 @@ pub fn can_raise(
     class: usize,
     place: usize,
 ) -> bool
-    ensures { result ≡ nat_le (cells_of_new classes.now (texts_in texts.now) (New.Text place) + cells_of_new classes.now (texts_in texts.now) (New.Fresh class)) (left_of heap.now) }
+    ensures { result ≡ nat_le (cells_of classes.now (texts_in texts.now) (answer.Raises class place)) (left_of heap.now) }
 {
     let left = heap.left();
     let message = New::Text(place).cells(classes, texts);

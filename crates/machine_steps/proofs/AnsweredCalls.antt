@@ -3,8 +3,8 @@ use Rattle.std.proofs.Common.{◌≡◌, ℕ, List, None, sym, ap, ◌∙◌, su
 use Rattle.jni.specs.JniFunction.{JniFunction, prototype}
 use Rattle.jni.specs.Prototype.{ResultKind}
 use Rattle.jni.specs.Table.{function_value}
-use Rattle.semantics.specs.CallEffects.{CallEffect}
-use Rattle.semantics.specs.CallStep.{trap_of_call}
+use Rattle.semantics.specs.CallEffects.{CallEffect, Halts}
+use Rattle.semantics.specs.CallStep.{effect_of_call, trap_of_call}
 use Rattle.semantics.specs.CallTable.{call_effect}
 use Rattle.semantics.specs.Effect.{Effect, effect_of}
 use Rattle.semantics.specs.Task.{Task}
@@ -15,6 +15,9 @@ use Rattle.code.specs.Call.{call_view}
 use Rattle.code.specs.declared.instr.Call.{Call}
 use Rattle.code_meaning.specs.Lowered.{Lowered}
 use Rattle.machine_calls.specs.declared.answer.Answer.{Answer}
+use Rattle.machine_calls.specs.declared.answer.Answer.TheVariants as answer
+use Rattle.machine_calls.specs.declared.trap.Trap.{Trap}
+use Rattle.machine_calls.specs.Traps.{trap_view}
 use Rattle.machine_calls.specs.declared.store.Store.{Store}
 use Rattle.machine_calls.specs.declared.activation.Activation.{Activation}
 use Rattle.machine_calls.specs.Answers.{IsAnswer}
@@ -28,7 +31,7 @@ use Rattle.machine_steps.specs.Executes.{cells_made}
 use Rattle.machine_steps.specs.Invoked.{AtCall, IsAnswered}
 use Rattle.machine_calls.proofs.CallAnswers.{answers}
 use Rattle.machine_calls.proofs.CellsMade.{cells_made as cells_answered}
-use Rattle.machine_steps.proofs.CallInstructions.{CalledAs, called, cells_wanted, r, held, possible, owned_key, trap_is}
+use Rattle.machine_steps.proofs.CallInstructions.{CalledAs, called, effect_is, cells_wanted, r, held, possible, owned_key, trap_is}
 
 -- the machine is at a call that no check stops
 module _ (p : Lowered) (w : World) (store : Store) (pending : Option ℕ) (call : Activation) (function : Call) (own : Owners) (shared : Shared) (s : Thread) (task : Task) (rest : List Task) (h : AtCall p w store pending call function own shared s task rest) (answer : Answer) (given : IsAnswered w store pending call function answer) where
@@ -66,3 +69,12 @@ module _ (p : Lowered) (w : World) (store : Store) (pending : Option ℕ) (call 
         ap (λ (e : Effect). cells_made shared (after_effect w.classes in_use k shared s rest e)) it.is
         ∙ cells_wanted p w store pending call function own shared s task rest h in_use k free
         ∙ cells_answered w.classes (texts_in function.texts.items) store.heap call.locals kind shared s answer (does in_use k) (answered in_use k)
+
+-- the machine is at a call that stops it, all checks being passed
+module _ (p : Lowered) (w : World) (store : Store) (pending : Option ℕ) (call : Activation) (function : Call) (own : Owners) (shared : Shared) (s : Thread) (task : Task) (rest : List Task) (h : AtCall p w store pending call function own shared s task rest) (trap : Trap) (halted : IsAnswered w store pending call function (answer.Halts trap)) where
+  -- so does the source's
+  pub halts : (in_use : BuffersInUse) (k : ℕ) → let it = called p w store pending call function own shared s task rest h in effect_of_call w.classes in_use k shared s it.line it.target it.f it.args rest ≡ Halts (trap_view trap)
+  halts in_use k =
+      let it = called p w store pending call function own shared s task rest h in
+      effect_is p w store pending call function own shared s task rest h (free p w store pending call function own shared s task rest h (answer.Halts trap) halted) in_use k
+      ∙ answered p w store pending call function own shared s task rest h (answer.Halts trap) halted (prototype it.f).result (ap (λ (f : JniFunction). (prototype f).result) (sym it.asked.same_function)) in_use k

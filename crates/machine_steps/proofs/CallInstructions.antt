@@ -44,7 +44,7 @@ use Rattle.machine_steps.specs.declared.execute.Executed.TheVariants.{Did}
 use Rattle.machine_steps.specs.Executes.{CallStands, Executes, GoesOn, WorkAgrees, after_any, cells_made}
 use Rattle.machine_calls.specs.Locals.{FramesAgree}
 use Rattle.machine_calls.specs.WorkedOut.{IsWorkedOut, deletes}
-use Rattle.machine_calls.specs.Answers.{HoldsObject, IsAnswer}
+use Rattle.machine_calls.specs.Answers.{HoldsObject, IsAnswer, is_halt}
 use Rattle.machine_calls.specs.Asked.{IsAsked, references_of, scene_of}
 use Rattle.machine_calls.specs.Statics.{all_held}
 use Rattle.machine_calls.specs.CarriedOut.{CarriesOut, GoesByRoom, IsLeft, IsPossible, IsShortOf, can_fail, frames_left, made_by, pending_after, result_after, shared_after}
@@ -120,49 +120,55 @@ same_thread e = cc
 stays_same : (s t : source.Thread) → t ≡ s → t ≡ record s { frames = t.frames; pending = t.pending }
 stays_same s t e = subst (λ (u : source.Thread). t ≡ record u { frames = t.frames; pending = t.pending }) e refl
 
-stays_with : (classes : Classes) (texts : List (List ℕ)) (space : Space) (locals : LocalTable) (kind : ResultKind) (shared : Shared) (s : source.Thread) (answer : Answer) (effect : CallEffect) → IsAnswer classes texts space locals kind shared s answer effect → StaysBut s effect
-stays_with classes texts space locals kind shared s answer (Throws c) h = tt
-stays_with classes texts space locals kind shared s answer (Halts trap) h = no_halt answer h
+stays_with : (classes : Classes) (texts : List (List ℕ)) (space : Space) (locals : LocalTable) (kind : ResultKind) (shared : Shared) (s : source.Thread) (answer : Answer) (effect : CallEffect) → is_halt answer ≡ false → IsAnswer classes texts space locals kind shared s answer effect → StaysBut s effect
+stays_with classes texts space locals kind shared s answer (Throws c) runs h = tt
+stays_with classes texts space locals kind shared s answer (Halts trap) runs h = no_halt answer runs h
   where
-    no_halt : (answer : Answer) → IsAnswer classes texts space locals kind shared s answer (Halts trap) → ⊥
-    no_halt (answers.Gives g) h = h
-    no_halt (answers.Writes a place v) h = h
-    no_halt (answers.Makes c) h = h
-    no_halt (answers.Throws c) h = h
-    no_halt (answers.Ensures more) h = no_halt_of_frames (nat_le (source.capacities (with_capacity more s.frames)) 1024) h.1
+    no_halt : (answer : Answer) → is_halt answer ≡ false → IsAnswer classes texts space locals kind shared s answer (Halts trap) → ⊥
+    no_halt (answers.Gives g) runs h = h
+    no_halt (answers.Writes a place v) runs h = h
+    no_halt (answers.Makes c) runs h = h
+    no_halt (answers.Throws c) runs h = h
+    no_halt (answers.Raises class place) runs h = let e = h.3 in cc
+    no_halt (answers.Pends a g) runs h = let e = h.2.2 in cc
+    no_halt (answers.Halts stopped) runs h = absurd (cc)
+    no_halt (answers.Ensures more) runs h = no_halt_of_frames (nat_le (source.capacities (with_capacity more s.frames)) 1024) h.1
       where
         no_halt_of_frames : (b : Bool) → Halts trap ≡ (if b then Leaves [] shared (record s { frames = with_capacity more s.frames }) (ScalarResult (Int (pos 0))) else refuses_frames classes shared s) → ⊥
         no_halt_of_frames true e = cc
         no_halt_of_frames false e = cc
-    no_halt (answers.Pushes capacity) h = no_halt_of_frame (nat_le (source.capacities (record { capacity = capacity; references = [] } ∷ s.frames)) 1024) h.1
+    no_halt (answers.Pushes capacity) runs h = no_halt_of_frame (nat_le (source.capacities (record { capacity = capacity; references = [] } ∷ s.frames)) 1024) h.1
       where
         no_halt_of_frame : (b : Bool) → Halts trap ≡ (if b then Leaves [] shared (record s { frames = record { capacity = capacity; references = [] } ∷ s.frames }) (ScalarResult (Int (pos 0))) else refuses_frames classes shared s) → ⊥
         no_halt_of_frame true e = cc
         no_halt_of_frame false e = cc
-    no_halt (answers.Pops a) h = let e = h.1.2 in cc
-    no_halt (answers.MakesGlobal a) h = let e = h.1.2 in cc
-    no_halt (answers.DeletesGlobal i) h = let e = h.1.3 in cc
-    no_halt (answers.Deletes key) h = let e = h.1.3 in cc
-    no_halt answers.RefusesFrames h = let e = h.1 in cc
-stays_with classes texts space locals kind shared s (answers.Gives g) (Leaves made s' t' c) h = stays_same s t' (same_thread (gives_it classes texts space locals kind shared s g (Leaves made s' t' c) h).is)
-stays_with classes texts space locals kind shared s (answers.Writes a place v) (Leaves made s' t' c) h = stays_same s t' (same_thread (writes_it classes texts space locals kind shared s a place v (Leaves made s' t' c) h).is)
-stays_with classes texts space locals kind shared s (answers.Makes class) (Leaves made s' t' c) h = stays_same s t' (same_thread (makes_it classes texts space locals kind shared s class (Leaves made s' t' c) h).is)
-stays_with classes texts space locals kind shared s (answers.Throws class) (Leaves made s' t' c) h = absurd h
-stays_with classes texts space locals kind shared s (answers.Ensures more) (Leaves made s' t' c) h = subst (StaysBut s) (sym h.1) (stays_framed (nat_le (source.capacities (with_capacity more s.frames)) 1024))
+    no_halt (answers.Pops a) runs h = let e = h.1.2 in cc
+    no_halt (answers.MakesGlobal a) runs h = let e = h.1.2 in cc
+    no_halt (answers.DeletesGlobal i) runs h = let e = h.1.3 in cc
+    no_halt (answers.Deletes key) runs h = let e = h.1.3 in cc
+    no_halt answers.RefusesFrames runs h = let e = h.1 in cc
+stays_with classes texts space locals kind shared s (answers.Gives g) (Leaves made s' t' c) runs h = stays_same s t' (same_thread (gives_it classes texts space locals kind shared s g (Leaves made s' t' c) h).is)
+stays_with classes texts space locals kind shared s (answers.Writes a place v) (Leaves made s' t' c) runs h = stays_same s t' (same_thread (writes_it classes texts space locals kind shared s a place v (Leaves made s' t' c) h).is)
+stays_with classes texts space locals kind shared s (answers.Makes class) (Leaves made s' t' c) runs h = stays_same s t' (same_thread (makes_it classes texts space locals kind shared s class (Leaves made s' t' c) h).is)
+stays_with classes texts space locals kind shared s (answers.Throws class) (Leaves made s' t' c) runs h = absurd h
+stays_with classes texts space locals kind shared s (answers.Raises class place) (Leaves made s' t' c) runs h = subst (StaysBut s) (sym h.3) refl
+stays_with classes texts space locals kind shared s (answers.Pends a g) (Leaves made s' t' c) runs h = subst (StaysBut s) (sym h.2.2) refl
+stays_with classes texts space locals kind shared s (answers.Halts trap) (Leaves made s' t' c) runs h = absurd (cc)
+stays_with classes texts space locals kind shared s (answers.Ensures more) (Leaves made s' t' c) runs h = subst (StaysBut s) (sym h.1) (stays_framed (nat_le (source.capacities (with_capacity more s.frames)) 1024))
   where
     stays_framed : (b : Bool) → StaysBut s (if b then Leaves [] shared (record s { frames = with_capacity more s.frames }) (ScalarResult (Int (pos 0))) else refuses_frames classes shared s)
     stays_framed true = refl
     stays_framed false = refl
-stays_with classes texts space locals kind shared s (answers.Pushes capacity) (Leaves made s' t' c) h = subst (StaysBut s) (sym h.1) (stays_framed (nat_le (source.capacities (record { capacity = capacity; references = [] } ∷ s.frames)) 1024))
+stays_with classes texts space locals kind shared s (answers.Pushes capacity) (Leaves made s' t' c) runs h = subst (StaysBut s) (sym h.1) (stays_framed (nat_le (source.capacities (record { capacity = capacity; references = [] } ∷ s.frames)) 1024))
   where
     stays_framed : (b : Bool) → StaysBut s (if b then Leaves [] shared (record s { frames = record { capacity = capacity; references = [] } ∷ s.frames }) (ScalarResult (Int (pos 0))) else refuses_frames classes shared s)
     stays_framed true = refl
     stays_framed false = refl
-stays_with classes texts space locals kind shared s (answers.Pops a) (Leaves made s' t' c) h = subst (StaysBut s) (sym h.1.2) refl
-stays_with classes texts space locals kind shared s (answers.MakesGlobal a) (Leaves made s' t' c) h = subst (StaysBut s) (sym h.1.2) refl
-stays_with classes texts space locals kind shared s (answers.DeletesGlobal i) (Leaves made s' t' c) h = subst (StaysBut s) (sym h.1.3) refl
-stays_with classes texts space locals kind shared s (answers.Deletes key) (Leaves made s' t' c) h = subst (StaysBut s) (sym h.1.3) refl
-stays_with classes texts space locals kind shared s answers.RefusesFrames (Leaves made s' t' c) h = subst (StaysBut s) (sym h.1) refl
+stays_with classes texts space locals kind shared s (answers.Pops a) (Leaves made s' t' c) runs h = subst (StaysBut s) (sym h.1.2) refl
+stays_with classes texts space locals kind shared s (answers.MakesGlobal a) (Leaves made s' t' c) runs h = subst (StaysBut s) (sym h.1.2) refl
+stays_with classes texts space locals kind shared s (answers.DeletesGlobal i) (Leaves made s' t' c) runs h = subst (StaysBut s) (sym h.1.3) refl
+stays_with classes texts space locals kind shared s (answers.Deletes key) (Leaves made s' t' c) runs h = subst (StaysBut s) (sym h.1.3) refl
+stays_with classes texts space locals kind shared s answers.RefusesFrames (Leaves made s' t' c) runs h = subst (StaysBut s) (sym h.1) refl
 
 -- ---- the place
 
@@ -453,14 +459,19 @@ module _ (p : Lowered) (w : World) (store : Store) (pending : Option ℕ) (call 
         (λ local. left_is w.classes in_use k shared s called.args called.f called.asked.answered local refused carried.could_refuse) carried.frames_agree (source_room free)
 
     -- a trap stops the thread where it is
-    pub traps : (trap : Trap) (line : ℕ) → line ≡ function.line → trap_of_call w.classes shared s called.target called.f called.args ≡ Some (trap_view trap)
+    -- a check found it
+    pub found_trap : (trap : Trap) → trap_of_call w.classes shared s called.target called.f called.args ≡ Some (trap_view trap) → effect_of_call w.classes in_use k shared s called.line called.target called.f called.args rest ≡ Halts (trap_view trap)
+    found_trap trap found = ap (λ (o : Option SourceTrap). checked o (call_effect w.classes in_use k shared s called.args called.f)) found
+
+    -- the call stops the machine
+    pub traps : (trap : Trap) (line : ℕ) → line ≡ function.line → effect_of_call w.classes in_use k shared s called.line called.target called.f called.args rest ≡ Halts (trap_view trap)
         → Executes p w store.heap store in_use k own shared s rest call pending (effect_of (sight_of shared s) task) (Did (event.Trapped trap line))
     traps trap line same found =
         subst (λ (e : Effect). GoesOn p w store.heap store in_use k own shared s rest call pending e false (event.Trapped trap line)) (sym called.is) (record {
           next_shared = shared;
           next = s;
           steps =
-              ap (after_call w.classes in_use k shared s called.line called.target called.f called.args rest) (ap (λ (o : Option SourceTrap). checked o (call_effect w.classes in_use k shared s called.args called.f)) found)
+              ap (after_call w.classes in_use k shared s called.line called.target called.f called.args rest) found
               ∙ ap (λ (n : ℕ). source.Advances shared s (source.Trapped (trap_view trap) n)) (sym (same ∙ called.same_line));
           store_agrees = h.shares;
           keeps = keeps_same store.heap shared;
@@ -484,14 +495,14 @@ module _ (p : Lowered) (w : World) (store : Store) (pending : Option ℕ) (call 
     stepped true t next h = h
 
     -- what was carried out and received is what the source's call leaves
-    pub goes_on : (refused : Bool) (store' : Store) (pending' : Option ℕ) (locals : LocalTable) (g : Given) (after : Activation) (statics : Vec StaticReference) (answer : Answer) → AreStacked locals → (free : trap_of_call w.classes shared s called.target called.f called.args ≡ None)
+    pub goes_on : (refused : Bool) (store' : Store) (pending' : Option ℕ) (locals : LocalTable) (g : Given) (after : Activation) (statics : Vec StaticReference) (answer : Answer) → is_halt answer ≡ false → AreStacked locals → (free : trap_of_call w.classes shared s called.target called.f called.args ≡ None)
         → IsWorkedOut (scene_of w.classes store call pending) function called.f answer
         → IsAnswer w.classes function.texts store.heap call.locals (prototype called.f).result shared s answer (call_effect w.classes in_use k shared s called.args called.f)
         → CarriesOut p w store.heap call.locals answer (prototype called.f).result shared s (call_effect w.classes in_use k shared s called.args called.f) refused store' pending' locals g
         → Receives function.target (prototype called.f).result g (record call { locals = locals }) after
         → statics.items ≡ statics_with function.target g store'.statics.items
         → GoesOn p w store.heap (record store' { statics = statics }) in_use k own shared s rest after pending' (effect_of (sight_of shared s) task) refused event.Quiet
-    goes_on refused store' pending' locals g after statics answer stacked free works does carried received put =
+    goes_on refused store' pending' locals g after statics answer runs stacked free works does carried received put =
         let effect = call_effect w.classes in_use k shared s called.args called.f in
         let next = shared_after w.classes refused shared effect in
         let left = frames_left refused s effect in
@@ -506,7 +517,7 @@ module _ (p : Lowered) (w : World) (store : Store) (pending : Option ℕ) (call 
         (λ local x level old is at.
         h.steady.declared called.line x called.f called.args level old (next_is ∙ ap (λ (t : Target). Calls called.line t called.f called.args) is) local at
         ∙ ap (λ (fs : List source.Frame). length fs) (sym (left_frames local))) refl (goes_left answer works) received put in
-        let steps = step_leaves w.classes in_use k shared s called.line called.target called.f called.args rest refused effect (effect_is free in_use k) (stays_with w.classes function.texts store.heap call.locals (prototype called.f).result shared s answer effect does) carried.could_refuse in
+        let steps = step_leaves w.classes in_use k shared s called.line called.target called.f called.args rest refused effect (effect_is free in_use k) (stays_with w.classes function.texts store.heap call.locals (prototype called.f).result shared s answer effect runs does) carried.could_refuse in
         subst (λ (e : Effect). GoesOn p w store.heap (record store' { statics = statics }) in_use k own shared s rest after pending' e refused event.Quiet) (sym called.is) (record {
           next_shared = ends.now;
           next = going called.line called.f called.args ends.tasks s left q c ends.variables;

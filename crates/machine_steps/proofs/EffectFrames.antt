@@ -2,7 +2,7 @@
 use Rattle.std.proofs.Common.{◌≡◌, Bool, true, false, Option, Some, None, refl, ℕ, List, [], ℤ, pos, negsuc, nat_lt, if◌then◌else◌}
 use Rattle.class_rules.specs.BuiltIns.{array_index_out_of_bounds, no_class_def_found_error}
 use Rattle.class_rules.specs.Class.{Classes, class_named}
-use Rattle.jni.specs.JniFunction.{JniFunction, FindClass, GetSuperclass, GetObjectClass, AllocObject, NewLocalRef, PopLocalFrame, GetObjectField, GetStaticObjectField, NewArray, NewObjectArray, GetObjectArrayElement, NewStringUTF, prototype, is_built_function}
+use Rattle.jni.specs.JniFunction.{JniFunction, FindClass, GetSuperclass, GetObjectClass, AllocObject, NewLocalRef, PopLocalFrame, GetObjectField, GetStaticObjectField, NewArray, NewObjectArray, GetObjectArrayElement, NewStringUTF, ExceptionOccurred, prototype, is_built_function}
 use Rattle.jni.specs.Prototype.{NewLocal}
 use Rattle.semantics.specs.Arguments.{Actual, number_given, text_given}
 use Rattle.semantics.specs.CallEffects.{Leaves, ReferenceResult, Throws, at_index, found_class_effect, new_array_effect}
@@ -58,6 +58,8 @@ module _ (classes : Classes) (in_use : BuffersInUse) (k : ℕ) (shared : Shared)
   left_is GetObjectArrayElement a n false could = at_element _ (number_given args 1) _
   left_is NewStringUTF a n true could = refl
   left_is NewStringUTF a n false could = refl
+  left_is ExceptionOccurred a n true could = refl
+  left_is ExceptionOccurred a n false could = refl
   left_is PopLocalFrame a n true could = absurd (let e = could refl in cc)
   left_is PopLocalFrame a n false could = refl
   left_is f a n refused could = absurd (cc)

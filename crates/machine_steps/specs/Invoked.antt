@@ -1,5 +1,5 @@
 -- Where a call of a function of the JNI is made.
-use Rattle.std.specs.Prelude.{◌≡◌, ℕ, Bool, true, false, List, [], ◌∷◌, slice_get, Option, Some, None}
+use Rattle.std.specs.Prelude.{◌≡◌, ℕ, Bool, true, false, List, [], ◌∷◌, slice_get, ◌⊎◌, Option, Some, None}
 use Rattle.code.specs.Call.{call_view}
 use Rattle.code.specs.Depth.{Listing}
 use Rattle.code.specs.declared.instr.Call.{Call as InMemory}
@@ -20,6 +20,9 @@ use Rattle.machine_steps.specs.declared.execute.Executed.{Executed}
 use Rattle.machine_steps.specs.declared.execute.Executed.TheVariants.{Did, Refused}
 use Rattle.tables.specs.Locals.{has_room}
 use Rattle.machine_calls.specs.declared.answer.Answer.{Answer}
+use Rattle.machine_calls.specs.declared.answer.Answer.TheVariants as answer
+use Rattle.machine_calls.specs.declared.trap.Trap.{Trap}
+use Rattle.machine_calls.specs.Traps.{trap_view}
 use Rattle.machine_calls.specs.declared.store.Store.{Store}
 use Rattle.machine_calls.specs.declared.activation.Activation.{Activation}
 use Rattle.machine_calls.specs.Asked.{scene_of}
@@ -50,10 +53,14 @@ trap_at w store pending call function =
     trap_found (scene_of w.classes store call pending) (has_room (locals_after (function_value function.function) call.locals)) (function_value function.function) function.operands.items
 
 -- No check stops a call, and this is what it answers.
-pub record IsAnswered (w : World) (store : Store) (pending : Option ℕ) (call : Activation) (function : InMemory) (answer : Answer) : Type 0 where
+pub record IsAnswered (w : World) (store : Store) (pending : Option ℕ) (call : Activation) (function : InMemory) (given : Answer) : Type 0 where
   pub sound : IsSound w
   pub free : trap_at w store pending call function ≡ None
-  pub works : IsWorkedOut (scene_of w.classes store call pending) (call_view function) (function_value function.function) answer
+  pub works : IsWorkedOut (scene_of w.classes store call pending) (call_view function) (function_value function.function) given
+
+-- A trap stops a call: a check found it, or it is what the call does.
+abbrev pub IsStopped : World → Store → (pending : Option ℕ) → Activation → InMemory → Trap → Type 0
+IsStopped w store pending call function trap = (trap_at w store pending call function ≡ Some (trap_view trap)) ⊎ IsAnswered w store pending call function (answer.Halts trap)
 
 -- what a call came to that wasn't stopped
 abbrev pub done_or_refused : (refused : Bool) → Invoked

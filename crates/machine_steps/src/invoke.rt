@@ -1,6 +1,6 @@
 //! Calls of functions of the JNI (JNI Specification, chapter 4).
 
-ghost use Rattle.std.specs.Prelude.{◌≡◌, ◌+◌, ◌<◌, ◌^◌, ◌||◌, ℕ, nat_le, true, List, Option, Some, Ok, IfOk, IfErr, OnErr};
+ghost use Rattle.std.specs.Prelude.{◌≡◌, ◌+◌, ◌<◌, ◌^◌, ◌||◌, ℕ, nat_le, false, true, List, Option, Some, Ok, IfOk, IfErr, OnErr};
 ghost use Rattle.code.specs.Call.{IsPrepared};
 ghost use Rattle.heap.specs.Heap.{left_of};
 ghost use Rattle.semantics.specs.Effect.{effect_of};
@@ -13,8 +13,8 @@ ghost use Rattle.machine_steps.specs.Executes.{Executes, IsHindered, cells_made}
 ghost use Rattle.machine_calls.specs.CarriedOut.{is_of_references};
 ghost use Rattle.machine_calls.specs.Made.{cells_of};
 ghost use Rattle.machine_calls.specs.NewObjects.{texts_in};
-ghost use Rattle.machine_calls.specs.Traps.{trap_view};
-ghost use Rattle.machine_steps.specs.Invoked.{AtCall, IsAnswered, trap_at, done_or_refused, executed_as};
+ghost use Rattle.machine_calls.specs.Answers.{is_halt};
+ghost use Rattle.machine_steps.specs.Invoked.{AtCall, IsAnswered, IsStopped, done_or_refused, executed_as};
 
 use crate::fault::StepFault;
 use crate::receive::receive;
@@ -100,7 +100,7 @@ fn goes_ahead(
     may_refuse || has_room(classes, texts, heap, answer)
 }
 
-/// What a call answers, or the trap that a check found.
+/// What a call answers, or the trap that stops it.
 #[inline(always)]
 fn answer_or_trap(
     world: &World,
@@ -112,7 +112,8 @@ fn answer_or_trap(
     requires at_call { (p : Lowered) × (own : Owners) × (shared : Shared) × (s : SourceThread) × (task : Task) × (rest : List Task) × AtCall p world.now store.now pending call.now function.now own shared s task rest }
     requires prepared { IsPrepared function.now }
     ensures answer { IfOk result (IsAnswered world.now store.now pending call.now function.now) }
-    ensures trap { IfErr result (λ trap. trap_at world.now store.now pending call.now function.now ≡ Some (trap_view trap)) }
+    ensures runs { IfOk result (λ answer. is_halt answer ≡ false) }
+    ensures trap { IfErr result (IsStopped world.now store.now pending call.now function.now) }
 {
     let scene = Scene {
         classes: world.classes(),
@@ -130,7 +131,20 @@ fn answer_or_trap(
     };
     match check(&scene, &call.locals, function) {
         Some(trap) => Err(trap),
-        None => Ok(work_out(&scene, function)),
+        None => running(work_out(&scene, function)),
+    }
+}
+
+/// An answer that doesn't stop the machine, or the trap that does.
+#[inline(always)]
+fn running(answer: Answer) -> Result<Answer, Trap>
+    ensures answer { IfOk result (λ same. same ≡ answer) }
+    ensures runs { IfOk result (λ same. is_halt same ≡ false) }
+    ensures trap { IfErr result (λ trap. answer ≡ Answer.Halts trap) }
+{
+    match answer {
+        Answer::Halts(trap) => Err(trap),
+        _ => Ok(answer),
     }
 }
 
@@ -149,6 +163,7 @@ fn finish(
     requires few { store.old.births + 2 < 2 ^ 32 }
     requires prepared { IsPrepared function.now }
     requires answered { IsAnswered world.now store.old pending.old call.old function.now answer }
+    requires runs { is_halt answer ≡ false }
     ensures done { IfOk result (λ done. (p : Lowered) (in_use : BuffersInUse) (k : ℕ) (own : Owners) (shared : Shared) (s : SourceThread) (task : Task) (rest : List Task) → AtCall p world.now store.old pending.old call.old function.now own shared s task rest
         → Executes p world.now store.old.heap store.new in_use k own shared s rest call.new pending.new (effect_of (sight_of shared s) task) (executed_as function.now.line done)) }
     ensures refused { result ≡ Ok Invoked.Refused → left_of store.old.heap < cells_of world.now.classes (texts_in function.now.texts.items) answer }

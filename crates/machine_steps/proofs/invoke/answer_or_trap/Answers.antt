@@ -1,4 +1,5 @@
-use Rattle.std.proofs.Common.{◌+◌, slice_get, ◌≡◌, ℕ, true, List, Option, None, sym, ap, ◌∙◌, subst}
+use Rattle.std.specs.Prelude.{IfOk, IfErr}
+use Rattle.std.proofs.Common.{inl, inr, Result, Ok, Err, ◌+◌, slice_get, ◌≡◌, ℕ, true, List, Option, None, sym, ap, ◌∙◌, subst}
 use Rattle.std.specs.Option.{option_map}
 use Rattle.class_rules.specs.Class.{Classes}
 use Rattle.classes.specs.declared.class.FieldHandle.{FieldHandle}
@@ -12,6 +13,7 @@ use Rattle.code.specs.Call.{call_view}
 use Rattle.code.specs.declared.instr.Call.{Call}
 use Rattle.code_meaning.specs.Lowered.{Lowered}
 use Rattle.machine_calls.specs.declared.answer.Answer.{Answer}
+use Rattle.machine_calls.specs.declared.answer.Answer.TheVariants as answer
 use Rattle.machine_calls.specs.declared.trap.Trap.{Trap}
 use Rattle.machine_calls.specs.declared.store.Store.{Store}
 use Rattle.machine_calls.specs.declared.activation.Activation.{Activation}
@@ -46,8 +48,10 @@ module _ (w : World) (store : Store) (pending : Option ℕ) (call : Activation) 
         ap (λ (x : Scene). trap_found x (has_room (locals_after (function_value function.function) call.locals)) (function_value function.function) function.operands.items) (sym same) ∙ sym checked ∙ ap (option_map trap_view) is
 
     -- and so is what was worked out
-    worked : (answer : Answer) → IsWorkedOut scene (call_view function) (function_value function.function) answer → IsWorkedOut (scene_of w.classes store call pending) (call_view function) (function_value function.function) answer
-    worked answer works = subst (λ (x : Scene). IsWorkedOut x (call_view function) (function_value function.function) answer) same works
+    worked : (found answer : Answer) → answer ≡ found → IsWorkedOut scene (call_view function) (function_value function.function) found → IsWorkedOut (scene_of w.classes store call pending) (call_view function) (function_value function.function) answer
+    worked found answer is works =
+        subst (λ (x : Answer). IsWorkedOut (scene_of w.classes store call pending) (call_view function) (function_value function.function) x) (sym is)
+        (subst (λ (x : Scene). IsWorkedOut x (call_view function) (function_value function.function) found) same works)
 
   -- the machine is at a call
   module _ (a : (p : Lowered) × (own : Owners) × (shared : Shared) × (s : Thread) × (task : Task) × (rest : List Task) × AtCall p w store pending call function own shared s task rest) where
@@ -87,7 +91,7 @@ pub returns-in-Some-clause-trap : goal.returns-in-Some-clause-trap
 returns-in-Some-clause-trap c =
     let named = named_are c.args.store.now c.args.call.now c.deref-2.result.now c.deref-3.result.now c.new.result c.new.ensures c.deref-2.ensures.value c.deref-3.ensures.value in
     let same = seen c.args.world.now c.args.store.now c.args.pending c.args.call.now c.args.function.now c.classes.result.now c.deref.result.now c.new.result c.deref-4.result.now c.classes.ensures.classes c.deref.ensures.value named c.deref-4.ensures.value in
-    told c.args.world.now c.args.store.now c.args.pending c.args.call.now c.args.function.now _ same c.check.result _ c.check.ensures c.in-Some.is
+    inl (told c.args.world.now c.args.store.now c.args.pending c.args.call.now c.args.function.now _ same c.check.result _ c.check.ensures c.in-Some.is)
 
 pub work_out-requires-clause-loaded : goal.work_out-requires-clause-loaded
 work_out-requires-clause-loaded c i a at =
@@ -112,12 +116,37 @@ work_out-requires-clause-passed c =
     let free = told c.args.world.now c.args.store.now c.args.pending c.args.call.now c.args.function.now _ same c.check.result None c.check.ensures c.in-None.is in
     passes c.args.world.now c.args.store.now c.args.pending c.args.call.now c.args.function.now c.requires.at_call c.classes.result.now c.new.result c.deref-4.result.now c.classes.ensures.classes named c.deref-4.ensures.value free
 
+-- what was worked out is handed on
+handed_on : {A E : Type 0} (P Q : A → Type 0) (r : Result A E) → ((x : A) → P x → Q x) → IfOk r P → IfOk r Q
+handed_on P Q (Ok x) f h = f x h
+handed_on P Q (Err e) f h = h
+
+stopped : {A E : Type 0} (P Q : E → Type 0) (r : Result A E) → ((e : E) → P e → Q e) → IfErr r P → IfErr r Q
+stopped P Q (Ok x) f h = h
+stopped P Q (Err e) f h = f e h
+
 pub returns-in-None-clause-answer : goal.returns-in-None-clause-answer
 returns-in-None-clause-answer c =
     let named = named_are c.args.store.now c.args.call.now c.deref-2.result.now c.deref-3.result.now c.new.result c.new.ensures c.deref-2.ensures.value c.deref-3.ensures.value in
     let same = seen c.args.world.now c.args.store.now c.args.pending c.args.call.now c.args.function.now c.classes.result.now c.deref.result.now c.new.result c.deref-4.result.now c.classes.ensures.classes c.deref.ensures.value named c.deref-4.ensures.value in
+    handed_on _ _ c.running.result
+    (λ (answer : Answer) (is : answer ≡ c.work_out.result).
     record {
       sound = c.classes.ensures.sound;
       free = told c.args.world.now c.args.store.now c.args.pending c.args.call.now c.args.function.now _ same c.check.result None c.check.ensures c.in-None.is;
-      works = worked c.args.world.now c.args.store.now c.args.pending c.args.call.now c.args.function.now _ same c.work_out.result c.work_out.ensures;
-    }
+      works = worked c.args.world.now c.args.store.now c.args.pending c.args.call.now c.args.function.now _ same c.work_out.result answer is c.work_out.ensures;
+    })
+    c.running.ensures.answer
+
+pub returns-in-None-clause-trap : goal.returns-in-None-clause-trap
+returns-in-None-clause-trap c =
+    let named = named_are c.args.store.now c.args.call.now c.deref-2.result.now c.deref-3.result.now c.new.result c.new.ensures c.deref-2.ensures.value c.deref-3.ensures.value in
+    let same = seen c.args.world.now c.args.store.now c.args.pending c.args.call.now c.args.function.now c.classes.result.now c.deref.result.now c.new.result c.deref-4.result.now c.classes.ensures.classes c.deref.ensures.value named c.deref-4.ensures.value in
+    stopped _ _ c.running.result
+    (λ (trap : Trap) (is : c.work_out.result ≡ answer.Halts trap).
+    inr (record {
+      sound = c.classes.ensures.sound;
+      free = told c.args.world.now c.args.store.now c.args.pending c.args.call.now c.args.function.now _ same c.check.result None c.check.ensures c.in-None.is;
+      works = worked c.args.world.now c.args.store.now c.args.pending c.args.call.now c.args.function.now _ same c.work_out.result (answer.Halts trap) (sym is) c.work_out.ensures;
+    }))
+    c.running.ensures.trap

@@ -86,6 +86,7 @@ carry_out-requires c =
         answered_by a.0 w c.args.store.now c.args.pending.now c.args.call.now c.args.function.now a.1 a.2 a.3 a.4 a.5 a.6 c.args.answer c.requires.answered kind c.requires.prepared.result c.deref.result.now c.deref.ensures.value no_buffers 0,
       );
       few = c.requires.few;
+      runs = c.requires.runs;
     }
 
 pub receive-requires-clause-target : goal.receive-requires-clause-target
@@ -134,7 +135,7 @@ returns-clause-done c p in_use k own shared s task rest h =
     let final : Store = record c.carry_out.new.store { statics = after } in
     subst (λ (done : Executed). Executes p w store.heap final in_use k own shared s rest c.receive.new.call c.carry_out.new.pending (effect_of (sight_of shared s) task) done) (ap (executed_as function.line) (sym c.done_or_refused.ensures))
     (executes p w store.heap final in_use k own shared s rest c.receive.new.call c.carry_out.new.pending (effect_of (sight_of shared s) task) function.line refused
-    (goes_on p w store pending call function own shared s task rest h in_use k refused c.carry_out.new.store c.carry_out.new.pending c.carry_out.new.locals g c.receive.new.call after c.args.answer c.frames.ensures.stacked
+    (goes_on p w store pending call function own shared s task rest h in_use k refused c.carry_out.new.store c.carry_out.new.pending c.carry_out.new.locals g c.receive.new.call after c.args.answer c.requires.runs c.frames.ensures.stacked
     (free p w store pending call function own shared s task rest h c.args.answer c.requires.answered)
     (worked p w store pending call function own shared s task rest h c.args.answer c.requires.answered)
     (subst (λ (x : ResultKind). IsAnswer w.classes (texts_in function.texts.items) store.heap call.locals x shared s c.args.answer (call_effect w.classes in_use k shared s it.args it.f)) is answer)

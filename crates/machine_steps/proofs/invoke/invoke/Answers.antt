@@ -1,22 +1,34 @@
 use Rattle.std.specs.Global.{Vec}
-use Rattle.std.proofs.Common.{◌≡◌, ℕ, List, ◌<◌, ◌||◌, Bool, true, false, refl, sym, ap, ◌∙◌, arith}
+use Rattle.std.proofs.Common.{◌≡◌, ℕ, List, ◌<◌, ◌||◌, Bool, true, false, Some, ⊎_elim, refl, sym, ap, ◌∙◌, arith}
 use Rattle.std.specs.Prelude.{nat_le}
 use Rattle.std.proofs.lemmas.Bool.{leb-false}
 use Rattle.class_rules.specs.Class.{Classes}
 use Rattle.heap.specs.Heap.{left_of}
 use Rattle.jni.specs.Table.{result_value}
 use Rattle.machine_calls.specs.declared.answer.Answer.{Answer}
+use Rattle.machine_calls.specs.declared.answer.Answer.TheVariants as answer
+use Rattle.machine_calls.specs.Traps.{trap_view}
+use Rattle.machine_steps.specs.Invoked.{IsAnswered, trap_at}
 use Rattle.machine_calls.specs.Made.{cells_of}
 use Rattle.machine_calls.specs.NewObjects.{texts_in}
 use Rattle.machine_calls.proofs.CellsMade.{references_free}
-use Rattle.machine_steps.proofs.AnsweredCalls.{cells_asked}
-use Rattle.machine_steps.proofs.CallInstructions.{traps, trap_is}
+use Rattle.machine_steps.proofs.AnsweredCalls.{cells_asked, halts}
+use Rattle.machine_steps.proofs.CallInstructions.{found_trap, traps, trap_is}
 use Rattle.machine_steps.proofs.invoke.invoke.Goals as goal
 
 pub returns-in-Err-clause-done : goal.returns-in-Err-clause-done
 returns-in-Err-clause-done c p in_use k own shared s task rest h =
-    traps p c.args.world.now c.args.store.now c.args.pending.now c.args.call.now c.args.function.now own shared s task rest h in_use k c.in-Err.trap c.args.function.now.line refl
-    (sym (trap_is p c.args.world.now c.args.store.now c.args.pending.now c.args.call.now c.args.function.now own shared s task rest h) ∙ c.in-Err.ensures.trap)
+    let w = c.args.world.now in
+    let store = c.args.store.now in
+    let pending = c.args.pending.now in
+    let call = c.args.call.now in
+    let function = c.args.function.now in
+    let trap = c.in-Err.trap in
+    traps p w store pending call function own shared s task rest h in_use k trap function.line refl
+    (⊎_elim
+    (λ (found : trap_at w store pending call function ≡ Some (trap_view trap)). found_trap p w store pending call function own shared s task rest h in_use k trap (sym (trap_is p w store pending call function own shared s task rest h) ∙ found))
+    (λ (halted : IsAnswered w store pending call function (answer.Halts trap)). halts p w store pending call function own shared s task rest h trap halted in_use k)
+    c.in-Err.ensures.trap)
 
 -- what may not be refused is not carried out where it has no room
 held_back : (goes may_refuse : Bool) (table classes : Classes) (texts : List (List ℕ)) (answer : Answer) (left cells : ℕ) → goes ≡ (may_refuse || nat_le (cells_of table texts answer) left) → goes ≡ false → table ≡ classes → cells ≡ cells_of classes texts answer → (may_refuse ≡ false) × (left < cells)
