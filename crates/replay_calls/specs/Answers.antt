@@ -1,9 +1,9 @@
 -- What calls do, as data, and what that leaves.
-use Rattle.std.specs.Prelude.{ℕ, pos, negsuc, Bool, true, false, List, [], ◌∷◌, ◌++◌, drop, nat_le, IsTrue, Option, Some, None}
+use Rattle.std.specs.Prelude.{ℕ, ◌+◌, pos, negsuc, Bool, true, false, List, [], ◌∷◌, ◌++◌, drop, nat_le, IsTrue, Option, Some, None}
 use Rattle.base.specs.Bytes.{Identifier}
 use Rattle.class_rules.specs.Class.{Classes}
 use Rattle.jni.specs.Prototype.{ResultKind, NewLocal}
-use Rattle.semantics.specs.CallEffects.{CallResult, NoResult, ScalarResult, ReferenceResult, CallEffect, Throws, Leaves, heap_effect, new_effect, out_of_memory, refuses_frames, with_capacity, with_local, without_local, without_one}
+use Rattle.semantics.specs.CallEffects.{CallResult, NoResult, ScalarResult, ReferenceResult, CallEffect, Throws, Leaves, heap_effect, new_effect, out_of_memory, refuses_frames, throw_new_effect, with_capacity, with_local, without_local, without_one}
 use Rattle.semantics.specs.CallEffects as effects
 use Rattle.semantics.specs.CallStep.{failure}
 use Rattle.semantics.specs.Heap.{Heap, next_name, with_value_at}
@@ -15,20 +15,22 @@ use Rattle.semantics.specs.World.{fresh_object}
 use Rattle.replay_calls.specs.declared.answer.Answer.{Answer as InMemory}
 use Rattle.replay_calls.specs.declared.answer.Answer.TheVariants as answer
 use Rattle.replay_objects.specs.Frames.{new_frame}
-use Rattle.replay_objects.specs.New.{New, new_view, object_of}
+use Rattle.replay_objects.specs.New.{New, new_view, object_of, thrown}
 use Rattle.replay_terms.specs.Views.{given_view, trap_view}
 use Rattle.world_values.specs.Views.{object_value_view}
 
 -- What a call does: nothing changes and this is given, a value of an object is written, an object is made and given, an exception
--- of a class is made, the current frame gets room for this many more and 0 is given, a frame of this capacity is made
--- and 0 is given, the OutOfMemoryError object is pending and -4 is given, the current frame is dropped and this is given, a local
--- reference in the frame of a level is deleted, a global reference is made and given, the one of a static is deleted, a pending
--- exception or none replaces that before it and this is given, or the run stops.
+-- of a class is made, a string of a text and an exception of a class with it as message are made and 0 is given, the current frame
+-- gets room for this many more and 0 is given, a frame of this capacity is made and 0 is given, the OutOfMemoryError object is
+-- pending and -4 is given, the current frame is dropped and this is given, a local reference in the frame of a level is deleted, a
+-- global reference is made and given, the one of a static is deleted, a pending exception or none replaces that before it and this
+-- is given, or the run stops.
 pub data Answer : Type 0 where
   Gives : CallResult → Answer
   Writes : (object place : ℕ) → ObjectValue → Answer
   Makes : New → Answer
   Raises : (class : ℕ) → Answer
+  ThrowsNew : (class : ℕ) → (text : List ℕ) → Answer
   Ensures : (more : ℕ) → Answer
   Pushes : (capacity : ℕ) → Answer
   RefusesFrames : Answer
@@ -44,6 +46,7 @@ answer_view (answer.Gives g) = Gives (given_view g)
 answer_view (answer.Writes n i v) = Writes n i (object_value_view v)
 answer_view (answer.Makes n) = Makes (new_view n)
 answer_view (answer.Raises c) = Raises c
+answer_view (answer.ThrowsNew c text) = ThrowsNew c text.now
 answer_view (answer.Ensures n) = Ensures n
 answer_view (answer.Pushes n) = Pushes n
 answer_view answer.RefusesFrames = RefusesFrames
@@ -84,6 +87,7 @@ effect_as classes s t (Gives g) = Leaves [] s t g
 effect_as classes s t (Writes n i v) = heap_effect s t (with_value_at s.heap n i v)
 effect_as classes s t (Makes n) = new_effect s t (object_of classes n)
 effect_as classes s t (Raises c) = Throws c
+effect_as classes s t (ThrowsNew c text) = throw_new_effect classes s t c text
 effect_as classes s t (Ensures n) = Leaves [] s (record t { frames = with_capacity n t.frames }) zero_result
 effect_as classes s t (Pushes n) = Leaves [] s (record t { frames = new_frame n ∷ t.frames }) zero_result
 effect_as classes s t RefusesFrames = refuses_frames classes s t
@@ -115,6 +119,7 @@ is_of_references a = is_of_frames a
 abbrev pub makes_object : Answer → Bool
 makes_object (Makes n) = true
 makes_object (Raises c) = true
+makes_object (ThrowsNew c text) = true
 makes_object a = false
 
 -- what is shared after it
@@ -122,6 +127,7 @@ abbrev pub shared_after : Classes → Shared → Answer → Shared
 shared_after classes s (Writes n i v) = record s { heap = with_value_at s.heap n i v }
 shared_after classes s (Makes n) = record s { heap = s.heap ++ object_of classes n ∷ [] }
 shared_after classes s (Raises c) = record s { heap = s.heap ++ fresh_object classes c ∷ [] }
+shared_after classes s (ThrowsNew c text) = record s { heap = s.heap ++ thrown classes s.heap c text }
 shared_after classes s (MakesGlobal n) = record s { globals = n ∷ s.globals }
 shared_after classes s (DeletesGlobal x n) = without_global x n s
 shared_after classes s a = s
@@ -137,6 +143,7 @@ frames_after frames a = frames
 -- the pending exception after it
 abbrev pub pending_after : Classes → Heap → Reference → Answer → Reference
 pending_after classes heap pending (Raises c) = Some (next_name heap)
+pending_after classes heap pending (ThrowsNew c text) = Some (next_name heap + 1)
 pending_after classes heap pending RefusesFrames = Some (out_of_memory classes)
 pending_after classes heap pending (Pends r g) = r
 pending_after classes heap pending a = pending
@@ -147,6 +154,7 @@ given_after heap kind (Gives g) = g
 given_after heap kind (Writes n i v) = NoResult
 given_after heap kind (Makes n) = ReferenceResult (Some (next_name heap))
 given_after heap kind (Raises c) = failure kind
+given_after heap kind (ThrowsNew c text) = zero_result
 given_after heap kind (Ensures n) = zero_result
 given_after heap kind (Pushes n) = zero_result
 given_after heap kind RefusesFrames = ScalarResult (Int (negsuc 3))

@@ -4,7 +4,7 @@ use Rattle.std.specs.List.{list_any}
 use Rattle.class_rules.specs.BuiltIns.{class_class, has_own_making, string_class, throwable_class, number_array}
 use Rattle.class_rules.specs.Class.{Classes, class_kind, is_plain, is_object_array, assignable}
 use Rattle.class_rules.specs.Fields.{FieldId}
-use Rattle.jni.specs.JniFunction.{is_allowed_pending, JniFunction, AllocObject, GetField, SetField, GetStaticField, SetStaticField, GetObjectField, SetObjectField, GetStaticObjectField, SetStaticObjectField, NewObjectArray, Throw, prototype}
+use Rattle.jni.specs.JniFunction.{is_allowed_pending, JniFunction, AllocObject, GetField, SetField, GetStaticField, SetStaticField, GetObjectField, SetObjectField, GetStaticObjectField, SetStaticObjectField, NewObjectArray, Throw, ThrowNew, prototype}
 use Rattle.jni.specs.Prototype.{ParameterKind, ClassObject, AnyArray, ObjectArray, StringObject, NumberArray}
 use Rattle.semantics.specs.Arguments.{Actual, reference_given, object_given, field_given}
 use Rattle.semantics.specs.Checks.{first_trap, frames_after, is_deleted, is_misfit, is_missing, lacks_room}
@@ -51,6 +51,7 @@ module _ (classes : Classes) (heap : Heap) (args : List Actual) where
   fit_together SetStaticObjectField = has_static classes args && fits_type classes heap (reference_given args 2) field.field.type
   fit_together NewObjectArray = fits_new_array
   fit_together Throw = is_instance classes heap (object_given args 0) throwable_class
+  fit_together ThrowNew = assignable classes (object_given args 0) throwable_class
   fit_together f = true
 
 -- The trap of a call before it does anything.

@@ -4,7 +4,7 @@ use Rattle.base.specs.Bytes.{Identifier, lookup}
 use Rattle.class_rules.specs.BuiltIns.{array_index_out_of_bounds, array_store_exception, negative_array_size, no_class_def_found_error, no_such_field_error, number_array}
 use Rattle.class_rules.specs.Class.{Classes, class_kind, class_named, element_class, superclass, assignable}
 use Rattle.class_rules.specs.Fields.{FieldId, find_field, find_static}
-use Rattle.jni.specs.JniFunction.{JniFunction, FindClass, GetSuperclass, GetObjectClass, IsInstanceOf, IsAssignableFrom, AllocObject, NewLocalRef, NewGlobalRef, DeleteLocalRef, DeleteGlobalRef, IsSameObject, EnsureLocalCapacity, PushLocalFrame, PopLocalFrame, GetFieldID, GetStaticFieldID, GetField, SetField, GetStaticField, SetStaticField, GetObjectField, SetObjectField, GetStaticObjectField, SetStaticObjectField, GetArrayLength, NewArray, NewObjectArray, GetObjectArrayElement, SetObjectArrayElement, NewStringUTF, GetStringLength, Throw, ExceptionOccurred, ExceptionCheck, ExceptionClear, FatalError}
+use Rattle.jni.specs.JniFunction.{JniFunction, FindClass, GetSuperclass, GetObjectClass, IsInstanceOf, IsAssignableFrom, AllocObject, NewLocalRef, NewGlobalRef, DeleteLocalRef, DeleteGlobalRef, IsSameObject, EnsureLocalCapacity, PushLocalFrame, PopLocalFrame, GetFieldID, GetStaticFieldID, GetField, SetField, GetStaticField, SetStaticField, GetObjectField, SetObjectField, GetStaticObjectField, SetStaticObjectField, GetArrayLength, NewArray, NewObjectArray, GetObjectArrayElement, SetObjectArrayElement, NewStringUTF, GetStringLength, Throw, ThrowNew, ExceptionOccurred, ExceptionCheck, ExceptionClear, FatalError}
 use Rattle.semantics.specs.Arguments.{Actual, reference_given, object_given, number_given, text_given, field_given, variable_given}
 use Rattle.semantics.specs.CallEffects.{NoResult, ScalarResult, ReferenceResult, FieldResult, level_of, same_reference, with_capacity}
 use Rattle.semantics.specs.Heap.{Heap, class_of, values_of, value_at, number_in, reference_in, field_place, static_place, fits_class}
@@ -12,7 +12,7 @@ use Rattle.semantics.specs.Object.{Number, Refers, Reference}
 use Rattle.semantics.specs.Thread.{Frame, capacities}
 use Rattle.semantics.specs.Value.{Int, Flag, Fatal, convert}
 use Rattle.semantics.specs.Variable.{Variables}
-use Rattle.replay_calls.specs.Answers.{Answer, Gives, Writes, Makes, Raises, Ensures, Pushes, RefusesFrames, Pops, DeletesLocal, MakesGlobal, DeletesGlobal, Pends, Halts, zero_result}
+use Rattle.replay_calls.specs.Answers.{Answer, Gives, Writes, Makes, Raises, ThrowsNew, Ensures, Pushes, RefusesFrames, Pops, DeletesLocal, MakesGlobal, DeletesGlobal, Pends, Halts, zero_result}
 use Rattle.replay_calls.specs.declared.answer.Subject.{Subject}
 use Rattle.replay_calls.specs.declared.answer.Subject.TheVariants as subject
 use Rattle.replay_objects.specs.Frames.{new_frame}
@@ -44,6 +44,7 @@ subject_of SetObjectArrayElement = subject.Arrays
 subject_of NewStringUTF = subject.Arrays
 subject_of GetStringLength = subject.Arrays
 subject_of Throw = subject.Exceptions
+subject_of ThrowNew = subject.Exceptions
 subject_of ExceptionOccurred = subject.Exceptions
 subject_of ExceptionCheck = subject.Exceptions
 subject_of ExceptionClear = subject.Exceptions
@@ -182,6 +183,7 @@ module _ (classes : Classes) (heap : Heap) (variables : Variables) (frames : Lis
   worked_out NewStringUTF = Makes (Text (text 0))
   worked_out GetStringLength = Gives (ScalarResult (Int (pos (length (values_of heap (object 0))))))
   worked_out Throw = Pends (reference 0) zero_result
+  worked_out ThrowNew = ThrowsNew (object 0) (text 1)
   worked_out ExceptionOccurred = Gives (ReferenceResult pending)
   worked_out ExceptionCheck = Gives (ScalarResult (Flag (is_some pending)))
   worked_out ExceptionClear = Pends None NoResult

@@ -54,6 +54,9 @@ pub enum Answer<'a> {
     Makes(New<'a>),
     /// An exception of the class of this number is made, with zero and null fields, and is pending.
     Raises(usize),
+    /// A string of this text and an exception of the class of this number with it as message are made, which is pending, and 0
+    /// is given.
+    ThrowsNew(usize, &'a [u8]),
     /// The current frame gets room for this number of references more, and 0 is given.
     Ensures(usize),
     /// A frame of this capacity is made, and 0 is given.
@@ -107,9 +110,9 @@ fn subject_of(function: JniFunction) -> Subject
         JniFunction::NewArray(_) | JniFunction::NewObjectArray => Subject::Arrays,
         JniFunction::GetObjectArrayElement | JniFunction::SetObjectArrayElement => Subject::Arrays,
         JniFunction::NewStringUTF => Subject::Arrays,
-        JniFunction::Throw | JniFunction::FatalError => Subject::Exceptions,
+        JniFunction::Throw | JniFunction::ThrowNew => Subject::Exceptions,
+        JniFunction::ExceptionClear | JniFunction::FatalError => Subject::Exceptions,
         JniFunction::ExceptionOccurred | JniFunction::ExceptionCheck => Subject::Exceptions,
-        JniFunction::ExceptionClear => Subject::Exceptions,
         _ => Subject::Classes,
     }
 }

@@ -14,7 +14,7 @@ use crate::Shared;
 use crate::answer::Answer;
 use classes::table::ClassTable;
 use jni::ResultKind;
-use replay_objects::{Frames, New, make};
+use replay_objects::{Frames, New, make, make_thrown};
 use replay_terms::{Given, StaticReference};
 use std::alloc::{AllocError, Global};
 
@@ -49,6 +49,11 @@ pub fn carry_out<'a>(
             let name = make(alloc, classes, &mut shared.store, New::Fresh(class))?;
             *pending = Some(name);
             Ok(failed(kind))
+        }
+        Answer::ThrowsNew(class, text) => {
+            let name = make_thrown(alloc, classes, &mut shared.store, class, text)?;
+            *pending = Some(name);
+            Ok(Given::Number(0))
         }
         Answer::Pends(reference, given) => {
             *pending = reference;
@@ -146,7 +151,7 @@ pub fn makes_object(answer: Answer<'_>) -> bool
 {
     match answer {
         Answer::Gives(_) | Answer::Writes(_, _, _) => false,
-        Answer::Makes(_) | Answer::Raises(_) => true,
+        Answer::Makes(_) | Answer::Raises(_) | Answer::ThrowsNew(_, _) => true,
         Answer::Ensures(_) | Answer::Pushes(_) | Answer::RefusesFrames => false,
         Answer::Pops(_) | Answer::DeletesLocal(_, _) => false,
         Answer::MakesGlobal(_) | Answer::DeletesGlobal(_, _) => false,

@@ -204,6 +204,7 @@ fn fit_together(
         }
         JniFunction::NewObjectArray => fits_new_array(classes, store, actuals),
         JniFunction::Throw => is_throwable(classes, store, object_given(actuals, 0)),
+        JniFunction::ThrowNew => classes.assignable(object_given(actuals, 0), THROWABLE),
         _ => true,
     }
 }

@@ -11,7 +11,7 @@ ghost use Rattle.replay_calls.specs.Answers.{answer_view};
 ghost use Rattle.replay_calls.specs.WorkedOut.{subject_of, worked_out};
 ghost use Rattle.replay_calls.specs.declared.answer.Subject.TheVariants as subject;
 
-use crate::actual::{Actual, reference_given};
+use crate::actual::{Actual, object_given, reference_given, text_given};
 use crate::answer::Answer;
 use jni::JniFunction;
 use replay_terms::{Given, Trap};
@@ -28,6 +28,9 @@ pub(crate) fn exception_answer<'a>(
 {
     match function {
         JniFunction::Throw => Answer::Pends(reference_given(actuals, 0), Given::Number(0)),
+        JniFunction::ThrowNew => {
+            Answer::ThrowsNew(object_given(actuals, 0), text_given(actuals, 1))
+        }
         JniFunction::ExceptionOccurred => Answer::Gives(Given::Reference(pending)),
         JniFunction::ExceptionCheck => Answer::Gives(Given::Flag(pending.is_some())),
         JniFunction::ExceptionClear => Answer::Pends(None, Given::Nothing),

@@ -1,8 +1,9 @@
 -- Objects that are to be made, as those of the language.
-use Rattle.std.specs.Prelude.{ℕ, List, replicate}
+use Rattle.std.specs.Prelude.{ℕ, List, [], ◌∷◌, replicate, Some}
 use Rattle.std.specs.Option.{option_map_or}
 use Rattle.class_rules.specs.Class.{Classes, array_class_of}
-use Rattle.semantics.specs.CallEffects.{string_object}
+use Rattle.semantics.specs.CallEffects.{string_object, with_message}
+use Rattle.semantics.specs.Heap.{Heap, next_name}
 use Rattle.semantics.specs.Object.{Object, ObjectValue, Refers, Reference}
 use Rattle.semantics.specs.World.{fresh_object}
 use Rattle.replay_objects.specs.declared.new.New.{New as InMemory}
@@ -33,3 +34,7 @@ object_of classes (Fresh c) = fresh_object classes c
 object_of classes (Array c n v) = record { class = c; values = replicate n v }
 object_of classes (ObjectArray c n r) = record { class = array_class classes c; values = replicate n (Refers r) }
 object_of classes (Text bytes) = string_object bytes
+
+-- a string and an exception of a class with it as message, the next objects of this heap
+abbrev pub thrown : Classes → Heap → (class : ℕ) → (text : List ℕ) → List Object
+thrown classes heap c text = string_object text ∷ with_message (fresh_object classes c) (Some (next_name heap)) ∷ []

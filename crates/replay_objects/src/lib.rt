@@ -10,5 +10,5 @@ mod store;
 pub use frame::Frames;
 pub use loaded::{loaded_store, made_before};
 pub use names::Names;
-pub use new::{New, make};
+pub use new::{New, make, make_thrown};
 pub use store::Store;

@@ -1,13 +1,16 @@
 //! Objects that are to be made.
 
-ghost use Rattle.std.specs.Prelude.{◌≡◌, ◌<◌, ◌^◌, ◌++◌, ◌∷◌, [], IfOk, OnErr, length, map, pos, replicate};
+ghost use Rattle.std.specs.Prelude.{◌≡◌, ◌<◌, ◌^◌, ◌+◌, ◌++◌, ◌∷◌, [], IfOk, OnErr, Some, length, map, pos, replicate};
+ghost use Rattle.semantics.specs.CallEffects.{with_message};
 ghost use Rattle.semantics.specs.Heap.{next_name};
 ghost use Rattle.semantics.specs.Object.{Number};
-ghost use Rattle.replay_objects.specs.New.{array_class, new_view, object_of};
+ghost use Rattle.semantics.specs.World.{fresh_object};
+ghost use Rattle.replay_objects.specs.New.{array_class, new_view, object_of, thrown};
+ghost use Rattle.replay_objects.specs.Stores.{object_view};
 ghost use Rattle.world_values.specs.Views.{object_value_view};
 
 use crate::loaded::fresh_values;
-use crate::store::Store;
+use crate::store::{Object, Store, put_value};
 use classes::built_ins::STRING;
 use classes::table::ClassTable;
 use std::alloc::{AllocError, Global};
@@ -126,4 +129,41 @@ pub fn make(
     let class = class_of(classes, new)?;
     store.add(class, values)?;
     Ok(store.len())
+}
+
+/// Makes a string and an exception of a class with it as message, both or neither, and tells the exception's name.
+pub fn make_thrown(
+    alloc: Global,
+    classes: &ClassTable,
+    store: &mut Store,
+    class: usize,
+    text: &[u8],
+) -> Result<usize, AllocError>
+    ensures store { IfOk result (λ _. store.new ≡ store.old ++ thrown classes.now store.old class text.now) }
+    ensures name { IfOk result (λ name. name ≡ next_name store.old + 1) }
+    ensures err { OnErr result (store.new ≡ store.old) }
+{
+    let message = Object {
+        class: STRING,
+        values: units(alloc, text)?,
+    };
+    let exception = exception_with(alloc, classes, class, store.len() + 1)?;
+    store.add_both(message, exception)?;
+    Ok(store.len())
+}
+
+/// An exception of a class with the message of this name, which is its first field.
+fn exception_with(
+    alloc: Global,
+    classes: &ClassTable,
+    class: usize,
+    message: usize,
+) -> Result<Object, AllocError>
+    ensures short { IfOk result (λ exception. length exception.values.items < 2 ^ 31) }
+    ensures view { IfOk result (λ exception. object_view exception ≡ with_message (fresh_object classes.now class) (Some message)) }
+{
+    let values = fresh_values(alloc, classes, class)?;
+    let mut exception = Object { class, values };
+    put_value(&mut exception, 0, ObjectValue::Reference(Some(message)));
+    Ok(exception)
 }

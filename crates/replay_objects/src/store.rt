@@ -145,6 +145,19 @@ impl Store {
         self.objects.push(Object { class, values })?;
         Ok(())
     }
+
+    /// Makes the next two objects, both or neither.
+    pub(crate) fn add_both(&mut self, first: Object, second: Object) -> Result<(), AllocError>
+        requires first { length first.values.items < 2 ^ 31 }
+        requires second { length second.values.items < 2 ^ 31 }
+        ensures ok { IfOk result (λ _. self.new ≡ self.old ++ object_view first ∷ object_view second ∷ []) }
+        ensures err { OnErr result (self.new ≡ self.old) }
+    {
+        self.objects.reserve(2)?;
+        self.objects.push_reserved(first);
+        self.objects.push_reserved(second);
+        Ok(())
+    }
 }
 
 /// Takes an object's class and values away.
@@ -157,7 +170,7 @@ fn empty(object: &mut Object)
 }
 
 /// Puts a value into an object, if it has the place.
-fn put_value(object: &mut Object, place: usize, value: ObjectValue)
+pub(crate) fn put_value(object: &mut Object, place: usize, value: ObjectValue)
     ensures view { object_view object.new ≡ record { class = (object_view object.old).class; values = slice_set (object_view object.old).values place (object_value_view value) } }
     ensures length { length object.new.values.items ≡ length object.old.values.items }
 {

@@ -1,5 +1,5 @@
 -- What a call in memory does is the call's step.
-use Rattle.std.proofs.Common.{◌≡◌, ℕ, Bool, true, false, List, [], ◌∷◌, ◌++◌, length, Option, Some, None, refl, sym, ap, ◌∙◌, append-nil}
+use Rattle.std.proofs.Common.{◌≡◌, ℕ, Bool, true, false, List, [], ◌∷◌, ◌++◌, ◌+◌, length, Option, Some, None, refl, sym, ap, ◌∙◌, append-nil}
 use Rattle.std.specs.Prelude.{ℤ, pos, negsuc, drop, nat_le, nat_lt, if◌then◌else◌, is_some}
 use Rattle.std.specs.Option.{option_to_list}
 use Rattle.base.specs.Bytes.{Identifier, lookup}
@@ -8,7 +8,7 @@ use Rattle.class_rules.specs.BuiltIns.{array_index_out_of_bounds, no_class_def_f
 use Rattle.class_rules.specs.Class.{Classes}
 use Rattle.class_rules.specs.Fields.{FieldId}
 use Rattle.jni.specs.Access.{ArrayView}
-use Rattle.jni.specs.JniFunction.{is_built_function, JniFunction, FindClass, NewGlobalRef, DeleteLocalRef, DeleteGlobalRef, EnsureLocalCapacity, PushLocalFrame, GetFieldID, GetStaticFieldID, prototype, NewArray, NewObjectArray, GetObjectArrayElement, SetObjectArrayElement, GetBuffer, ThrowNew}
+use Rattle.jni.specs.JniFunction.{is_built_function, JniFunction, FindClass, NewGlobalRef, DeleteLocalRef, DeleteGlobalRef, EnsureLocalCapacity, PushLocalFrame, GetFieldID, GetStaticFieldID, prototype, NewArray, NewObjectArray, GetObjectArrayElement, SetObjectArrayElement, GetBuffer}
 use Rattle.jni.specs.Prototype.{ResultKind, NewLocal}
 use Rattle.semantics.specs.Arguments.{Actual, number_given, object_given, reference_given, variable_given}
 use Rattle.semantics.specs.CallEffects.{CallResult, NoResult, ReferenceResult, CallEffect, Leaves, Throws, at_index, delete_global_effect, delete_local_effect, ensure_effect, found_class_effect, found_field_effect, level_of, new_array_effect, out_of_memory, push_effect, refuses_frames, store_effect, with_capacity, without_local}
@@ -33,12 +33,12 @@ use Rattle.replay_tasks.specs.declared.outcome.Purpose.TheVariants as purposes
 use Rattle.replay_tasks.specs.declared.outcome.Target.TheVariants as target
 use Rattle.replay_tasks.specs.declared.task.Task.{Task as TaskInMemory}
 use Rattle.replay_terms.specs.declared.trap.Trap.{Trap as TrapInMemory}
-use Rattle.replay_calls.specs.Answers.{Answer, Gives, Writes, Makes, Raises, Ensures, Pushes, RefusesFrames, Pops, DeletesLocal, MakesGlobal, DeletesGlobal, Pends, Halts, answer_or_trap, effect_as, frames_after, frames_with, given_after, makes_object, pending_after, shared_after, trap_in, without_global, zero_result}
+use Rattle.replay_calls.specs.Answers.{Answer, Gives, Writes, Makes, Raises, ThrowsNew, Ensures, Pushes, RefusesFrames, Pops, DeletesLocal, MakesGlobal, DeletesGlobal, Pends, Halts, answer_or_trap, effect_as, frames_after, frames_with, given_after, makes_object, pending_after, shared_after, trap_in, without_global, zero_result}
 use Rattle.replay_terms.specs.Views.{given_view, Contents, trap_view, variables_view}
 use Rattle.replay_steps.specs.Calls.{MakesCall}
 use Rattle.replay_calls.specs.Checked.{fit_together, trap_found}
 use Rattle.replay_objects.specs.Frames.{new_frame}
-use Rattle.replay_objects.specs.New.{array_class, object_of}
+use Rattle.replay_objects.specs.New.{array_class, object_of, thrown}
 use Rattle.replay_tasks.specs.Outcomes.{outcome_for, purpose_view}
 use Rattle.replay_steps.specs.Steps.{Scene, Sees, left_by, scene_with}
 use Rattle.replay_tasks.specs.Tasks.{task_view}
@@ -52,7 +52,6 @@ module _ (classes : Classes) (heap : Heap) (buffer : ElementType) (args : List A
   together : (f : JniFunction) → is_built_function f ≡ true → go_together classes heap buffer args f ≡ fit_together classes heap args f
   unfolding go_together
   together (GetBuffer ArrayView) built = absurd (cc)
-  together ThrowNew built = absurd (cc)
   together f built = refl
 
 -- the trap of a call is the one that was found
@@ -197,6 +196,7 @@ makes_alike classes s t (Gives g) = refl
 makes_alike classes s t (Writes n i v) = refl
 makes_alike classes s t (Makes n) = refl
 makes_alike classes s t (Raises c) = refl
+makes_alike classes s t (ThrowsNew c text) = refl
 makes_alike classes s t (Ensures n) = refl
 makes_alike classes s t (Pushes n) = refl
 makes_alike classes s t RefusesFrames = refl
@@ -213,6 +213,7 @@ halts_with (Gives g) trap is = absurd (cc)
 halts_with (Writes n i v) trap is = absurd (cc)
 halts_with (Makes n) trap is = absurd (cc)
 halts_with (Raises c) trap is = absurd (cc)
+halts_with (ThrowsNew c text) trap is = absurd (cc)
 halts_with (Ensures n) trap is = absurd (cc)
 halts_with (Pushes n) trap is = absurd (cc)
 halts_with RefusesFrames trap is = absurd (cc)
@@ -267,6 +268,7 @@ module _ (classes : Classes) (in_use : BuffersInUse) (k : ℕ) (s : Shared) (t :
   answered (Writes n i v) g new goes same = plain (shared_after classes s (Writes n i v)) frames pending NoResult g new same
   answered (Makes n) g new goes same = finished (object_of classes n ∷ []) s frames pending (ReferenceResult (Some (next_name s.heap))) g new same
   answered (Raises c) g new goes same = finished (fresh_object classes c ∷ []) s frames (Some (next_name s.heap)) (failure kind) g new same
+  answered (ThrowsNew c text) g new goes same = finished (thrown classes s.heap c text) s frames (Some (next_name s.heap + 1)) zero_result g new same
   answered (Ensures n) g new goes same = plain s (with_capacity n frames) pending zero_result g new same
   answered (Pushes n) g new goes same = plain s (new_frame n ∷ frames) pending zero_result g new same
   answered RefusesFrames g new goes same = plain s frames (Some (out_of_memory classes)) (given_after s.heap kind RefusesFrames) g new same
