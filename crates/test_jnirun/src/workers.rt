@@ -1,40 +1,71 @@
-//! A machine that threads share: from texts, by turns of its one seat and by workers.
+//! A machine that threads share: by turns of its one seat, and by a worker for each of two threads.
 
-ghost use Rattle.std.specs.Prelude.{◌≡◌};
+ghost use Rattle.std.specs.Prelude.{◌≡◌, ℕ, true, IfOk};
+ghost use Rattle.std.specs.List.{list_all};
 ghost use Rattle.crossbeam_utils.specs.Seq.{cell_view};
 ghost use Rattle.shared.specs.Tokens.{knower, unknown};
+ghost use Rattle.world_values.specs.CallArguments.{are_arguments};
+ghost use Rattle.world_values.specs.SoundWorlds.{has_call};
 
+use classes::table::ClassTable;
 use lower::lower;
 use machine::{Machine, Turn};
 use program_check::read_program;
+use region_rules::Checked;
+use report::StdSink;
 use shared::{Cell, Gate, Naming, Pass, Shared, Verdict, new_cell, run_workers};
 use std::alloc::{AllocError, Global};
 use std::marker::Brand;
 use std::sync::Wait;
+use std::sync::atomic::{AtomicBool, Ordering};
 use std::test::*;
+use std::thread;
+use std::time::{Clock, Duration};
 use world::read_world;
+use world_values::{Call, World};
 
-const PROGRAM: &[u8] =
-    b"JNIEXPORT void JNICALL Java_A_f(JNIEnv *env, jclass cls) { put_jint((jint)(4294967295u + 1u)); put_jint((jint)2147483648u); return; }";
+const FUNCTION: &[u8] = b"Java_java_lang_Object_f";
 
-const WORLD: &[u8] = b"heap 512\nclass A\nthread Java_A_f\n";
+const WORLD: &[u8] = b"heap 512\nthread Java_java_lang_Object_f\n";
 
-struct Open;
+/// Three steps: the entry into the call, the number, and the return.
+const RETURNING: &[u8] =
+    b"JNIEXPORT jint JNICALL Java_java_lang_Object_f(JNIEnv *env, jclass cls) { return 0; }";
 
-impl Gate for Open {
-    fn pass(&self, _seat: usize) -> bool {
-        true
+/// Ten steps: the entry, five for a sum that wraps to 0, three for a cast that makes 2^31 negative, and the return.
+const PRINTING: &[u8] =
+    b"JNIEXPORT void JNICALL Java_java_lang_Object_f(JNIEnv *env, jclass cls) { put_jint((jint)(4294967295u + 1u)); put_jint((jint)2147483648u); return; }";
+
+/// The machine of a program on a world.
+fn loaded<'a>(
+    alloc: Global,
+    checked: &'a Checked,
+    world: World,
+) -> Result<Machine<'a>, AllocError> {
+    let Ok(program) = lower(alloc, checked) else {
+        return Err(AllocError);
+    };
+    Machine::load(alloc, program, world).map_err(|_| AllocError)
+}
+
+/// The report of the run.
+fn reported(alloc: Global, machine: &Machine<'_>) -> Result<Vec<u8>, AllocError> {
+    let mut sink = StdSink::new(Vec::new(alloc));
+    match machine.report(alloc, &mut sink) {
+        Ok(()) => Ok(sink.into_inner()),
+        Err(_) => Err(AllocError),
     }
 }
 
-/// Takes turns until the thread has ended. How many steps, and the numbers.
+/// Takes turns of the one thread until it has ended, and hands the seat back: not before that is the machine given. The thread's
+/// numbers, and the report.
 fn turns<J: Naming, R: Wait>(
     rt: &R,
     alloc: Global,
     cell: Cell,
     keeper: Pass,
     machine: Machine<'_>,
-) -> Result<(usize, Vec<i32>, usize), AllocError>
+) -> Result<(Vec<i32>, Vec<u8>), AllocError>
     requires cell { cell.table.shared.table_id ≡ J.cell }
     requires keeper { (keeper.table_id ≡ J.cell) × (cell_view keeper ≡ knower unknown 0) }
     requires unit { machine.unit ≡ J.unit }
@@ -47,10 +78,9 @@ fn turns<J: Naming, R: Wait>(
     let Some(mut seat) = seats.pop() else {
         return Err(AllocError);
     };
-    let mut steps = 0;
     for _ in 0..100 {
         match shared.turn(rt, &mut seat)? {
-            Turn::Stepped => steps += 1,
+            Turn::Stepped => {}
             _ => break,
         }
     }
@@ -60,49 +90,103 @@ fn turns<J: Naming, R: Wait>(
     };
     seats.push(seat)?;
     match shared.finish(rt, seats) {
-        Ok(machine) => Ok((steps, lines, machine.journal().len())),
+        Ok(machine) => Ok((lines, reported(alloc, &machine)?)),
         Err(_) => Err(AllocError),
     }
 }
 
+/// What turns give of a program that one thread calls.
+fn turned<R: Wait>(
+    rt: &R,
+    alloc: Global,
+    program: &[u8],
+) -> Result<(Vec<i32>, Vec<u8>), AllocError> {
+    let Ok(checked) = read_program(alloc, program) else {
+        return Err(AllocError);
+    };
+    let Ok(world) = read_world(alloc, WORLD) else {
+        return Err(AllocError);
+    };
+    let machine = loaded(alloc, &checked, world)?;
+    let (cell, keeper) = new_cell(alloc)?;
+    turns::<Brand, R>(rt, alloc, cell, keeper, machine)
+}
+
 #[test]
-fn turns_print(rt: HostRuntime) -> Result<(), Fail> {
-    let Ok(checked) = read_program(rt.alloc(), PROGRAM) else {
-        return Err(AllocError.into());
-    };
-    let Ok(world) = read_world(rt.alloc(), WORLD) else {
-        return Err(AllocError.into());
-    };
-    let Ok(lowered) = lower(rt.alloc(), &checked) else {
-        return Err(AllocError.into());
-    };
-    let Ok(machine) = Machine::load(rt.alloc(), lowered, world) else {
-        return Err(AllocError.into());
-    };
-    let (cell, keeper) = new_cell(rt.alloc())?;
-    let (steps, lines, entries) = turns::<Brand, _>(&rt, rt.alloc(), cell, keeper, machine)?;
-    assert_eq!(rt; steps, 10);
-    assert_eq!(rt; entries, 10);
-    assert_eq!(rt; lines.as_slice(), [0, -2147483648].as_slice());
+fn turns_return(rt: HostRuntime) -> Result<(), Fail> {
+    let (lines, report) = turned(&rt, rt.alloc(), RETURNING)?;
+    assert!(rt; lines.is_empty());
+    assert!(rt; report.as_slice() == b"T1 ended\njournal 1 1 1\n".as_slice());
     Ok(())
 }
 
 #[test]
-fn workers_end(rt: HostRuntime) -> Result<(), Fail> {
-    let Ok(checked) = read_program(rt.alloc(), PROGRAM) else {
+fn turns_print(rt: HostRuntime) -> Result<(), Fail> {
+    let (lines, report) = turned(&rt, rt.alloc(), PRINTING)?;
+    assert!(rt; lines.as_slice() == [0, -2147483648].as_slice());
+    assert!(rt;
+        report.as_slice()
+            == b"T1 0\nT1 -2147483648\nT1 ended\njournal 1 1 1 1 1 1 1 1 1 1\n".as_slice()
+    );
+    Ok(())
+}
+
+/// The one call of a thread.
+fn calls_of(alloc: Global, line: usize) -> Result<Vec<Call>, AllocError>
+    ensures some { IfOk result (λ calls. has_call calls.items ≡ true) }
+    ensures arguments { IfOk result (λ calls. (made : ℕ) → list_all (are_arguments made) calls.items ≡ true) }
+{
+    let function = Vec::from_slice(alloc, FUNCTION)?;
+    let mut calls = Vec::new(alloc);
+    calls.push(Call::new(function, line, Vec::new(alloc)))?;
+    Ok(calls)
+}
+
+/// A world in which each of two threads calls the function, as no text has it yet.
+fn two_threads(alloc: Global) -> Result<World, AllocError> {
+    let classes = ClassTable::of_built_ins(alloc)?;
+    let mut threads = Vec::new(alloc);
+    threads.push(calls_of(alloc, 2)?)?;
+    threads.push(calls_of(alloc, 3)?)?;
+    Ok(World::new(512, classes, Vec::new(alloc), threads))
+}
+
+/// Each of two workers goes on once the other has come, for which it looks 1,000 times, a millisecond apart.
+#[derive(Drop)]
+struct Meeting<R: Clock> {
+    clock: R,
+    came: [AtomicBool; 2],
+}
+
+impl<R: Clock> Gate for Meeting<R> {
+    fn pass(&self, seat: usize) -> bool {
+        let mine = if seat == 1 { 0 } else { 1 };
+        self.came[mine].store(true, Ordering::SeqCst);
+        for _ in 0..1000 {
+            if self.came[1 - mine].load(Ordering::SeqCst) {
+                return true;
+            }
+            thread::sleep(&self.clock, Duration::from_millis(1));
+        }
+        false
+    }
+}
+
+// Were both seats served by one thread, the first one's gate would answer false.
+#[test]
+fn workers_meet(rt: HostRuntime) -> Result<(), Fail> {
+    let gate = Meeting {
+        clock: rt,
+        came: [AtomicBool::new(false), AtomicBool::new(false)],
+    };
+    let Ok(checked) = read_program(rt.alloc(), RETURNING) else {
         return Err(AllocError.into());
     };
-    let Ok(world) = read_world(rt.alloc(), WORLD) else {
-        return Err(AllocError.into());
-    };
-    let Ok(lowered) = lower(rt.alloc(), &checked) else {
-        return Err(AllocError.into());
-    };
-    let Ok(machine) = Machine::load(rt.alloc(), lowered, world) else {
-        return Err(AllocError.into());
-    };
-    let (machine, verdict) = run_workers(&rt, rt.alloc(), machine, &Open)?;
+    let machine = loaded(rt.alloc(), &checked, two_threads(rt.alloc())?)?;
+    let (machine, verdict) = run_workers(&rt, rt.alloc(), machine, &gate)?;
+    let report = reported(rt.alloc(), &machine)?;
     assert_eq!(rt; verdict, Verdict::Done);
-    assert_eq!(rt; machine.journal().len(), 10);
+    assert_eq!(rt; machine.journal().len(), 6);
+    assert!(rt; report.starts_with(b"T1 ended\nT2 ended\njournal "));
     Ok(())
 }
