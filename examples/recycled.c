@@ -1,5 +1,5 @@
 /* Makes more objects than the heap has room for at once, and keeps the last two. */
-JNIEXPORT jint JNICALL Java_Entry_before_last(JNIEnv *env, jclass cls, jint count)
+JNIEXPORT jint JNICALL Java_Entry_previous(JNIEnv *env, jclass cls, jint count)
 {
     jfieldID number = (*env)->GetFieldID(env, cls, "number", "I");
     jfieldID before = (*env)->GetFieldID(env, cls, "before", "LEntry;");
