@@ -54,8 +54,8 @@ pub enum Answer<'a> {
     Makes(New<'a>),
     /// An exception of the class of this number is made, with zero and null fields, and is pending.
     Raises(usize),
-    /// A string of this text and an exception of the class of this number with it as message are made, which is pending, and 0
-    /// is given.
+    /// A string of this text is made, and an exception of the class of this number with it as message; the exception is pending,
+    /// and 0 is given.
     ThrowsNew(usize, &'a [u8]),
     /// The current frame gets room for this number of references more, and 0 is given.
     Ensures(usize),
