@@ -86,7 +86,10 @@ fn collections_leave_what_is_reached(rt: HostRuntime) -> Result<(), Fail> {
     let collected = machine.left();
     run_on(&mut machine, 100)?;
     machine.collect()?;
-    assert_eq!(rt; [made + 8, collected + 4, machine.left()].as_slice(), [begun; 3].as_slice());
+    assert_eq!(rt;
+        [made + 8, collected + 4, machine.left()].as_slice(),
+        [begun; 3].as_slice()
+    );
     Ok(())
 }
 
