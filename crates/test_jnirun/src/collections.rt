@@ -7,6 +7,7 @@ ghost use Rattle.shared.specs.Tokens.{knower, unknown};
 use lower::lower;
 use machine::{Machine, Turn};
 use program_check::read_program;
+use region_rules::Checked;
 use shared::{Cell, Naming, Pass, Shared, new_cell};
 use std::alloc::{AllocError, Global};
 use std::marker::Brand;
@@ -20,24 +21,58 @@ const PROGRAM: &[u8] =
 
 const WORLD: &[u8] = b"heap 512\nclass A\nfield A n I\nthread Java_A_f\n";
 
-/// Takes the turns of thread 1 up to its last step, or all.
-fn run_on(machine: &mut Machine<'_>, steps: usize) -> Result<(), AllocError> {
-    if machine.threads() > 0 {
-        for _ in 0..steps {
+/// The machine of the program on the world.
+fn loaded<'a>(alloc: Global, checked: &'a Checked) -> Result<Machine<'a>, AllocError> {
+    let Ok(world) = read_world(alloc, WORLD) else {
+        return Err(AllocError);
+    };
+    let Ok(program) = lower(alloc, checked) else {
+        return Err(AllocError);
+    };
+    Machine::load(alloc, program, world).map_err(|_| AllocError)
+}
+
+/// Takes so many turns of thread 1.
+fn run_on(machine: &mut Machine<'_>, turns: usize) -> Result<(), AllocError> {
+    for _ in 0..turns {
+        if machine.threads() > 0 {
             let _ = machine.step(1)?;
         }
     }
     Ok(())
 }
 
-/// Takes all turns of thread 1 and a collection. The cells that are left before the first and after the last.
+// After four turns both objects are made, and the first is dropped.
+#[test]
+fn collections_leave_what_is_reached(rt: HostRuntime) -> Result<(), Fail> {
+    let Ok(checked) = read_program(rt.alloc(), PROGRAM) else {
+        return Err(AllocError.into());
+    };
+    let mut machine = loaded(rt.alloc(), &checked)?;
+    let begun = machine.left();
+    run_on(&mut machine, 4)?;
+    let made = begun.checked_sub(machine.left());
+    machine.collect()?;
+    let kept = begun.checked_sub(machine.left());
+    run_on(&mut machine, 100)?;
+    machine.collect()?;
+    let ended = begun.checked_sub(machine.left());
+    assert_eq!(rt;
+        [made, kept, ended].as_slice(),
+        [Some(8), Some(4), Some(0)].as_slice()
+    );
+    Ok(())
+}
+
+/// Takes so many turns of the one thread, or all, and a collection. How many cells are left fewer than before.
 fn turns<J: Naming, R: Wait>(
     rt: &R,
     alloc: Global,
     cell: Cell,
     keeper: Pass,
     machine: Machine<'_>,
-) -> Result<(usize, usize), AllocError>
+    most: usize,
+) -> Result<Option<usize>, AllocError>
     requires cell { cell.table.shared.table_id ≡ J.cell }
     requires keeper { (keeper.table_id ≡ J.cell) × (cell_view keeper ≡ knower unknown 0) }
     requires unit { machine.unit ≡ J.unit }
@@ -51,7 +86,7 @@ fn turns<J: Naming, R: Wait>(
     let Some(mut seat) = seats.pop() else {
         return Err(AllocError);
     };
-    for _ in 0..100 {
+    for _ in 0..most {
         match shared.turn(rt, &mut seat)? {
             Turn::Stepped => {}
             _ => break,
@@ -60,55 +95,25 @@ fn turns<J: Naming, R: Wait>(
     shared.collect(rt)?;
     seats.push(seat)?;
     match shared.finish(rt, seats) {
-        Ok(machine) => Ok((begun, machine.left())),
+        Ok(machine) => Ok(begun.checked_sub(machine.left())),
         Err(_) => Err(AllocError),
     }
 }
 
-#[test]
-fn collections_leave_what_is_reached(rt: HostRuntime) -> Result<(), Fail> {
-    let Ok(checked) = read_program(rt.alloc(), PROGRAM) else {
-        return Err(AllocError.into());
+/// What turns and a collection take of the program's machine.
+fn turned<R: Wait>(rt: &R, alloc: Global, most: usize) -> Result<Option<usize>, AllocError> {
+    let Ok(checked) = read_program(alloc, PROGRAM) else {
+        return Err(AllocError);
     };
-    let Ok(world) = read_world(rt.alloc(), WORLD) else {
-        return Err(AllocError.into());
-    };
-    let Ok(lowered) = lower(rt.alloc(), &checked) else {
-        return Err(AllocError.into());
-    };
-    let Ok(mut machine) = Machine::load(rt.alloc(), lowered, world) else {
-        return Err(AllocError.into());
-    };
-    let begun = machine.left();
-    run_on(&mut machine, 4)?;
-    let made = machine.left();
-    machine.collect()?;
-    let collected = machine.left();
-    run_on(&mut machine, 100)?;
-    machine.collect()?;
-    assert_eq!(rt;
-        [made + 8, collected + 4, machine.left()].as_slice(),
-        [begun; 3].as_slice()
-    );
-    Ok(())
+    let machine = loaded(alloc, &checked)?;
+    let (cell, keeper) = new_cell(alloc)?;
+    turns::<Brand, R>(rt, alloc, cell, keeper, machine, most)
 }
 
 #[test]
 fn seats_collect(rt: HostRuntime) -> Result<(), Fail> {
-    let Ok(checked) = read_program(rt.alloc(), PROGRAM) else {
-        return Err(AllocError.into());
-    };
-    let Ok(world) = read_world(rt.alloc(), WORLD) else {
-        return Err(AllocError.into());
-    };
-    let Ok(lowered) = lower(rt.alloc(), &checked) else {
-        return Err(AllocError.into());
-    };
-    let Ok(machine) = Machine::load(rt.alloc(), lowered, world) else {
-        return Err(AllocError.into());
-    };
-    let (cell, keeper) = new_cell(rt.alloc())?;
-    let (begun, left) = turns::<Brand, _>(&rt, rt.alloc(), cell, keeper, machine)?;
-    assert_eq!(rt; left, begun);
+    let kept = turned(&rt, rt.alloc(), 4)?;
+    let ended = turned(&rt, rt.alloc(), 100)?;
+    assert_eq!(rt; [kept, ended].as_slice(), [Some(4), Some(0)].as_slice());
     Ok(())
 }
