@@ -2,8 +2,8 @@
 use Rattle.std.specs.Prelude.{ℕ, ◌+◌, ◌≤◌, Bool, true, false, ◌&&◌, List, [], ◌∷◌, ◌++◌, length, map, nat_lt, nat_le, max, IsTrue}
 use Rattle.std.specs.List.{list_all}
 pub use Rattle.base.specs.Numbers.{number_limit}
-use Rattle.syntax.specs.Parts.{functions_of, statics_of, statements_of, own_expressions, names_declared, parameter_names}
-use Rattle.syntax.specs.Tree.{BinaryOp, LogicalOr, LogicalAnd, BitOr, BitXor, BitAnd, Equal, NotEqual, Less, LessEqual, Greater, GreaterEqual, ShiftLeft, ShiftRight, Add, Subtract, Multiply, Divide, Remainder, Expr, Number, Named, Variable, Element, Prefix, Binary, Paren, Stmt, DeclareArray, AssignElement, If, IfElse, While, Return, ReturnValue, Block, End, Next, SourceUnit}
+use Rattle.syntax.specs.Parts.{functions_of, statics_of, statements_of, own_expressions, own_arguments, names_declared, parameter_names}
+use Rattle.syntax.specs.Tree.{BinaryOp, LogicalOr, LogicalAnd, BitOr, BitXor, BitAnd, Equal, NotEqual, Less, LessEqual, Greater, GreaterEqual, ShiftLeft, ShiftRight, Add, Subtract, Multiply, Divide, Remainder, Expr, Number, Named, Variable, Element, Prefix, Binary, Paren, Argument, Text, Stmt, DeclareArray, AssignElement, If, IfElse, While, Return, ReturnValue, Block, End, Next, SourceUnit}
 
 -- ---- levels
 
@@ -60,6 +60,11 @@ numbers_in_range (Prefix op a) = numbers_in_range a
 numbers_in_range (Binary op a b) = numbers_in_range a && numbers_in_range b
 numbers_in_range (Paren a) = numbers_in_range a
 
+-- a text is of bytes
+abbrev pub text_of_bytes : Argument → Bool
+text_of_bytes (Text bytes) = list_all (λ b. nat_lt b 256) bytes
+text_of_bytes a = true
+
 -- operators, parentheses, casts, indexes and blocks inside one another
 abbrev pub height : Expr → ℕ
 height (Number n unsigned) = 0
@@ -114,6 +119,7 @@ abbrev mutual
 pub record IsTree (unit : SourceUnit) : Type 0 where
   pub levelled_expressions : IsTrue (list_all (λ f. list_all (λ s. list_all levelled (own_expressions s)) (statements_of f.body)) (functions_of unit))
   pub numbers : IsTrue (list_all (λ f. list_all (λ s. list_all numbers_in_range (own_expressions s)) (statements_of f.body)) (functions_of unit))
+  pub texts : IsTrue (list_all (λ f. list_all (λ s. list_all text_of_bytes (own_arguments s)) (statements_of f.body)) (functions_of unit))
   pub forms : IsTrue (list_all (λ f. block_well_formed f.body) (functions_of unit))
   pub low : IsTrue (list_all (λ f. nat_le (block_height f.body) 32) (functions_of unit))
   pub few_functions : length (functions_of unit) ≤ 256

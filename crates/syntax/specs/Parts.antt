@@ -75,6 +75,10 @@ own_call (If line (TestCall c) then') = Some c
 own_call (IfElse line (TestCall c) then' else') = Some c
 own_call s = call_of_right_side (right_side s)
 
+-- the arguments of the call that a statement makes
+abbrev pub own_arguments : Stmt → List Argument
+own_arguments s = flat_map (λ (c : Call). c.arguments) (option_to_list (own_call s))
+
 -- the expression that an argument is
 abbrev pub argument_expressions : Argument → List Expr
 argument_expressions (Value e) = e ∷ []
