@@ -1,6 +1,6 @@
 //! The operand stack.
 
-ghost use Rattle.std.specs.Prelude.{◌≡◌, ◌==◌, ◌≤◌, ◌<◌, ℕ, List, [], ◌∷◌, length};
+ghost use Rattle.std.specs.Prelude.{◌≡◌, ◌==◌, ◌≤◌, ◌<◌, ℕ, List, [], ◌∷◌, length, slice_get};
 
 use arrayvec::ArrayVec;
 use std::marker::Model;
@@ -59,6 +59,17 @@ impl Stack {
         ensures { (top : ℕ) (rest : List ℕ) → self.now ≡ top ∷ rest → result ≡ top }
     {
         self.words[self.words.len() - 1]
+    }
+
+    /// The word below the topmost, if there is one.
+    pub fn below_top(&self) -> Option<u32>
+        ensures { result ≡ slice_get self.now 1 }
+    {
+        let count = self.words.len();
+        if count < 2 {
+            return None;
+        }
+        Some(self.words[count - 2])
     }
 
     /// Another word in place of the topmost.
