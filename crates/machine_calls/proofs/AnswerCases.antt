@@ -1,5 +1,5 @@
 -- Which effects an answer can have.
-use Rattle.std.proofs.Common.{◌≡◌, ℕ, List, [], ◌∷◌, Some, sym, ap}
+use Rattle.std.proofs.Common.{◌≡◌, ℕ, [], ◌∷◌, Some, sym, ap}
 use Rattle.class_rules.specs.Class.{Classes}
 use Rattle.heap.specs.Heap.{Space}
 use Rattle.heap.specs.declared.value.Value.{Value}
@@ -12,17 +12,17 @@ use Rattle.machine_calls.specs.declared.answer.Given.{Given}
 use Rattle.machine_calls.specs.declared.answer.Answer.TheVariants as answer
 use Rattle.machine_calls.specs.declared.new_object.New.{New}
 use Rattle.tables.specs.Locals.{LocalTable}
-use Rattle.machine_calls.specs.Answers.{GivenAgrees, IsAnswer, WritesAt}
+use Rattle.machine_calls.specs.Answers.{Brought, GivenAgrees, IsAnswer, WritesAt}
 use Rattle.machine_calls.specs.NewObjects.{Describes, IsMakeable}
 
-module _ (classes : Classes) (texts : List (List ℕ)) (space : Space) (locals : LocalTable) (kind : ResultKind) (shared : Shared) (s : Thread) where
+module _ (classes : Classes) (brought : Brought) (space : Space) (locals : LocalTable) (kind : ResultKind) (shared : Shared) (s : Thread) where
   -- nothing changes, and this is given
   pub record GivesIt (g : Given) (effect : CallEffect) : Type 0 where
     pub gave : CallResult
     pub is : effect ≡ Leaves [] shared s gave
     pub agrees : GivenAgrees classes space kind g gave
 
-  pub gives_it : (g : Given) (effect : CallEffect) → IsAnswer classes texts space locals kind shared s (answer.Gives g) effect → GivesIt g effect
+  pub gives_it : (g : Given) (effect : CallEffect) → IsAnswer classes brought space locals kind shared s (answer.Gives g) effect → GivesIt g effect
   gives_it g (Throws c) h = absurd h
   gives_it g (Halts trap) h = absurd h
   gives_it g (Leaves (o ∷ made) s' t' c) h = absurd h
@@ -35,7 +35,7 @@ module _ (classes : Classes) (texts : List (List ℕ)) (space : Space) (locals :
     pub kind_is : kind ≡ GivesNothing
     pub writes : WritesAt space shared after a place v
 
-  pub writes_it : (a place : ℕ) (v : Value) (effect : CallEffect) → IsAnswer classes texts space locals kind shared s (answer.Writes a place v) effect → WritesIt a place v effect
+  pub writes_it : (a place : ℕ) (v : Value) (effect : CallEffect) → IsAnswer classes brought space locals kind shared s (answer.Writes a place v) effect → WritesIt a place v effect
   writes_it a place v (Throws c) h = absurd h
   writes_it a place v (Halts trap) h = absurd h
   writes_it a place v (Leaves (o ∷ made) s' t' c) h = absurd h
@@ -51,9 +51,9 @@ module _ (classes : Classes) (texts : List (List ℕ)) (space : Space) (locals :
     pub object : Object
     pub is : effect ≡ Leaves (object ∷ []) shared s (ReferenceResult (Some (next_name shared.heap)))
     pub kind_is : kind ≡ NewLocal
-    pub describes : Describes classes texts space new object
+    pub describes : Describes classes brought.texts space new object
 
-  pub makes_it : (new : New) (effect : CallEffect) → IsAnswer classes texts space locals kind shared s (answer.Makes new) effect → MakesIt new effect
+  pub makes_it : (new : New) (effect : CallEffect) → IsAnswer classes brought space locals kind shared s (answer.Makes new) effect → MakesIt new effect
   makes_it new (Throws c) h = absurd h
   makes_it new (Halts trap) h = absurd h
   makes_it new (Leaves [] s' t' c) h = absurd h
@@ -70,7 +70,7 @@ module _ (classes : Classes) (texts : List (List ℕ)) (space : Space) (locals :
     pub is : effect ≡ Throws class
     pub makeable : IsMakeable classes class
 
-  pub throws_it : (class : ℕ) (effect : CallEffect) → IsAnswer classes texts space locals kind shared s (answer.Throws class) effect → ThrowsIt class effect
+  pub throws_it : (class : ℕ) (effect : CallEffect) → IsAnswer classes brought space locals kind shared s (answer.Throws class) effect → ThrowsIt class effect
   throws_it class (Throws c) h = record { is = ap Throws (sym h.0); makeable = h.1 }
   throws_it class (Halts trap) h = absurd h
   throws_it class (Leaves made s' t' c) h = absurd h

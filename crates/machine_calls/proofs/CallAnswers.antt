@@ -1,12 +1,12 @@
 -- What the machine works out of calls is what the source's calls do.
-use Rattle.std.proofs.Common.{◌≡◌, ℕ, pos, negsuc, zero, suc, ◌<◌, ◌≤◌, true, false, not, List, [], ◌∷◌, length, Option, Some, None, slice_get, refl, sym, ap, ◌∙◌, subst, arith, ℤ, Bool, ◌++◌}
-use Rattle.std.specs.Prelude.{◌==◌, ◌&&◌, nat_lt, if◌then◌else◌, unwrap_or, FitsSigned}
+use Rattle.std.proofs.Common.{◌≡◌, ℕ, pos, negsuc, zero, suc, ◌<◌, ◌≤◌, true, false, not, List, [], ◌∷◌, length, map, take, drop, ◌+◌, Option, Some, None, slice_get, refl, sym, ap, ◌∙◌, subst, arith, ℤ, Bool, ◌++◌}
+use Rattle.std.specs.Prelude.{◌==◌, ◌&&◌, nat_lt, nat_le, if◌then◌else◌, unwrap_or, FitsSigned}
 use Rattle.std.specs.Int.{w32, cast_unsigned}
 use Rattle.std.specs.List.{AllByRecursion, AllZip}
 use Rattle.std.specs.Option.{option_map_or}
 use Rattle.std.proofs.Math.Facts.{to_z-of_z}
 use Rattle.std.proofs.lemmas.Bool.Decides.{nat_tests}
-use Rattle.class_rules.specs.BuiltIns.{array_index_out_of_bounds, array_store_exception, class_class, has_own_making, negative_array_size, no_class_def_found_error, no_such_field_error, number_array, string_class, throwable_class}
+use Rattle.class_rules.specs.BuiltIns.{array_index_out_of_bounds, array_store_exception, class_class, has_own_making, negative_array_size, no_class_def_found_error, no_such_field_error, number_array, string_class, string_index_out_of_bounds, throwable_class}
 use Rattle.class_rules.specs.Class.{ArrayOfObjects, Plain, array_class_of, array_name, class_kind, class_name, class_named, element_class, is_plain, superclass, assignable}
 use Rattle.class_rules.specs.Fields.{FieldId, find_field, find_static, layout, own_statics}
 use Rattle.class_rules.proofs.GrownTables.{grown_is_ordered}
@@ -16,13 +16,13 @@ use Rattle.code.specs.Effect.{truth_word, element_word}
 use Rattle.code.specs.declared.instr.Operand.{Operand}
 use Rattle.code.specs.declared.instr.Operand.TheVariants as operand
 use Rattle.heap.specs.Heap.{name_at, values_at}
-use Rattle.jni.specs.JniFunction.{JniFunction, FindClass, AllocObject, NewLocalRef, NewGlobalRef, DeleteLocalRef, DeleteGlobalRef, IsSameObject, EnsureLocalCapacity, PushLocalFrame, PopLocalFrame, GetFieldID, GetStaticFieldID, GetArrayLength, NewArray, NewObjectArray, GetObjectArrayElement, SetObjectArrayElement, NewStringUTF, GetStringLength, Throw, ThrowNew, ExceptionOccurred, ExceptionCheck, ExceptionClear, FatalError, GetSuperclass, GetObjectClass, IsInstanceOf, IsAssignableFrom, GetField, SetField, GetObjectField, SetObjectField, GetStaticField, SetStaticField, GetStaticObjectField, SetStaticObjectField, prototype, is_built_function}
-use Rattle.jni.specs.Prototype.{ParameterKind, ClassObject, FieldID, IntNumber, NonNull, ObjectArray, TextBytes, NewLocal, GivesField, GivesInt, Nullable, GivesNothing}
+use Rattle.jni.specs.JniFunction.{JniFunction, FindClass, AllocObject, NewLocalRef, NewGlobalRef, DeleteLocalRef, DeleteGlobalRef, IsSameObject, EnsureLocalCapacity, PushLocalFrame, PopLocalFrame, GetFieldID, GetStaticFieldID, GetArrayLength, NewArray, NewObjectArray, GetObjectArrayElement, SetObjectArrayElement, NewStringUTF, GetStringLength, Throw, ThrowNew, ExceptionOccurred, ExceptionCheck, ExceptionClear, FatalError, GetSuperclass, GetObjectClass, IsInstanceOf, IsAssignableFrom, GetField, SetField, GetObjectField, SetObjectField, GetStaticField, SetStaticField, GetStaticObjectField, SetStaticObjectField, prototype, is_built_function, GetArrayRegion, SetArrayRegion, GetStringRegion}
+use Rattle.jni.specs.Prototype.{ArrayVariable, NumberArray, StringObject, ParameterKind, ClassObject, FieldID, IntNumber, NonNull, ObjectArray, TextBytes, NewLocal, GivesField, GivesInt, Nullable, GivesNothing}
 use Rattle.semantics.specs.Arguments.{Actual, variable_given, reference_given, object_given, name_or_zero, text_given, field_given, number_given}
-use Rattle.semantics.specs.CallEffects.{throw_new_effect, NoResult, ScalarResult, Leaves, ReferenceResult, Throws, at_index, new_array_effect, store_effect, string_object, delete_global_effect, delete_local_effect, ensure_effect, push_effect, found_class_effect, found_field_effect, heap_effect, same_reference, CallEffect, level_of}
+use Rattle.semantics.specs.CallEffects.{Halts, at_region, get_region_effect, local_array, set_region_effect, throw_new_effect, NoResult, ScalarResult, Leaves, ReferenceResult, Throws, at_index, new_array_effect, store_effect, string_object, delete_global_effect, delete_local_effect, ensure_effect, push_effect, found_class_effect, found_field_effect, heap_effect, same_reference, CallEffect, level_of}
 use Rattle.semantics.specs.CallStep.{trap_of_call}
 use Rattle.semantics.specs.CallTable.{call_effect}
-use Rattle.semantics.specs.Heap.{class_of, fits_class, values_of, object_at, field_place, number_in, place_in, value_at, reference_in, static_place, with_value_at}
+use Rattle.semantics.specs.Heap.{class_of, fits_class, values_of, object_at, field_place, number_in, numbers_of, place_in, value_at, reference_in, static_place, with_value_at}
 use Rattle.semantics.specs.Object.{Object, Reference, ObjectValue, Number, Refers}
 use Rattle.semantics.specs.Task.{Target}
 use Rattle.semantics.specs.Thread.{Shared, Thread, BuffersInUse}
@@ -34,11 +34,12 @@ use Rattle.code_meaning.specs.Fits.{IsReferenceKind}
 use Rattle.code_meaning.specs.Lowered.{Lowered}
 use Rattle.base.specs.Element.{ElementType, JInt, JShort, JByte, JChar}
 use Rattle.semantics.specs.Value.{Int, convert}
+use Rattle.semantics.specs.Value as trap
 use Rattle.code_meaning.specs.Slots.{word_of}
 use Rattle.machine_calls.proofs.KeyLaws.{OwnKey}
-use Rattle.base.specs.Bytes.{lookup}
+use Rattle.base.specs.Bytes.{Identifier, lookup}
 use Rattle.semantics.specs.Variable.{Variable}
-use Rattle.machine_calls.proofs.FieldValues.{word_there, reference_there, writes}
+use Rattle.machine_calls.proofs.FieldValues.{word_there, reference_there, values_there, writes}
 use Rattle.code_meaning.specs.Coding.{element_of}
 use Rattle.heap.specs.declared.value.Value.TheVariants as cell
 use Rattle.heap.specs.declared.value.Value.{Value}
@@ -47,21 +48,29 @@ use Rattle.machine_calls.specs.StoreAgrees.{StoreAgrees}
 use Rattle.machine_calls.proofs.Handles.{class_of_field, class_within}
 use Rattle.machine_calls.specs.declared.answer.Answer.{Answer}
 use Rattle.machine_calls.specs.declared.answer.Answer.TheVariants.{Raises}
+use Rattle.machine_calls.specs.declared.answer.Answer.TheVariants as replies
+use Rattle.machine_calls.specs.declared.array_region.ArrayRegion.{ArrayRegion}
+use Rattle.machine_calls.specs.declared.trap.Trap.TheVariants.{OutOfRange}
+use Rattle.machine_calls.specs.Copies.{words_from}
+use Rattle.code.specs.declared.instr.LocalArray.{LocalArray as ArraySlots}
+use Rattle.semantics_typing.specs.Objects.{HasNumbers, element_type_of}
+use Rattle.machine_calls.proofs.RegionOperands.{GivenArray, TwoNumbers, array_numbers, numbers_alone, slots_there, two_numbers, words_brought, words_there, local_array as given_array}
+use Rattle.std.proofs.lemmas.Bool.{leb-true}
 use Rattle.machine_calls.specs.declared.store.Store.{Store}
 use Rattle.machine_calls.specs.declared.activation.Activation.{Activation}
-use Rattle.machine_calls.specs.Answers.{HoldsObject, IsAnswer}
+use Rattle.machine_calls.specs.Answers.{AreWordsOf, Brought, HoldsObject, IsAnswer}
 use Rattle.machine_calls.specs.NewObjects.{IsMakeable, text_in}
-use Rattle.machine_calls.specs.Asked.{IsAsked, references_of, scene_of}
+use Rattle.machine_calls.specs.Asked.{IsAsked, brought_by, references_of, scene_of}
 use Rattle.machine_calls.specs.Statics.{References}
 use Rattle.machine_calls.specs.Checked.{some_misfit, some_missing, may_be_null}
-use Rattle.machine_calls.specs.Given.{key_at, operand_at, operand_of, class_of_given, class_there, fits_there, name_there, field_at, field_there}
+use Rattle.machine_calls.specs.Given.{HasElements, key_at, operand_at, operand_of, class_of_given, class_there, fits_there, name_there, field_at, field_there}
 use Rattle.machine_calls.specs.HeapAgrees.{HeapAgrees, ReferenceAgrees, ValueAgrees}
-use Rattle.machine_calls.specs.WorkedOut.{deletes, deletes_global, frame_for, class_object, found_class, IsFoundField, IsWorkedOut, place_there, value_there, word_in, address_in, held_reference, room_for, top_word, writes_there, count_there, element_there, index_there, new_array, stack_number, stores_there}
+use Rattle.machine_calls.specs.WorkedOut.{array_in, copies_in, copies_out, next_number, region_in, deletes, deletes_global, frame_for, class_object, found_class, IsFoundField, IsWorkedOut, place_there, value_there, word_in, address_in, held_reference, room_for, top_word, writes_there, count_there, element_there, index_there, new_array, stack_number, stores_there}
 use Rattle.machine_calls.proofs.CallChecks.{class_given_is, class_is, field_at_place, fits_is, name_is, reference_at_place, handle_of}
 use Rattle.machine_calls.proofs.BlocksOfNames.{Named, named, name_within}
 use Rattle.machine_calls.proofs.CallTraps.{same_pending, has_passed, none_deleted, none_lacking, none_unfit, handles_there}
 use Rattle.machine_calls.proofs.LongTables.{class_is_no_throwable, class_is_plain, classes_loaded, grown_long}
-use Rattle.machine_calls.proofs.CallOperands.{GivenObject, IsWordless, OnTop, count_is, few_there, class_object_is, super_known, only_text, second_text, two_texts, object_at_place, on_top, is_class, second_field, only_static, own_making}
+use Rattle.machine_calls.proofs.CallOperands.{GivenObject, IsWordless, is_number_array, OnTop, count_is, few_there, class_object_is, super_known, only_text, second_text, two_texts, object_at_place, on_top, is_class, second_field, only_static, own_making}
 
 -- a call that is asked and passed its checks
 module _ (p : Lowered) (w : World) (store : Store) (pending : Option ℕ) (call : Activation) (function : Call) (shared : Shared) (s : Thread) (sound : IsSound w) (in_use : BuffersInUse) (k : ℕ) (args : List Actual) where
@@ -70,6 +79,9 @@ module _ (p : Lowered) (w : World) (store : Store) (pending : Option ℕ) (call 
 
   abbrev fields : List (Option FieldHandle)
   fields = call.fields.items
+
+  abbrev brought : Brought
+  brought = brought_by call function args
 
   -- what is asked of function f
   abbrev Asked : JniFunction → Type 0
@@ -81,7 +93,7 @@ module _ (p : Lowered) (w : World) (store : Store) (pending : Option ℕ) (call 
 
   -- the answer is what it does
   abbrev Does : JniFunction → Answer → Type 0
-  Does f answer = IsAnswer w.classes function.texts store.heap call.locals (prototype f).result shared s answer (call_effect w.classes in_use k shared s args f)
+  Does f answer = IsAnswer w.classes brought store.heap call.locals (prototype f).result shared s answer (call_effect w.classes in_use k shared s args f)
 
   abbrev at : (i : ℕ) → Option ℕ
   at i = operand_at references (operand_of function.operands i)
@@ -147,7 +159,7 @@ module _ (p : Lowered) (w : World) (store : Store) (pending : Option ℕ) (call 
       let same : object.0.class ≡ class_class = sym class ∙ sym (class_is w.classes store.heap references fields shared.heap h.store_agrees.heap.blocks given.address given.name given.named) ∙ of_class in
       let name : object_given args (length before) ≡ given.name = ap name_or_zero given.is in
       let low = low_name given.name object.0 object.1 in
-      let high : given.name ≤ length w.classes = (h.store_agrees.classed given.name object.0 object.1).of_class same in
+      let high : given.name ≤ length w.classes = (h.typed.objects given.name object.0 object.1).of_class same in
       record { low = omega (arith, low, name); high = omega (arith, high, name) }
 
   -- the number of values of argument 0
@@ -214,7 +226,7 @@ module _ (p : Lowered) (w : World) (store : Store) (pending : Option ℕ) (call 
   answers_ensure h answer is =
       subst (λ (x : Answer). Does EnsureLocalCapacity x) (sym (is ∙ ap room_for (number_of EnsureLocalCapacity [] [] tt tt refl h))) (by_number (number_given args 0))
     where
-      by_number : (z : ℤ) → IsAnswer w.classes function.texts store.heap call.locals GivesInt shared s (room_for z) (ensure_effect w.classes shared s z)
+      by_number : (z : ℤ) → IsAnswer w.classes brought store.heap call.locals GivesInt shared s (room_for z) (ensure_effect w.classes shared s z)
       by_number (pos n) = (refl, refl)
       by_number (negsuc n) = (refl, refl)
 
@@ -223,7 +235,7 @@ module _ (p : Lowered) (w : World) (store : Store) (pending : Option ℕ) (call 
   answers_push h answer is =
       subst (λ (x : Answer). Does PushLocalFrame x) (sym (is ∙ ap frame_for (number_of PushLocalFrame [] [] tt tt refl h))) (by_number (number_given args 0))
     where
-      by_number : (z : ℤ) → IsAnswer w.classes function.texts store.heap call.locals GivesInt shared s (frame_for z) (push_effect w.classes shared s z)
+      by_number : (z : ℤ) → IsAnswer w.classes brought store.heap call.locals GivesInt shared s (frame_for z) (push_effect w.classes shared s z)
       by_number (pos n) = (refl, refl)
       by_number (negsuc n) = (refl, refl)
 
@@ -242,7 +254,7 @@ module _ (p : Lowered) (w : World) (store : Store) (pending : Option ℕ) (call 
       variable : Option Variable
       variable = lookup (variable_given args 0) s.variables
 
-      by_key : (key : Option ℕ) (r : Reference) → OwnKey store.heap call.locals key r (level_of variable) → IsAnswer w.classes function.texts store.heap call.locals GivesNothing shared s (deletes key) (delete_local_effect shared s variable r)
+      by_key : (key : Option ℕ) (r : Reference) → OwnKey store.heap call.locals key r (level_of variable) → IsAnswer w.classes brought store.heap call.locals GivesNothing shared s (deletes key) (delete_local_effect shared s variable r)
       by_key None None own = (refl, refl, tt)
       by_key None (Some n) own = absurd own
       by_key (Some key) None own = absurd own
@@ -257,10 +269,10 @@ module _ (p : Lowered) (w : World) (store : Store) (pending : Option ℕ) (call 
   answers_delete_global held h answer is =
       subst (λ (x : Answer). Does DeleteGlobalRef x) (sym is)
       (let static = only_static function.operands h.kinds in
-      subst (λ (o : Operand). IsAnswer w.classes function.texts store.heap call.locals GivesNothing shared s (deletes_global (at 0) o) (delete_global_effect shared s (variable_given args 0) (reference_given args 0))) (sym static.1)
+      subst (λ (o : Operand). IsAnswer w.classes brought store.heap call.locals GivesNothing shared s (deletes_global (at 0) o) (delete_global_effect shared s (variable_given args 0) (reference_given args 0))) (sym static.1)
       (by_reference static.0 (at 0) (reference_given args 0) (λ n given. held refl static.0 n static.1 given) (agrees DeleteGlobalRef h 0)))
     where
-      by_reference : (i : ℕ) (o : Option ℕ) (r : Reference) → ((n : ℕ) → r ≡ Some n → HoldsObject shared (variable_given args 0) i n) → ReferenceAgrees store.heap o r → IsAnswer w.classes function.texts store.heap call.locals GivesNothing shared s (deletes_global o (operand.Static i)) (delete_global_effect shared s (variable_given args 0) r)
+      by_reference : (i : ℕ) (o : Option ℕ) (r : Reference) → ((n : ℕ) → r ≡ Some n → HoldsObject shared (variable_given args 0) i n) → ReferenceAgrees store.heap o r → IsAnswer w.classes brought store.heap call.locals GivesNothing shared s (deletes_global o (operand.Static i)) (delete_global_effect shared s (variable_given args 0) r)
       by_reference i None None holds agree = (refl, refl, tt)
       by_reference i None (Some n) holds agree = absurd agree
       by_reference i (Some a) None holds agree = absurd agree
@@ -282,7 +294,7 @@ module _ (p : Lowered) (w : World) (store : Store) (pending : Option ℕ) (call 
   answers_class h target free answer is =
       let first = object_given_at GetObjectClass [] NonNull [] tt refl refl h target free in
       let object = object_of GetObjectClass h first.address first.name first.named in
-      let known = h.store_agrees.classed first.name object.0 object.1 in
+      let known = h.typed.objects first.name object.0 object.1 in
       let class : class_of shared.heap first.name ≡ object.0.class = ap (λ (o : Option Object). option_map_or (λ (x : Object). x.class) o 0) object.1 in
       let there : class_of_given store.heap (at 0) ≡ object.0.class = ap (class_of_given store.heap) first.at ∙ class_is w.classes store.heap references fields shared.heap h.store_agrees.heap.blocks first.address first.name first.named ∙ class in
       let given : class_of shared.heap (object_given args 0) ≡ object.0.class = ap (λ (q : Reference). class_of shared.heap (name_or_zero q)) first.is ∙ class in
@@ -312,13 +324,13 @@ module _ (p : Lowered) (w : World) (store : Store) (pending : Option ℕ) (call 
       let text : unwrap_or (slice_get function.texts 0) [] ≡ text_given args 0 = ap (λ (l : List (List ℕ)). unwrap_or (slice_get l 0) []) h.texts ∙ only_text w.classes store.heap references fields function.operands args h.kinds h.given in
       subst (λ (x : Answer). Does FindClass x) (sym (is ∙ ap (λ (l : List ℕ). found_class store.loaded.items (class_named w.classes l)) text)) (by_class (class_named w.classes (text_given args 0)) refl)
     where
-      by_class : (o : Option ℕ) → class_named w.classes (text_given args 0) ≡ o → IsAnswer w.classes function.texts store.heap call.locals NewLocal shared s (found_class store.loaded.items o) (found_class_effect shared s no_class_def_found_error o)
+      by_class : (o : Option ℕ) → class_named w.classes (text_given args 0) ≡ o → IsAnswer w.classes brought store.heap call.locals NewLocal shared s (found_class store.loaded.items o) (found_class_effect shared s no_class_def_found_error o)
       by_class None e = (refl, built_in_class no_class_def_found_error (omega arith) (omega arith))
       by_class (Some c) e = let known = found_within w.classes (text_given args 0) c e in (refl, refl, table_of FindClass h c known.0 known.1)
 
-  found_field : (o : Option FieldId) (answer : Answer) → IsFoundField w.classes o answer → IsAnswer w.classes function.texts store.heap call.locals GivesField shared s answer (found_field_effect shared s no_such_field_error o)
-  found_field None answer is = subst (λ (x : Answer). IsAnswer w.classes function.texts store.heap call.locals GivesField shared s x (found_field_effect shared s no_such_field_error None)) (sym is) (refl, built_in_class no_such_field_error (omega arith) (omega arith))
-  found_field (Some f) answer is = subst (λ (x : Answer). IsAnswer w.classes function.texts store.heap call.locals GivesField shared s x (found_field_effect shared s no_such_field_error (Some f))) (sym is.1) (refl, refl, is.2)
+  found_field : (o : Option FieldId) (answer : Answer) → IsFoundField w.classes o answer → IsAnswer w.classes brought store.heap call.locals GivesField shared s answer (found_field_effect shared s no_such_field_error o)
+  found_field None answer is = subst (λ (x : Answer). IsAnswer w.classes brought store.heap call.locals GivesField shared s x (found_field_effect shared s no_such_field_error None)) (sym is) (refl, built_in_class no_such_field_error (omega arith) (omega arith))
+  found_field (Some f) answer is = subst (λ (x : Answer). IsAnswer w.classes brought store.heap call.locals GivesField shared s x (found_field_effect shared s no_such_field_error (Some f))) (sym is.1) (refl, refl, is.2)
 
   answers_field : Asked GetFieldID → (answer : Answer) → Works GetFieldID answer → Does GetFieldID answer
   unfolding call_effect
@@ -387,11 +399,11 @@ module _ (p : Lowered) (w : World) (store : Store) (pending : Option ℕ) (call 
 
   -- a value of an object is written
   value_written : (o : Option ℕ) (a n m i j : ℕ) (v v' : Value) (u u' : ObjectValue) → o ≡ Some a → name_at store.heap a ≡ Some n → m ≡ n → i ≡ j → v ≡ v' → u ≡ u' → ValueAgrees store.heap v' u' → StoreAgrees p w store shared
-      → IsAnswer w.classes function.texts store.heap call.locals GivesNothing shared s (writes_there store.heap o i v) (heap_effect shared s (with_value_at shared.heap m j u))
+      → IsAnswer w.classes brought store.heap call.locals GivesNothing shared s (writes_there store.heap o i v) (heap_effect shared s (with_value_at shared.heap m j u))
   value_written o a n m i j v v' u u' held there same place value is fits agree =
-      subst (λ (x : Answer). IsAnswer w.classes function.texts store.heap call.locals GivesNothing shared s x (heap_effect shared s (with_value_at shared.heap m j u))) (sym (λ k. writes_there store.heap (held k) (place k) (value k)))
-      (subst (λ (x : CallEffect). IsAnswer w.classes function.texts store.heap call.locals GivesNothing shared s (writes_there store.heap (Some a) j v') x) (sym (λ k. heap_effect shared s (with_value_at shared.heap (same k) j (is k))))
-      (writes p w store shared agree function.texts call.locals s a n j v' u' there fits))
+      subst (λ (x : Answer). IsAnswer w.classes brought store.heap call.locals GivesNothing shared s x (heap_effect shared s (with_value_at shared.heap m j u))) (sym (λ k. writes_there store.heap (held k) (place k) (value k)))
+      (subst (λ (x : CallEffect). IsAnswer w.classes brought store.heap call.locals GivesNothing shared s (writes_there store.heap (Some a) j v') x) (sym (λ k. heap_effect shared s (with_value_at shared.heap (same k) j (is k))))
+      (writes p w store shared agree brought call.locals s a n j v' u' there fits))
 
   -- the number on top of the stack, as a cell of a type holds it
   record Kept (T : ElementType) : Type 0 where
@@ -523,7 +535,7 @@ module _ (p : Lowered) (w : World) (store : Store) (pending : Option ℕ) (call 
   -- ---- arrays and strings
 
   -- a new array of equal values
-  made_array : (class : ℕ) (v : Value) (u : ObjectValue) → IsMakeable w.classes class → ValueAgrees store.heap v u → (z : ℤ) → IsAnswer w.classes function.texts store.heap call.locals NewLocal shared s (new_array class z v) (new_array_effect shared s class z u)
+  made_array : (class : ℕ) (v : Value) (u : ObjectValue) → IsMakeable w.classes class → ValueAgrees store.heap v u → (z : ℤ) → IsAnswer w.classes brought store.heap call.locals NewLocal shared s (new_array class z v) (new_array_effect shared s class z u)
   made_array class v u makeable agree (pos n) = (refl, refl, refl, refl, record { object = (u, agree, refl); makeable = makeable })
   made_array class v u makeable agree (negsuc n) = (refl, built_in_class negative_array_size (omega arith) (omega arith))
 
@@ -552,7 +564,7 @@ module _ (p : Lowered) (w : World) (store : Store) (pending : Option ℕ) (call 
       let found : unwrap_or (array_class_of w.classes (name_there store.heap (at 1))) 0 ≡ array.0 = ap (λ (c : ℕ). unwrap_or (array_class_of w.classes c) 0) name ∙ ap (λ (o : Option ℕ). unwrap_or o 0) array.1 in
       let given : option_map_or (λ (c : ℕ). c) (array_class_of w.classes (object_given args 1)) 0 ≡ array.0 = ap (λ (o : Option ℕ). option_map_or (λ (c : ℕ). c) o 0) array.1 in
       subst (λ (x : Answer). Does NewObjectArray x) (sym (is ∙ (λ i. new_array (found i) (number_of NewObjectArray [] (ClassObject ∷ Nullable ∷ []) tt (λ e. cc, (λ e. cc, tt)) refl h i) (held_reference (at 2)))))
-      (subst (λ (c : ℕ). IsAnswer w.classes function.texts store.heap call.locals NewLocal shared s (new_array array.0 (number_given args 0) (held_reference (at 2))) (new_array_effect shared s c (number_given args 0) (Refers (reference_given args 2)))) (sym given)
+      (subst (λ (c : ℕ). IsAnswer w.classes brought store.heap call.locals NewLocal shared s (new_array array.0 (number_given args 0) (held_reference (at 2))) (new_array_effect shared s c (number_given args 0) (Refers (reference_given args 2)))) (sym given)
       (made_array array.0 (held_reference (at 2)) (Refers (reference_given args 2)) makeable (held_agrees (at 2) (reference_given args 2) (agrees NewObjectArray h 2)) (number_given args 0)))
     where
       first_true : (a b : Bool) → (a && b) ≡ true → a ≡ true
@@ -566,7 +578,7 @@ module _ (p : Lowered) (w : World) (store : Store) (pending : Option ℕ) (call 
 
     -- an element is read
     abbrev Reads : Answer → CallEffect → Type 0
-    Reads answer effect = IsAnswer w.classes function.texts store.heap call.locals NewLocal shared s answer effect
+    Reads answer effect = IsAnswer w.classes brought store.heap call.locals NewLocal shared s answer effect
 
     abbrev read : ℕ → CallEffect
     read i = Leaves [] shared s (ReferenceResult (reference_in (value_at shared.heap m i)))
@@ -583,7 +595,7 @@ module _ (p : Lowered) (w : World) (store : Store) (pending : Option ℕ) (call 
 
     -- an element is written
     abbrev Stores : Answer → CallEffect → Type 0
-    Stores answer effect = IsAnswer w.classes function.texts store.heap call.locals GivesNothing shared s answer effect
+    Stores answer effect = IsAnswer w.classes brought store.heap call.locals GivesNothing shared s answer effect
 
     element_written : (fits : Bool) (v : Value) (q : Reference) → ValueAgrees store.heap v (Refers q) → (z : ℤ)
         → Stores (stores_there store.heap (Some a) fits (index_there store.heap (Some a) z) v) (at_index array_index_out_of_bounds size z (store_effect shared s fits m q))
@@ -624,6 +636,156 @@ module _ (p : Lowered) (w : World) (store : Store) (pending : Option ℕ) (call 
   answers_string h answer is =
       let text : text_in function.texts 0 ≡ text_given args 0 = ap (λ (l : List (List ℕ)). text_in l 0) h.texts ∙ only_text w.classes store.heap references fields function.operands args h.kinds h.given in
       subst (λ (x : Answer). Does NewStringUTF x) (sym is) (refl, refl, refl, refl, record { object = ap string_object (sym text); makeable = built_in_class string_class (omega arith) (omega arith) })
+
+  -- ---- regions
+
+  -- a region of an object at an address, which has so many values, and the local array that the call names
+  module _ (exception a m size : ℕ) (makeable : IsMakeable w.classes exception) (there : name_at store.heap a ≡ Some m) (count : length (values_at store.heap a) ≡ size) (agree : StoreAgrees p w store shared) (array : ArraySlots) (x : Identifier) (given : brought.array ≡ Some (x, array)) (has : HasElements call.numbers.items array (lookup x s.variables)) where
+    abbrev Copies : Answer → CallEffect → Type 0
+    Copies answer effect = IsAnswer w.classes brought store.heap call.locals GivesNothing shared s answer effect
+
+    abbrev held_elements : List ℤ
+    held_elements = local_array (lookup x s.variables)
+
+    elements_are : held_elements ≡ has.elements
+    elements_are = ap local_array has.is
+
+    long : array.len ≡ length held_elements
+    long = sym has.count ∙ sym (ap length elements_are)
+
+    abbrev part : (start count : ℕ) → ArrayRegion
+    part start k = record { object = a; start = start; slot = array.start; count = k }
+
+    slots_within : (k : ℕ) → k ≤ array.len → (j : ℕ) → j < k → array.start + j < length call.numbers.items
+    slots_within k few j below = slots_there call.numbers.items array has.elements has.words j (omega (arith, below, few, has.count))
+
+    -- where an answer and an effect go by the same tests
+    tested : (answer : Answer) (effect : CallEffect) (start k : ℕ)
+        → (nat_le k array.len ≡ true → nat_le (start + k) (length (values_at store.heap a)) ≡ true → Copies answer effect)
+        → Copies (if nat_le (start + k) (length (values_at store.heap a)) then (if nat_le k array.len then answer else replies.Halts OutOfRange) else replies.Throws exception)
+        (if nat_le (start + k) size then (if nat_le k (length held_elements) then effect else Halts trap.OutOfRange) else Throws exception)
+    tested answer effect start k does =
+        subst (λ (l : ℕ). Copies (if nat_le (start + k) (length (values_at store.heap a)) then (if nat_le k array.len then answer else replies.Halts OutOfRange) else replies.Throws exception)
+        (if nat_le (start + k) l then (if nat_le k (length held_elements) then effect else Halts trap.OutOfRange) else Throws exception)) count
+        (subst (λ (l : ℕ). Copies (if nat_le (start + k) (length (values_at store.heap a)) then (if nat_le k array.len then answer else replies.Halts OutOfRange) else replies.Throws exception)
+        (if nat_le (start + k) (length (values_at store.heap a)) then (if nat_le k l then effect else Halts trap.OutOfRange) else Throws exception)) long
+        (by_tests (nat_le (start + k) (length (values_at store.heap a))) (nat_le k array.len) refl refl))
+      where
+        by_tests : (b c : Bool) → nat_le (start + k) (length (values_at store.heap a)) ≡ b → nat_le k array.len ≡ c → Copies (if b then (if c then answer else replies.Halts OutOfRange) else replies.Throws exception) (if b then (if c then effect else Halts trap.OutOfRange) else Throws exception)
+        by_tests false c inside few = (refl, makeable)
+        by_tests true false inside few = refl
+        by_tests true true inside few = does few inside
+
+    -- numbers of the object are read
+    region_read : (z y : ℤ) → Copies (copies_out exception array (region_in store.heap (Some a) z y array)) (at_region exception size z y (get_region_effect shared s m x))
+    region_read (negsuc i) y = (refl, makeable)
+    region_read (pos i) (negsuc j) = (refl, makeable)
+    region_read (pos i) (pos k) =
+        subst (λ (answer : Answer). Copies answer (at_region exception size (pos i) (pos k) (get_region_effect shared s m x))) (sym (answer_is (nat_le (i + k) (length (values_at store.heap a)))))
+        (tested (replies.CopiesOut (part i k)) _ i k
+        (λ few inside. (
+          refl,
+          record {
+            name = x;
+            array = array;
+            given = given;
+            slot = refl;
+            few = leb-true k array.len few;
+            slots = slots_within k (leb-true k array.len few);
+            within = leb-true (i + k) (length (values_at store.heap a)) inside;
+            numbers = take k (drop i (numbers_of shared.heap m));
+            words = words_there store.heap i k (values_at store.heap a) (values_of shared.heap m) (values_there p w store shared agree a m there);
+            is = refl;
+          },
+        )))
+      where
+        answer_is : (b : Bool) → copies_out exception array (if b then Some (part i k) else None) ≡ (if b then (if nat_le k array.len then replies.CopiesOut (part i k) else replies.Halts OutOfRange) else replies.Throws exception)
+        answer_is true = refl
+        answer_is false = refl
+
+    -- numbers of the local array are written
+    region_written : values_of shared.heap m ≡ map Number (numbers_of shared.heap m) → (z y : ℤ) → Copies (copies_in exception array (region_in store.heap (Some a) z y array)) (at_region exception size z y (set_region_effect shared s m x))
+    region_written alone (negsuc i) y = (refl, makeable)
+    region_written alone (pos i) (negsuc j) = (refl, makeable)
+    region_written alone (pos i) (pos k) =
+        subst (λ (answer : Answer). Copies answer (at_region exception size (pos i) (pos k) (set_region_effect shared s m x))) (sym (answer_is (nat_le (i + k) (length (values_at store.heap a)))))
+        (tested (replies.CopiesIn (part i k)) _ i k
+        (λ few inside. (
+          refl,
+          record {
+            name = m;
+            there = there;
+            slots = slots_within k (leb-true k array.len few);
+            within = leb-true (i + k) (length (values_at store.heap a)) inside;
+            all_numbers = alone;
+            numbers = take k held_elements;
+            words = subst (λ (zs : List ℤ). AreWordsOf (words_from call.numbers.items (part i k)) (take k zs)) (sym elements_are) (words_brought call.numbers.items array has.elements has.words k (omega (arith, leb-true k array.len few, has.count)));
+            is = refl;
+          },
+        )))
+      where
+        answer_is : (b : Bool) → copies_in exception array (if b then Some (part i k) else None) ≡ (if b then (if nat_le k array.len then replies.CopiesIn (part i k) else replies.Halts OutOfRange) else replies.Throws exception)
+        answer_is true = refl
+        answer_is false = refl
+
+  -- what a function of regions is given
+  record GivenRegion : Type 0 where
+    pub object : GivenObject w.classes store.heap references fields function.operands args 0
+    pub two : TwoNumbers args
+    pub array : GivenArray call.numbers.items s.variables function.operands args
+    pub is : region_in store.heap (at 0) (next_number call.stack) (stack_number call.stack) (array_in (operand_of function.operands 3)) ≡ region_in store.heap (Some object.address) (number_given args 1) (number_given args 2) array.array
+
+  region_given : (f : JniFunction) (q : ParameterKind) (T : ElementType) → IsReferenceKind q → may_be_null q ≡ false → (prototype f).parameters ≡ q ∷ IntNumber ∷ IntNumber ∷ ArrayVariable T ∷ [] → Asked f → (target : Target) → trap_of_call w.classes shared s target f args ≡ None → GivenRegion
+  region_given f q T kind never are h target free =
+      let kinds = subst (λ (l : List ParameterKind). AllZip OperandFits l function.operands) are h.kinds in
+      let fit = subst (λ (l : List ParameterKind). AllZip ActualFits l args) are h.fit in
+      let first = object_given_at f [] q (IntNumber ∷ IntNumber ∷ ArrayVariable T ∷ []) kind never are h target free in
+      let numbers = two_numbers w.classes store.heap references fields q (ArrayVariable T) (λ e. subst IsReferenceKind e kind) (λ e. cc) function.operands args kinds fit h.given in
+      let given = given_array call.numbers.items s.variables q IntNumber IntNumber T function.operands args kinds h.arrays in
+      let start : next_number call.stack ≡ number_given args 1 = ap next_number (h.words ∙ numbers.words) ∙ to_z-of_z {w = w32} numbers.start_fits ∙ sym numbers.start_is in
+      let count : stack_number call.stack ≡ number_given args 2 = ap stack_number (h.words ∙ numbers.words) ∙ to_z-of_z {w = w32} numbers.count_fits ∙ sym numbers.count_is in
+      record { object = first; two = numbers; array = given; is = (λ i. region_in store.heap (first.at i) (start i) (count i) (array_in (given.at i))) }
+
+  -- the object has its argument's name
+  object_named : (g : GivenRegion) → name_at store.heap g.object.address ≡ Some (object_given args 0)
+  object_named g = g.object.named ∙ ap (λ (q : Reference). Some (name_or_zero q)) (sym g.object.is)
+
+  object_long : (f : JniFunction) → Asked f → (g : GivenRegion) → length (values_at store.heap g.object.address) ≡ length (values_of shared.heap (object_given args 0))
+  object_long f h g = ap (count_there store.heap) (sym g.object.at) ∙ (counted f h).0
+
+  answers_get_region : (T : ElementType) → Asked (GetArrayRegion T) → (target : Target) → trap_of_call w.classes shared s target (GetArrayRegion T) args ≡ None → (answer : Answer) → Works (GetArrayRegion T) answer → Does (GetArrayRegion T) answer
+  unfolding call_effect
+  answers_get_region T h target free answer is =
+      let g = region_given (GetArrayRegion T) (NumberArray T) T tt refl refl h target free in
+      subst (λ (x : Answer). Does (GetArrayRegion T) x) (sym (is ∙ (λ i. copies_out array_index_out_of_bounds (array_in (g.array.at i)) (g.is i))))
+      (region_read array_index_out_of_bounds g.object.address (object_given args 0) _ (built_in_class array_index_out_of_bounds (omega arith) (omega arith)) (object_named g) (object_long (GetArrayRegion T) h g) h.store_agrees g.array.array (variable_given args 3) g.array.given g.array.has (number_given args 1) (number_given args 2))
+
+  answers_string_region : Asked GetStringRegion → (target : Target) → trap_of_call w.classes shared s target GetStringRegion args ≡ None → (answer : Answer) → Works GetStringRegion answer → Does GetStringRegion answer
+  unfolding call_effect
+  answers_string_region h target free answer is =
+      let g = region_given GetStringRegion StringObject JChar tt refl refl h target free in
+      subst (λ (x : Answer). Does GetStringRegion x) (sym (is ∙ (λ i. copies_out string_index_out_of_bounds (array_in (g.array.at i)) (g.is i))))
+      (region_read string_index_out_of_bounds g.object.address (object_given args 0) _ (built_in_class string_index_out_of_bounds (omega arith) (omega arith)) (object_named g) (object_long GetStringRegion h g) h.store_agrees g.array.array (variable_given args 3) g.array.given g.array.has (number_given args 1) (number_given args 2))
+
+  -- argument 0 is an array of numbers of a type
+  array_of_numbers : (T : ElementType) → Asked (SetArrayRegion T) → (target : Target) → trap_of_call w.classes shared s target (SetArrayRegion T) args ≡ None → (g : GivenRegion) → HasNumbers w.classes shared.heap T g.object.name
+  array_of_numbers T h target free g =
+      let object = object_of (SetArrayRegion T) h g.object.address g.object.name g.object.named in
+      let class : class_of shared.heap g.object.name ≡ object.0.class = ap (λ (o : Option Object). option_map_or (λ (x : Object). x.class) o 0) object.1 in
+      let of_class : class_there store.heap g.object.address ≡ number_array T = is_number_array w.classes store.heap references fields T [] (IntNumber ∷ IntNumber ∷ ArrayVariable T ∷ []) function.operands g.object.address g.object.at
+      h.kinds (none_unfit p w store pending call function shared s (SetArrayRegion T) args h target free) in
+      let same : object.0.class ≡ number_array T = sym class ∙ sym (class_is w.classes store.heap references fields shared.heap h.store_agrees.heap.blocks g.object.address g.object.name g.object.named) ∙ of_class in
+      (object.0, object.1, ap (element_type_of w.classes) same ∙ array_numbers w.classes sound.grown T)
+
+  answers_set_region : (T : ElementType) → Asked (SetArrayRegion T) → (target : Target) → trap_of_call w.classes shared s target (SetArrayRegion T) args ≡ None → (answer : Answer) → Works (SetArrayRegion T) answer → Does (SetArrayRegion T) answer
+  unfolding call_effect
+  answers_set_region T h target free answer is =
+      let g = region_given (SetArrayRegion T) (NumberArray T) T tt refl refl h target free in
+      let alone = numbers_alone w.classes shared.heap h.typed g.object.name T (array_of_numbers T h target free g) in
+      let name : g.object.name ≡ object_given args 0 = ap name_or_zero (sym g.object.is) in
+      subst (λ (x : Answer). Does (SetArrayRegion T) x) (sym (is ∙ (λ i. copies_in array_index_out_of_bounds (array_in (g.array.at i)) (g.is i))))
+      (region_written array_index_out_of_bounds g.object.address (object_given args 0) _ (built_in_class array_index_out_of_bounds (omega arith) (omega arith)) (object_named g) (object_long (SetArrayRegion T) h g) h.store_agrees g.array.array (variable_given args 3) g.array.given g.array.has
+      (subst (λ (n : ℕ). values_of shared.heap n ≡ map Number (numbers_of shared.heap n)) name alone) (number_given args 1) (number_given args 2))
 
   -- ---- exceptions
 
@@ -698,4 +860,7 @@ module _ (p : Lowered) (w : World) (store : Store) (pending : Option ℕ) (call 
   answers ExceptionClear h target free answer is keyed held = answers_clear answer is
   answers FatalError h target free answer is keyed held = answers_fatal answer is
   answers GetStringLength h target free answer is keyed held = answers_string_length h answer is
+  answers (GetArrayRegion T) h target free answer is keyed held = answers_get_region T h target free answer is
+  answers (SetArrayRegion T) h target free answer is keyed held = answers_set_region T h target free answer is
+  answers GetStringRegion h target free answer is keyed held = answers_string_region h target free answer is
   answers f h target free answer is keyed held = absurd (let no : is_built_function f ≡ true = h.answered in cc)

@@ -5,14 +5,15 @@ use Rattle.std.specs.Int.{w32}
 use Rattle.std.specs.List.{AllByRecursion, AllZip, list_any}
 use Rattle.std.specs.Option.{option_map_or}
 use Rattle.std.proofs.lemmas.Bool.Decides.{eqb_tells}
-use Rattle.class_rules.specs.BuiltIns.{class_class, has_own_making, string_class}
+use Rattle.base.specs.Element.{ElementType}
+use Rattle.class_rules.specs.BuiltIns.{class_class, has_own_making, number_array, string_class}
 use Rattle.class_rules.specs.Class.{Class, Classes, class_at, class_kind, is_plain, superclass}
 use Rattle.class_rules.proofs.GrownTables.{IsOrdered}
 use Rattle.classes.specs.declared.class.FieldHandle.{FieldHandle}
 use Rattle.code.specs.declared.instr.Operand.{Operand}
 use Rattle.code.specs.declared.instr.Operand.TheVariants as operand
 use Rattle.heap.specs.Heap.{Space, IsLaidOut, name_at}
-use Rattle.jni.specs.Prototype.{ParameterKind, StaticVariable, ClassObject, FieldID, IntNumber, TextBytes}
+use Rattle.jni.specs.Prototype.{ParameterKind, StaticVariable, ClassObject, FieldID, IntNumber, NumberArray, TextBytes}
 use Rattle.semantics.specs.Arguments.{Actual, ReferenceActual, FieldActual, TextActual, VariableActual, ModeActual, NothingActual, reference_given, name_or_zero, text_given, text_in_actual, NumberActual, number_given, number_in_actual}
 use Rattle.semantics.specs.Heap.{Heap, values_of}
 use Rattle.semantics.specs.Object.{Reference}
@@ -74,6 +75,12 @@ super_known classes o c s h = by_class (class_at classes c) refl h
     by_class (Some d) e q = let b = o.superclasses c s d e q in known classes s b.class b.is
 
 -- ---- texts
+
+same_number : (n m : ℕ) → not (n == m) ≡ false → n ≡ m
+same_number n m same =
+    ⊎_elim (λ (t : (eqb n m ≡ true) × (n ≡ m)). t.1)
+    (λ (t : (eqb n m ≡ false) × (n ≡ m → ⊥)). absurd (let clash : not false ≡ false = ap not (sym t.0) ∙ same in cc))
+    (eqb_tells n m)
 
 module _ (classes : Classes) (space : Space) (references : References) (fields : List (Option FieldHandle)) where
   no_text : (o : Operand) (a : Actual) → OperandFits ClassObject o → IsGiven classes space references fields o a → does.text_given a ≡ []
@@ -229,7 +236,7 @@ module _ (classes : Classes) (space : Space) (references : References) (fields :
       let later = second_of (not (may_be_null p) && gives_null references fields o) (some_missing references fields (FieldID ∷ parameters) (x ∷ operands)) missing in
       handle_in x fits.1.0 (first_of (gives_null references fields x) (some_missing references fields parameters operands) later)
 
-  is_number : (o : Operand) (a : Actual) → OperandFits IntNumber o → IsGiven classes space references fields o a → (z : ℤ) × (a ≡ NumberActual z) × FitsSigned w32 z
+  pub is_number : (o : Operand) (a : Actual) → OperandFits IntNumber o → IsGiven classes space references fields o a → (z : ℤ) × (a ≡ NumberActual z) × FitsSigned w32 z
   is_number operand.Number a fits h = h
   is_number operand.Text a fits h = absurd (cc)
   is_number operand.Null a fits h = absurd fits
@@ -247,7 +254,7 @@ module _ (classes : Classes) (space : Space) (references : References) (fields :
   abbrev pub IsWordless : ParameterKind → Type 0
   IsWordless p = p ≡ IntNumber → ⊥
 
-  wordless : (p : ParameterKind) (a : Actual) → IsWordless p → ActualFits p a → does.word_given a ≡ []
+  pub wordless : (p : ParameterKind) (a : Actual) → IsWordless p → ActualFits p a → does.word_given a ≡ []
   wordless p (NumberActual z) none fits = absurd (none fits)
   wordless p (ReferenceActual x r) none fits = refl
   wordless p (FieldActual f) none fits = refl
@@ -303,10 +310,12 @@ module _ (classes : Classes) (space : Space) (references : References) (fields :
   pub is_class : (before after : List ParameterKind) (operands : List Operand) (a : ℕ) → operand_at references (operand_of operands (length before)) ≡ Some a → AllZip OperandFits (before ++ ClassObject ∷ after) operands
       → some_misfit classes space references (before ++ ClassObject ∷ after) operands ≡ false → class_there space a ≡ class_class
   is_class before after operands a at fits misfit =
-      let same : not (class_there space a == class_class) ≡ false = of_kind before ClassObject after operands a at fits misfit in
-      ⊎_elim (λ (t : (eqb (class_there space a) class_class ≡ true) × (class_there space a ≡ class_class)). t.1)
-      (λ (t : (eqb (class_there space a) class_class ≡ false) × (class_there space a ≡ class_class → ⊥)). absurd (let clash : not false ≡ false = ap not (sym t.0) ∙ same in cc))
-      (eqb_tells (class_there space a) class_class)
+      same_number (class_there space a) class_class (of_kind before ClassObject after operands a at fits misfit)
+
+  -- or of a class of arrays of numbers
+  pub is_number_array : (t : ElementType) (before after : List ParameterKind) (operands : List Operand) (a : ℕ) → operand_at references (operand_of operands (length before)) ≡ Some a → AllZip OperandFits (before ++ NumberArray t ∷ after) operands
+      → some_misfit classes space references (before ++ NumberArray t ∷ after) operands ≡ false → class_there space a ≡ number_array t
+  is_number_array t before after operands a at fits misfit = same_number (class_there space a) (number_array t) (of_kind before (NumberArray t) after operands a at fits misfit)
 
 -- an argument for a static is one
 static_operand : (o : Operand) → OperandFits StaticVariable o → (i : ℕ) × (o ≡ operand.Static i)

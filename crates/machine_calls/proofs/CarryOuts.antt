@@ -21,9 +21,9 @@ use Rattle.class_rules.specs.Class.{Classes}
 use Rattle.heap.specs.Heap.{Space, left_of, with_value}
 use Rattle.heap.specs.declared.value.Value.{Value}
 use Rattle.jni.specs.Prototype.{ResultKind, NewLocal, NewGlobal, GivesFlag, GivesInt, GivesField, GivesNothing, GivesBuffer}
-use Rattle.semantics.specs.CallEffects.{string_object, with_message, frames_effect, without_local, CallResult, Leaves, NoResult, ReferenceResult, ScalarResult, CallEffect, out_of_memory, refuses_frames, with_capacity}
+use Rattle.semantics.specs.CallEffects.{overwritten, string_object, with_message, frames_effect, without_local, CallResult, Leaves, NoResult, ReferenceResult, ScalarResult, CallEffect, out_of_memory, refuses_frames, with_capacity}
 use Rattle.semantics.specs.CallStep.{failure, makes_objects}
-use Rattle.semantics.specs.Heap.{Heap, next_name}
+use Rattle.semantics.specs.Heap.{Heap, next_name, numbers_of, with_numbers}
 use Rattle.semantics.specs.Thread as source
 use Rattle.semantics.specs.Thread.{Shared, Thread}
 use Rattle.semantics.specs.Value.{Int}
@@ -38,7 +38,7 @@ use Rattle.machine_calls.specs.declared.new_object.New.{New}
 use Rattle.machine_calls.specs.declared.new_object.New.TheVariants.{Exception, Fresh, Text}
 use Rattle.machine_calls.specs.declared.store.Store.{Store}
 use Rattle.machine_calls.specs.StoreAgrees.{HeldAgrees, StoreAgrees, Keeps}
-use Rattle.machine_calls.specs.Answers.{GivenAgrees, IsAnswer}
+use Rattle.machine_calls.specs.Answers.{Brought, GivenAgrees, IsAnswer}
 use Rattle.machine_calls.specs.CarriedOut.{CarriesOut, IsFresh, IsLeft, IsPossible, ResultAgrees, can_fail, failed, made_by}
 use Rattle.machine_calls.specs.Locals.{FramesAgree, IsKeyOf}
 use Rattle.tables.specs.Locals as tables
@@ -54,13 +54,16 @@ use Rattle.machine_calls.proofs.NewValues.{same_cells}
 use Rattle.machine_calls.proofs.Makes as making
 use Rattle.machine_calls.proofs.LocalFrames.{frame_ended, frame_made, key_deleted, key_ensured, key_popped, key_pushed, no_frames, reference_deleted, room_ensured, same_capacities}
 use Rattle.machine_calls.proofs.Writes as writing
+use Rattle.machine_calls.proofs.CopiedRegions as copying
+use Rattle.machine_calls.specs.Copies.{space_with}
+use Rattle.machine_calls.specs.declared.array_region.ArrayRegion.{ArrayRegion}
 
 -- what is carried out, by the answer's case
-module _ (p : Lowered) (w : World) (space : Space) (before : LocalTable) (kind : ResultKind) (shared : Shared) (s : Thread) (effect : CallEffect) (texts : List (List ℕ)) where
-  pub by_answer : (a b : Answer) → a ≡ b → (refused : Bool) (store : Store) (pending : Option ℕ) (locals : LocalTable) (g : Given) → (IsAnswer w.classes texts space before kind shared s b effect → CarriesOut p w space before b kind shared s effect refused store pending locals g)
-      → IsAnswer w.classes texts space before kind shared s a effect → CarriesOut p w space before a kind shared s effect refused store pending locals g
+module _ (p : Lowered) (w : World) (space : Space) (before : LocalTable) (kind : ResultKind) (shared : Shared) (s : Thread) (effect : CallEffect) (brought : Brought) where
+  pub by_answer : (a b : Answer) → a ≡ b → (refused : Bool) (store : Store) (pending : Option ℕ) (locals : LocalTable) (g : Given) → (IsAnswer w.classes brought space before kind shared s b effect → CarriesOut p w space before b kind shared s effect refused store pending locals g)
+      → IsAnswer w.classes brought space before kind shared s a effect → CarriesOut p w space before a kind shared s effect refused store pending locals g
   by_answer a b same refused store pending locals g f does =
-      subst (λ (x : Answer). CarriesOut p w space before x kind shared s effect refused store pending locals g) (sym same) (f (subst (λ (x : Answer). IsAnswer w.classes texts space before kind shared s x effect) same does))
+      subst (λ (x : Answer). CarriesOut p w space before x kind shared s effect refused store pending locals g) (sym same) (f (subst (λ (x : Answer). IsAnswer w.classes brought space before kind shared s x effect) same does))
 
 -- a call that fails gives what it gives in the source
 failed_agrees : (classes : Classes) (store : Store) (kind : ResultKind) → can_fail kind ≡ true → ResultAgrees classes store (failed kind) kind (failure kind)
@@ -91,7 +94,10 @@ get_below [] i h = absurd (omega (arith, h))
 get_below (x ∷ xs) zero h = (x, refl)
 get_below (x ∷ xs) (suc i) h = get_below xs i (omega (arith, h))
 
-module _ (p : Lowered) (w : World) (store : Store) (pending : Option ℕ) (locals : LocalTable) (kind : ResultKind) (shared : Shared) (s : Thread) (h : IsPossible p w store pending locals kind shared s) (texts : List (List ℕ)) where
+module _ (p : Lowered) (w : World) (store : Store) (pending : Option ℕ) (locals : LocalTable) (kind : ResultKind) (shared : Shared) (s : Thread) (h : IsPossible p w store pending locals kind shared s) (brought : Brought) where
+  abbrev texts : List (List ℕ)
+  texts = brought.texts
+
   -- what is left of an effect, with the frames as they were
   abbrev Carries : Answer → CallEffect → Bool → Store → Option ℕ → Given → Type 0
   Carries a effect refused after pending' g = CarriesOut p w store.heap locals a kind shared s effect refused after pending' locals g
@@ -119,17 +125,17 @@ module _ (p : Lowered) (w : World) (store : Store) (pending : Option ℕ) (local
   }
 
   abbrev Does : Answer → CallEffect → Type 0
-  Does a effect = IsAnswer w.classes texts store.heap locals kind shared s a effect
+  Does a effect = IsAnswer w.classes brought store.heap locals kind shared s a effect
 
   pub refuses_object : (new : New) (effect : CallEffect) → Does (answer.Makes new) effect → left_of store.heap < cells_of_new w.classes texts new → Carries (answer.Makes new) effect true store (slice_get store.loaded.items (length w.classes)) (failed kind)
   refuses_object new effect does short =
-      refuses (answer.Makes new) effect (ap makes_objects (makes_it w.classes texts store.heap locals kind shared s new effect does).is)
-      (omega (arith, short, cells_made w.classes texts store.heap locals kind shared s (answer.Makes new) effect does))
+      refuses (answer.Makes new) effect (ap makes_objects (makes_it w.classes brought store.heap locals kind shared s new effect does).is)
+      (omega (arith, short, cells_made w.classes brought store.heap locals kind shared s (answer.Makes new) effect does))
 
   pub refuses_exception : (class : ℕ) (effect : CallEffect) → Does (answer.Throws class) effect → left_of store.heap < cells_of_new w.classes texts (Fresh class) → Carries (answer.Throws class) effect true store (slice_get store.loaded.items (length w.classes)) (failed kind)
   refuses_exception class effect does short =
-      refuses (answer.Throws class) effect (ap makes_objects (throws_it w.classes texts store.heap locals kind shared s class effect does).is)
-      (omega (arith, short, cells_made w.classes texts store.heap locals kind shared s (answer.Throws class) effect does))
+      refuses (answer.Throws class) effect (ap makes_objects (throws_it w.classes brought store.heap locals kind shared s class effect does).is)
+      (omega (arith, short, cells_made w.classes brought store.heap locals kind shared s (answer.Throws class) effect does))
 
   -- nothing is added to the heap
   same_heap : (t : Shared) → record t { heap = t.heap ++ [] } ≡ t
@@ -137,7 +143,7 @@ module _ (p : Lowered) (w : World) (store : Store) (pending : Option ℕ) (local
 
   pub gives : (g : Given) (effect : CallEffect) → Does (answer.Gives g) effect → Carries (answer.Gives g) effect false store pending g
   gives g effect does =
-      let it = gives_it w.classes texts store.heap locals kind shared s g effect does in
+      let it = gives_it w.classes brought store.heap locals kind shared s g effect does in
       subst (λ (e : CallEffect). Carries (answer.Gives g) e false store pending g) (sym it.is) (record {
         store_agrees = subst (StoreAgrees p w store) (sym (same_heap shared)) h.store_agrees;
         keeps = subst (Keeps store.heap shared store.heap) (sym (same_heap shared)) (keeps_same store.heap shared);
@@ -152,7 +158,7 @@ module _ (p : Lowered) (w : World) (store : Store) (pending : Option ℕ) (local
 
   pub writes : (a place : ℕ) (v : Value) (effect : CallEffect) → Does (answer.Writes a place v) effect → Carries (answer.Writes a place v) effect false (record store { heap = with_value store.heap a place v }) pending given.Nothing
   writes a place v effect does =
-      let it = writes_it w.classes texts store.heap locals kind shared s a place v effect does in
+      let it = writes_it w.classes brought store.heap locals kind shared s a place v effect does in
       let after : Store = record store { heap = with_value store.heap a place v } in
       let agrees = writing.written_agrees p w store shared it.after a place v h.store_agrees it.writes in
       let keeps = writing.written_keeps p w store shared it.after a place v h.store_agrees it.writes in
@@ -164,6 +170,41 @@ module _ (p : Lowered) (w : World) (store : Store) (pending : Option ℕ) (local
         left = λ key n level is left. key_stays store.heap after.heap keeps.names locals key n level is;
         given_agrees = result_agrees w.classes after kind _ _ (subst (λ (k : ResultKind). GivenAgrees w.classes after.heap k given.Nothing NoResult) (sym it.kind_is) tt);
         still = λ same. ap (λ (x : Shared). x.statics) it.writes.is;
+        could_refuse = λ e. absurd (cc);
+        room = nothing_asked store.heap;
+      })
+
+  -- numbers went into slots, and nothing else changes
+  pub copies_out : (region : ArrayRegion) (effect : CallEffect) → Does (answer.CopiesOut region) effect → Carries (answer.CopiesOut region) effect false store pending given.Nothing
+  copies_out region effect does =
+      subst (λ (e : CallEffect). Carries (answer.CopiesOut region) e false store pending given.Nothing) (sym does.1.is) (record {
+        store_agrees = subst (StoreAgrees p w store) (sym (same_heap shared)) h.store_agrees;
+        keeps = subst (Keeps store.heap shared store.heap) (sym (same_heap shared)) (keeps_same store.heap shared);
+        pending_agrees = h.pending_agrees;
+        frames_agree = h.frames_agree;
+        left = λ key n level is left. is;
+        given_agrees = result_agrees w.classes store kind _ _ (subst (λ (k : ResultKind). GivenAgrees w.classes store.heap k given.Nothing NoResult) (sym does.0) tt);
+        still = λ same. refl;
+        could_refuse = λ e. absurd (cc);
+        room = nothing_asked store.heap;
+      })
+
+  -- numbers of slots went into an object
+  pub copies_in : (region : ArrayRegion) (effect : CallEffect) → Does (answer.CopiesIn region) effect → Carries (answer.CopiesIn region) effect false (record store { heap = space_with store.heap region brought.numbers }) pending given.Nothing
+  copies_in region effect does =
+      let it = does.1 in
+      let after : Store = record store { heap = space_with store.heap region brought.numbers } in
+      let copied : Shared = record shared { heap = with_numbers shared.heap it.name (overwritten (numbers_of shared.heap it.name) region.start it.numbers) } in
+      let agrees = copying.copied_agrees p w store shared brought s region effect h.store_agrees it in
+      let keeps = copying.copied_keeps p w store shared brought s region effect h.store_agrees it in
+      subst (λ (e : CallEffect). Carries (answer.CopiesIn region) e false after pending given.Nothing) (sym it.is) (record {
+        store_agrees = subst (StoreAgrees p w after) (sym (same_heap copied)) agrees;
+        keeps = subst (Keeps store.heap shared after.heap) (sym (same_heap copied)) keeps;
+        pending_agrees = reference_stays store.heap after.heap keeps.names pending s.pending h.pending_agrees;
+        frames_agree = frames_stay store.heap after.heap keeps.names locals s.frames h.frames_agree;
+        left = λ key n level is left. key_stays store.heap after.heap keeps.names locals key n level is;
+        given_agrees = result_agrees w.classes after kind _ _ (subst (λ (k : ResultKind). GivenAgrees w.classes after.heap k given.Nothing NoResult) (sym does.0) tt);
+        still = λ same. refl;
         could_refuse = λ e. absurd (cc);
         room = nothing_asked store.heap;
       })
@@ -350,7 +391,7 @@ module _ (p : Lowered) (w : World) (store : Store) (pending : Option ℕ) (local
 
     pub makes : (effect : CallEffect) → Does (answer.Makes new) effect → Carries (answer.Makes new) effect false after pending (given.Reference (Some a))
     makes effect does =
-        let it = makes_it w.classes texts store.heap locals kind shared s new effect does in
+        let it = makes_it w.classes brought store.heap locals kind shared s new effect does in
         let names = making.names_stay p w texts store after shared new it.object a h.store_agrees made it.describes in
         subst (λ (e : CallEffect). Carries (answer.Makes new) e false after pending (given.Reference (Some a))) (sym it.is) (record {
           store_agrees = making.made_agrees p w texts store after shared new it.object a h.store_agrees made it.describes;
@@ -369,7 +410,7 @@ module _ (p : Lowered) (w : World) (store : Store) (pending : Option ℕ) (local
   module _ (after : Store) (class a : ℕ) (made : HasMade w.classes texts store (Fresh class) after a) where
     pub throws : (effect : CallEffect) → Does (answer.Throws class) effect → Carries (answer.Throws class) effect false after (Some a) (failed kind)
     throws effect does =
-        let it = throws_it w.classes texts store.heap locals kind shared s class effect does in
+        let it = throws_it w.classes brought store.heap locals kind shared s class effect does in
         let o = fresh_object w.classes class in
         let described : Describes w.classes texts store.heap (Fresh class) o = record { object = refl; makeable = it.makeable } in
         let names = making.names_stay p w texts store after shared (Fresh class) o a h.store_agrees made described in
@@ -390,7 +431,7 @@ module _ (p : Lowered) (w : World) (store : Store) (pending : Option ℕ) (local
     pub refuses_raise : left_of store.heap < cells_of_new w.classes texts (Text place) + cells_of_new w.classes texts (Fresh class) → Carries (answer.Raises class place) effect true store (slice_get store.loaded.items (length w.classes)) (failed kind)
     refuses_raise short =
         refuses (answer.Raises class place) effect (ap makes_objects does.3)
-        (omega (arith, short, cells_made w.classes texts store.heap locals kind shared s (answer.Raises class place) effect does))
+        (omega (arith, short, cells_made w.classes brought store.heap locals kind shared s (answer.Raises class place) effect does))
 
     module _ (between after : Store) (message a : ℕ) (first : HasMade w.classes texts store (Text place) between message) (second : HasMade w.classes texts between (Exception class message) after a) where
       abbrev string : Object

@@ -18,7 +18,7 @@ use Rattle.machine_calls.specs.declared.answer.Answer.{Answer}
 use Rattle.machine_calls.specs.declared.answer.Answer.TheVariants as answer
 use Rattle.machine_calls.specs.declared.new_object.New.{New}
 use Rattle.machine_calls.specs.declared.new_object.New.TheVariants.{Fresh, Text}
-use Rattle.machine_calls.specs.Answers.{IsAnswer}
+use Rattle.machine_calls.specs.Answers.{Brought, IsAnswer}
 use Rattle.machine_calls.specs.CarriedOut.{is_of_references, made_by}
 use Rattle.machine_calls.specs.Made.{cells_of}
 use Rattle.machine_calls.specs.NewObjects.{IsObject, cells_of_new, text_in, values_of_new}
@@ -55,21 +55,23 @@ both_sizes classes texts space class place r =
       sum_by-cons size fresh [],
     )
 
-module _ (classes : Classes) (texts : List (List ℕ)) (space : Space) (locals : LocalTable) (kind : ResultKind) (shared : Shared) (s : Thread) where
+module _ (classes : Classes) (brought : Brought) (space : Space) (locals : LocalTable) (kind : ResultKind) (shared : Shared) (s : Thread) where
   abbrev Cells : CallEffect → ℕ
   Cells effect = sizes (made_by classes effect)
 
   of_frames : (frames : List source.Frame) → Cells (frames_effect classes shared s frames) ≡ 0
   of_frames frames = cond_both (nat_le (source.capacities frames) 1024) _ (refuses_frames classes shared s) (λ (e : CallEffect). Cells e ≡ 0) (λ e. refl) (λ e. refl)
 
-  pub cells_made : (a : Answer) (effect : CallEffect) → IsAnswer classes texts space locals kind shared s a effect → Cells effect ≡ cells_of classes texts a
-  cells_made (answer.Gives g) effect does = ap Cells (gives_it classes texts space locals kind shared s g effect does).is
-  cells_made (answer.Writes a place v) effect does = ap Cells (writes_it classes texts space locals kind shared s a place v effect does).is
+  pub cells_made : (a : Answer) (effect : CallEffect) → IsAnswer classes brought space locals kind shared s a effect → Cells effect ≡ cells_of classes brought.texts a
+  cells_made (answer.Gives g) effect does = ap Cells (gives_it classes brought space locals kind shared s g effect does).is
+  cells_made (answer.Writes a place v) effect does = ap Cells (writes_it classes brought space locals kind shared s a place v effect does).is
+  cells_made (answer.CopiesOut region) effect does = ap Cells does.1.is
+  cells_made (answer.CopiesIn region) effect does = ap Cells does.1.is
   cells_made (answer.Makes new) effect does =
-      let it = makes_it classes texts space locals kind shared s new effect does in
-      ap Cells it.is ∙ described_size classes texts space new it.object it.describes.object
-  cells_made (answer.Throws class) effect does = ap Cells (throws_it classes texts space locals kind shared s class effect does).is ∙ fresh_size classes texts space class
-  cells_made (answer.Raises class place) effect does = ap Cells does.3 ∙ both_sizes classes texts space class place (Some (next_name shared.heap))
+      let it = makes_it classes brought space locals kind shared s new effect does in
+      ap Cells it.is ∙ described_size classes brought.texts space new it.object it.describes.object
+  cells_made (answer.Throws class) effect does = ap Cells (throws_it classes brought space locals kind shared s class effect does).is ∙ fresh_size classes brought.texts space class
+  cells_made (answer.Raises class place) effect does = ap Cells does.3 ∙ both_sizes classes brought.texts space class place (Some (next_name shared.heap))
   cells_made (answer.Pends a g) effect does = ap Cells does.2.2
   cells_made (answer.Halts trap) effect does = ap Cells does
   cells_made (answer.Ensures more) effect does = ap Cells does.1 ∙ of_frames (with_capacity more s.frames)
@@ -84,6 +86,8 @@ module _ (classes : Classes) (texts : List (List ℕ)) (space : Space) (locals :
 pub references_free : (classes : Classes) (texts : List (List ℕ)) (a : Answer) → is_of_references a ≡ true → cells_of classes texts a ≡ 0
 references_free classes texts (answer.Gives g) h = refl
 references_free classes texts (answer.Writes a place v) h = refl
+references_free classes texts (answer.CopiesOut region) h = refl
+references_free classes texts (answer.CopiesIn region) h = refl
 references_free classes texts (answer.Makes new) h = absurd (cc)
 references_free classes texts (answer.Throws class) h = absurd (cc)
 references_free classes texts (answer.Raises class place) h = absurd (cc)

@@ -18,7 +18,7 @@ use Rattle.code_meaning.specs.Lowered.{Lowered}
 use Rattle.code_meaning.specs.Slots.{word_of}
 use Rattle.machine_calls.specs.declared.store.Store.{Store}
 use Rattle.machine_calls.specs.StoreAgrees.{StoreAgrees}
-use Rattle.machine_calls.specs.Answers.{IsAnswer}
+use Rattle.machine_calls.specs.Answers.{Brought, IsAnswer}
 use Rattle.tables.specs.Locals.{LocalTable}
 use Rattle.machine_calls.specs.HeapAgrees.{ReferenceAgrees, ValueAgrees, ValuesAgree}
 use Rattle.machine_calls.specs.WorkedOut.{address_in, value_there, word_in, writes_there}
@@ -107,6 +107,10 @@ module _ (p : Lowered) (w : World) (store : Store) (shared : Shared) (h : StoreA
         values = ap (λ (o : Option Object). option_map_or (λ (x : Object). x.values) o []) is;
       }
 
+  -- its values in memory are those that it has
+  pub values_there : (a n : ℕ) → name_at store.heap a ≡ Some n → ValuesAgree store.heap (values_at store.heap a) (values_of shared.heap n)
+  values_there a n there = let it = stored a n there in subst (λ (us : List ObjectValue). ValuesAgree store.heap (values_at store.heap a) us) (sym it.values) it.agree
+
   -- a number that is read
   pub word_there : (a n i : ℕ) → name_at store.heap a ≡ Some n → HoldsWord (word_in (value_there store.heap (Some a) i)) (value_at shared.heap n i)
   word_there a n i there =
@@ -120,11 +124,11 @@ module _ (p : Lowered) (w : World) (store : Store) (shared : Shared) (h : StoreA
       subst (λ (us : List ObjectValue). ReferenceAgrees store.heap (address_in (value_there store.heap (Some a) i)) (reference_in (value_or_zero (slice_get us i)))) (sym it.values) (references_held store.heap (values_at store.heap a) it.object.values i it.agree)
 
   -- a value that is written
-  pub writes : (texts : List (List ℕ)) (locals : LocalTable) (s : Thread) (a n i : ℕ) (v : Value) (u : ObjectValue) → name_at store.heap a ≡ Some n → ValueAgrees store.heap v u
-      → IsAnswer w.classes texts store.heap locals GivesNothing shared s (writes_there store.heap (Some a) i v) (heap_effect shared s (with_value_at shared.heap n i u))
-  writes texts locals s a n i v u there agrees = by_test (nat_lt i (length (values_at store.heap a))) refl
+  pub writes : (brought : Brought) (locals : LocalTable) (s : Thread) (a n i : ℕ) (v : Value) (u : ObjectValue) → name_at store.heap a ≡ Some n → ValueAgrees store.heap v u
+      → IsAnswer w.classes brought store.heap locals GivesNothing shared s (writes_there store.heap (Some a) i v) (heap_effect shared s (with_value_at shared.heap n i u))
+  writes brought locals s a n i v u there agrees = by_test (nat_lt i (length (values_at store.heap a))) refl
     where
-      by_test : (b : Bool) → nat_lt i (length (values_at store.heap a)) ≡ b → IsAnswer w.classes texts store.heap locals GivesNothing shared s (writes_there store.heap (Some a) i v) (heap_effect shared s (with_value_at shared.heap n i u))
+      by_test : (b : Bool) → nat_lt i (length (values_at store.heap a)) ≡ b → IsAnswer w.classes brought store.heap locals GivesNothing shared s (writes_there store.heap (Some a) i v) (heap_effect shared s (with_value_at shared.heap n i u))
       by_test true e = rw e (refl, refl, record { name = n; there = there; value = u; agrees = agrees; within = ltb-true i (length (values_at store.heap a)) e; is = refl })
       by_test false e =
           let it = stored a n there in

@@ -7,7 +7,7 @@ pub mod CallOperands
 pub mod CallTraps
 pub mod CarryOuts
 pub mod CellsMade
-pub mod Classed
+pub mod CopiedRegions
 pub mod FewValues
 pub mod FieldValues
 pub mod FilledBlocks
@@ -24,7 +24,9 @@ pub mod LookUps
 pub mod Makes
 pub mod NewValues
 pub mod ObjectsAtAddresses
+pub mod Overlays
 pub mod SetPlaces
+pub mod RegionOperands
 pub mod StaticStores
 pub mod Unasked
 pub mod Writes

@@ -19,8 +19,7 @@ use Rattle.machine_calls.specs.declared.statics.StaticReference.{StaticReference
 use Rattle.machine_calls.specs.declared.new_object.New.{New}
 use Rattle.machine_calls.specs.HeapAgrees.{HeapAgrees, IsTable}
 use Rattle.machine_calls.specs.Made.{HasMade, new_block}
-use Rattle.machine_calls.specs.NewObjects.{Describes, IsMakeable, cells_of_new, values_of_new}
-use Rattle.machine_calls.proofs.Classed.{classed_more}
+use Rattle.machine_calls.specs.NewObjects.{Describes, cells_of_new, values_of_new}
 use Rattle.machine_calls.proofs.HeapLaws.{IsNext, agrees_with_block, name_kept, name_new, object_kept, table_kept}
 use Rattle.machine_calls.proofs.Keeping.{more_made, slots_stay, statics_stay}
 use Rattle.machine_calls.proofs.NewValues.{as_many, new_agree, same_class}
@@ -58,7 +57,6 @@ module _ (p : Lowered) (w : World) (texts : List (List ℕ)) (store after : Stor
             (subst (λ (l : List ℕ). IsTable (with_block store.heap b) l (length (loaded_objects w))) (sym (ap (λ v. v.items) made.loaded)) (table_kept store.heap b store.loaded.items (length (loaded_objects w)) h.table));
         begun = omega arith;
         births = made.births ∙ omega arith;
-        classed = classed_more w.classes shared.heap o h.classed (subst (IsMakeable w.classes) (same_class w.classes texts store.heap new o d.object) d.makeable);
         statics = subst (λ (helds : List Held). StaticsAgree after.heap helds shared.statics) (sym (λ i. all_held (made.globals i) (made.statics i).items)) (statics_stay store.heap after.heap names_stay (all_held store.globals store.statics.items) shared.statics h.statics);
         named = h.named;
         keys = subst (λ (globals : List (Option ℕ)). HaveKeys globals after.statics.items) (sym made.globals) (subst (λ (v : Vec StaticReference). HaveKeys store.globals v.items) (sym made.statics) h.keys);

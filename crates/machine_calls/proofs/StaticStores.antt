@@ -43,7 +43,6 @@ module _ (p : Lowered) (w : World) (store : Store) (shared : Shared) (h : StoreA
     table = h.table;
     begun = h.begun;
     births = h.births;
-    classed = h.classed;
     statics = agree;
     named = named;
     keys = keys;

@@ -1,4 +1,4 @@
--- A store in which a value of an object changes stands for the source's heap in which it does.
+-- A store in which values of an object change stands for the source's heap in which they do.
 use Rattle.std.proofs.Common.{inl, ◌≡◌, ◌≢◌, ℕ, zero, suc, ◌+◌, ◌-◌, ◌<◌, ◌≤◌, Bool, true, false, cond, eqb, List, [], ◌∷◌, length, map, get_or, Option, Some, None, refl, sym, ap, ◌∙◌, subst, arith, ⊎_elim}
 use Rattle.std.specs.Prelude.{find, slice_get, slice_set}
 use Rattle.std.specs.Option.{option_map, option_map_or}
@@ -6,13 +6,13 @@ use Rattle.std.proofs.lemmas.Bool.{cases_eq}
 use Rattle.std.proofs.lemmas.Bool.Decides.{eqb_tells}
 use Rattle.std.proofs.lemmas.Option.{slice_get_within}
 use Rattle.std.proofs.Math.ListN.{length-set}
-use Rattle.heap.specs.Heap.{Block, Space, block_at, block_end, name_at, AreNamesUnique, IsLaidOut, LieFrom, with_value}
+use Rattle.heap.specs.Heap.{Block, Space, block_at, block_end, name_at, AreNamesUnique, IsLaidOut, LieFrom, with_changed, with_value}
 use Rattle.heap.specs.declared.value.Value.{Value}
 use Rattle.heap.specs.declared.value.Value.TheVariants.{Number as Word, Null, Block as Address}
 use Rattle.heap.proofs.Changes.{LeavesPlace, changed, changed_elsewhere, changed_here}
 use Rattle.heap.proofs.Names.{AreNamesUnique-with_changed, one_address}
 use Rattle.heap.proofs.Spaces.{IsLaidOut-with_changed, part-changed}
-use Rattle.semantics.specs.Heap.{Heap, class_of, object_at, values_of, with_value_at}
+use Rattle.semantics.specs.Heap.{Heap, class_of, object_at, values_of, with_values}
 use Rattle.semantics.specs.Object.{Object, ObjectValue, Number, Refers}
 use Rattle.semantics.specs.Thread.{Shared}
 use Rattle.semantics.specs.World.{World, loaded_objects}
@@ -24,7 +24,6 @@ use Rattle.machine_calls.specs.Answers.{WritesAt}
 use Rattle.machine_calls.specs.HeapAgrees.{BlockAgrees, BlocksAgree, ValueAgrees, ValuesAgree}
 use Rattle.machine_calls.proofs.BlocksOfNames.{Named, named}
 use Rattle.machine_calls.proofs.SetPlaces.{get_set_same, get_set_other}
-use Rattle.machine_calls.proofs.Classed.{classed_written}
 use Rattle.machine_calls.proofs.Keeping.{none_made, slots_stay, reference_stays, statics_stay}
 
 -- ---- each block is found at its address
@@ -54,15 +53,16 @@ found_at from (b ∷ bs) cells (suc i) d h less =
 
 -- ---- the change
 
-module _ (space : Space) (heap : Heap) (a place : ℕ) (v : Value) (name : ℕ) (value : ObjectValue) (laid : IsLaidOut space) (unique : AreNamesUnique space) (there : name_at space a ≡ Some name) where
-  abbrev written : Space
-  written = with_value space a place v
+-- values of one object are changed, so that these of the source agree with them
+module _ (space : Space) (heap : Heap) (a : ℕ) (vs : List Value → List Value) (name : ℕ) (us : List ObjectValue) (laid : IsLaidOut space) (unique : AreNamesUnique space) (there : name_at space a ≡ Some name) (keeps : (ws : List Value) → length (vs ws) ≡ length ws) where
+  abbrev pub change : Block → Block
+  change b = record b { values = vs b.values }
 
-  abbrev change : Block → Block
-  change b = record b { values = slice_set b.values place v }
+  abbrev pub written : Space
+  written = with_changed space a change
 
   leaves : LeavesPlace change
-  leaves = record { address = λ b. refl; count = λ b. length-set b.values place v }
+  leaves = record { address = λ b. refl; count = λ b. keeps b.values }
 
   -- objects keep their places
   pub names_same : (x : ℕ) → name_at written x ≡ name_at space x
@@ -85,19 +85,12 @@ module _ (space : Space) (heap : Heap) (a place : ℕ) (v : Value) (name : ℕ) 
   values_stay (w ∷ ws) [] h = h
   values_stay (w ∷ ws) (u ∷ us) h = (value_stays w u h.0, values_stay ws us h.1)
 
-  values_set : (ws : List Value) (us : List ObjectValue) (i : ℕ) → ValuesAgree space ws us → ValueAgrees space v value → ValuesAgree written (slice_set ws i v) (slice_set us i value)
-  values_set [] [] i h agrees = h
-  values_set [] (u ∷ us) i h agrees = absurd h
-  values_set (w ∷ ws) [] i h agrees = absurd h
-  values_set (w ∷ ws) (u ∷ us) zero h agrees = (value_stays v value agrees, values_stay ws us h.1)
-  values_set (w ∷ ws) (u ∷ us) (suc i) h agrees = (value_stays w u h.0, values_set ws us i h.1 agrees)
-
   -- the changed object
   abbrev new : Object
-  new = record { class = class_of heap name; values = slice_set (values_of heap name) place value }
+  new = record { class = class_of heap name; values = us }
 
   abbrev heap_after : Heap
-  heap_after = with_value_at heap name place value
+  heap_after = with_values heap name us
 
   object_here : (o : Object) → object_at heap name ≡ Some o → object_at heap_after name ≡ Some new
   object_here o at = by_name name at
@@ -119,20 +112,20 @@ module _ (space : Space) (heap : Heap) (a place : ℕ) (v : Value) (name : ℕ) 
           subst (λ (k : ℕ). slice_get (slice_set heap k new) i ≡ Some o) (sym before) (get_set_other heap j i new (λ same. ne (ap suc same)) ∙ e)
 
   -- each object keeps its class and its number of values
-  pub shapes_after : (n : ℕ) (o x : Object) → object_at heap name ≡ Some x → object_at heap n ≡ Some o → (p : Object) × (object_at heap_after n ≡ Some p) × (p.class ≡ o.class) × (length p.values ≡ length o.values)
-  shapes_after n o x is at =
+  pub shapes_after : (n : ℕ) (o x : Object) → length us ≡ length (values_of heap name) → object_at heap name ≡ Some x → object_at heap n ≡ Some o → (p : Object) × (object_at heap_after n ≡ Some p) × (p.class ≡ o.class) × (length p.values ≡ length o.values)
+  shapes_after n o x many is at =
       ⊎_elim
       (λ (same : n ≡ name).
       let here : object_at heap name ≡ Some o = ap (object_at heap) (sym same) ∙ at in (
         new,
         ap (object_at heap_after) same ∙ object_here o here,
         ap (λ (p : Option Object). option_map_or (λ (x : Object). x.class) p 0) here,
-        length-set (values_of heap name) place value ∙ ap (λ (p : Option Object). length (option_map_or (λ (x : Object). x.values) p [])) here,
+        many ∙ ap (λ (p : Option Object). length (option_map_or (λ (x : Object). x.values) p [])) here,
       ))
       (λ (other : n ≢ name). (o, object_elsewhere n o x is other at, refl, refl))
       (cases_eq n name)
 
-  module _ (agrees : ValueAgrees space v value) (object_there : (o : Object) × (object_at heap name ≡ Some o)) where
+  module _ (agrees : (ws : List Value) → ValuesAgree space ws (values_of heap name) → ValuesAgree space (vs ws) us) (object_there : (o : Object) × (object_at heap name ≡ Some o)) where
     -- the block at the address
     block_here : (b : Block) → b.birth ≡ name → BlockAgrees space heap b → BlockAgrees written heap_after (change b)
     block_here b birth h =
@@ -143,7 +136,7 @@ module _ (space : Space) (heap : Heap) (a place : ℕ) (v : Value) (name : ℕ) 
           object = new;
           is = ap (object_at heap_after) birth ∙ object_here h.object is;
           class = h.class ∙ sym class;
-          values = values_set b.values (values_of heap name) place (subst (λ (us : List ObjectValue). ValuesAgree space b.values us) (sym values) h.values) agrees;
+          values = values_stay (vs b.values) us (agrees b.values (subst (λ (us : List ObjectValue). ValuesAgree space b.values us) (sym values) h.values));
           unpinned = h.unpinned;
         }
 
@@ -172,58 +165,82 @@ module _ (space : Space) (heap : Heap) (a place : ℕ) (v : Value) (name : ℕ) 
 blank : Block
 blank = record { address = 0; class = 0; birth = 0; values = []; pins = 0 }
 
-module _ (p : Lowered) (w : World) (store : Store) (shared after : Shared) (a place : ℕ) (v : Value) (h : StoreAgrees p w store shared) (writes : WritesAt store.heap shared after a place v) where
-  abbrev pub store_after : Store
-  store_after = record store { heap = with_value store.heap a place v }
+module _ (p : Lowered) (w : World) (store : Store) (shared : Shared) (a : ℕ) (vs : List Value → List Value) (name : ℕ) (us : List ObjectValue) (h : StoreAgrees p w store shared) (there : name_at store.heap a ≡ Some name) (keeps : (ws : List Value) → length (vs ws) ≡ length ws)
+    (many : length us ≡ length (values_of shared.heap name)) where
+  abbrev store_then : Store
+  store_then = record store { heap = with_changed store.heap a (λ b. record b { values = vs b.values }) }
 
-  object : Named store.heap shared.heap a writes.name
-  object = named store.heap shared.heap a writes.name h.heap writes.there
+  object : Named store.heap shared.heap a name
+  object = named store.heap shared.heap a name h.heap there
 
   -- the object that changes
-  object_is : (o : Object) × (object_at shared.heap writes.name ≡ Some o)
+  object_is : (o : Object) × (object_at shared.heap name ≡ Some o)
   object_is = (object.agrees.object, ap (object_at shared.heap) (sym object.birth) ∙ object.agrees.is)
 
   abbrev heap_then : Heap
-  heap_then = with_value_at shared.heap writes.name place writes.value
+  heap_then = with_values shared.heap name us
 
   count : length heap_then ≡ length shared.heap
-  count = length-set shared.heap (writes.name - 1) (record { class = class_of shared.heap writes.name; values = slice_set (values_of shared.heap writes.name) place writes.value })
+  count = length-set shared.heap (name - 1) (record { class = class_of shared.heap name; values = us })
 
-  leaving : LeavesPlace (λ (b : Block). record b { values = slice_set b.values place v })
-  leaving = record { address = λ b. refl; count = λ b. length-set b.values place v }
+  leaving : LeavesPlace (λ (b : Block). record b { values = vs b.values })
+  leaving = record { address = λ b. refl; count = λ b. keeps b.values }
 
-  stays : (x n : ℕ) → name_at store.heap x ≡ Some n → name_at store_after.heap x ≡ Some n
-  stays = names_stay store.heap shared.heap a place v writes.name writes.value h.laid_out h.heap.unique writes.there
+  stays : (x n : ℕ) → name_at store.heap x ≡ Some n → name_at store_then.heap x ≡ Some n
+  stays = names_stay store.heap shared.heap a vs name us h.laid_out h.heap.unique there keeps
 
-  written_agrees' : StoreAgrees p w store_after (record shared { heap = heap_then })
-  written_agrees' = record {
+  pub values_agree : ((ws : List Value) → ValuesAgree store.heap ws (values_of shared.heap name) → ValuesAgree store.heap (vs ws) us) → StoreAgrees p w store_then (record shared { heap = heap_then })
+  values_agree agrees = record {
     heap = record {
-      blocks = blocks_after store.heap shared.heap a place v writes.name writes.value h.laid_out h.heap.unique writes.there writes.agrees object_is store.heap.blocks blank
+      blocks = blocks_after store.heap shared.heap a vs name us h.laid_out h.heap.unique there keeps agrees object_is store.heap.blocks blank
           (λ i less. found_at 0 store.heap.blocks store.heap.cells i blank h.laid_out less) h.heap.blocks;
-      unique = AreNamesUnique-with_changed store.heap a (λ (b : Block). record b { values = slice_set b.values place v }) (λ b. refl) h.heap.unique;
+      unique = AreNamesUnique-with_changed store.heap a (λ (b : Block). record b { values = vs b.values }) (λ b. refl) h.heap.unique;
     };
-    laid_out = IsLaidOut-with_changed store.heap a (λ (b : Block). record b { values = slice_set b.values place v }) leaving h.laid_out;
+    laid_out = IsLaidOut-with_changed store.heap a (λ (b : Block). record b { values = vs b.values }) leaving h.laid_out;
     cells = h.cells;
     table = record { counted = h.table.counted; named = λ i x at. stays x (i + 1) (h.table.named i x at) };
     begun = subst (λ (n : ℕ). length (loaded_objects w) ≤ n) (sym count) h.begun;
     births = h.births ∙ sym count;
-    classed = classed_written w.classes shared.heap writes.name place writes.value object_is.0 object_is.1 h.classed;
-    statics = statics_stay store.heap store_after.heap stays (all_held store.globals store.statics.items) shared.statics h.statics;
+    statics = statics_stay store.heap store_then.heap stays (all_held store.globals store.statics.items) shared.statics h.statics;
     named = h.named;
     keys = h.keys;
-    globals = slots_stay store.heap store_after.heap stays store.globals shared.globals h.globals;
+    globals = slots_stay store.heap store_then.heap stays store.globals shared.globals h.globals;
     monitors = h.monitors;
   }
 
+  pub values_keep : Keeps store.heap shared store_then.heap (record shared { heap = heap_then })
+  values_keep = record {
+    names = stays;
+    statics = inl refl;
+    shapes = λ n o at. shapes_after store.heap shared.heap a vs name us h.laid_out h.heap.unique there keeps n o object_is.0 many object_is.1 at;
+    room = none_made store.heap shared.heap heap_then (omega (arith, count));
+    few = omega (arith, count);
+  }
+
+-- ---- one value
+
+module _ (space : Space) (v : Value) (value : ObjectValue) (agrees : ValueAgrees space v value) where
+  values_set : (ws : List Value) (us : List ObjectValue) (i : ℕ) → ValuesAgree space ws us → ValuesAgree space (slice_set ws i v) (slice_set us i value)
+  values_set [] [] i h = h
+  values_set [] (u ∷ us) i h = absurd h
+  values_set (w ∷ ws) [] i h = absurd h
+  values_set (w ∷ ws) (u ∷ us) zero h = (agrees, h.1)
+  values_set (w ∷ ws) (u ∷ us) (suc i) h = (h.0, values_set ws us i h.1)
+
+module _ (p : Lowered) (w : World) (store : Store) (shared after : Shared) (a place : ℕ) (v : Value) (h : StoreAgrees p w store shared) (writes : WritesAt store.heap shared after a place v) where
+  abbrev pub store_after : Store
+  store_after = record store { heap = with_value store.heap a place v }
+
+  abbrev values_then : List ObjectValue
+  values_then = slice_set (values_of shared.heap writes.name) place writes.value
+
   pub written_agrees : StoreAgrees p w store_after after
-  written_agrees = subst (StoreAgrees p w store_after) (sym writes.is) written_agrees'
+  written_agrees =
+      subst (StoreAgrees p w store_after) (sym writes.is)
+      (values_agree p w store shared a (λ ws. slice_set ws place v) writes.name values_then h writes.there (λ ws. length-set ws place v) (length-set (values_of shared.heap writes.name) place writes.value)
+      (λ ws agree. values_set store.heap v writes.value writes.agrees ws (values_of shared.heap writes.name) place agree))
 
   pub written_keeps : Keeps store.heap shared store_after.heap after
-  written_keeps = subst (λ (s : Shared). Keeps store.heap shared store_after.heap s) (sym writes.is)
-      (record {
-        names = stays;
-        statics = inl refl;
-        shapes = λ n o at. shapes_after store.heap shared.heap a place v writes.name writes.value h.laid_out h.heap.unique writes.there n o object_is.0 object_is.1 at;
-        room = none_made store.heap shared.heap heap_then (omega (arith, count));
-        few = omega (arith, count);
-      })
+  written_keeps =
+      subst (λ (s : Shared). Keeps store.heap shared store_after.heap s) (sym writes.is)
+      (values_keep p w store shared a (λ ws. slice_set ws place v) writes.name values_then h writes.there (λ ws. length-set ws place v) (length-set (values_of shared.heap writes.name) place writes.value))

@@ -14,7 +14,7 @@ use Rattle.code_meaning.specs.Lowered.{Lowered}
 use Rattle.machine_calls.specs.declared.answer.Given.{Given}
 use Rattle.machine_calls.specs.declared.answer.Given.TheVariants as given
 use Rattle.machine_calls.specs.declared.store.Store.{Store}
-use Rattle.semantics.specs.Variable.{as_static}
+use Rattle.semantics.specs.Variable.{Variables, as_static}
 use Rattle.tables.specs.References.{address_at}
 use Rattle.machine_calls.specs.Statics.{held}
 use Rattle.machine_calls.specs.declared.statics.StaticReference.{StaticReference}
@@ -23,6 +23,7 @@ use Rattle.machine_calls.specs.StoreAgrees.{HeldAgrees, StoreAgrees, Keeps}
 use Rattle.machine_calls.specs.Answers.{GivenAgrees}
 use Rattle.machine_calls.specs.declared.answer.Answer.{Answer}
 use Rattle.machine_calls.specs.declared.answer.Answer.TheVariants as answer
+use Rattle.machine_calls.specs.Copies.{slots_with}
 use Rattle.machine_calls.specs.Locals.{FramesAgree, IsKeyOf}
 use Rattle.tables.specs.Locals.{LocalTable}
 use Rattle.machine_calls.specs.HeapAgrees.{ReferenceAgrees}
@@ -47,6 +48,13 @@ frames_left true t effect = t.frames
 frames_left false t (Leaves made s' t' given) = t'.frames
 frames_left false t (Throws c) = t.frames
 frames_left false t (Halts trap) = t.frames
+
+-- its variables then, before a result is put into them
+abbrev pub variables_left : (refused : Bool) → Thread → CallEffect → Variables
+variables_left true t effect = t.variables
+variables_left false t (Leaves made s' t' given) = t'.variables
+variables_left false t (Throws c) = t.variables
+variables_left false t (Halts trap) = t.variables
 
 -- what a call of this kind of result gives
 abbrev pub result_after : ResultKind → (refused : Bool) → CallEffect → CallResult
@@ -78,6 +86,11 @@ IsFresh store s = (key : ℕ) → s ≡ static.Live key → IsSome (address_at s
 abbrev pub ResultAgrees : Classes → Store → Given → ResultKind → CallResult → Type 0
 ResultAgrees classes store (given.Global s) kind c = (kind ≡ NewGlobal) × ((r : Reference) × ((c ≡ ReferenceResult r) ⊎ ((c ≡ NullResult) × (r ≡ None))) × HeldAgrees store.heap (held store.globals s) (as_static r) × IsFresh store s)
 ResultAgrees classes store g kind c = GivenAgrees classes store.heap kind g c
+
+-- the number slots once an answer is carried out
+abbrev pub slots_after : Space → Answer → List ℕ → List ℕ
+slots_after space (answer.CopiesOut region) numbers = slots_with space region numbers
+slots_after space a numbers = numbers
 
 -- an answer does nothing but to the frames
 abbrev pub is_of_frames : Answer → Bool

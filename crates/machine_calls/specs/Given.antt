@@ -1,19 +1,20 @@
 -- What the operands of a call give.
-use Rattle.std.specs.Prelude.{◌≡◌, ℕ, ℤ, Bool, true, false, List, [], ◌∷◌, slice_get, unwrap_or, Option, Some, None, IsSome, FitsSigned, ◌⊎◌}
-use Rattle.std.specs.Int.{w32}
-use Rattle.base.specs.Bytes.{Identifier}
-use Rattle.base.specs.Element.{JInt}
+use Rattle.std.specs.Prelude.{◌≡◌, ℕ, ◌+◌, ℤ, Bool, true, false, List, [], ◌∷◌, length, slice_get, unwrap_or, Option, Some, None, IsSome, FitsSigned, ◌⊎◌}
+use Rattle.std.specs.Int.{w32, cast_unsigned}
+use Rattle.base.specs.Bytes.{Identifier, lookup}
+use Rattle.base.specs.Element.{ElementType, JInt}
 use Rattle.class_rules.specs.Class.{Classes, NumberField, assignable}
 use Rattle.class_rules.specs.Fields.{FieldId}
 use Rattle.classes.specs.FieldViews.{field_of}
 use Rattle.classes.specs.declared.class.FieldHandle.{FieldHandle}
+use Rattle.code.specs.declared.instr.LocalArray.{LocalArray as ArraySlots}
 use Rattle.code.specs.declared.instr.Operand.{Operand}
 use Rattle.code.specs.declared.instr.Operand.TheVariants as operand
 use Rattle.code_meaning.specs.Coding.{mode_code}
 use Rattle.heap.specs.Heap.{Space, IsAddress, class_at, name_at}
 use Rattle.semantics.specs.Arguments.{Actual, ReferenceActual, FieldActual, NumberActual, TextActual, VariableActual, ModeActual, NothingActual, ReleaseMode}
 use Rattle.semantics.specs.Object.{Reference}
-use Rattle.semantics.specs.Variable.{StaticReference, as_static}
+use Rattle.semantics.specs.Variable.{Variable, LocalArray, Variables, StaticReference, as_static}
 use Rattle.machine_calls.specs.FieldIds.{FieldAgrees}
 use Rattle.machine_calls.specs.StoreAgrees.{HeldAgrees}
 use Rattle.machine_calls.specs.HeapAgrees.{ReferenceAgrees}
@@ -74,6 +75,19 @@ IsGiven classes space references fields (operand.Array array) actual = (x : Iden
 IsGiven classes space references fields (operand.Buffer i) actual = (x : Identifier) × (actual ≡ VariableActual x)
 IsGiven classes space references fields (operand.Mode mode) actual = (m : ReleaseMode) × (actual ≡ ModeActual m) × (mode ≡ mode_code m)
 IsGiven classes space references fields (operand.IsCopy i) actual = (x : Identifier) × (actual ≡ VariableActual x)
+
+-- a local array has these elements, each in its slot as a word
+pub record HasElements (numbers : List ℕ) (array : ArraySlots) (v : Option Variable) : Type 0 where
+  pub type : ElementType
+  pub elements : List ℤ
+  pub is : v ≡ Some (LocalArray type elements)
+  pub count : length elements ≡ array.len
+  pub words : (i : ℕ) (z : ℤ) → slice_get elements i ≡ Some z → FitsSigned w32 z × (slice_get numbers (array.start + i) ≡ Some (cast_unsigned w32 z))
+
+-- an operand that is a local array has the elements of the variable that is named
+abbrev pub HasArray : (numbers : List ℕ) → Variables → Operand → Actual → Type 0
+HasArray numbers vs (operand.Array array) actual = (x : Identifier) × (actual ≡ VariableActual x) × HasElements numbers array (lookup x vs)
+HasArray numbers vs o actual = Unit {0}
 
 -- each operand is NULL or the address of a block
 abbrev pub AreAddresses : Space → References → List Operand → Type 0

@@ -1,5 +1,4 @@
 pub mod HeapAgrees
-pub mod Classed
 pub mod Locals
 pub mod Statics
 pub mod StoreAgrees
@@ -10,6 +9,7 @@ pub mod Checked
 pub mod Asked
 pub mod WorkedOut
 pub mod CallGroups
+pub mod Copies
 pub mod NewObjects
 pub mod Answers
 pub mod Made

@@ -12,7 +12,6 @@ use Rattle.semantics.specs.Thread.{Shared}
 use Rattle.semantics.specs.Variable.{StaticReference, Empty, Live, Deleted, Statics, assign}
 use Rattle.code_meaning.specs.Lowered.{Lowered}
 use Rattle.machine_calls.specs.declared.store.Store.{Store}
-use Rattle.machine_calls.specs.Classed.{AreClassed}
 use Rattle.machine_calls.specs.HeapAgrees.{HeapAgrees, IsTable, SlotsAgree}
 use Rattle.machine_calls.specs.Statics.{HaveKeys, all_held}
 use Rattle.machine_calls.specs.declared.references.Held.{Held}
@@ -50,7 +49,6 @@ pub record StoreAgrees (p : Lowered) (w : World) (store : Store) (shared : Share
   pub table : IsTable store.heap store.loaded.items (length (loaded_objects w))
   pub begun : length (loaded_objects w) ≤ length shared.heap
   pub births : store.births ≡ length shared.heap
-  pub classed : AreClassed w.classes shared.heap
   pub statics : StaticsAgree store.heap (all_held store.globals store.statics.items) shared.statics
   pub named : AreNamed p shared
   pub keys : HaveKeys store.globals store.statics.items

@@ -1,28 +1,30 @@
 -- What the machine works out of a call, by what is in memory.
-use Rattle.std.specs.Prelude.{◌==◌, ◌≡◌, ℕ, ◌-◌, ℤ, pos, negsuc, nat_lt, Bool, true, false, List, [], ◌∷◌, length, slice_get, unwrap_or, is_some, if◌then◌else◌, Option, Some, None}
+use Rattle.std.specs.Prelude.{◌==◌, ◌≡◌, ℕ, ◌+◌, ◌-◌, ℤ, pos, negsuc, nat_lt, nat_le, Bool, true, false, List, [], ◌∷◌, length, slice_get, unwrap_or, is_some, if◌then◌else◌, Option, Some, None}
 use Rattle.std.specs.Int.{w32, cast_signed}
 use Rattle.base.specs.Element.{ElementType}
-use Rattle.class_rules.specs.BuiltIns.{array_index_out_of_bounds, array_store_exception, negative_array_size, no_class_def_found_error, no_such_field_error, number_array}
+use Rattle.class_rules.specs.BuiltIns.{array_index_out_of_bounds, array_store_exception, negative_array_size, string_index_out_of_bounds, no_class_def_found_error, no_such_field_error, number_array}
 use Rattle.class_rules.specs.Class.{Classes, array_class_of, assignable, class_kind, class_named, element_class, superclass}
 use Rattle.class_rules.specs.Fields.{FieldId, find_field, find_static, layout, own_statics}
 use Rattle.classes.specs.FieldViews.{field_of, place_among}
 use Rattle.classes.specs.declared.class.FieldHandle.{FieldHandle}
 use Rattle.code.specs.Call.{Call}
 use Rattle.code.specs.Effect.{element_word, truth_word}
+use Rattle.code.specs.declared.instr.LocalArray.{LocalArray}
 use Rattle.code.specs.declared.instr.Operand.{Operand}
 use Rattle.code.specs.declared.instr.Operand.TheVariants as operand
 use Rattle.code_meaning.specs.Coding.{element_of}
 use Rattle.heap.specs.Heap.{Space, values_at}
 use Rattle.heap.specs.declared.value.Value.{Value}
 use Rattle.heap.specs.declared.value.Value.TheVariants as value
-use Rattle.jni.specs.JniFunction.{JniFunction, FindClass, GetSuperclass, GetObjectClass, IsInstanceOf, IsAssignableFrom, AllocObject, NewLocalRef, NewGlobalRef, DeleteLocalRef, DeleteGlobalRef, IsSameObject, EnsureLocalCapacity, PushLocalFrame, PopLocalFrame, GetFieldID, GetStaticFieldID, GetField, SetField, GetStaticField, SetStaticField, GetObjectField, SetObjectField, GetStaticObjectField, SetStaticObjectField, GetArrayLength, GetStringLength, NewArray, NewObjectArray, GetObjectArrayElement, SetObjectArrayElement, NewStringUTF, Throw, ThrowNew, ExceptionOccurred, ExceptionCheck, ExceptionClear, FatalError}
+use Rattle.jni.specs.JniFunction.{JniFunction, FindClass, GetSuperclass, GetObjectClass, IsInstanceOf, IsAssignableFrom, AllocObject, NewLocalRef, NewGlobalRef, DeleteLocalRef, DeleteGlobalRef, IsSameObject, EnsureLocalCapacity, PushLocalFrame, PopLocalFrame, GetFieldID, GetStaticFieldID, GetField, SetField, GetStaticField, SetStaticField, GetObjectField, SetObjectField, GetStaticObjectField, SetStaticObjectField, GetArrayLength, GetStringLength, NewArray, NewObjectArray, GetObjectArrayElement, SetObjectArrayElement, NewStringUTF, Throw, ThrowNew, ExceptionOccurred, ExceptionCheck, ExceptionClear, FatalError, GetArrayRegion, SetArrayRegion, GetStringRegion}
 use Rattle.machine_calls.specs.declared.answer.Given.TheVariants.{Nothing, Number, Reference}
 use Rattle.machine_calls.specs.declared.answer.Given.TheVariants as given
 use Rattle.machine_calls.specs.declared.answer.Answer.{Answer}
-use Rattle.machine_calls.specs.declared.answer.Answer.TheVariants.{Gives, Writes, Makes, Throws, Raises, Pends, Halts, Ensures, Pushes, RefusesFrames, Pops, Deletes, MakesGlobal, DeletesGlobal}
+use Rattle.machine_calls.specs.declared.answer.Answer.TheVariants.{Gives, Writes, Makes, Throws, Raises, Pends, Halts, Ensures, Pushes, RefusesFrames, Pops, Deletes, MakesGlobal, DeletesGlobal, CopiesOut, CopiesIn}
+use Rattle.machine_calls.specs.declared.array_region.ArrayRegion.{ArrayRegion}
 use Rattle.machine_calls.specs.declared.new_object.New.TheVariants.{Fresh, Array, Text}
 use Rattle.machine_calls.specs.Scenes.{Scene}
-use Rattle.machine_calls.specs.declared.trap.Trap.TheVariants.{Fatal}
+use Rattle.machine_calls.specs.declared.trap.Trap.TheVariants.{Fatal, OutOfRange}
 use Rattle.machine_calls.specs.Given.{operand_at, key_at, operand_of, field_at, class_of_given, name_there, fits_there, field_there}
 
 -- the number of values of the object at an address, and 0 for NULL
@@ -131,6 +133,33 @@ stores_there space r true (Some i) v = writes_there space r i v
 abbrev pub stack_number : List ℕ → ℤ
 stack_number stack = cast_signed w32 (top_word stack)
 
+-- ---- regions
+
+-- the number below it, and 0 where there is none
+abbrev pub next_number : List ℕ → ℤ
+next_number stack = cast_signed w32 (unwrap_or (slice_get stack 1) 0)
+
+-- an operand's local array, and one of no elements where it is none
+abbrev pub array_in : Operand → LocalArray
+array_in (operand.Array array) = array
+array_in o = record { start = 0; len = 0 }
+
+-- elements of an object, from a start on, and as many first slots of a local array; none where the object hasn't so many
+abbrev pub region_in : Space → Option ℕ → (start count : ℤ) → LocalArray → Option ArrayRegion
+region_in space (Some a) (pos start) (pos n) array =
+    if nat_le (start + n) (length (values_at space a)) then Some (record { object = a; start = start; slot = array.start; count = n }) else None
+region_in space r start n array = None
+
+-- a local array takes part in a region with its first elements: an exception where there is no region, and a trap where the array hasn't so many
+abbrev pub copies_out : (exception : ℕ) → LocalArray → Option ArrayRegion → Answer
+copies_out exception array None = Throws exception
+copies_out exception array (Some r) = if nat_le r.count array.len then CopiesOut r else Halts OutOfRange
+
+-- the same into the object
+abbrev pub copies_in : (exception : ℕ) → LocalArray → Option ArrayRegion → Answer
+copies_in exception array None = Throws exception
+copies_in exception array (Some r) = if nat_le r.count array.len then CopiesIn r else Halts OutOfRange
+
 -- ---- what a function does
 
 -- A call that sees this.
@@ -171,6 +200,14 @@ module _ (scene : Scene) (call : Call) where
   abbrev pub fits_element : Bool
   fits_element = fits_there scene.classes scene.space (reference 2) (element_class (class_kind scene.classes (class_of_given scene.space (reference 0))))
 
+  -- the local array of operand 3
+  abbrev pub local_array : LocalArray
+  local_array = array_in (operand_of call.operands 3)
+
+  -- the region of operand 0 that the two numbers tell
+  abbrev pub region : Option ArrayRegion
+  region = region_in scene.space (reference 0) (next_number scene.stack) (stack_number scene.stack) local_array
+
   -- the answer of a function that finds no field
   abbrev pub worked_out : JniFunction → Answer
   worked_out FindClass = found_class scene.loaded (class_named scene.classes (text 0))
@@ -202,6 +239,9 @@ module _ (scene : Scene) (call : Call) where
   worked_out SetObjectArrayElement = stores_there scene.space (reference 0) fits_element (index_there scene.space (reference 0) (stack_number scene.stack)) (held_reference (reference 2))
   worked_out NewStringUTF = Makes (Text 0)
   worked_out GetStringLength = Gives (Number (count_there scene.space (reference 0)))
+  worked_out (GetArrayRegion T) = copies_out array_index_out_of_bounds local_array region
+  worked_out (SetArrayRegion T) = copies_in array_index_out_of_bounds local_array region
+  worked_out GetStringRegion = copies_out string_index_out_of_bounds local_array region
   worked_out Throw = Pends (reference 0) (Number 0)
   worked_out ThrowNew = Raises (name_there scene.space (reference 0)) 0
   worked_out ExceptionOccurred = Gives (Reference scene.pending)

@@ -17,6 +17,7 @@ ghost use Rattle.machine_calls.specs.Scenes.{scene_view};
 ghost use Rattle.machine_calls.specs.WorkedOut.{address_in, class_object, count_there, deletes, deletes_global, found_class, frame_for, held_reference, place_there, room_for, top_word, value_there, word_in, writes_there, IsFoundField, IsWorkedOut};
 ghost use Rattle.syntax.specs.Views.{element_tree};
 
+use crate::array_region::ArrayRegion;
 use crate::arrays::{stack_number, work_out_array};
 use crate::exceptions::work_out_exception;
 use crate::new_object::{New, text_at};
@@ -56,6 +57,10 @@ pub enum Answer {
     Gives(Given),
     /// A value of the object at this address changes, by its place, counted from 0.
     Writes(Addr, usize, Value),
+    /// Numbers of an object go into number slots.
+    CopiesOut(ArrayRegion),
+    /// What number slots hold goes into an object.
+    CopiesIn(ArrayRegion),
     /// An object is made, and given.
     Makes(New),
     /// An exception of the class of this number is made and is pending.

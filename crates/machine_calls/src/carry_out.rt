@@ -1,6 +1,8 @@
 //! What a call does to the store, and which exception is pending then.
 
-ghost use Rattle.std.specs.Prelude.{◌≡◌, ◌+◌, ◌-◌, ◌<◌, ◌≤◌, ◌^◌, ℕ, List, length, nat_le, slice_get, true, false, IfOk, OnErr};
+ghost use Rattle.std.specs.Prelude.{◌≡◌, ◌+◌, ◌-◌, ◌<◌, ◌≤◌, ◌^◌, ℕ, List, Option, length, nat_le, slice_get, true, false, IfOk, OnErr};
+ghost use Rattle.base.specs.Bytes.{Identifier};
+ghost use Rattle.code.specs.declared.instr.LocalArray.{LocalArray};
 ghost use Rattle.heap.specs.Heap.{left_of};
 ghost use Rattle.jni.specs.Prototype.{ResultKind as SourceKind};
 ghost use Rattle.jni.specs.Table.{result_value};
@@ -9,13 +11,14 @@ ghost use Rattle.semantics.specs.Thread.{Shared, Thread as SourceThread};
 ghost use Rattle.code_meaning.specs.Lowered.{Lowered};
 ghost use Rattle.tables.specs.declared.locals.TheConstants.{MOST_LOCALS};
 ghost use Rattle.tables.specs.Locals.{capacities, ensured, popped};
-ghost use Rattle.machine_calls.specs.Answers.{IsAnswer, is_halt};
-ghost use Rattle.machine_calls.specs.CarriedOut.{CarriesOut, IsPossible, failed, is_of_frames, is_of_references};
+ghost use Rattle.machine_calls.specs.Answers.{Brought, bringing, IsAnswer, is_halt};
+ghost use Rattle.machine_calls.specs.CarriedOut.{CarriesOut, IsPossible, failed, is_of_frames, is_of_references, slots_after};
 ghost use Rattle.machine_calls.specs.Made.{cells_of};
 ghost use Rattle.machine_calls.specs.NewObjects.{texts_in};
 ghost use Rattle.machine_calls.specs.declared.answer.Given.TheVariants.{Number};
 
 use crate::answer::{Answer, Given};
+use crate::copies::{copy_in, copy_out};
 use crate::make::{can_raise, make, raise};
 use crate::new_object::New;
 use crate::statics::{StaticReference, delete_global, make_global};
@@ -47,7 +50,7 @@ pub fn has_room(classes: &ClassTable, texts: &[Vec<u8>], heap: &Heap, answer: &A
 }
 
 /// Does to the store and to a call's frames what a function of this kind of result answers, whose call has these texts. An object or an exception is refused
-/// exactly where it has no room in the heap: then the OutOfMemoryError object is pending, and the call fails.
+/// exactly where it has no room in the heap: then the OutOfMemoryError object is pending, and the call fails. Local arrays are in the number slots.
 ///
 /// An error says that host memory for a frame or a global reference was refused; then all is as before.
 pub fn carry_out(
@@ -55,20 +58,23 @@ pub fn carry_out(
     store: &mut Store,
     pending: &mut Option<Addr>,
     locals: &mut Locals,
+    numbers: &mut [u32],
     kind: ResultKind,
     texts: &[Vec<u8>],
     answer: Answer,
 ) -> Result<Carried, AllocError>
-    requires possible { (p : Lowered) × (shared : Shared) × (s : SourceThread) × (effect : CallEffect) × IsPossible p world.now store.old pending.old locals.old (result_value kind) shared s
-        × IsAnswer world.now.classes (texts_in texts.now) store.old.heap locals.old (result_value kind) shared s answer effect }
+    requires possible { (p : Lowered) × (array : Option (Identifier × LocalArray)) × (shared : Shared) × (s : SourceThread) × (effect : CallEffect) × IsPossible p world.now store.old pending.old locals.old (result_value kind) shared s
+        × IsAnswer world.now.classes (bringing (texts_in texts.now) numbers.old array) store.old.heap locals.old (result_value kind) shared s answer effect }
     requires few { store.old.births + 2 < 2 ^ 32 }
     requires runs { is_halt answer ≡ false }
-    ensures carried { IfOk result (λ carried. (p : Lowered) (shared : Shared) (s : SourceThread) (effect : CallEffect) → IsPossible p world.now store.old pending.old locals.old (result_value kind) shared s
-        → IsAnswer world.now.classes (texts_in texts.now) store.old.heap locals.old (result_value kind) shared s answer effect
+    ensures carried { IfOk result (λ carried. (p : Lowered) (array : Option (Identifier × LocalArray)) (shared : Shared) (s : SourceThread) (effect : CallEffect) → IsPossible p world.now store.old pending.old locals.old (result_value kind) shared s
+        → IsAnswer world.now.classes (bringing (texts_in texts.now) numbers.old array) store.old.heap locals.old (result_value kind) shared s answer effect
         → CarriesOut p world.now store.old.heap locals.old answer (result_value kind) shared s effect carried.refused store.new pending.new locals.new carried.given) }
+    ensures slots { IfOk result (λ carried. numbers.new ≡ slots_after store.old.heap answer numbers.old) }
     ensures store { OnErr result (store.new ≡ store.old) }
     ensures pending { OnErr result (pending.new ≡ pending.old) }
     ensures locals { OnErr result (locals.new ≡ locals.old) }
+    ensures numbers { OnErr result (numbers.new ≡ numbers.old) }
     ensures of_references { OnErr result (is_of_references answer ≡ true) }
 {
     // Here the proof takes up what is known of a world.
@@ -114,6 +120,20 @@ pub fn carry_out(
                 None => Ok(refuse(world, store, pending, kind)),
             }
         }
+        Answer::CopiesOut(region) => {
+            copy_out(&store.heap, numbers, &region);
+            Ok(Carried {
+                given: Given::Nothing,
+                refused: false,
+            })
+        }
+        Answer::CopiesIn(region) => {
+            copy_in(&mut store.heap, numbers, &region);
+            Ok(Carried {
+                given: Given::Nothing,
+                refused: false,
+            })
+        }
         Answer::Pends(exception, given) => {
             *pending = exception;
             Ok(Carried {
@@ -135,10 +155,10 @@ fn carry_out_references(
     answer: Answer,
 ) -> Result<Carried, AllocError>
     requires of_references { is_of_references answer ≡ true }
-    requires possible { (p : Lowered) × (kind : SourceKind) × (texts : List (List ℕ)) × (shared : Shared) × (s : SourceThread) × (effect : CallEffect) × IsPossible p world.now store.old pending.old locals.old kind shared s
-        × IsAnswer world.now.classes texts store.old.heap locals.old kind shared s answer effect }
-    ensures carried { IfOk result (λ carried. (p : Lowered) (kind : SourceKind) (texts : List (List ℕ)) (shared : Shared) (s : SourceThread) (effect : CallEffect) → IsPossible p world.now store.old pending.old locals.old kind shared s
-        → IsAnswer world.now.classes texts store.old.heap locals.old kind shared s answer effect
+    requires possible { (p : Lowered) × (kind : SourceKind) × (brought : Brought) × (shared : Shared) × (s : SourceThread) × (effect : CallEffect) × IsPossible p world.now store.old pending.old locals.old kind shared s
+        × IsAnswer world.now.classes brought store.old.heap locals.old kind shared s answer effect }
+    ensures carried { IfOk result (λ carried. (p : Lowered) (kind : SourceKind) (brought : Brought) (shared : Shared) (s : SourceThread) (effect : CallEffect) → IsPossible p world.now store.old pending.old locals.old kind shared s
+        → IsAnswer world.now.classes brought store.old.heap locals.old kind shared s answer effect
         → CarriesOut p world.now store.old.heap locals.old answer kind shared s effect carried.refused store.new pending.new locals.new carried.given) }
     ensures store { OnErr result (store.new ≡ store.old) }
     ensures pending { OnErr result (pending.new ≡ pending.old) }
@@ -180,8 +200,8 @@ fn carry_out_frames(
     answer: Answer,
 ) -> Result<Carried, AllocError>
     requires { is_of_frames answer ≡ true }
-    ensures carried { IfOk result (λ carried. (p : Lowered) (kind : SourceKind) (texts : List (List ℕ)) (shared : Shared) (s : SourceThread) (effect : CallEffect) → IsPossible p world.now store.now pending.old locals.old kind shared s
-        → IsAnswer world.now.classes texts store.now.heap locals.old kind shared s answer effect
+    ensures carried { IfOk result (λ carried. (p : Lowered) (kind : SourceKind) (brought : Brought) (shared : Shared) (s : SourceThread) (effect : CallEffect) → IsPossible p world.now store.now pending.old locals.old kind shared s
+        → IsAnswer world.now.classes brought store.now.heap locals.old kind shared s answer effect
         → CarriesOut p world.now store.now.heap locals.old answer kind shared s effect carried.refused store.now pending.new locals.new carried.given) }
     ensures pending { OnErr result (pending.new ≡ pending.old) }
     ensures locals { OnErr result (locals.new ≡ locals.old) }

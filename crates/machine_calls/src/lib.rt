@@ -5,9 +5,11 @@
 pub mod activation;
 pub mod answer;
 mod array_class;
+pub mod array_region;
 mod arrays;
 pub mod carry_out;
 pub mod check;
+mod copies;
 mod exceptions;
 mod make;
 pub mod new_object;

@@ -26,30 +26,30 @@ delete_global-requires c =
     (live.key, subst (λ (l : List StaticReference). slice_get l slot ≡ Some (static.Live live.key)) (sym c.deref_mut.ensures.value) live.at, subst (λ (o : Option ℕ). IsSome o) (sym live.held) refl)
 
 pub returns-in-DeletesGlobal-clause-carried : goal.returns-in-DeletesGlobal-clause-carried
-returns-in-DeletesGlobal-clause-carried c p k texts shared s effect h does =
+returns-in-DeletesGlobal-clause-carried c p k brought shared s effect h does =
     let w = c.args.world.now in
     let old = c.args.store.now in
     let slot = c.in-DeletesGlobal.slot in
     let statics = with_items old.statics c.delete_global.new.statics in
-    carries.by_answer p w old.heap c.args.locals.now k shared s effect texts c.args.answer (answer.DeletesGlobal c.in-DeletesGlobal.slot) c.in-DeletesGlobal.is _ _ _ _ _ (λ deletes.
-    carries.deletes_static p w old c.args.pending.now c.args.locals.now k shared s h texts statics c.delete_global.new.globals slot effect deletes
+    carries.by_answer p w old.heap c.args.locals.now k shared s effect brought c.args.answer (answer.DeletesGlobal c.in-DeletesGlobal.slot) c.in-DeletesGlobal.is _ _ _ _ _ (λ deletes.
+    carries.deletes_static p w old c.args.pending.now c.args.locals.now k shared s h brought statics c.delete_global.new.globals slot effect deletes
     (with_items_is old.statics c.delete_global.new.statics (search (rules, places)) ∙ c.delete_global.ensures.statics ∙ ap (λ (l : List StaticReference). slice_set l slot static.Deleted) c.deref_mut.ensures.value)
     (λ key at. c.delete_global.ensures.globals key (subst (λ (l : List StaticReference). slice_get l slot ≡ Some (static.Live key)) (sym c.deref_mut.ensures.value) at))) does
 
 pub returns-in_ok-held-in-MakesGlobal-clause-carried : goal.returns-in_ok-held-in-MakesGlobal-clause-carried
-returns-in_ok-held-in-MakesGlobal-clause-carried c p k texts shared s effect h does =
+returns-in_ok-held-in-MakesGlobal-clause-carried c p k brought shared s effect h does =
     let w = c.args.world.now in
     let old = c.args.store.now in
-    carries.by_answer p w old.heap c.args.locals.now k shared s effect texts c.args.answer (answer.MakesGlobal c.in-MakesGlobal.reference) c.in-MakesGlobal.is _ _ _ _ _ (λ makes.
-    carries.makes_global p w old c.args.pending.now c.args.locals.now k shared s h texts c.make_global.new.globals c.in_ok-held-in-MakesGlobal.held effect c.in-MakesGlobal.reference makes.1.0 makes.0 makes.1.1 makes.1.2 c.in_ok-held-in-MakesGlobal.ensures.made) does
+    carries.by_answer p w old.heap c.args.locals.now k shared s effect brought c.args.answer (answer.MakesGlobal c.in-MakesGlobal.reference) c.in-MakesGlobal.is _ _ _ _ _ (λ makes.
+    carries.makes_global p w old c.args.pending.now c.args.locals.now k shared s h brought c.make_global.new.globals c.in_ok-held-in-MakesGlobal.held effect c.in-MakesGlobal.reference makes.1.0 makes.0 makes.1.1 makes.1.2 c.in_ok-held-in-MakesGlobal.ensures.made) does
 
 pub returns-in-Deletes-clause-carried : goal.returns-in-Deletes-clause-carried
-returns-in-Deletes-clause-carried c p k texts shared s effect h does =
+returns-in-Deletes-clause-carried c p k brought shared s effect h does =
     let w = c.args.world.now in
     let old = c.args.store.now in
     let locals = c.args.locals.now in
     let key = c.in-Deletes.key in
     let gone : c.delete.new.self ≡ without locals key = search rules in
-    carries.by_answer p w old.heap locals k shared s effect texts c.args.answer (answer.Deletes key) c.in-Deletes.is _ _ _ _ _ (λ deletes.
+    carries.by_answer p w old.heap locals k shared s effect brought c.args.answer (answer.Deletes key) c.in-Deletes.is _ _ _ _ _ (λ deletes.
     subst (λ (l : LocalTable). CarriesOut p w old.heap locals (answer.Deletes key) k shared s effect false old c.args.pending.now l given.Nothing) (sym gone)
-    (carries.deletes p w old c.args.pending.now locals k shared s h texts key effect deletes)) does
+    (carries.deletes p w old c.args.pending.now locals k shared s h brought key effect deletes)) does
