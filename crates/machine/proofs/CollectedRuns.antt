@@ -94,7 +94,6 @@ module _ (Kept : ℕ → Type 0) (to : ℕ → ℕ) (p : Lowered) (w : World) (s
         (subst (λ (l : List ℕ). IsTable t l (length (loaded_objects w))) (sym is.loaded) (table_moved Kept to store.heap t m store.loaded.items (length (loaded_objects w)) loaded h.table));
     begun = h.begun;
     births = is.births ∙ h.births;
-    classed = h.classed;
     statics =
         subst (λ (x : Space). StaticsAgree x (all_held after.globals after.statics.items) shared.statics) (sym is.heap)
         (subst (λ (helds : List Held). StaticsAgree t helds shared.statics) (sym same_held) (statics_moved Kept to store.heap t m (all_held store.globals store.statics.items) shared.statics (all_kept Kept store.globals store.statics.items globals) h.statics));
@@ -125,7 +124,7 @@ module _ (Kept : ℕ → Type 0) (to : ℕ → ℕ) (p : Lowered) (w : World) (s
     stands = h.stands;
     references = h.references;
     owners = h.owners;
-    agree = keys_moved Kept to store.heap t m call.locals call.references.items h.references h.owners kept h.agree;
+    agree = keys_moved Kept to store.heap t m call.locals call.slots.references.items h.references h.owners kept h.agree;
     fields = h.fields;
     fields_agree = h.fields_agree;
     shows = h.shows;
@@ -162,6 +161,7 @@ module _ (Kept : ℕ → Type 0) (to : ℕ → ℕ) (p : Lowered) (w : World) (s
   corresponds_moved ts printed stop journal loaded globals threads c = record {
     lowered = c.lowered;
     safe = c.safe;
+    typed = c.typed;
     state = c.state;
     replays = c.replays;
     store_agrees = store_moved c.state.shared loaded globals c.store_agrees;

@@ -25,10 +25,10 @@ module _ (p : Lowered) (classes : Classes) (made : ℕ) (space space' : Space) (
     stands = h.stands;
     references = h.references;
     owners = h.owners;
-    agree = keys_stay space space' keeps.names call.locals call.references.items h.references h.owners h.agree;
+    agree = keys_stay space space' keeps.names call.locals call.slots.references.items h.references h.owners h.agree;
     fields = h.fields;
     fields_agree = h.fields_agree;
-    shows = shows_stay own shared shared' keeps.statics s h.code h.known (record { numbers = call.numbers.items; references = h.references; owners = h.owners; fields = h.fields }) h.shows;
+    shows = shows_stay own shared shared' keeps.statics s h.code h.known (record { numbers = call.slots.numbers.items; references = h.references; owners = h.owners; fields = h.fields }) h.shows;
     depth = h.depth;
     frames_agree = frames_stay space space' keeps.names call.locals frames h.frames_agree;
   }

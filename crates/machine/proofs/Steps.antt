@@ -77,7 +77,7 @@ threads_next s k shared t (event.Trapped trap line) = refl
 -- the thread took this step, whatever state it stands for
 abbrev pub StepsAlways : Lowered → World → (store store' : Store) → Thread → Thread → (refused : Bool) → Event → Type 0
 StepsAlways p w store store' t after refused e =
-    (in_use : BuffersInUse) (k : ℕ) (own : Owners) (shared : Shared) (s : source.Thread) → StoreAgrees p w store shared → ThreadAgrees p w.classes store.heap (length (loaded_objects w)) own shared t s → IsSteady own shared s
+    (in_use : BuffersInUse) (k : ℕ) (own : Owners) (shared : Shared) (s : source.Thread) → StoreAgrees p w store shared → ThreadAgrees p w.classes store.heap (length (loaded_objects w)) own shared t s → IsSteady w.classes own shared s
     → Advances p w store.heap store' in_use k own shared s after refused e
 
 -- ---- room
@@ -121,10 +121,21 @@ module _ (p : Lowered) (world : World) (store : Store) (ts : List Thread) (print
   there = ap (thread_at c.state) counted ∙ the_thread.is
 
   -- no step of it breaks what no accepted unit does
-  pub steady : IsSteady (owners k) c.state.shared the_thread.source
+  pub steady : IsSteady classes (owners k) c.state.shared the_thread.source
   steady =
       let safe = c.safe journal c.state k the_thread.source c.replays there in
-      record { declared = safe.declared; owned = safe.owned }
+      let typed = c.typed.typed journal c.state c.replays in
+      record {
+        view = safe.view;
+        return = safe.return;
+        release = safe.release;
+        free = safe.free;
+        possible = safe.possible;
+        objects = typed.heap;
+        variables = typed_variables classes c.state.shared.heap c.state.threads i the_thread.source (sym placed_there ∙ there) typed.variables;
+        declared = safe.declared;
+        owned = safe.owned;
+      }
 
   -- the machine hasn't stopped
   running : stop ≡ None → c.state.stop ≡ None
@@ -185,6 +196,7 @@ module _ (p : Lowered) (world : World) (store : Store) (ts : List Thread) (print
       record {
         lowered = c.lowered;
         safe = c.safe;
+        typed = c.typed;
         state = next;
         replays = replay_more (unit_tree p.unit) world journal entry c.state next c.replays step;
         store_agrees = shares;

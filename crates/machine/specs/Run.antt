@@ -27,6 +27,7 @@ use Rattle.semantics.specs.Step.{can_step, is_blocked, is_unfinished}
 use Rattle.semantics.specs.Thread.{BuffersInUse, Shared, Thread as SourceThread}
 use Rattle.semantics_safety.specs.Owners.{Owners, owners_after}
 use Rattle.semantics_safety.specs.StepSafe.{IsSafe}
+use Rattle.semantics_typing.specs.Law.{RunsTyped}
 use Rattle.code_meaning.specs.Lowered.{Lowered, IsLowered}
 use Rattle.machine_steps.specs.declared.thread.Thread.{Thread}
 use Rattle.machine_steps.specs.declared.thread.Ending.{Ending}
@@ -72,6 +73,8 @@ pub record Corresponds (p : Lowered) (world : World) (store : Store) (threads : 
   pub lowered : IsLowered p
   -- no step of an accepted unit does what JNI leaves undefined
   pub safe : IsSafe (unit_tree p.unit) world
+  -- and its objects are typed
+  pub typed : RunsTyped (unit_tree p.unit) world
   pub state : State
   pub replays : replay (unit_tree p.unit) world journal ≡ Some state
   pub store_agrees : StoreAgrees p world store state.shared
@@ -100,7 +103,7 @@ event_of advanced.Refused = event.Quiet
 -- the thread took the step that the source's thread takes, whatever state it stands for
 abbrev pub AdvancesAlways : Lowered → World → (store after : Store) → Thread → Thread → Advanced → Type 0
 AdvancesAlways p w store after t t' x =
-    (in_use : BuffersInUse) (k : ℕ) (own : Owners) (shared : Shared) (s : SourceThread) → StoreAgrees p w store shared → ThreadAgrees p w.classes store.heap (length (loaded_objects w)) own shared t s → IsSteady own shared s
+    (in_use : BuffersInUse) (k : ℕ) (own : Owners) (shared : Shared) (s : SourceThread) → StoreAgrees p w store shared → ThreadAgrees p w.classes store.heap (length (loaded_objects w)) own shared t s → IsSteady w.classes own shared s
     → AdvancesBy p w store.heap after in_use k own shared s t' x
 
 -- The thread at a place hasn't ended, in a store and threads that stand for the state that a journal leads to.

@@ -41,6 +41,7 @@ use report::{Rows, Sink, ThreadStatus, write_run};
 use report_objects::reached_rows;
 use semantics::{Entry, Printed, ScheduleWord};
 use semantics_safety::accepted_is_safe;
+use semantics_typing::objects_are_typed;
 use std::alloc::{AllocError, Global};
 use std::marker::Model;
 use world_schedules::Schedule;
@@ -381,6 +382,7 @@ fn load_parts(
     // The proof reads off this call what is known of a world.
     let _ = world.threads();
     accepted_is_safe();
+    objects_are_typed();
     let store = load_store(alloc, program.items(), world)?;
     match load_threads(alloc, program, world) {
         Ok(threads) => Ok((store, threads)),

@@ -78,7 +78,7 @@ module _ (p : Lowered) (w : World) (store : Store) (pending : Option ℕ) (call 
   references = references_of store call
 
   abbrev fields : List (Option FieldHandle)
-  fields = call.fields.items
+  fields = call.slots.fields.items
 
   abbrev brought : Brought
   brought = brought_by call function args
@@ -640,7 +640,7 @@ module _ (p : Lowered) (w : World) (store : Store) (pending : Option ℕ) (call 
   -- ---- regions
 
   -- a region of an object at an address, which has so many values, and the local array that the call names
-  module _ (exception a m size : ℕ) (makeable : IsMakeable w.classes exception) (there : name_at store.heap a ≡ Some m) (count : length (values_at store.heap a) ≡ size) (agree : StoreAgrees p w store shared) (array : ArraySlots) (x : Identifier) (given : brought.array ≡ Some (x, array)) (has : HasElements call.numbers.items array (lookup x s.variables)) where
+  module _ (exception a m size : ℕ) (makeable : IsMakeable w.classes exception) (there : name_at store.heap a ≡ Some m) (count : length (values_at store.heap a) ≡ size) (agree : StoreAgrees p w store shared) (array : ArraySlots) (x : Identifier) (given : brought.array ≡ Some (x, array)) (has : HasElements call.slots.numbers.items array (lookup x s.variables)) where
     abbrev Copies : Answer → CallEffect → Type 0
     Copies answer effect = IsAnswer w.classes brought store.heap call.locals GivesNothing shared s answer effect
 
@@ -656,8 +656,8 @@ module _ (p : Lowered) (w : World) (store : Store) (pending : Option ℕ) (call 
     abbrev part : (start count : ℕ) → ArrayRegion
     part start k = record { object = a; start = start; slot = array.start; count = k }
 
-    slots_within : (k : ℕ) → k ≤ array.len → (j : ℕ) → j < k → array.start + j < length call.numbers.items
-    slots_within k few j below = slots_there call.numbers.items array has.elements has.words j (omega (arith, below, few, has.count))
+    slots_within : (k : ℕ) → k ≤ array.len → (j : ℕ) → j < k → array.start + j < length call.slots.numbers.items
+    slots_within k few j below = slots_there call.slots.numbers.items array has.elements has.words j (omega (arith, below, few, has.count))
 
     -- where an answer and an effect go by the same tests
     tested : (answer : Answer) (effect : CallEffect) (start k : ℕ)
@@ -719,7 +719,7 @@ module _ (p : Lowered) (w : World) (store : Store) (pending : Option ℕ) (call 
             within = leb-true (i + k) (length (values_at store.heap a)) inside;
             all_numbers = alone;
             numbers = take k held_elements;
-            words = subst (λ (zs : List ℤ). AreWordsOf (words_from call.numbers.items (part i k)) (take k zs)) (sym elements_are) (words_brought call.numbers.items array has.elements has.words k (omega (arith, leb-true k array.len few, has.count)));
+            words = subst (λ (zs : List ℤ). AreWordsOf (words_from call.slots.numbers.items (part i k)) (take k zs)) (sym elements_are) (words_brought call.slots.numbers.items array has.elements has.words k (omega (arith, leb-true k array.len few, has.count)));
             is = refl;
           },
         )))
@@ -732,7 +732,7 @@ module _ (p : Lowered) (w : World) (store : Store) (pending : Option ℕ) (call 
   record GivenRegion : Type 0 where
     pub object : GivenObject w.classes store.heap references fields function.operands args 0
     pub two : TwoNumbers args
-    pub array : GivenArray call.numbers.items s.variables function.operands args
+    pub array : GivenArray call.slots.numbers.items s.variables function.operands args
     pub is : region_in store.heap (at 0) (next_number call.stack) (stack_number call.stack) (array_in (operand_of function.operands 3)) ≡ region_in store.heap (Some object.address) (number_given args 1) (number_given args 2) array.array
 
   region_given : (f : JniFunction) (q : ParameterKind) (T : ElementType) → IsReferenceKind q → may_be_null q ≡ false → (prototype f).parameters ≡ q ∷ IntNumber ∷ IntNumber ∷ ArrayVariable T ∷ [] → Asked f → (target : Target) → trap_of_call w.classes shared s target f args ≡ None → GivenRegion
@@ -741,7 +741,7 @@ module _ (p : Lowered) (w : World) (store : Store) (pending : Option ℕ) (call 
       let fit = subst (λ (l : List ParameterKind). AllZip ActualFits l args) are h.fit in
       let first = object_given_at f [] q (IntNumber ∷ IntNumber ∷ ArrayVariable T ∷ []) kind never are h target free in
       let numbers = two_numbers w.classes store.heap references fields q (ArrayVariable T) (λ e. subst IsReferenceKind e kind) (λ e. cc) function.operands args kinds fit h.given in
-      let given = given_array call.numbers.items s.variables q IntNumber IntNumber T function.operands args kinds h.arrays in
+      let given = given_array call.slots.numbers.items s.variables q IntNumber IntNumber T function.operands args kinds h.arrays in
       let start : next_number call.stack ≡ number_given args 1 = ap next_number (h.words ∙ numbers.words) ∙ to_z-of_z {w = w32} numbers.start_fits ∙ sym numbers.start_is in
       let count : stack_number call.stack ≡ number_given args 2 = ap stack_number (h.words ∙ numbers.words) ∙ to_z-of_z {w = w32} numbers.count_fits ∙ sym numbers.count_is in
       record { object = first; two = numbers; array = given; is = (λ i. region_in store.heap (first.at i) (start i) (count i) (array_in (given.at i))) }

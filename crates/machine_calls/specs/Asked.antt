@@ -22,16 +22,16 @@ use Rattle.machine_calls.specs.Statics.{References, all_held}
 
 -- the references that the operands of a call name
 abbrev pub references_of : Store → Activation → References
-references_of store call = record { keys = call.references.items; locals = call.locals; statics = all_held store.globals store.statics.items }
+references_of store call = record { keys = call.slots.references.items; locals = call.locals; statics = all_held store.globals store.statics.items }
 
 -- what a call sees
 abbrev pub scene_of : Classes → Store → Activation → (pending : Option ℕ) → Scene
 scene_of classes store call pending =
-    record { classes = classes; space = store.heap; loaded = store.loaded.items; references = references_of store call; fields = call.fields.items; stack = call.stack; pending = pending }
+    record { classes = classes; space = store.heap; loaded = store.loaded.items; references = references_of store call; fields = call.slots.fields.items; stack = call.stack; pending = pending }
 
 -- what a call of a function with these arguments brings
 abbrev pub brought_by : Activation → Call → List Actual → Brought
-brought_by call function args = bringing function.texts call.numbers.items (array_given function.operands args)
+brought_by call function args = bringing function.texts call.slots.numbers.items (array_given function.operands args)
 
 -- Store, frames and pending exception agree with the source's, and each operand gives what the argument at its place is. The objects are typed.
 pub record IsAsked (p : Lowered) (w : World) (store : Store) (pending : Option ℕ) (call : Activation) (function : Call) (shared : Shared) (s : Thread) (f : JniFunction) (args : List Actual) : Type 0 where
@@ -43,8 +43,8 @@ pub record IsAsked (p : Lowered) (w : World) (store : Store) (pending : Option �
   pub count : length args ≡ length (prototype f).parameters
   pub kinds : AllZip OperandFits (prototype f).parameters function.operands
   pub fit : AllZip ActualFits (prototype f).parameters args
-  pub given : AllZip (IsGiven w.classes store.heap (references_of store call) call.fields.items) function.operands args
-  pub arrays : AllZip (HasArray call.numbers.items s.variables) function.operands args
+  pub given : AllZip (IsGiven w.classes store.heap (references_of store call) call.slots.fields.items) function.operands args
+  pub arrays : AllZip (HasArray call.slots.numbers.items s.variables) function.operands args
   pub typed : AreTypedObjects w.classes shared.heap
   pub words : call.stack ≡ words_given args
   pub texts : function.texts ≡ texts_given args

@@ -11,6 +11,7 @@ use Rattle.semantics.specs.Thread as source
 use Rattle.semantics.specs.Thread.{Shared, Thread}
 use Rattle.semantics.specs.World.{World, fresh_object}
 use Rattle.code_meaning.specs.Lowered.{Lowered}
+use Rattle.machine_calls.specs.declared.activation.Slots.{Slots}
 use Rattle.machine_calls.specs.declared.answer.Given.{Given}
 use Rattle.machine_calls.specs.declared.answer.Given.TheVariants as given
 use Rattle.machine_calls.specs.declared.store.Store.{Store}
@@ -23,7 +24,7 @@ use Rattle.machine_calls.specs.StoreAgrees.{HeldAgrees, StoreAgrees, Keeps}
 use Rattle.machine_calls.specs.Answers.{GivenAgrees}
 use Rattle.machine_calls.specs.declared.answer.Answer.{Answer}
 use Rattle.machine_calls.specs.declared.answer.Answer.TheVariants as answer
-use Rattle.machine_calls.specs.Copies.{slots_with}
+use Rattle.machine_calls.specs.Copies.{numbers_with}
 use Rattle.machine_calls.specs.Locals.{FramesAgree, IsKeyOf}
 use Rattle.tables.specs.Locals.{LocalTable}
 use Rattle.machine_calls.specs.HeapAgrees.{ReferenceAgrees}
@@ -88,9 +89,14 @@ ResultAgrees classes store (given.Global s) kind c = (kind ≡ NewGlobal) × ((r
 ResultAgrees classes store g kind c = GivenAgrees classes store.heap kind g c
 
 -- the number slots once an answer is carried out
-abbrev pub slots_after : Space → Answer → List ℕ → List ℕ
-slots_after space (answer.CopiesOut region) numbers = slots_with space region numbers
-slots_after space a numbers = numbers
+abbrev pub numbers_after : Space → Answer → List ℕ → List ℕ
+numbers_after space (answer.CopiesOut region) numbers = numbers_with space region numbers
+numbers_after space a numbers = numbers
+
+-- the slots of before are left by an answer that was carried out, but for the numbers
+pub record LeavesSlots (space : Space) (answer : Answer) (before after : Slots) : Type 0 where
+  pub others : after ≡ record before { numbers = after.numbers }
+  pub numbers : after.numbers.items ≡ numbers_after space answer before.numbers.items
 
 -- an answer does nothing but to the frames
 abbrev pub is_of_frames : Answer → Bool

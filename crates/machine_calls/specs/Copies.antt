@@ -27,8 +27,8 @@ abbrev pub words_from : List ℕ → ArrayRegion → List ℕ
 words_from numbers r = take r.count (drop r.slot numbers)
 
 -- the number slots with the object's words
-abbrev pub slots_with : Space → ArrayRegion → List ℕ → List ℕ
-slots_with space r numbers = overlaid numbers r.slot (words_of space r)
+abbrev pub numbers_with : Space → ArrayRegion → List ℕ → List ℕ
+numbers_with space r numbers = overlaid numbers r.slot (words_of space r)
 
 -- a block with numbers from a place on
 abbrev pub overlay : ℕ → List ℕ → Block → Block

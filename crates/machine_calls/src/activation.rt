@@ -4,15 +4,37 @@ use classes::class::FieldHandle;
 use code::stack::Stack;
 use tables::{Local, Locals};
 
-/// A call in progress: its place in its function's code, its operands, the slots of its variables, and its local references. A
-/// variable's reference is NULL or a key of these, which may be dead.
+/// The slots of a call's variables, kind by kind.
+pub struct Slots {
+    /// Numbers, and the elements of local arrays.
+    pub numbers: Vec<u32>,
+    /// The keys of local references, which may be dead; none for NULL.
+    pub references: Vec<Option<Local>>,
+    /// Field IDs; none for NULL.
+    pub fields: Vec<Option<FieldHandle>>,
+}
+
+// Written out, and not derived, so that crates above needn't prove it again.
+impl Drop for Slots {
+    fn drop(self) {
+        let Slots {
+            numbers,
+            references,
+            fields,
+        } = self;
+        drop(numbers);
+        drop(references);
+        drop(fields);
+    }
+}
+
+/// A call in progress: its place in its function's code, its operands, the slots of its variables, and its local references, of
+/// which the slots have keys.
 pub struct Activation {
     pub function: usize,
     pub place: usize,
     pub stack: Stack,
-    pub numbers: Vec<u32>,
-    pub references: Vec<Option<Local>>,
-    pub fields: Vec<Option<FieldHandle>>,
+    pub slots: Slots,
     pub locals: Locals,
 }
 
@@ -23,15 +45,11 @@ impl Drop for Activation {
             function: _,
             place: _,
             stack,
-            numbers,
-            references,
-            fields,
+            slots,
             locals,
         } = self;
         drop(stack);
-        drop(numbers);
-        drop(references);
-        drop(fields);
+        drop(slots);
         drop(locals);
     }
 }

@@ -12,11 +12,12 @@ ghost use Rattle.code_meaning.specs.Lowered.{Lowered};
 ghost use Rattle.tables.specs.declared.locals.TheConstants.{MOST_LOCALS};
 ghost use Rattle.tables.specs.Locals.{capacities, ensured, popped};
 ghost use Rattle.machine_calls.specs.Answers.{Brought, bringing, IsAnswer, is_halt};
-ghost use Rattle.machine_calls.specs.CarriedOut.{CarriesOut, IsPossible, failed, is_of_frames, is_of_references, slots_after};
+ghost use Rattle.machine_calls.specs.CarriedOut.{CarriesOut, IsPossible, failed, is_of_frames, is_of_references, LeavesSlots};
 ghost use Rattle.machine_calls.specs.Made.{cells_of};
 ghost use Rattle.machine_calls.specs.NewObjects.{texts_in};
 ghost use Rattle.machine_calls.specs.declared.answer.Given.TheVariants.{Number};
 
+use crate::activation::Slots;
 use crate::answer::{Answer, Given};
 use crate::copies::{copy_in, copy_out};
 use crate::make::{can_raise, make, raise};
@@ -50,7 +51,7 @@ pub fn has_room(classes: &ClassTable, texts: &[Vec<u8>], heap: &Heap, answer: &A
 }
 
 /// Does to the store and to a call's frames what a function of this kind of result answers, whose call has these texts. An object or an exception is refused
-/// exactly where it has no room in the heap: then the OutOfMemoryError object is pending, and the call fails. Local arrays are in the number slots.
+/// exactly where it has no room in the heap: then the OutOfMemoryError object is pending, and the call fails. Local arrays are in the slots.
 ///
 /// An error says that host memory for a frame or a global reference was refused; then all is as before.
 pub fn carry_out(
@@ -58,23 +59,23 @@ pub fn carry_out(
     store: &mut Store,
     pending: &mut Option<Addr>,
     locals: &mut Locals,
-    numbers: &mut [u32],
+    slots: &mut Slots,
     kind: ResultKind,
     texts: &[Vec<u8>],
     answer: Answer,
 ) -> Result<Carried, AllocError>
     requires possible { (p : Lowered) × (array : Option (Identifier × LocalArray)) × (shared : Shared) × (s : SourceThread) × (effect : CallEffect) × IsPossible p world.now store.old pending.old locals.old (result_value kind) shared s
-        × IsAnswer world.now.classes (bringing (texts_in texts.now) numbers.old array) store.old.heap locals.old (result_value kind) shared s answer effect }
+        × IsAnswer world.now.classes (bringing (texts_in texts.now) slots.old.numbers.items array) store.old.heap locals.old (result_value kind) shared s answer effect }
     requires few { store.old.births + 2 < 2 ^ 32 }
     requires runs { is_halt answer ≡ false }
     ensures carried { IfOk result (λ carried. (p : Lowered) (array : Option (Identifier × LocalArray)) (shared : Shared) (s : SourceThread) (effect : CallEffect) → IsPossible p world.now store.old pending.old locals.old (result_value kind) shared s
-        → IsAnswer world.now.classes (bringing (texts_in texts.now) numbers.old array) store.old.heap locals.old (result_value kind) shared s answer effect
+        → IsAnswer world.now.classes (bringing (texts_in texts.now) slots.old.numbers.items array) store.old.heap locals.old (result_value kind) shared s answer effect
         → CarriesOut p world.now store.old.heap locals.old answer (result_value kind) shared s effect carried.refused store.new pending.new locals.new carried.given) }
-    ensures slots { IfOk result (λ carried. numbers.new ≡ slots_after store.old.heap answer numbers.old) }
+    ensures left { IfOk result (λ carried. LeavesSlots store.old.heap answer slots.old slots.new) }
     ensures store { OnErr result (store.new ≡ store.old) }
     ensures pending { OnErr result (pending.new ≡ pending.old) }
     ensures locals { OnErr result (locals.new ≡ locals.old) }
-    ensures numbers { OnErr result (numbers.new ≡ numbers.old) }
+    ensures slots { OnErr result (slots.new ≡ slots.old) }
     ensures of_references { OnErr result (is_of_references answer ≡ true) }
 {
     // Here the proof takes up what is known of a world.
@@ -121,14 +122,14 @@ pub fn carry_out(
             }
         }
         Answer::CopiesOut(region) => {
-            copy_out(&store.heap, numbers, &region);
+            copy_out(&store.heap, &mut slots.numbers, &region);
             Ok(Carried {
                 given: Given::Nothing,
                 refused: false,
             })
         }
         Answer::CopiesIn(region) => {
-            copy_in(&mut store.heap, numbers, &region);
+            copy_in(&mut store.heap, &slots.numbers, &region);
             Ok(Carried {
                 given: Given::Nothing,
                 refused: false,

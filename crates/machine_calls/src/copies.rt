@@ -5,7 +5,7 @@ ghost use Rattle.code.specs.Call.{call_view};
 ghost use Rattle.heap.specs.Heap.{values_at, IsAddress};
 ghost use Rattle.jni.specs.Table.{function_value};
 ghost use Rattle.machine_calls.specs.CallGroups.{is_of_regions};
-ghost use Rattle.machine_calls.specs.Copies.{slots_with, space_with, word_of};
+ghost use Rattle.machine_calls.specs.Copies.{numbers_with, space_with, word_of};
 ghost use Rattle.machine_calls.specs.Given.{operand_of, AreAddresses};
 ghost use Rattle.machine_calls.specs.Scenes.{scene_view};
 ghost use Rattle.machine_calls.specs.WorkedOut.{array_in, copies_in, copies_out, next_number, region, region_in, IsWorkedOut};
@@ -149,7 +149,7 @@ fn copies_in(exception: usize, array: LocalArray, region: Option<ArrayRegion>) -
 pub(crate) fn copy_out(heap: &Heap, numbers: &mut [u32], region: &ArrayRegion)
     requires within { region.now.start + region.now.count ≤ length (values_at heap.now region.now.object) }
     requires slots { (i : ℕ) → i < region.now.count → region.now.slot + i < length numbers.old }
-    ensures { numbers.new ≡ slots_with heap.now region.now numbers.old }
+    ensures { numbers.new ≡ numbers_with heap.now region.now numbers.old }
 {
     // The proof reads off these calls that no object has more values than there are cells.
     let _ = heap.count();

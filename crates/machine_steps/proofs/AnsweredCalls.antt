@@ -20,8 +20,8 @@ use Rattle.machine_calls.specs.declared.trap.Trap.{Trap}
 use Rattle.machine_calls.specs.Traps.{trap_view}
 use Rattle.machine_calls.specs.declared.store.Store.{Store}
 use Rattle.machine_calls.specs.declared.activation.Activation.{Activation}
-use Rattle.machine_calls.specs.Answers.{IsAnswer}
-use Rattle.machine_calls.specs.Asked.{scene_of}
+use Rattle.machine_calls.specs.Answers.{Brought, IsAnswer}
+use Rattle.machine_calls.specs.Asked.{brought_by, scene_of}
 use Rattle.machine_calls.specs.CarriedOut.{IsPossible}
 use Rattle.machine_calls.specs.Made.{cells_of}
 use Rattle.machine_calls.specs.NewObjects.{texts_in}
@@ -37,6 +37,10 @@ use Rattle.machine_steps.proofs.CallInstructions.{CalledAs, called, effect_is, c
 module _ (p : Lowered) (w : World) (store : Store) (pending : Option ℕ) (call : Activation) (function : Call) (own : Owners) (shared : Shared) (s : Thread) (task : Task) (rest : List Task) (h : AtCall p w store pending call function own shared s task rest) (answer : Answer) (given : IsAnswered w store pending call function answer) where
   abbrev pub it : CalledAs p w store pending call h.code (call_view function) own shared s task rest (r p w store pending call function own shared s task rest h) (effect_of (sight_of shared s) task)
   it = called p w store pending call function own shared s task rest h
+
+  -- what it brings
+  abbrev pub brings : Brought
+  brings = brought_by call (call_view function) it.args
 
   -- no check stops the source's
   pub free : trap_of_call w.classes shared s it.target it.f it.args ≡ None
@@ -54,9 +58,9 @@ module _ (p : Lowered) (w : World) (store : Store) (pending : Option ℕ) (call 
     pub kind_is : kind ≡ (prototype it.f).result
     kind_is = same ∙ ap (λ (f : JniFunction). (prototype f).result) it.asked.same_function
 
-    pub answered : (in_use : BuffersInUse) (k : ℕ) → IsAnswer w.classes (texts_in function.texts.items) store.heap call.locals kind shared s answer (does in_use k)
+    pub answered : (in_use : BuffersInUse) (k : ℕ) → IsAnswer w.classes brings store.heap call.locals kind shared s answer (does in_use k)
     answered in_use k =
-        subst (λ (x : ResultKind). IsAnswer w.classes (texts_in function.texts.items) store.heap call.locals x shared s answer (does in_use k)) (sym kind_is)
+        subst (λ (x : ResultKind). IsAnswer w.classes brings store.heap call.locals x shared s answer (does in_use k)) (sym kind_is)
         (answers p w store pending call (call_view function) shared s given.sound in_use k it.args it.f it.asked it.target free answer worked
         (owned_key p w store pending call function own shared s task rest h) (held p w store pending call function own shared s task rest h))
 
@@ -68,7 +72,7 @@ module _ (p : Lowered) (w : World) (store : Store) (pending : Option ℕ) (call 
     cells_asked in_use k =
         ap (λ (e : Effect). cells_made shared (after_effect w.classes in_use k shared s rest e)) it.is
         ∙ cells_wanted p w store pending call function own shared s task rest h in_use k free
-        ∙ cells_answered w.classes (texts_in function.texts.items) store.heap call.locals kind shared s answer (does in_use k) (answered in_use k)
+        ∙ cells_answered w.classes brings store.heap call.locals kind shared s answer (does in_use k) (answered in_use k)
 
 -- the machine is at a call that stops it, all checks being passed
 module _ (p : Lowered) (w : World) (store : Store) (pending : Option ℕ) (call : Activation) (function : Call) (own : Owners) (shared : Shared) (s : Thread) (task : Task) (rest : List Task) (h : AtCall p w store pending call function own shared s task rest) (trap : Trap) (halted : IsAnswered w store pending call function (answer.Halts trap)) where

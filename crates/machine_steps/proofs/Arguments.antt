@@ -1,8 +1,22 @@
 -- The operands of a call give what the arguments of the source's call are.
-use Rattle.std.proofs.Common.{inl, inr, ◌≡◌, ℕ, zero, suc, ◌+◌, ◌-◌, List, [], ◌∷◌, length, Option, Some, None, refl, sym, ap, ◌∙◌, subst, arith, length-append}
-use Rattle.std.specs.Prelude.{slice_get}
+use Rattle.std.proofs.Common.{inl, inr, ◌≡◌, ℕ, ℤ, zero, suc, ◌+◌, ◌-◌, ◌<◌, ◌≤◌, List, [], ◌∷◌, length, Option, Some, None, refl, sym, ap, ◌∙◌, subst, arith, length-append}
+use Rattle.std.specs.Prelude.{slice_get, FitsSigned}
+use Rattle.std.specs.Int.{w32, cast_unsigned}
 use Rattle.std.specs.List.{AllByRecursion, AllZip}
 use Rattle.std.proofs.lemmas.Bool.{le-leb}
+use Rattle.std.proofs.lemmas.Option.{slice_get_within}
+use Rattle.base.specs.Bytes.{Identifier, lookup}
+use Rattle.base.specs.Element.{ElementType}
+use Rattle.code.specs.declared.instr.LocalArray.{LocalArray as ArraySlots}
+use Rattle.code_meaning.specs.Fits.{IsArray}
+use Rattle.code_meaning.specs.Layout.{Known}
+use Rattle.semantics.specs.Sight.{elements_of, in_range}
+use Rattle.semantics.specs.Thread as source
+use Rattle.semantics.specs.Thread.{Shared}
+use Rattle.semantics.specs.Value.{Gives, Traps, OutOfRange, outcome_then}
+use Rattle.semantics.specs.Variable.{Variable}
+use Rattle.semantics_safety.specs.Owners.{Owners}
+use Rattle.machine_steps.proofs.Changes.{array_of}
 use Rattle.class_rules.specs.Class.{Classes}
 use Rattle.class_rules.specs.Fields.{FieldId}
 use Rattle.classes.specs.declared.class.FieldHandle.{FieldHandle}
@@ -16,7 +30,7 @@ use Rattle.semantics.specs.Thread.{Frame}
 use Rattle.code.specs.declared.instr.Operand.{Operand}
 use Rattle.code.specs.declared.instr.Operand.TheVariants as operand
 use Rattle.code.specs.Depth.{Listing, words_taken, with_fewer}
-use Rattle.code_meaning.specs.Slots.{Visible}
+use Rattle.code_meaning.specs.Slots.{Shows, Slots, Visible, visible_to}
 use Rattle.code_meaning.specs.Does.{IsOperand, word_given, words_given}
 use Rattle.code_meaning.specs.Lowered.{Lowered}
 use Rattle.machine_calls.specs.declared.activation.Activation.{Activation}
@@ -26,7 +40,7 @@ use Rattle.machine_calls.specs.Statics.{References}
 use Rattle.machine_calls.specs.declared.references.Held.{Held}
 use Rattle.machine_calls.proofs.HeldStatics.{static_there}
 use Rattle.machine_calls.proofs.KeyLaws.{address_there}
-use Rattle.machine_calls.specs.Given.{held_in, IsGiven}
+use Rattle.machine_calls.specs.Given.{HasArray, HasElements, held_in, IsGiven}
 use Rattle.machine_steps.proofs.Calls.{slots_of, Ready}
 
 -- ---- slots
@@ -48,9 +62,9 @@ HasOwner references owners o = Unit {0}
 
 module _ (p : Lowered) (classes : Classes) (space : Space) (call : Activation) (code : Listing) (visible : Visible) (frames : List Frame) (task : Task) (rest : List Task) (r : Ready p classes space call code visible frames task rest) (helds : List Held) (statics : StaticsAgree space helds visible.statics) where
   abbrev references : References
-  references = record { keys = call.references.items; locals = call.locals; statics = helds }
+  references = record { keys = call.slots.references.items; locals = call.locals; statics = helds }
 
-  one_given : (o : Operand) (a : Actual) → HasOwner r.references r.owners o → IsOperand code r.known call.place call.stack (slots_of call r.references r.owners r.fields) visible o a → IsGiven classes space references call.fields.items o a
+  one_given : (o : Operand) (a : Actual) → HasOwner r.references r.owners o → IsOperand code r.known call.place call.stack (slots_of call r.references r.owners r.fields) visible o a → IsGiven classes space references call.slots.fields.items o a
   one_given operand.Null a owned (inl h) = inl (record { name = h.0; reference = None; is = h.1; agrees = tt })
   one_given operand.Null a owned (inr (inl h)) = inr (inl (record { field = None; is = h; agrees = tt }))
   one_given operand.Null a owned (inr (inr h)) = inr (inr h)
@@ -60,7 +74,7 @@ module _ (p : Lowered) (classes : Classes) (space : Space) (call : Activation) (
         name = h.0;
         reference = shown.reference;
         is = h.1 ∙ ap (ReferenceActual h.0) shown.is;
-        agrees = address_there space call.locals call.references.items r.references r.owners i shown.reference r.agree shown.there (λ n is. owned n (shown.there ∙ ap (λ (q : Reference). Some q) is));
+        agrees = address_there space call.locals call.slots.references.items r.references r.owners i shown.reference r.agree shown.there (λ n is. owned n (shown.there ∙ ap (λ (q : Reference). Some q) is));
       }
   one_given (operand.Static i) a owned h =
       let shown = r.shows.each h.0 (record { sort = Global; index = i }) h.2 in
@@ -73,7 +87,7 @@ module _ (p : Lowered) (classes : Classes) (space : Space) (call : Activation) (
   one_given operand.Number a owned h = h
   one_given (operand.FieldId i) a owned h =
       let shown = r.shows.each h.0 (record { sort = sort.FieldId; index = i }) h.2 in
-      record { field = shown.field; is = h.1 ∙ ap FieldActual shown.is; agrees = field_there classes call.fields.items r.fields i shown.field r.fields_agree shown.there }
+      record { field = shown.field; is = h.1 ∙ ap FieldActual shown.is; agrees = field_there classes call.slots.fields.items r.fields i shown.field r.fields_agree shown.there }
   one_given operand.Text a owned h = h
   one_given (operand.Array array) a owned h = (h.0, h.1)
   one_given (operand.Buffer i) a owned h = (h.0, h.1)
@@ -81,11 +95,57 @@ module _ (p : Lowered) (classes : Classes) (space : Space) (call : Activation) (
   one_given (operand.IsCopy i) a owned h = (h.0, h.1)
 
   pub all_given : (operands : List Operand) (args : List Actual) → AllByRecursion (HasOwner r.references r.owners) operands → AllZip (IsOperand code r.known call.place call.stack (slots_of call r.references r.owners r.fields) visible) operands args
-      → AllZip (IsGiven classes space references call.fields.items) operands args
+      → AllZip (IsGiven classes space references call.slots.fields.items) operands args
   all_given [] [] owned h = tt
   all_given [] (a ∷ args) owned h = absurd h
   all_given (o ∷ operands) [] owned h = absurd h
   all_given (o ∷ operands) (a ∷ args) owned h = (one_given o a owned.0 h.0, all_given operands args owned.1 h.1)
+
+-- ---- local arrays
+
+-- as many elements as can be seen
+as_many : (zs : List ℤ) (size : ℕ) → ((i : ℕ) → i < size → (z : ℤ) × (in_range (slice_get zs i) ≡ Gives z)) → ((i : ℕ) → size ≤ i → in_range (slice_get zs i) ≡ Traps OutOfRange) → length zs ≡ size
+as_many [] zero seen past = refl
+as_many [] (suc size) seen past = absurd (let e = (seen 0 (omega arith)).1 in cc)
+as_many (z ∷ zs) zero seen past = absurd (let e = past 0 (omega arith) in cc)
+as_many (z ∷ zs) (suc size) seen past = ap suc (as_many zs size (λ i below. seen (suc i) (omega (arith, below))) (λ i above. past (suc i) (omega (arith, above))))
+
+module _ (code : Listing) (known : Known) (place : ℕ) (stack : List ℕ) (slots : Slots) (own : Owners) (shared : Shared) (s : source.Thread) (shows : Shows code known (visible_to own shared s) slots) where
+  -- a local array has its elements in its slots
+  pub array_held : (x : Identifier) (t : ElementType) (array : ArraySlots) → IsArray known x t array.len array.start → HasElements slots.numbers array (lookup x s.variables)
+  array_held x t array at =
+      let shown = shows.each x (record { sort = sort.Array t array.len; index = array.start }) at in
+      let held = array_of (lookup x s.variables) t shown.array_type in
+      let element : (i : ℕ) → (visible_to own shared s).sight.element x i ≡ in_range (slice_get held.0 i) = λ i. ap (λ (o : Option Variable). outcome_then (λ (zs : List ℤ). in_range (slice_get zs i)) (elements_of shared.heap o)) held.1 in
+      let count : length held.0 ≡ array.len = as_many held.0 array.len (λ i below. ((shown.elements i below).number, sym (element i) ∙ (shown.elements i below).is)) (λ i above. sym (element i) ∙ shown.past i above) in
+      record {
+        type = t;
+        elements = held.0;
+        is = held.1;
+        count = count;
+        words = λ i z found.
+            let e = shown.elements i (omega (arith, slice_get_within held.0 i z found, count)) in
+            let same : e.number ≡ z = let both : Gives e.number ≡ Gives z = sym e.is ∙ element i ∙ ap in_range found in cc in
+            (subst (FitsSigned w32) same e.fits, e.word ∙ ap (λ (y : ℤ). Some (cast_unsigned w32 y)) same);
+      }
+
+  one_array : (o : Operand) (a : Actual) → IsOperand code known place stack slots (visible_to own shared s) o a → HasArray slots.numbers s.variables o a
+  one_array operand.Null a h = tt
+  one_array (operand.Local i) a h = tt
+  one_array (operand.Static i) a h = tt
+  one_array operand.Number a h = tt
+  one_array (operand.FieldId i) a h = tt
+  one_array operand.Text a h = tt
+  one_array (operand.Array array) a h = (h.0, h.1, array_held h.0 h.2 array h.3)
+  one_array (operand.Buffer i) a h = tt
+  one_array (operand.Mode mode) a h = tt
+  one_array (operand.IsCopy i) a h = tt
+
+  pub arrays_held : (operands : List Operand) (args : List Actual) → AllZip (IsOperand code known place stack slots (visible_to own shared s)) operands args → AllZip (HasArray slots.numbers s.variables) operands args
+  arrays_held [] [] h = tt
+  arrays_held [] (a ∷ args) h = absurd h
+  arrays_held (o ∷ operands) [] h = absurd h
+  arrays_held (o ∷ operands) (a ∷ args) h = (one_array o a h.0, arrays_held operands args h.1)
 
 -- ---- words
 

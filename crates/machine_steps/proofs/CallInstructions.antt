@@ -1,22 +1,23 @@
 -- A call that the machine makes does what the source's call does.
-use Rattle.std.proofs.Common.{◌≡◌, ◌≢◌, ◌⊎◌, inl, inr, map, ℕ, pos, Bool, true, false, not, List, [], ◌∷◌, length, Option, Some, None, refl, sym, ap, ◌∙◌, subst, arith, append-nil}
+use Rattle.std.proofs.Common.{◌≡◌, ◌≢◌, ◌⊎◌, inl, inr, map, take, drop, ℕ, pos, ◌+◌, ◌≤◌, Bool, true, false, not, List, [], ◌∷◌, length, Option, Some, None, refl, sym, ap, ◌∙◌, subst, arith, append-nil}
 use Rattle.std.specs.Global.{Vec}
 use Rattle.std.specs.Prelude.{slice_get, slice_set, ◌&&◌, nat_le, if◌then◌else◌}
 use Rattle.std.specs.List.{AllZip}
 use Rattle.class_rules.specs.Class.{Classes}
-use Rattle.heap.specs.Heap.{Space}
+use Rattle.heap.specs.Heap.{Space, values_at}
 use Rattle.jni.specs.JniFunction.{is_built_function, JniFunction, DeleteLocalRef, DeleteGlobalRef, PopLocalFrame, GetBuffer, prototype}
 use Rattle.jni.specs.Prototype.{ResultKind, NewLocal, NewGlobal, GivesFlag, GivesInt, GivesField, GivesNothing, GivesBuffer}
 use Rattle.semantics.specs.Arguments.{Actual, reference_given, variable_given}
 use Rattle.semantics.specs.Object.{Object, sizes}
-use Rattle.semantics.specs.CallEffects.{level_of, CallEffect, CallResult, Halts, Leaves, ScalarResult, Throws, refuses_frames, with_capacity}
+use Rattle.semantics.specs.CallEffects.{begun_with, level_of, CallEffect, CallResult, Halts, Leaves, ScalarResult, Throws, refuses_frames, with_capacity}
 use Rattle.semantics.specs.CallStep.{after_call, after_refusal, call_step, checked, effect_of_call, makes_objects, put, trap_of_call}
 use Rattle.semantics.specs.CallTable.{call_effect}
 use Rattle.semantics.specs.Effect.{Calls, Effect, effect_of}
 use Rattle.semantics.specs.Heap.{Heap}
 use Rattle.semantics.specs.Task.{Assigned, Declared, Dropped, Target, Task, Tested}
 use Rattle.semantics.specs.Thread as source
-use Rattle.semantics.specs.Thread.{BuffersInUse, Shared, sight_of}
+use Rattle.semantics.specs.Thread.{BuffersInUse, Shared, sight_of, viewed_by}
+use Rattle.semantics.specs.Variable.{LocalRef, Variable, Variables, change}
 use Rattle.semantics.specs.Value.{Int, Trap as SourceTrap}
 use Rattle.semantics.specs.World.{World}
 use Rattle.base.specs.Bytes.{Identifier, lookup}
@@ -31,7 +32,9 @@ use Rattle.code.specs.declared.instr.Target.TheVariants as destination
 use Rattle.code_meaning.specs.Does.{CallsFunction, IsOperand, OperandFits, TakesResult}
 use Rattle.code_meaning.specs.Lowered.{Lowered}
 use Rattle.code_meaning.specs.Fits.{HaveOwnSlots}
-use Rattle.code_meaning.specs.Slots.{Visible, Shows, visible_to}
+use Rattle.code_meaning.specs.Slots.{Visible, Shows, Slots, visible_to}
+use Rattle.code_meaning.specs.Layout.{Known}
+use Rattle.code_meaning.specs.Stands.{StandsFor, number_sort}
 use Rattle.type_rules.specs.Sorts.{Ref}
 use Rattle.machine_calls.specs.declared.answer.Answer.{Answer}
 use Rattle.machine_calls.specs.declared.answer.Answer.TheVariants as answers
@@ -44,10 +47,11 @@ use Rattle.machine_steps.specs.declared.execute.Executed.TheVariants.{Did}
 use Rattle.machine_steps.specs.Executes.{CallStands, Executes, GoesOn, WorkAgrees, after_any, cells_made}
 use Rattle.machine_calls.specs.Locals.{FramesAgree}
 use Rattle.machine_calls.specs.WorkedOut.{IsWorkedOut, deletes}
-use Rattle.machine_calls.specs.Answers.{HoldsObject, IsAnswer, is_halt}
-use Rattle.machine_calls.specs.Asked.{IsAsked, references_of, scene_of}
+use Rattle.machine_calls.specs.Answers.{Brought, HoldsObject, IsAnswer, is_halt}
+use Rattle.machine_calls.specs.Copies.{overlaid, word_of, words_of}
+use Rattle.machine_calls.specs.Asked.{IsAsked, brought_by, references_of, scene_of}
 use Rattle.machine_calls.specs.Statics.{all_held}
-use Rattle.machine_calls.specs.CarriedOut.{CarriesOut, GoesByRoom, IsLeft, IsPossible, IsShortOf, can_fail, frames_left, made_by, pending_after, result_after, shared_after}
+use Rattle.machine_calls.specs.CarriedOut.{CarriesOut, GoesByRoom, IsLeft, IsPossible, IsShortOf, can_fail, frames_left, made_by, pending_after, result_after, shared_after, numbers_after, variables_left}
 use Rattle.machine_calls.specs.Checked.{puts_local, trap_found}
 use Rattle.tables.specs.Locals.{has_room}
 use Rattle.machine_calls.specs.Given.{held_in, key_at, operand_of}
@@ -55,9 +59,11 @@ use Rattle.machine_steps.specs.Invoked.{AtCall, trap_at}
 use Rattle.machine_steps.specs.Received.{HasRoom, HasTarget, Receives, HasStatic, statics_with}
 use Rattle.machine_calls.specs.Traps.{trap_view}
 use Rattle.machine_calls.proofs.AnswerCases.{gives_it, makes_it, writes_it}
-use Rattle.machine_steps.proofs.Arguments.{all_given, none_left_after}
+use Rattle.machine_steps.proofs.Arguments.{all_given, arrays_held, none_left_after}
+use Rattle.machine_steps.proofs.CopiedArrays.{AreKept, Copied, array_known, copied_viewless, kept_or_copied, shows_copied}
+use Rattle.std.proofs.lemmas.List.{length-map, length-take}
 use Rattle.machine_calls.proofs.CallTraps.{found_is, room_left}
-use Rattle.machine_steps.proofs.Calls.{Ready, fields_count, ready, ready_owners, slots_of}
+use Rattle.machine_steps.proofs.Calls.{Ready, fields_count, ready, ready_known, ready_owners, slots_of}
 use Rattle.machine_steps.proofs.Effects.{call_cases}
 use Rattle.machine_steps.proofs.EffectFrames.{left_is}
 use Rattle.machine_calls.proofs.LocalFrames.{frames_left as frames_after_agree}
@@ -88,25 +94,25 @@ answered_fails f h = refl
 
 -- ---- the source's step
 
--- an effect that leaves the thread as it was, but for its frames and an exception
+-- an effect that leaves the thread as it was, but for its frames, an exception and its variables
 abbrev pub StaysBut : source.Thread → CallEffect → Type 0
 StaysBut s (Throws c) = Unit {0}
 StaysBut s (Halts trap) = ⊥
-StaysBut s (Leaves made s' t' c) = t' ≡ record s { frames = t'.frames; pending = t'.pending }
+StaysBut s (Leaves made s' t' c) = t' ≡ record s { frames = t'.frames; pending = t'.pending; variables = t'.variables }
 
 module _ (classes : Classes) (in_use : BuffersInUse) (k : ℕ) (shared : Shared) (s : source.Thread) (line : ℕ) (target : Target) (f : JniFunction) (args : List Actual) (rest : List Task) where
   -- what an effect leaves, or the same with its allocation refused
   abbrev pub left_by : (refused : Bool) → CallEffect → source.Advance
   left_by refused effect =
       put target (result_after (prototype f).result refused effect) (shared_after classes refused shared effect)
-      (resumption line f args rest s (frames_left refused s effect) (pending_after classes refused shared s effect) (result_after (prototype f).result refused effect) target)
+      (resumption line f args rest (record s { variables = variables_left refused s effect }) (frames_left refused s effect) (pending_after classes refused shared s effect) (result_after (prototype f).result refused effect) target)
 
   pub step_leaves : (refused : Bool) (effect : CallEffect) → effect_of_call classes in_use k shared s line target f args rest ≡ effect → StaysBut s effect → (refused ≡ true → makes_objects effect ≡ true)
       → call_step classes in_use k shared s line target f args rest refused ≡ left_by refused effect
   step_leaves true effect is stays could =
       ap (λ (e : CallEffect). after_refusal classes in_use k shared s line target f args rest (makes_objects e)) is
       ∙ ap (after_refusal classes in_use k shared s line target f args rest) (could refl)
-      ∙ ap (λ (h : Heap). let r : Shared = record shared { heap = h } in put target (result_after (prototype f).result true effect) r (resumption line f args rest s (frames_left true s effect) (pending_after classes true shared s effect) (result_after (prototype f).result true effect) target)) (append-nil shared.heap)
+      ∙ ap (λ (h : Heap). let r : Shared = record shared { heap = h } in put target (result_after (prototype f).result true effect) r (resumption line f args rest (record s { variables = variables_left true s effect }) (frames_left true s effect) (pending_after classes true shared s effect) (result_after (prototype f).result true effect) target)) (append-nil shared.heap)
   step_leaves false (Throws c) is stays could = ap (after_call classes in_use k shared s line target f args rest) is
   step_leaves false (Halts trap) is stays could = absurd stays
   step_leaves false (Leaves made s' t' c) is stays could =
@@ -117,16 +123,18 @@ module _ (classes : Classes) (in_use : BuffersInUse) (k : ℕ) (shared : Shared)
 same_thread : {made made' : List Object} {s s' : Shared} {t t' : source.Thread} {c c' : CallResult} → Leaves made s t c ≡ Leaves made' s' t' c' → t ≡ t'
 same_thread e = cc
 
-stays_same : (s t : source.Thread) → t ≡ s → t ≡ record s { frames = t.frames; pending = t.pending }
-stays_same s t e = subst (λ (u : source.Thread). t ≡ record u { frames = t.frames; pending = t.pending }) e refl
+stays_same : (s t : source.Thread) → t ≡ s → t ≡ record s { frames = t.frames; pending = t.pending; variables = t.variables }
+stays_same s t e = subst (λ (u : source.Thread). t ≡ record u { frames = t.frames; pending = t.pending; variables = t.variables }) e refl
 
-stays_with : (classes : Classes) (texts : List (List ℕ)) (space : Space) (locals : LocalTable) (kind : ResultKind) (shared : Shared) (s : source.Thread) (answer : Answer) (effect : CallEffect) → is_halt answer ≡ false → IsAnswer classes texts space locals kind shared s answer effect → StaysBut s effect
-stays_with classes texts space locals kind shared s answer (Throws c) runs h = tt
-stays_with classes texts space locals kind shared s answer (Halts trap) runs h = no_halt answer runs h
+stays_with : (classes : Classes) (brought : Brought) (space : Space) (locals : LocalTable) (kind : ResultKind) (shared : Shared) (s : source.Thread) (answer : Answer) (effect : CallEffect) → is_halt answer ≡ false → IsAnswer classes brought space locals kind shared s answer effect → StaysBut s effect
+stays_with classes brought space locals kind shared s answer (Throws c) runs h = tt
+stays_with classes brought space locals kind shared s answer (Halts trap) runs h = no_halt answer runs h
   where
-    no_halt : (answer : Answer) → is_halt answer ≡ false → IsAnswer classes texts space locals kind shared s answer (Halts trap) → ⊥
+    no_halt : (answer : Answer) → is_halt answer ≡ false → IsAnswer classes brought space locals kind shared s answer (Halts trap) → ⊥
     no_halt (answers.Gives g) runs h = h
     no_halt (answers.Writes a place v) runs h = h
+    no_halt (answers.CopiesOut region) runs h = let e = h.1.is in cc
+    no_halt (answers.CopiesIn region) runs h = let e = h.1.is in cc
     no_halt (answers.Makes c) runs h = h
     no_halt (answers.Throws c) runs h = h
     no_halt (answers.Raises class place) runs h = let e = h.3 in cc
@@ -147,28 +155,30 @@ stays_with classes texts space locals kind shared s answer (Halts trap) runs h =
     no_halt (answers.DeletesGlobal i) runs h = let e = h.1.3 in cc
     no_halt (answers.Deletes key) runs h = let e = h.1.3 in cc
     no_halt answers.RefusesFrames runs h = let e = h.1 in cc
-stays_with classes texts space locals kind shared s (answers.Gives g) (Leaves made s' t' c) runs h = stays_same s t' (same_thread (gives_it classes texts space locals kind shared s g (Leaves made s' t' c) h).is)
-stays_with classes texts space locals kind shared s (answers.Writes a place v) (Leaves made s' t' c) runs h = stays_same s t' (same_thread (writes_it classes texts space locals kind shared s a place v (Leaves made s' t' c) h).is)
-stays_with classes texts space locals kind shared s (answers.Makes class) (Leaves made s' t' c) runs h = stays_same s t' (same_thread (makes_it classes texts space locals kind shared s class (Leaves made s' t' c) h).is)
-stays_with classes texts space locals kind shared s (answers.Throws class) (Leaves made s' t' c) runs h = absurd h
-stays_with classes texts space locals kind shared s (answers.Raises class place) (Leaves made s' t' c) runs h = subst (StaysBut s) (sym h.3) refl
-stays_with classes texts space locals kind shared s (answers.Pends a g) (Leaves made s' t' c) runs h = subst (StaysBut s) (sym h.2.2) refl
-stays_with classes texts space locals kind shared s (answers.Halts trap) (Leaves made s' t' c) runs h = absurd (cc)
-stays_with classes texts space locals kind shared s (answers.Ensures more) (Leaves made s' t' c) runs h = subst (StaysBut s) (sym h.1) (stays_framed (nat_le (source.capacities (with_capacity more s.frames)) 1024))
+stays_with classes brought space locals kind shared s (answers.Gives g) (Leaves made s' t' c) runs h = stays_same s t' (same_thread (gives_it classes brought space locals kind shared s g (Leaves made s' t' c) h).is)
+stays_with classes brought space locals kind shared s (answers.Writes a place v) (Leaves made s' t' c) runs h = stays_same s t' (same_thread (writes_it classes brought space locals kind shared s a place v (Leaves made s' t' c) h).is)
+stays_with classes brought space locals kind shared s (answers.CopiesOut region) (Leaves made s' t' c) runs h = subst (StaysBut s) (sym h.1.is) refl
+stays_with classes brought space locals kind shared s (answers.CopiesIn region) (Leaves made s' t' c) runs h = subst (StaysBut s) (sym h.1.is) refl
+stays_with classes brought space locals kind shared s (answers.Makes class) (Leaves made s' t' c) runs h = stays_same s t' (same_thread (makes_it classes brought space locals kind shared s class (Leaves made s' t' c) h).is)
+stays_with classes brought space locals kind shared s (answers.Throws class) (Leaves made s' t' c) runs h = absurd h
+stays_with classes brought space locals kind shared s (answers.Raises class place) (Leaves made s' t' c) runs h = subst (StaysBut s) (sym h.3) refl
+stays_with classes brought space locals kind shared s (answers.Pends a g) (Leaves made s' t' c) runs h = subst (StaysBut s) (sym h.2.2) refl
+stays_with classes brought space locals kind shared s (answers.Halts trap) (Leaves made s' t' c) runs h = absurd (cc)
+stays_with classes brought space locals kind shared s (answers.Ensures more) (Leaves made s' t' c) runs h = subst (StaysBut s) (sym h.1) (stays_framed (nat_le (source.capacities (with_capacity more s.frames)) 1024))
   where
     stays_framed : (b : Bool) → StaysBut s (if b then Leaves [] shared (record s { frames = with_capacity more s.frames }) (ScalarResult (Int (pos 0))) else refuses_frames classes shared s)
     stays_framed true = refl
     stays_framed false = refl
-stays_with classes texts space locals kind shared s (answers.Pushes capacity) (Leaves made s' t' c) runs h = subst (StaysBut s) (sym h.1) (stays_framed (nat_le (source.capacities (record { capacity = capacity; references = [] } ∷ s.frames)) 1024))
+stays_with classes brought space locals kind shared s (answers.Pushes capacity) (Leaves made s' t' c) runs h = subst (StaysBut s) (sym h.1) (stays_framed (nat_le (source.capacities (record { capacity = capacity; references = [] } ∷ s.frames)) 1024))
   where
     stays_framed : (b : Bool) → StaysBut s (if b then Leaves [] shared (record s { frames = record { capacity = capacity; references = [] } ∷ s.frames }) (ScalarResult (Int (pos 0))) else refuses_frames classes shared s)
     stays_framed true = refl
     stays_framed false = refl
-stays_with classes texts space locals kind shared s (answers.Pops a) (Leaves made s' t' c) runs h = subst (StaysBut s) (sym h.1.2) refl
-stays_with classes texts space locals kind shared s (answers.MakesGlobal a) (Leaves made s' t' c) runs h = subst (StaysBut s) (sym h.1.2) refl
-stays_with classes texts space locals kind shared s (answers.DeletesGlobal i) (Leaves made s' t' c) runs h = subst (StaysBut s) (sym h.1.3) refl
-stays_with classes texts space locals kind shared s (answers.Deletes key) (Leaves made s' t' c) runs h = subst (StaysBut s) (sym h.1.3) refl
-stays_with classes texts space locals kind shared s answers.RefusesFrames (Leaves made s' t' c) runs h = subst (StaysBut s) (sym h.1) refl
+stays_with classes brought space locals kind shared s (answers.Pops a) (Leaves made s' t' c) runs h = subst (StaysBut s) (sym h.1.2) refl
+stays_with classes brought space locals kind shared s (answers.MakesGlobal a) (Leaves made s' t' c) runs h = subst (StaysBut s) (sym h.1.2) refl
+stays_with classes brought space locals kind shared s (answers.DeletesGlobal i) (Leaves made s' t' c) runs h = subst (StaysBut s) (sym h.1.3) refl
+stays_with classes brought space locals kind shared s (answers.Deletes key) (Leaves made s' t' c) runs h = subst (StaysBut s) (sym h.1.3) refl
+stays_with classes brought space locals kind shared s answers.RefusesFrames (Leaves made s' t' c) runs h = subst (StaysBut s) (sym h.1) refl
 
 -- ---- the place
 
@@ -180,12 +190,12 @@ module _ (p : Lowered) (classes : Classes) (space : Space) (call : Activation) (
   target_there line (destination.Number i) kind (Assigned x) h = (h.2.1.within, tt, tt)
   target_there line (destination.Number i) kind (Tested a b) h = absurd h.2
   target_there line (destination.Number i) kind Dropped h = absurd h.2
-  target_there line (destination.Local i) kind (Declared declared x) h = (tt, omega (arith, h.1.1.within, keys_count space call.locals call.references.items r.references r.owners r.agree), tt)
-  target_there line (destination.Local i) kind (Assigned x) h = (tt, omega (arith, h.1.1.within, keys_count space call.locals call.references.items r.references r.owners r.agree), tt)
+  target_there line (destination.Local i) kind (Declared declared x) h = (tt, omega (arith, h.1.1.within, keys_count space call.locals call.slots.references.items r.references r.owners r.agree), tt)
+  target_there line (destination.Local i) kind (Assigned x) h = (tt, omega (arith, h.1.1.within, keys_count space call.locals call.slots.references.items r.references r.owners r.agree), tt)
   target_there line (destination.Local i) kind (Tested a b) h = absurd h.1
   target_there line (destination.Local i) kind Dropped h = absurd h.1
-  target_there line (destination.FieldId i) kind (Declared declared x) h = (tt, tt, omega (arith, h.1.1.within, fields_count classes call.fields.items r.fields r.fields_agree))
-  target_there line (destination.FieldId i) kind (Assigned x) h = (tt, tt, omega (arith, h.1.1.within, fields_count classes call.fields.items r.fields r.fields_agree))
+  target_there line (destination.FieldId i) kind (Declared declared x) h = (tt, tt, omega (arith, h.1.1.within, fields_count classes call.slots.fields.items r.fields r.fields_agree))
+  target_there line (destination.FieldId i) kind (Assigned x) h = (tt, tt, omega (arith, h.1.1.within, fields_count classes call.slots.fields.items r.fields r.fields_agree))
   target_there line (destination.FieldId i) kind (Tested a b) h = absurd h.1
   target_there line (destination.FieldId i) kind Dropped h = absurd h.1
   target_there line (destination.Static i) kind target h = (tt, tt, tt)
@@ -250,13 +260,15 @@ module _ (p : Lowered) (w : World) (store : Store) (pending : Option ℕ) (call 
           kinds = subst (λ (x : Call). AllZip OperandFits (prototype f).parameters x.operands) same c.kinds;
           fit = c.fit;
           given = given;
+          arrays = arrays_held h.code r.known call.place call.stack (slots_of call r.references r.owners r.fields) own shared s r.shows function.operands args operands;
+          typed = h.steady.objects;
           words = c.words;
           texts = ap (λ (x : Call). x.texts) (sym same) ∙ c.texts;
         };
         same_line = ap (λ (x : Call). x.line) (sym same) ∙ c.same_line;
         operands = operands;
         goes = subst (λ (x : Call). TakesResult h.code r.known call.place call.stack (slots_of call r.references r.owners r.fields) (visible_to own shared s) line x.target (prototype f).result target rest) same c.goes;
-        left = none_left_after w.classes store.heap (references_of store call) call.fields.items function.operands args call.stack given c.words;
+        left = none_left_after w.classes store.heap (references_of store call) call.slots.fields.items function.operands args call.stack given c.words;
         own_slots = c.own_slots;
       }
 
@@ -283,7 +295,7 @@ module _ (p : Lowered) (w : World) (store : Store) (pending : Option ℕ) (call 
   owned_key deletes =
       let d = deleted deletes in
       subst (λ (o : Operand). OwnKey store.heap call.locals (key_at (references_of store call) o) (reference_given called.args 0) (level_of (lookup (variable_given called.args 0) s.variables))) (sym d.is)
-      (subst (λ (x : Identifier). OwnKey store.heap call.locals (held_in (slice_get call.references.items d.slot)) (reference_given called.args 0) (level_of (lookup x s.variables))) (sym d.variable) d.key)
+      (subst (λ (x : Identifier). OwnKey store.heap call.locals (held_in (slice_get call.slots.references.items d.slot)) (reference_given called.args 0) (level_of (lookup x s.variables))) (sym d.variable) d.key)
 
   -- the static whose global reference ends
   pub held : called.f ≡ DeleteGlobalRef → (i n : ℕ) → operand_of function.operands 0 ≡ operand.Static i → reference_given called.args 0 ≡ Some n → HoldsObject shared (variable_given called.args 0) i n
@@ -317,7 +329,7 @@ module _ (p : Lowered) (w : World) (store : Store) (pending : Option ℕ) (call 
     owners : List (Option ℕ)
     shows : Shows h.code r.known (visible_to (left_by_call f called.args (length s.frames) own) shared s) (slots_of call r.references owners r.fields)
     among : (i level : ℕ) → slice_get owners i ≡ Some (Some level) → slice_get r.owners i ≡ Some (Some level)
-    left : (i key level : ℕ) → slice_get call.references.items i ≡ Some (Some key) → slice_get owners i ≡ Some (Some level) → IsLeft answer (length call.locals.frames) key level
+    left : (i key level : ℕ) → slice_get call.slots.references.items i ≡ Some (Some key) → slice_get owners i ≡ Some (Some level) → IsLeft answer (length call.locals.frames) key level
 
   module _ (answer : Answer) (works : IsWorkedOut (scene_of w.classes store call pending) function called.f answer) where
     abbrev Works : JniFunction → Type 0
@@ -331,7 +343,7 @@ module _ (p : Lowered) (w : World) (store : Store) (pending : Option ℕ) (call 
           shows = subst (λ (x : Identifier). Shows h.code r.known (visible_to (λ y. if bytes_eq y x then None else own y) shared s) (slots_of call r.references (slice_set r.owners d.slot None) r.fields)) (sym d.variable)
               (owner_lost_with_slot h.code r.known (visible_to own shared s) (slots_of call r.references r.owners r.fields) r.shows d.name d.slot (called.own_slots d.name (record { sort = Ref; index = d.slot }) d.at));
           among = λ i level at. in_others d i level (set_cases r.owners d.slot i None (Some level) at);
-          left = λ i key level found at. by_key d (slice_get call.references.items d.slot) refl i key level found (set_cases r.owners d.slot i None (Some level) at);
+          left = λ i key level found at. by_key d (slice_get call.slots.references.items d.slot) refl i key level found (set_cases r.owners d.slot i None (Some level) at);
         }
       where
         nothing : (level : ℕ) → ◌≡◌ {A = Option ℕ} None (Some level) → ⊥
@@ -341,10 +353,10 @@ module _ (p : Lowered) (w : World) (store : Store) (pending : Option ℕ) (call 
         in_others d i level (inl (same, none)) = absurd (nothing level none)
         in_others d i level (inr (other, at)) = at
 
-        answered : (d : DeletesKey p w.classes store.heap call h.code own shared s task rest r function.operands called.args) (o : Option (Option ℕ)) → slice_get call.references.items d.slot ≡ o → answer ≡ deletes (held_in o)
+        answered : (d : DeletesKey p w.classes store.heap call h.code own shared s task rest r function.operands called.args) (o : Option (Option ℕ)) → slice_get call.slots.references.items d.slot ≡ o → answer ≡ deletes (held_in o)
         answered d o at = is ∙ ap (λ (x : Operand). deletes (key_at (references_of store call) x)) d.is ∙ ap (λ (x : Option (Option ℕ)). deletes (held_in x)) at
 
-        by_key : (d : DeletesKey p w.classes store.heap call h.code own shared s task rest r function.operands called.args) (o : Option (Option ℕ)) → slice_get call.references.items d.slot ≡ o → (i key level : ℕ) → slice_get call.references.items i ≡ Some (Some key)
+        by_key : (d : DeletesKey p w.classes store.heap call h.code own shared s task rest r function.operands called.args) (o : Option (Option ℕ)) → slice_get call.slots.references.items d.slot ≡ o → (i key level : ℕ) → slice_get call.slots.references.items i ≡ Some (Some key)
             → ((i ≡ d.slot) × (◌≡◌ {A = Option ℕ} None (Some level))) ⊎ ((i ≢ d.slot) × (slice_get r.owners i ≡ Some (Some level))) → IsLeft answer (length call.locals.frames) key level
         by_key d o at i key level found (inl (same, none)) = absurd (nothing level none)
         by_key d None at i key level found (inr (other, owned)) = subst (λ (a : Answer). IsLeft a (length call.locals.frames) key level) (sym (answered d None at)) tt
@@ -352,7 +364,7 @@ module _ (p : Lowered) (w : World) (store : Store) (pending : Option ℕ) (call 
         by_key d (Some (Some k)) at i key level found (inr (other, owned)) =
             subst (λ (a : Answer). IsLeft a (length call.locals.frames) key level) (sym (answered d (Some (Some k)) at))
             (λ same.
-            let named = name_there store.heap call.locals call.references.items r.references r.owners d.slot k r.agree at in
+            let named = name_there store.heap call.locals call.slots.references.items r.references r.owners d.slot k r.agree at in
             let owner = d.owned named.0 named.1 in
             other (r.agree.apart i d.slot key level owner.0 found (at ∙ ap (λ (n : ℕ). Some (Some n)) (sym same)) owned owner.1))
 
@@ -386,49 +398,146 @@ module _ (p : Lowered) (w : World) (store : Store) (pending : Option ℕ) (call 
     abbrev left_own : Owners
     left_own = left_by_call called.f called.args (length s.frames) own
 
-    left_stands : CallStands p w.classes store.heap call (visible_to left_own shared s) s.frames (task ∷ rest)
-    left_stands = record {
-      code = h.code;
-      of_function = h.of_function;
-      known = r.known;
-      stands = r.stands;
-      references = r.references;
-      owners = leaves_owners.owners;
-      agree = fewer_owned store.heap call.locals call.references.items r.references r.owners leaves_owners.owners r.agree leaves_owners.among;
-      fields = r.fields;
-      fields_agree = r.fields_agree;
-      shows = leaves_owners.shows;
-      depth = r.depth;
-      frames_agree = r.frames_agree;
+    -- ---- the variables that the call leaves
+
+    -- Number slots that show the variables that the call leaves. Others than it had are left by a function that gives nothing.
+    record ShowsLeft (vs : Variables) (numbers : List ℕ) : Type 0 where
+      shows : Shows h.code r.known (visible_to left_own shared (record s { variables = vs })) (record { numbers = numbers; references = r.references; owners = leaves_owners.owners; fields = r.fields })
+      viewless : viewed_by (record s { variables = vs }) ≡ []
+      kept : (vs ≡ s.variables) ⊎ ((prototype called.f).result ≡ GivesNothing)
+
+    -- those of before
+    same_left : (vs : Variables) (numbers : List ℕ) → vs ≡ s.variables → numbers ≡ call.slots.numbers.items → ShowsLeft vs numbers
+    same_left vs numbers same_variables same_numbers = record {
+      shows =
+          subst (λ (us : Variables). Shows h.code r.known (visible_to left_own shared (record s { variables = us })) (record { numbers = numbers; references = r.references; owners = leaves_owners.owners; fields = r.fields })) (sym same_variables)
+          (subst (λ (l : List ℕ). Shows h.code r.known (visible_to left_own shared s) (record { numbers = l; references = r.references; owners = leaves_owners.owners; fields = r.fields })) (sym same_numbers) leaves_owners.shows);
+      viewless = subst (λ (us : Variables). viewed_by (record s { variables = us }) ≡ []) (sym same_variables) h.viewless;
+      kept = inl same_variables;
     }
 
-    left_ready : Ready p w.classes store.heap call h.code (visible_to left_own shared s) s.frames task rest
-    left_ready = ready p w.classes store.heap call h.code (visible_to left_own shared s) s.frames task rest h.lowered h.of_function left_stands
+    -- those into which numbers were copied
+    copied_left : (effect : CallEffect) (numbers : List ℕ) → Copied w.classes (brought_by call function called.args) store.heap call.locals (prototype called.f).result shared s answer effect → numbers ≡ numbers_after store.heap answer call.slots.numbers.items → ShowsLeft (variables_left false s effect) numbers
+    copied_left effect numbers it slots =
+        let c = it.copied in
+        let named = array_known h.code r.known call.place call.stack (slots_of call r.references r.owners r.fields) (visible_to own shared s) function.operands called.args c.name c.array called.operands c.given in
+        let few : length (words_of store.heap it.region) ≤ c.array.len =
+        omega (arith, c.few, length-map (take it.region.count (drop it.region.start (values_at store.heap it.region.object))) word_of, length-take it.region.count (drop it.region.start (values_at store.heap it.region.object))) in
+        let variables : variables_left false s effect ≡ change c.name (begun_with c.numbers) s.variables = ap (variables_left false s) c.is in
+        let slots_are : numbers ≡ overlaid call.slots.numbers.items c.array.start (words_of store.heap it.region) =
+        slots ∙ ap (λ (a : Answer). numbers_after store.heap a call.slots.numbers.items) it.is ∙ ap (λ (i : ℕ). overlaid call.slots.numbers.items i (words_of store.heap it.region)) c.slot in
+        let left_slots : Slots = record { numbers = call.slots.numbers.items; references = r.references; owners = leaves_owners.owners; fields = r.fields } in
+        record {
+          shows =
+              subst (λ (us : Variables). Shows h.code r.known (visible_to left_own shared (record s { variables = us })) (record left_slots { numbers = numbers })) (sym variables)
+              (subst (λ (l : List ℕ). Shows h.code r.known (visible_to left_own shared (record s { variables = change c.name (begun_with c.numbers) s.variables })) (record left_slots { numbers = l })) (sym slots_are)
+              (shows_copied h.code r.known left_own shared s left_slots leaves_owners.shows c.name named.0 c.array named.1 (words_of store.heap it.region) c.numbers c.words few called.own_slots));
+          viewless =
+              subst (λ (us : Variables). viewed_by (record s { variables = us }) ≡ []) (sym variables)
+              (copied_viewless h.code r.known left_own shared s left_slots leaves_owners.shows c.name named.0 c.array named.1 (words_of store.heap it.region) c.numbers c.words few h.viewless);
+          kept = inr it.nothing;
+        }
 
-    left_owners : left_ready.owners ≡ leaves_owners.owners
-    unfolding left_ready left_stands
-    left_owners = ready_owners p w.classes store.heap call h.code (visible_to left_own shared s) s.frames task rest h.lowered h.of_function left_stands
+    -- what carrying out an answer leaves
+    shows_left : (refused : Bool) (effect : CallEffect) (numbers : List ℕ) → is_halt answer ≡ false → IsAnswer w.classes (brought_by call function called.args) store.heap call.locals (prototype called.f).result shared s answer effect → (refused ≡ true → makes_objects effect ≡ true)
+        → numbers ≡ numbers_after store.heap answer call.slots.numbers.items → ShowsLeft (variables_left refused s effect) numbers
+    shows_left refused effect numbers runs does could slots = by_answer refused could (kept_or_copied w.classes (brought_by call function called.args) store.heap call.locals (prototype called.f).result shared s answer effect runs does)
+      where
+        nothing_made : Copied w.classes (brought_by call function called.args) store.heap call.locals (prototype called.f).result shared s answer effect → makes_objects effect ≡ true → ⊥
+        nothing_made it made = let e : false ≡ true = sym (ap makes_objects it.copied.is) ∙ made in cc
 
-    -- where the result goes is there for these too
-    abbrev GoesThere : Effect → Type 0
-    GoesThere effect =
-        (line : ℕ) (target : Target) (f : JniFunction) (args : List Actual) → effect ≡ Calls line target f args
-        → TakesResult h.code left_ready.known call.place call.stack (slots_of call left_ready.references left_ready.owners left_ready.fields) (visible_to left_own shared s) line function.target (prototype f).result target rest
+        by_answer : (refused : Bool) → (refused ≡ true → makes_objects effect ≡ true)
+            → AreKept w.classes (brought_by call function called.args) store.heap call.locals (prototype called.f).result shared s answer effect ⊎ Copied w.classes (brought_by call function called.args) store.heap call.locals (prototype called.f).result shared s answer effect
+            → ShowsLeft (variables_left refused s effect) numbers
+        by_answer false could (inl kept) = same_left (variables_left false s effect) numbers kept.0 (slots ∙ kept.1 call.slots.numbers.items)
+        by_answer true could (inl kept) = same_left s.variables numbers refl (slots ∙ kept.1 call.slots.numbers.items)
+        by_answer false could (inr it) = copied_left effect numbers it slots
+        by_answer true could (inr it) = absurd (nothing_made it (could refl))
 
-    goes_by : (line : ℕ) (target : Target) (f : JniFunction) (args : List Actual) → CallsFunction h.code left_ready.known call.place call.stack (slots_of call left_ready.references left_ready.owners left_ready.fields) (visible_to left_own shared s) line target f args rest → GoesThere (Calls line target f args)
-    goes_by line target f args c line' target' f' args' is =
-        let same : c.call ≡ function = let both : instr.Call c.call ≡ instr.Call function = cc (h.at, c.at) in cc in
-        let same_line : line ≡ line' = cc in
-        let same_target : target ≡ target' = cc in
-        let same_function : f ≡ f' = cc in
-        let goes = subst (λ (x : Call). TakesResult h.code left_ready.known call.place call.stack (slots_of call left_ready.references left_ready.owners left_ready.fields) (visible_to left_own shared s) line x.target (prototype f).result target rest) same c.goes in
-        subst (λ (x : JniFunction). TakesResult h.code left_ready.known call.place call.stack (slots_of call left_ready.references left_ready.owners left_ready.fields) (visible_to left_own shared s) line' function.target (prototype x).result target' rest) same_function
-        (subst (λ (x : Target). TakesResult h.code left_ready.known call.place call.stack (slots_of call left_ready.references left_ready.owners left_ready.fields) (visible_to left_own shared s) line' function.target (prototype f).result x rest) same_target
-        (subst (λ (x : ℕ). TakesResult h.code left_ready.known call.place call.stack (slots_of call left_ready.references left_ready.owners left_ready.fields) (visible_to left_own shared s) x function.target (prototype f).result target rest) same_line goes))
+    -- ---- the call with fewer owners, and with these slots, stands for the thread with these variables
+    module _ (vs : Variables) (numbers : Vec ℕ) (left : ShowsLeft vs numbers.items) where
+      abbrev call_left : Activation
+      call_left = record call { slots = record call.slots { numbers = numbers } }
 
-    goes_left : TakesResult h.code left_ready.known call.place call.stack (slots_of call left_ready.references left_ready.owners left_ready.fields) (visible_to left_own shared s) called.line function.target (prototype called.f).result called.target rest
-    goes_left =
-        call_cases p w.classes store.heap call h.code (visible_to left_own shared s) s.frames task rest left_ready (instr.Call function) h.at function refl GoesThere goes_by called.line called.target called.f called.args called.is
+      abbrev thread_left : source.Thread
+      thread_left = record s { variables = vs }
+
+      left_stands : CallStands p w.classes store.heap call_left (visible_to left_own shared thread_left) s.frames (task ∷ rest)
+      left_stands = record {
+        code = h.code;
+        of_function = h.of_function;
+        known = r.known;
+        stands = r.stands;
+        references = r.references;
+        owners = leaves_owners.owners;
+        agree = fewer_owned store.heap call.locals call.slots.references.items r.references r.owners leaves_owners.owners r.agree leaves_owners.among;
+        fields = r.fields;
+        fields_agree = r.fields_agree;
+        shows = left.shows;
+        depth = r.depth;
+        frames_agree = r.frames_agree;
+      }
+
+      left_ready : Ready p w.classes store.heap call_left h.code (visible_to left_own shared thread_left) s.frames task rest
+      left_ready = ready p w.classes store.heap call_left h.code (visible_to left_own shared thread_left) s.frames task rest h.lowered h.of_function left_stands
+
+      left_owners : left_ready.owners ≡ leaves_owners.owners
+      unfolding left_ready left_stands
+      left_owners = ready_owners p w.classes store.heap call_left h.code (visible_to left_own shared thread_left) s.frames task rest h.lowered h.of_function left_stands
+
+      left_known : left_ready.known ≡ r.known
+      unfolding left_ready left_stands
+      left_known = ready_known p w.classes store.heap call_left h.code (visible_to left_own shared thread_left) s.frames task rest h.lowered h.of_function left_stands
+
+      -- where the result goes is there for these too
+      abbrev Goes : (line : ℕ) → Destination → ResultKind → Target → Type 0
+      Goes line d kind target = TakesResult h.code left_ready.known call.place call.stack (slots_of call_left left_ready.references left_ready.owners left_ready.fields) (visible_to left_own shared thread_left) line d kind target rest
+
+      abbrev GoesThere : Effect → Type 0
+      GoesThere effect = (line : ℕ) (target : Target) (f : JniFunction) (args : List Actual) → effect ≡ Calls line target f args → Goes line function.target (prototype f).result target
+
+      goes_by : (line : ℕ) (target : Target) (f : JniFunction) (args : List Actual) → CallsFunction h.code left_ready.known call.place call.stack (slots_of call_left left_ready.references left_ready.owners left_ready.fields) (visible_to left_own shared thread_left) line target f args rest → GoesThere (Calls line target f args)
+      goes_by line target f args c line' target' f' args' is =
+          let same : c.call ≡ function = let both : instr.Call c.call ≡ instr.Call function = cc (h.at, c.at) in cc in
+          let same_line : line ≡ line' = cc in
+          let same_target : target ≡ target' = cc in
+          let same_function : f ≡ f' = cc in
+          let goes = subst (λ (x : Call). Goes line x.target (prototype f).result target) same c.goes in
+          subst (λ (x : JniFunction). Goes line' function.target (prototype x).result target') same_function
+          (subst (λ (x : Target). Goes line' function.target (prototype f).result x) same_target
+          (subst (λ (x : ℕ). Goes x function.target (prototype f).result target) same_line goes))
+
+      -- with the variables of before the step is the same
+      goes_same : vs ≡ s.variables → Goes called.line function.target (prototype called.f).result called.target
+      goes_same same =
+          call_cases p w.classes store.heap call_left h.code (visible_to left_own shared thread_left) s.frames task rest left_ready (instr.Call function) h.at function refl GoesThere goes_by called.line called.target called.f called.args
+          (ap (λ (us : Variables). effect_of (sight_of shared (record s { variables = us })) task) same ∙ called.is)
+
+      -- and nothing goes nowhere
+      nowhere : (d : Destination) (kind : ResultKind) → kind ≡ GivesNothing
+          → TakesResult h.code r.known call.place call.stack (slots_of call r.references r.owners r.fields) (visible_to own shared s) called.line d kind called.target rest → Goes called.line d kind called.target
+      nowhere (destination.Number i) kind nothing goes = absurd (let clash : None ≡ Some goes.0 = sym (ap number_sort nothing) ∙ goes.1 in cc)
+      nowhere (destination.Local i) kind nothing goes = absurd (let clash : GivesNothing ≡ NewLocal = sym nothing ∙ goes.0 in cc)
+      nowhere (destination.FieldId i) kind nothing goes = absurd (let clash : GivesNothing ≡ GivesField = sym nothing ∙ goes.0 in cc)
+      nowhere (destination.Static i) kind nothing goes = absurd (let clash : GivesNothing ≡ NewGlobal = sym nothing ∙ goes.0 in cc)
+      nowhere (destination.Buffer i) kind nothing goes = absurd goes
+      nowhere destination.Test kind nothing goes = absurd (let clash : GivesNothing ≡ GivesInt = sym nothing ∙ goes.0 in cc)
+      nowhere destination.Dropped kind nothing goes = (goes.0, subst (λ (names : Known). StandsFor h.code names (call.place + 1) [] rest) (sym left_known) goes.1)
+
+      goes_left : Goes called.line function.target (prototype called.f).result called.target
+      goes_left = by_kept left.kept
+        where
+          by_kept : (vs ≡ s.variables) ⊎ ((prototype called.f).result ≡ GivesNothing) → Goes called.line function.target (prototype called.f).result called.target
+          by_kept (inl same) = goes_same same
+          by_kept (inr nothing) = nowhere function.target (prototype called.f).result nothing called.goes
+
+      -- a variable that takes a local reference was there before
+      was_there : (prototype called.f).result ≡ NewLocal → (x : Identifier) (v : Variable) → lookup x vs ≡ Some v → lookup x s.variables ≡ Some v
+      was_there local x v at = by_kept left.kept
+        where
+          by_kept : (vs ≡ s.variables) ⊎ ((prototype called.f).result ≡ GivesNothing) → lookup x s.variables ≡ Some v
+          by_kept (inl same) = ap (λ (us : Variables). lookup x us) (sym same) ∙ at
+          by_kept (inr nothing) = absurd (let clash : NewLocal ≡ GivesNothing = sym local ∙ nothing in cc)
 
   -- nothing was found
   module _ (free : trap_of_call w.classes shared s called.target called.f called.args ≡ None) where
@@ -495,14 +604,15 @@ module _ (p : Lowered) (w : World) (store : Store) (pending : Option ℕ) (call 
     stepped true t next h = h
 
     -- what was carried out and received is what the source's call leaves
-    pub goes_on : (refused : Bool) (store' : Store) (pending' : Option ℕ) (locals : LocalTable) (g : Given) (after : Activation) (statics : Vec StaticReference) (answer : Answer) → is_halt answer ≡ false → AreStacked locals → (free : trap_of_call w.classes shared s called.target called.f called.args ≡ None)
+    pub goes_on : (refused : Bool) (store' : Store) (pending' : Option ℕ) (locals : LocalTable) (g : Given) (numbers : Vec ℕ) (after : Activation) (statics : Vec StaticReference) (answer : Answer) → is_halt answer ≡ false → AreStacked locals → (free : trap_of_call w.classes shared s called.target called.f called.args ≡ None)
         → IsWorkedOut (scene_of w.classes store call pending) function called.f answer
-        → IsAnswer w.classes function.texts store.heap call.locals (prototype called.f).result shared s answer (call_effect w.classes in_use k shared s called.args called.f)
+        → IsAnswer w.classes (brought_by call function called.args) store.heap call.locals (prototype called.f).result shared s answer (call_effect w.classes in_use k shared s called.args called.f)
         → CarriesOut p w store.heap call.locals answer (prototype called.f).result shared s (call_effect w.classes in_use k shared s called.args called.f) refused store' pending' locals g
-        → Receives function.target (prototype called.f).result g (record call { locals = locals }) after
+        → numbers.items ≡ numbers_after store.heap answer call.slots.numbers.items
+        → Receives function.target (prototype called.f).result g (record call { locals = locals; slots = record call.slots { numbers = numbers } }) after
         → statics.items ≡ statics_with function.target g store'.statics.items
         → GoesOn p w store.heap (record store' { statics = statics }) in_use k own shared s rest after pending' (effect_of (sight_of shared s) task) refused event.Quiet
-    goes_on refused store' pending' locals g after statics answer runs stacked free works does carried received put =
+    goes_on refused store' pending' locals g numbers after statics answer runs stacked free works does carried copied received put =
         let effect = call_effect w.classes in_use k shared s called.args called.f in
         let next = shared_after w.classes refused shared effect in
         let left = frames_left refused s effect in
@@ -510,14 +620,16 @@ module _ (p : Lowered) (w : World) (store : Store) (pending : Option ℕ) (call 
         let c = result_after (prototype called.f).result refused effect in
         let left_frames : (prototype called.f).result ≡ NewLocal → left ≡ source_frames_after called.f s.frames = λ local. left_is w.classes in_use k shared s called.args called.f called.asked.answered local refused carried.could_refuse in
         let mid = leaves_owners answer works in
-        let ready_left = left_ready answer works in
-        let keyed = keys_left store.heap store'.heap call.locals locals call.references.items ready_left.references ready_left.owners ready_left.agree
-        (λ i key n level at_key owned is. carried.left key n level is (mid.left i key level at_key (subst (λ (l : List (Option ℕ)). slice_get l i ≡ Some (Some level)) (left_owners answer works) owned))) in
-        let ends = finishes p w store.heap store' (left_own answer works) shared next carried.store_agrees carried.keeps s h.viewless call h.code task rest (left_ready answer works) called.line called.f called.args locals stacked (room_after free refused store' pending' locals g answer carried) keyed left carried.frames_agree q g c carried.given_agrees carried.still function h.at called.left after statics function.target called.target
+        let vs = variables_left refused s effect in
+        let shown = shows_left answer works refused effect numbers.items runs does carried.could_refuse copied in
+        let ready_left = left_ready answer works vs numbers shown in
+        let keyed = keys_left store.heap store'.heap call.locals locals call.slots.references.items ready_left.references ready_left.owners ready_left.agree
+        (λ i key n level at_key owned is. carried.left key n level is (mid.left i key level at_key (subst (λ (l : List (Option ℕ)). slice_get l i ≡ Some (Some level)) (left_owners answer works vs numbers shown) owned))) in
+        let ends = finishes p w store.heap store' (left_own answer works) shared next carried.store_agrees carried.keeps (record s { variables = vs }) shown.viewless (record call { slots = record call.slots { numbers = numbers } }) h.code task rest ready_left called.line called.f called.args locals stacked (room_after free refused store' pending' locals g answer carried) keyed left carried.frames_agree q g c carried.given_agrees carried.still function h.at called.left after statics function.target called.target
         (λ local x level old is at.
-        h.steady.declared called.line x called.f called.args level old (next_is ∙ ap (λ (t : Target). Calls called.line t called.f called.args) is) local at
-        ∙ ap (λ (fs : List source.Frame). length fs) (sym (left_frames local))) refl (goes_left answer works) received put in
-        let steps = step_leaves w.classes in_use k shared s called.line called.target called.f called.args rest refused effect (effect_is free in_use k) (stays_with w.classes function.texts store.heap call.locals (prototype called.f).result shared s answer effect runs does) carried.could_refuse in
+        h.steady.declared called.line x called.f called.args level old (next_is ∙ ap (λ (t : Target). Calls called.line t called.f called.args) is) local (was_there answer works vs numbers shown local x (LocalRef level old) at)
+        ∙ ap (λ (fs : List source.Frame). length fs) (sym (left_frames local))) refl (goes_left answer works vs numbers shown) received put in
+        let steps = step_leaves w.classes in_use k shared s called.line called.target called.f called.args rest refused effect (effect_is free in_use k) (stays_with w.classes (brought_by call function called.args) store.heap call.locals (prototype called.f).result shared s answer effect runs does) carried.could_refuse in
         subst (λ (e : Effect). GoesOn p w store.heap (record store' { statics = statics }) in_use k own shared s rest after pending' e refused event.Quiet) (sym called.is) (record {
           next_shared = ends.now;
           next = going called.line called.f called.args ends.tasks s left q c ends.variables;

@@ -50,7 +50,7 @@ code_lowered statics (FunctionItem f ∷ items) (c ∷ codes) (suc n) code h e =
 
 -- the slots of a call, with the names of the objects that they refer to
 abbrev pub slots_of : Activation → List Reference → (owners : List (Option ℕ)) → List (Option FieldId) → Slots
-slots_of call references owners fields = record { numbers = call.numbers.items; references = references; owners = owners; fields = fields }
+slots_of call references owners fields = record { numbers = call.slots.numbers.items; references = references; owners = owners; fields = fields }
 
 -- ---- effects
 
@@ -124,9 +124,9 @@ pub record Ready (p : Lowered) (classes : Classes) (space : Space) (call : Activ
   pub known : Known
   pub references : List Reference
   pub owners : List (Option ℕ)
-  pub agree : KeysAgree space call.locals call.references.items references owners
+  pub agree : KeysAgree space call.locals call.slots.references.items references owners
   pub fields : List (Option FieldId)
-  pub fields_agree : FieldsAgree classes call.fields.items fields
+  pub fields_agree : FieldsAgree classes call.slots.fields.items fields
   pub frames_agree : FramesAgree space call.locals frames
   pub shows : Shows code known visible (slots_of call references owners fields)
   pub stands : StandsFor code known call.place call.stack (task ∷ rest)
@@ -160,6 +160,12 @@ pub ready_owners : (p : Lowered) (classes : Classes) (space : Space) (call : Act
     → (ready p classes space call code visible frames task rest lowered at h).owners ≡ h.owners
 unfolding ready
 ready_owners p classes space call code visible frames task rest lowered at h = refl
+
+-- and so are the names
+pub ready_known : (p : Lowered) (classes : Classes) (space : Space) (call : Activation) (code : Listing) (visible : Visible) (frames : List Frame) (task : Task) (rest : List Task) (lowered : IsLowered p) (at : slice_get p.codes call.function ≡ Some code) (h : CallStands p classes space call visible frames (task ∷ rest))
+    → (ready p classes space call code visible frames task rest lowered at h).known ≡ h.known
+unfolding ready
+ready_known p classes space call code visible frames task rest lowered at h = refl
 
 -- as many field IDs as handles
 pub fields_count : (classes : Classes) (handles : List (Option FieldHandle)) (fields : List (Option FieldId)) → FieldsAgree classes handles fields → length fields ≡ length handles
@@ -197,7 +203,7 @@ module _ (p : Lowered) (classes : Classes) (space : Space) (call : Activation) (
     references = references;
     owners = r.owners;
     agree =
-        subst (λ (t : LocalTable). KeysAgree space t after.references.items references r.owners) (sym m.locals)
+        subst (λ (t : LocalTable). KeysAgree space t after.slots.references.items references r.owners) (sym m.locals)
         (subst (λ (l : List (Option ℕ)). KeysAgree space call.locals l references r.owners) (sym m.references) agree);
     fields = fields;
     fields_agree = subst (λ (l : List (Option FieldHandle)). FieldsAgree classes l fields) (sym m.fields) handled;
@@ -215,12 +221,12 @@ module _ (p : Lowered) (classes : Classes) (space : Space) (call : Activation) (
     room = runs.room (length call.stack) r.depth
 
     -- a plain one has an effect
-    pub plain_there : IsPlain i → IsSome (plain_of i call.stack call.numbers.items)
-    plain_there works = runs.plain call.stack call.numbers.items works r.depth r.shows.numbers
+    pub plain_there : IsPlain i → IsSome (plain_of i call.stack call.slots.numbers.items)
+    plain_there works = runs.plain call.stack call.slots.numbers.items works r.depth r.shows.numbers
 
     -- where a plain one leads
-    pub leads : (way : Plain) (stack numbers : List ℕ) → plain_of i call.stack call.numbers.items ≡ Some (way, stack, numbers) → LeadsInside code.instrs call.place way (length stack)
-    leads way stack numbers is = runs.leads call.stack call.numbers.items stack numbers way r.depth is
+    pub leads : (way : Plain) (stack numbers : List ℕ) → plain_of i call.stack call.slots.numbers.items ≡ Some (way, stack, numbers) → LeadsInside code.instrs call.place way (length stack)
+    leads way stack numbers is = runs.leads call.stack call.slots.numbers.items stack numbers way r.depth is
 
     -- the depth after one that isn't plain
     pub depth_behind : (after : ℕ) → (Leaves i → ⊥) → depth_after i (length call.stack) ≡ Some after → depth_at code.instrs (call.place + 1) ≡ Some after

@@ -13,7 +13,7 @@ use Rattle.semantics.specs.Sight.{scalar, holds_null, elements_of, in_range, hel
 use Rattle.semantics.specs.Thread as source
 use Rattle.semantics.specs.Thread.{Shared}
 use Rattle.semantics.specs.Value.{Value, Gives, Stuck, outcome_then, convert}
-use Rattle.semantics.specs.Variable.{Variable, Scalar, LocalRef, FieldHandle, Elements, LocalArray, Empty, Variables, assign}
+use Rattle.semantics.specs.Variable.{Variable, Scalar, LocalRef, FieldHandle, Elements, LocalArray, Empty, Variables, assign, change}
 use Rattle.semantics.specs.Task.{VariableKind, ScalarKind, ReferenceKind, FieldKind}
 use Rattle.semantics_safety.specs.Owners.{Owners}
 use Rattle.code_meaning.specs.Slots.{visible_to, type_of_array, kind_of_variable, OthersStay, IsSet, IsNulled, IsReferred, IsFieldSet, IsMade, IsElementSet}
@@ -58,6 +58,19 @@ assign_same {A = A} x v ((y, w) ∷ rest) at = by_test (bytes_eq x y) refl at (�
         let name : x ≡ y = (bytes_eq-Decides x y).0 e in
         let value : w ≡ v = cc in
         ap (λ (z : Identifier). (z, v) ∷ rest) name ∙ ap (λ (u : A). (y, u) ∷ rest) (sym value)
+    by_test false e h later = ap (λ (vs : ByName A). (y, w) ∷ vs) (later h)
+
+-- a value that is there is changed
+pub change_is : {A : Type 0} (x : Identifier) (f : A → A) (v : A) (vs : ByName A) → lookup x vs ≡ Some v → change x f vs ≡ assign x (f v) vs
+change_is x f v [] at = absurd (cc)
+change_is {A = A} x f v ((y, w) ∷ rest) at = by_test (bytes_eq x y) refl at (λ h. change_is x f v rest h)
+  where
+    by_test : (b : Bool) → bytes_eq x y ≡ b → (if b then Some w else lookup x rest) ≡ Some v → (lookup x rest ≡ Some v → change x f rest ≡ assign x (f v) rest)
+        → (if b then (y, f w) ∷ rest else (y, w) ∷ change x f rest) ≡ (if b then (x, f v) ∷ rest else (y, w) ∷ assign x (f v) rest)
+    by_test true e h later =
+        let name : x ≡ y = (bytes_eq-Decides x y).0 e in
+        let value : w ≡ v = cc in
+        ap (λ (u : A). (y, f u) ∷ rest) value ∙ ap (λ (z : Identifier). (z, f v) ∷ rest) (sym name)
     by_test false e h later = ap (λ (vs : ByName A). (y, w) ∷ vs) (later h)
 
 -- ---- elements
@@ -120,10 +133,10 @@ OthersOwn own own' x = (y : Identifier) → y ≢ x → own' y ≡ own y
 
 -- the thread's variables with one of them set
 module _ (own own' : Owners) (shared : Shared) (s t : source.Thread) (x : Identifier) (stay : OthersOwn own own' x) (v : Variable) (e : t.variables ≡ assign x v s.variables) where
-  found : lookup x t.variables ≡ Some v
+  pub found : lookup x t.variables ≡ Some v
   found = ap (λ (vs : Variables). lookup x vs) e ∙ lookup_same x v s.variables
 
-  others : OthersStay (visible_to own shared s) (visible_to own' shared t) x
+  pub others : OthersStay (visible_to own shared s) (visible_to own' shared t) x
   others y other =
       let same : lookup y t.variables ≡ lookup y s.variables = ap (λ (vs : Variables). lookup y vs) e ∙ lookup_other x y v s.variables other in
       record {
@@ -137,7 +150,7 @@ module _ (own own' : Owners) (shared : Shared) (s t : source.Thread) (x : Identi
         owner = stay y other;
       }
 
-  element_of : (i : ℕ) → (visible_to own' shared t).sight.element x i ≡ outcome_then (λ (zs : List ℤ). in_range (slice_get zs i)) (elements_of shared.heap (Some v))
+  pub element_of : (i : ℕ) → (visible_to own' shared t).sight.element x i ≡ outcome_then (λ (zs : List ℤ). in_range (slice_get zs i)) (elements_of shared.heap (Some v))
   element_of i = ap (λ (o : Option Variable). outcome_then (λ (zs : List ℤ). in_range (slice_get zs i)) (elements_of shared.heap o)) found
 
   -- a variable that is NULL

@@ -183,15 +183,15 @@ module _ (p : Lowered) (classes : Classes) (space : Space) (call : Activation) (
           by_instr j n way after w = absurd (n (plain_instr j call.stack slots.numbers (way, after, slots.numbers) w))
 
   -- the variable that is made NULL has its slot
-  pub slot_there : (variable : NullableVariable) (statics : ℕ) → i ≡ instr.StoreNull variable → length visible.statics ≡ statics → HasSlot (length call.references.items) (length call.fields.items) statics variable
+  pub slot_there : (variable : NullableVariable) (statics : ℕ) → i ≡ instr.StoreNull variable → length visible.statics ≡ statics → HasSlot (length call.slots.references.items) (length call.slots.fields.items) statics variable
   slot_there (nullable.Local j) statics is same =
       let within : within_slots code.slots (instr.StoreNull (nullable.Local j)) ≡ true = subst (λ (h : Instr). IsTrue (within_slots code.slots h)) is (runs p classes space call code visible frames task rest r i at).slots in
       let below : j < code.slots.references = ltb-true j code.slots.references within in
-      omega (arith, below, keys_count space call.locals call.references.items r.references r.owners r.agree, r.shows.references)
+      omega (arith, below, keys_count space call.locals call.slots.references.items r.references r.owners r.agree, r.shows.references)
   slot_there (nullable.FieldId j) statics is same =
       let within : within_slots code.slots (instr.StoreNull (nullable.FieldId j)) ≡ true = subst (λ (h : Instr). IsTrue (within_slots code.slots h)) is (runs p classes space call code visible frames task rest r i at).slots in
       let below : j < code.slots.field_ids = ltb-true j code.slots.field_ids within in
-      omega (arith, below, fields_count classes call.fields.items r.fields r.fields_agree, r.shows.fields)
+      omega (arith, below, fields_count classes call.slots.fields.items r.fields r.fields_agree, r.shows.fields)
   slot_there (nullable.Buffer j) statics is same = tt
   slot_there (nullable.Static j) statics is same =
       other_cases (λ effect. j < statics) (λ plain. subst IsPlain is plain) (λ test tasks h. absurd (subst IsNullTest is test))
@@ -228,22 +228,22 @@ module _ (p : Lowered) (w : World) (store : Store) (in_use : BuffersInUse) (k : 
   held = slots_of call r.references r.owners r.fields
 
   -- an instruction on the stack and the number slots alone
-  module _ (tasks_are : s.tasks ≡ Some (task ∷ rest)) (after : Activation) (e : Event) (way : Plain) (stack numbers : List ℕ) (is : plain_of i call.stack call.numbers.items ≡ Some (way, stack, numbers))
-      (m : HasMoved call after (end_of_way call.place way) stack numbers call.references.items call.fields.items) (way_seen : WayIsSeen way e) where
+  module _ (tasks_are : s.tasks ≡ Some (task ∷ rest)) (after : Activation) (e : Event) (way : Plain) (stack numbers : List ℕ) (is : plain_of i call.stack call.slots.numbers.items ≡ Some (way, stack, numbers))
+      (m : HasMoved call after (end_of_way call.place way) stack numbers call.slots.references.items call.slots.fields.items) (way_seen : WayIsSeen way e) where
     becomes : IsPlain i → (tasks : List Task) → GoesOn code r.known call.place call.stack held seen (tasks ++ rest) → agrees.GoesOn p w space store in_use k own shared s rest after pending (Becomes tasks) false e
     becomes works tasks h =
         let same : h.here ≡ i = cc (h.at, at) in
-        let plain_is : plain_of i call.stack call.numbers.items ≡ Some (h.way, h.after, call.numbers.items) = plain_works seen held i call.stack h.way h.after works (subst (λ (j : Instr). Works seen held j call.stack h.way h.after) same h.works) in
+        let plain_is : plain_of i call.stack call.slots.numbers.items ≡ Some (h.way, h.after, call.slots.numbers.items) = plain_works seen held i call.stack h.way h.after works (subst (λ (j : Instr). Works seen held j call.stack h.way h.after) same h.works) in
         let way_is : h.way ≡ way = same_way _ _ _ _ _ _ (sym plain_is ∙ is) in
         let after_is : h.after ≡ stack = same_stack _ _ _ _ _ _ (sym plain_is ∙ is) in
-        let numbers_are : call.numbers.items ≡ numbers = same_numbers _ _ _ _ _ _ (sym plain_is ∙ is) in
+        let numbers_are : call.slots.numbers.items ≡ numbers = same_numbers _ _ _ _ _ _ (sym plain_is ∙ is) in
         let end : AtEnd (λ q. StandsFor code h.names q stack (tasks ++ rest)) call.place way =
         subst (λ (u : Plain). AtEnd (λ q. StandsFor code h.names q stack (tasks ++ rest)) call.place u) way_is (subst (λ (st : List ℕ). AtEnd (λ q. StandsFor code h.names q st (tasks ++ rest)) call.place h.way) after_is h.stands) in
         let next : source.Thread = with_tasks s (tasks ++ rest) in
         record {
           next = next;
           steps = ap (λ (v : Event). source.Advances shared next (event_view v)) (sym (quiet_at_end call.place way (λ q. StandsFor code h.names q stack (tasks ++ rest)) e end way_seen));
-          work = stands_at p classes space call code seen s.frames task rest r after (end_of_way call.place way) stack numbers call.references.items r.references call.fields.items r.fields h.names (visible_to own shared next) (tasks ++ rest)
+          work = stands_at p classes space call code seen s.frames task rest r after (end_of_way call.place way) stack numbers call.slots.references.items r.references call.slots.fields.items r.fields h.names (visible_to own shared next) (tasks ++ rest)
               (depth_at_end code call.place way (length stack) (λ q. StandsFor code h.names q stack (tasks ++ rest)) (leads p classes space call code seen s.frames task rest r i at way stack numbers is) end) m r.agree r.fields_agree
               (at_end call.place way (λ q. StandsFor code h.names q stack (tasks ++ rest)) end)
               (subst (λ (ns : List ℕ). Shows code h.names (visible_to own shared next) (record { numbers = ns; references = r.references; owners = r.owners; fields = r.fields })) numbers_are h.shows);
@@ -261,7 +261,7 @@ module _ (p : Lowered) (w : World) (store : Store) (in_use : BuffersInUse) (k : 
         → changed (visible_to own shared (record s { tasks = Some rest; variables = vs })) → Viewless vs → agrees.owners_left did (event_view e) (length s.frames) own vs ≡ own → agrees.GoesOn p w space store in_use k own shared s rest after pending did false e
     writes did changed h vs steps shown no_view left =
         let same : h.here ≡ i = cc (h.at, at) in
-        let plain_is : plain_of i call.stack call.numbers.items ≡ Some (plain.Next, [], h.numbers) = subst (λ (j : Instr). plain_of j call.stack call.numbers.items ≡ Some (plain.Next, [], h.numbers)) same h.plain in
+        let plain_is : plain_of i call.stack call.slots.numbers.items ≡ Some (plain.Next, [], h.numbers) = subst (λ (j : Instr). plain_of j call.stack call.slots.numbers.items ≡ Some (plain.Next, [], h.numbers)) same h.plain in
         let way_is : way ≡ plain.Next = same_way _ _ _ _ _ _ (sym is ∙ plain_is) in
         let after_is : [] ≡ stack = same_stack _ _ _ _ _ _ (sym plain_is ∙ is) in
         let numbers_are : h.numbers ≡ numbers = same_numbers _ _ _ _ _ _ (sym plain_is ∙ is) in
@@ -272,8 +272,8 @@ module _ (p : Lowered) (w : World) (store : Store) (in_use : BuffersInUse) (k : 
           next = next;
           steps = steps ∙ ap (λ (v : Event). source.Advances shared next (event_view v)) (sym quiet);
           work = subst (λ (o : Owners). CallStands p classes space after (visible_to o shared next) s.frames rest) (sym left)
-              (stands_at p classes space call code seen s.frames task rest r after (call.place + 1) stack numbers call.references.items r.references call.fields.items r.fields h.names (visible_to own shared next) rest end.words
-              (subst (λ (w : Plain). HasMoved call after (end_of_way call.place w) stack numbers call.references.items call.fields.items) way_is m) r.agree r.fields_agree
+              (stands_at p classes space call code seen s.frames task rest r after (call.place + 1) stack numbers call.slots.references.items r.references call.slots.fields.items r.fields h.names (visible_to own shared next) rest end.words
+              (subst (λ (w : Plain). HasMoved call after (end_of_way call.place w) stack numbers call.slots.references.items call.slots.fields.items) way_is m) r.agree r.fields_agree
               (subst (λ (st : List ℕ). StandsFor code h.names (call.place + 1) st rest) after_is h.stands)
               (subst (λ (ns : List ℕ). Shows code h.names (visible_to own shared next) (record { numbers = ns; references = r.references; owners = r.owners; fields = r.fields })) numbers_are (h.shows (visible_to own shared next) shown)));
           next_shared = shared;
@@ -289,16 +289,16 @@ module _ (p : Lowered) (w : World) (store : Store) (in_use : BuffersInUse) (k : 
     traps : (reason : Trap) (line : ℕ) → Stops code r.known call.place call.stack held seen reason line → agrees.GoesOn p w space store in_use k own shared s rest after pending (TrapsAt reason line) false e
     traps reason line h =
         let same : h.here ≡ i = cc (h.at, at) in
-        let plain_is : plain_of i call.stack call.numbers.items ≡ Some (plain.Trap h.trap line, call.stack, call.numbers.items) =
-        subst (λ (j : Instr). plain_of j call.stack call.numbers.items ≡ Some (plain.Trap h.trap line, call.stack, call.numbers.items)) same h.plain in
+        let plain_is : plain_of i call.stack call.slots.numbers.items ≡ Some (plain.Trap h.trap line, call.stack, call.slots.numbers.items) =
+        subst (λ (j : Instr). plain_of j call.stack call.slots.numbers.items ≡ Some (plain.Trap h.trap line, call.stack, call.slots.numbers.items)) same h.plain in
         let way_is : way ≡ plain.Trap h.trap line = same_way _ _ _ _ _ _ (sym is ∙ plain_is) in
         let after_is : call.stack ≡ stack = same_stack _ _ _ _ _ _ (sym plain_is ∙ is) in
-        let numbers_are : call.numbers.items ≡ numbers = same_numbers _ _ _ _ _ _ (sym plain_is ∙ is) in
+        let numbers_are : call.slots.numbers.items ≡ numbers = same_numbers _ _ _ _ _ _ (sym plain_is ∙ is) in
         let seen_trap : WayIsSeen (plain.Trap h.trap line) e = subst (λ (w : Plain). WayIsSeen w e) way_is way_seen in
         let trap_is : reason ≡ trap_view seen_trap.0 = sym h.is ∙ sym seen_trap.1 in
         let stands : CallStands p classes space after seen s.frames (task ∷ rest) =
-        stands_at p classes space call code seen s.frames task rest r after call.place stack numbers call.references.items r.references call.fields.items r.fields r.known seen (task ∷ rest) (r.depth ∙ ap (λ (st : List ℕ). Some (length st)) after_is)
-        (subst (λ (w : Plain). HasMoved call after (end_of_way call.place w) stack numbers call.references.items call.fields.items) way_is m) r.agree r.fields_agree
+        stands_at p classes space call code seen s.frames task rest r after call.place stack numbers call.slots.references.items r.references call.slots.fields.items r.fields r.known seen (task ∷ rest) (r.depth ∙ ap (λ (st : List ℕ). Some (length st)) after_is)
+        (subst (λ (w : Plain). HasMoved call after (end_of_way call.place w) stack numbers call.slots.references.items call.slots.fields.items) way_is m) r.agree r.fields_agree
         (subst (λ (st : List ℕ). StandsFor code r.known call.place st (task ∷ rest)) after_is r.stands)
         (subst (λ (ns : List ℕ). Shows code r.known seen (record { numbers = ns; references = r.references; owners = r.owners; fields = r.fields })) numbers_are r.shows) in
         record {
@@ -325,7 +325,7 @@ module _ (p : Lowered) (w : World) (store : Store) (in_use : BuffersInUse) (k : 
 
     pub plain_executes : Executes p w space store in_use k own shared s rest after pending (effect_of (sight_of shared s) task) (Did e)
     plain_executes =
-        let works : IsPlain i = plain_instr i call.stack call.numbers.items (way, stack, numbers) is in
+        let works : IsPlain i = plain_instr i call.stack call.slots.numbers.items (way, stack, numbers) is in
         does_cases code r.known call.place call.stack held seen rest (λ effect. SetsWhatIsThere seen.sight effect → Executes p w space store in_use k own shared s rest after pending effect (Did e))
         (λ tasks h there. becomes works tasks h)
         (λ x v h there. writes (Sets x v) (IsSet seen x v) h (assign x (Scalar v) s.variables) refl (is_set own own shared s (record s { tasks = Some rest; variables = assign x (Scalar v) s.variables }) x (λ y other. refl) v refl) (assigned_viewless x (Scalar v) s.variables refl none) refl)
@@ -339,7 +339,7 @@ module _ (p : Lowered) (w : World) (store : Store) (in_use : BuffersInUse) (k : 
         (effect_of seen.sight task) r.does (sets_what_is_there seen.sight task)
 
   -- a test of NULL
-  pub test_executes : (variable : NullableVariable) (equal : Bool) (after : Activation) → i ≡ instr.TestNull variable equal → HasMoved call after (call.place + 1) (truth_word (beq (is_null (references_of store call) call.fields.items variable) equal) ∷ call.stack) call.numbers.items call.references.items call.fields.items
+  pub test_executes : (variable : NullableVariable) (equal : Bool) (after : Activation) → i ≡ instr.TestNull variable equal → HasMoved call after (call.place + 1) (truth_word (beq (is_null (references_of store call) call.slots.fields.items variable) equal) ∷ call.stack) call.slots.numbers.items call.slots.references.items call.slots.fields.items
       → Executes p w space store in_use k own shared s rest after pending (effect_of (sight_of shared s) task) (Did event.Quiet)
   test_executes variable equal after is m =
       other_cases p classes space call code seen s.frames task rest r i at (λ effect. Executes p w space store in_use k own shared s rest after pending effect (Did event.Quiet)) (λ plain. subst IsPlain is plain)
@@ -353,16 +353,16 @@ module _ (p : Lowered) (w : World) (store : Store) (in_use : BuffersInUse) (k : 
       goes tasks h =
           let same : h.here ≡ instr.TestNull variable equal = cc (h.at, at, is) in
           let v = subst (λ (j : Instr). Works seen held j call.stack h.way h.after) same h.works in
-          let null : is_null (references_of store call) call.fields.items variable ≡ v.0 = variable_null_agrees classes space (references_of store call) call.fields.items seen held variable v.0 r.agree shares.statics r.fields_agree v.1 in
-          let words : h.after ≡ truth_word (beq (is_null (references_of store call) call.fields.items variable) equal) ∷ call.stack = v.3 ∙ ap (λ (b : Bool). truth_word (beq b equal) ∷ call.stack) (sym null) in
+          let null : is_null (references_of store call) call.slots.fields.items variable ≡ v.0 = variable_null_agrees classes space (references_of store call) call.slots.fields.items seen held variable v.0 r.agree shares.statics r.fields_agree v.1 in
+          let words : h.after ≡ truth_word (beq (is_null (references_of store call) call.slots.fields.items variable) equal) ∷ call.stack = v.3 ∙ ap (λ (b : Bool). truth_word (beq b equal) ∷ call.stack) (sym null) in
           let next : source.Thread = with_tasks s (tasks ++ rest) in
-          let stack : List ℕ = truth_word (beq (is_null (references_of store call) call.fields.items variable) equal) ∷ call.stack in
+          let stack : List ℕ = truth_word (beq (is_null (references_of store call) call.slots.fields.items variable) equal) ∷ call.stack in
           let end : StandsFor code h.names (call.place + 1) stack (tasks ++ rest) =
           subst (λ (u : Plain). AtEnd (λ q. StandsFor code h.names q stack (tasks ++ rest)) call.place u) v.2 (subst (λ (st : List ℕ). AtEnd (λ q. StandsFor code h.names q st (tasks ++ rest)) call.place h.way) words h.stands) in
           record {
             next = next;
             steps = refl;
-            work = stands_at p classes space call code seen s.frames task rest r after (call.place + 1) stack call.numbers.items call.references.items r.references call.fields.items r.fields h.names (visible_to own shared next) (tasks ++ rest)
+            work = stands_at p classes space call code seen s.frames task rest r after (call.place + 1) stack call.slots.numbers.items call.slots.references.items r.references call.slots.fields.items r.fields h.names (visible_to own shared next) (tasks ++ rest)
                 (depth_behind p classes space call code seen s.frames task rest r i at (length stack) (λ leaves. subst Leaves is leaves)
                 (ap (λ (j : Instr). depth_after j (length call.stack)) is ∙ one_more (length call.stack) (subst (λ (j : Instr). IsSome (depth_after j (length call.stack))) is (room p classes space call code seen s.frames task rest r i at)))) m r.agree r.fields_agree end h.shows;
             next_shared = shared;
@@ -376,7 +376,7 @@ module _ (p : Lowered) (w : World) (store : Store) (in_use : BuffersInUse) (k : 
           }
 
   -- NULL is stored
-  pub store_executes : (variable : NullableVariable) (after : Activation) (statics : Vec StaticReference) → i ≡ instr.StoreNull variable → statics.items ≡ nulled_statics variable store.statics.items → HasMoved call after (call.place + 1) call.stack call.numbers.items (nulled_references variable call.references.items) (nulled_fields variable call.fields.items)
+  pub store_executes : (variable : NullableVariable) (after : Activation) (statics : Vec StaticReference) → i ≡ instr.StoreNull variable → statics.items ≡ nulled_statics variable store.statics.items → HasMoved call after (call.place + 1) call.stack call.slots.numbers.items (nulled_references variable call.slots.references.items) (nulled_fields variable call.slots.fields.items)
       → Executes p w space (record store { statics = statics }) in_use k own shared s rest after pending (effect_of (sight_of shared s) task) (Did event.Quiet)
   store_executes variable after statics is nulled_are m =
       other_cases p classes space call code seen s.frames task rest r i at (λ effect. Executes p w space (record store { statics = statics }) in_use k own shared s rest after pending effect (Did event.Quiet)) (λ plain. subst IsPlain is plain)
@@ -393,13 +393,13 @@ module _ (p : Lowered) (w : World) (store : Store) (in_use : BuffersInUse) (k : 
           let next : source.Thread = record s { tasks = Some rest; variables = null.variables } in
           let now : Shared = record shared { statics = lower.nulled_statics kind h.name shared.statics } in
           let stored = subst (λ (v : NullableVariable). IsStoredIn code r.known call.place call.stack held seen v kind h.name) same h.stored in
-          let nulled = nulled_agree classes space call.locals call.references.items call.fields.items held variable r.agree r.fields_agree in
-          let m' : HasMoved call after (call.place + 1) [] (lower.with_null variable held).numbers (nulled_references variable call.references.items) (nulled_fields variable call.fields.items) =
+          let nulled = nulled_agree classes space call.locals call.slots.references.items call.slots.fields.items held variable r.agree r.fields_agree in
+          let m' : HasMoved call after (call.place + 1) [] (lower.with_null variable held).numbers (nulled_references variable call.slots.references.items) (nulled_fields variable call.slots.fields.items) =
           record { function = m.function; place = m.place; stack = m.stack ∙ h.empty; numbers = m.numbers ∙ sym nulled.numbers; references = m.references; fields = m.fields; locals = m.locals } in
           record {
             next = next;
             steps = null.steps;
-            work = stands_at p classes space call code seen s.frames task rest r after (call.place + 1) [] (lower.with_null variable held).numbers (nulled_references variable call.references.items) (lower.with_null variable held).references (nulled_fields variable call.fields.items) (lower.with_null variable held).fields h.names (visible_to own now next) rest
+            work = stands_at p classes space call code seen s.frames task rest r after (call.place + 1) [] (lower.with_null variable held).numbers (nulled_references variable call.slots.references.items) (lower.with_null variable held).references (nulled_fields variable call.slots.fields.items) (lower.with_null variable held).fields h.names (visible_to own now next) rest
                 (depth_behind p classes space call code seen s.frames task rest r i at 0 (λ leaves. subst Leaves is leaves) (ap (λ (j : Instr). depth_after j (length call.stack)) is ∙ ap (λ (st : List ℕ). Some (length st)) h.empty)) m' nulled.references nulled.fields h.stands
                 (null_shows code h.names (visible_to own now next) held variable (subst (λ (v : NullableVariable). Shows code h.names (visible_to own now next) (lower.with_null v held)) same (h.shows (visible_to own now next) null.nulled)));
             next_shared = now;
@@ -413,7 +413,7 @@ module _ (p : Lowered) (w : World) (store : Store) (in_use : BuffersInUse) (k : 
           }
 
   -- a print
-  pub put_executes : (word : ℕ) (after : Activation) (stack : List ℕ) → i ≡ instr.PutJint → call.stack ≡ word ∷ stack → HasMoved call after (call.place + 1) stack call.numbers.items call.references.items call.fields.items
+  pub put_executes : (word : ℕ) (after : Activation) (stack : List ℕ) → i ≡ instr.PutJint → call.stack ≡ word ∷ stack → HasMoved call after (call.place + 1) stack call.slots.numbers.items call.slots.references.items call.slots.fields.items
       → Executes p w space store in_use k own shared s rest after pending (effect_of (sight_of shared s) task) (Did (event.Printed (cast_signed w32 word)))
   put_executes word after stack put top m =
       other_cases p classes space call code seen s.frames task rest r i at (λ effect. Executes p w space store in_use k own shared s rest after pending effect (Did (event.Printed (cast_signed w32 word)))) (λ plain. subst IsPlain put plain)
@@ -431,7 +431,7 @@ module _ (p : Lowered) (w : World) (store : Store) (in_use : BuffersInUse) (k : 
           record {
             next = with_tasks s rest;
             steps = ap (λ (n : ℤ). source.Advances shared (with_tasks s rest) (source.PrintedNumber n)) number;
-            work = stands_at p classes space call code seen s.frames task rest r after (call.place + 1) stack call.numbers.items call.references.items r.references call.fields.items r.fields r.known seen rest
+            work = stands_at p classes space call code seen s.frames task rest r after (call.place + 1) stack call.slots.numbers.items call.slots.references.items r.references call.slots.fields.items r.fields r.known seen rest
                 (depth_behind p classes space call code seen s.frames task rest r i at (length stack) (λ leaves. subst Leaves put leaves) (ap (λ (j : Instr). depth_after j (length call.stack)) put ∙ ap (λ (st : List ℕ). depth_after instr.PutJint (length st)) top)) m r.agree r.fields_agree
                 (subst (λ (st : List ℕ). StandsFor code r.known (call.place + 1) st rest) nothing h.stands) r.shows;
             next_shared = shared;

@@ -261,10 +261,10 @@ begun p classes space loaded made shared s rest n c call lowered table statics f
     slots.given ∙ ap (λ (vs : List ObjectValue). slice_get loaded (n.class - 1) ∷ filter_map (argument_address loaded) vs ++ replicate slots.more None) f.arguments in
     let agree : AddressesAgree space begins.addresses references =
     subst (λ (l : List (Option ℕ)). AddressesAgree space l references) (sym given) (made_agrees space loaded made table n.class f.class_made.0 f.class_made.1, given_agree space loaded made table c.arguments slots.more f.given) in
-    let keys : KeysAgree space call.locals call.references.items references owners =
+    let keys : KeysAgree space call.locals call.slots.references.items references owners =
     subst (λ (l : List (Option ℕ)). KeysAgree space call.locals l references owners) (sym begins.references)
     (subst (λ (t : LocalTable). KeysAgree space t (keys_from 0 begins.addresses) references owners) (sym begins.locals) (entry_keys space begins.addresses references b.code.slots.references agree)) in
-    let entry : EntrySlots b.code n.class c.arguments (record { numbers = call.numbers.items; references = references; owners = owners; fields = fields }) =
+    let entry : EntrySlots b.code n.class c.arguments (record { numbers = call.slots.numbers.items; references = references; owners = owners; fields = fields }) =
     record {
       fields = length-replicate {A = Option FieldId} b.code.slots.field_ids None;
       numbers = words.counted;
@@ -288,7 +288,7 @@ begun p classes space loaded made shared s rest n c call lowered table statics f
       fields_agree = subst (λ (l : List (Option FieldHandle)). FieldsAgree classes l fields) (sym begins.fields) (no_fields classes b.code.slots.field_ids);
       frames_agree = subst (λ (t : LocalTable). FramesAgree space t (entry_frame (n.class ∷ filter_map named_object c.arguments) ∷ [])) (sym begins.locals)
           (entry_frames space n.class c.arguments slots.more begins.addresses agree);
-      shows = is_code.shows (owned_at s rest f.function n.class c.arguments) shared s rest n.class c.arguments (record { numbers = call.numbers.items; references = references; owners = owners; fields = fields })
+      shows = is_code.shows (owned_at s rest f.function n.class c.arguments) shared s rest n.class c.arguments (record { numbers = call.slots.numbers.items; references = references; owners = owners; fields = fields })
           f.fit entry (statics_shared shared (statics_of (unit_tree p.unit)) p.codes n.function f.function found statics) (entered_lowest s rest f.function n.class c.arguments);
       depth = ap (depth_at b.code.instrs) begins.place ∙ ap (λ (st : List ℕ). Some (length st)) (sym begins.stack);
     }

@@ -318,7 +318,7 @@ pub record Finishes (p : Lowered) (w : World) (old : Space) (shared : Shared) (s
   pub viewless : viewed_by (going line f args tasks s left q c variables) ≡ []
 
 module _ (p : Lowered) (w : World) (old : Space) (store : Store) (own : Owners) (shared next : Shared) (shares : StoreAgrees p w store next) (keeps : Keeps old shared store.heap next) (s : source.Thread) (none : viewed_by s ≡ []) (call : Activation) (code : Listing) (task : Task) (rest : List Task)
-    (r : Ready p w.classes old call code (visible_to own shared s) s.frames task rest) (line : ℕ) (f : JniFunction) (args : List Actual) (locals : LocalTable) (stacked : AreStacked locals) (room : HasRoom (prototype f).result locals) (keyed : KeysAgree store.heap locals call.references.items r.references r.owners) (left : List source.Frame) (framed : FramesAgree store.heap locals left) (q : Reference) (g : Given) (c : CallResult) (agrees : ResultAgrees w.classes store g (prototype f).result c)
+    (r : Ready p w.classes old call code (visible_to own shared s) s.frames task rest) (line : ℕ) (f : JniFunction) (args : List Actual) (locals : LocalTable) (stacked : AreStacked locals) (room : HasRoom (prototype f).result locals) (keyed : KeysAgree store.heap locals call.slots.references.items r.references r.owners) (left : List source.Frame) (framed : FramesAgree store.heap locals left) (q : Reference) (g : Given) (c : CallResult) (agrees : ResultAgrees w.classes store g (prototype f).result c)
     (still : (prototype f).result ≡ NewGlobal → next.statics ≡ shared.statics) (function : Call) (at : slice_get code.instrs call.place ≡ Some (instr.Call function)) (none_left : with_fewer (words_taken function.operands) (length call.stack) ≡ Some 0) (after : Activation) (statics : Vec InMemory) where
   abbrev space : Space
   space = store.heap
@@ -343,8 +343,8 @@ module _ (p : Lowered) (w : World) (old : Space) (store : Store) (own : Owners) 
   Ends target = Finishes p w old shared store statics next line target f args rest s left q c own after
 
   -- the keys once a result is made a local reference
-  kept_keys : (d : Destination) → Receives d kind g carried after → KeysAgree space after.locals call.references.items r.references r.owners
-  kept_keys d receives = keys_left space space locals after.locals call.references.items r.references r.owners keyed (λ i key n level at_key owned h. made_left space kind g locals after.locals receives.key stacked receives.makes key n level h)
+  kept_keys : (d : Destination) → Receives d kind g carried after → KeysAgree space after.locals call.slots.references.items r.references r.owners
+  kept_keys d receives = keys_left space space locals after.locals call.slots.references.items r.references r.owners keyed (λ i key n level at_key owned h. made_left space kind g locals after.locals receives.key stacked receives.makes key n level h)
 
   frames_after : (d : Destination) → Receives d kind g carried after → FramesAgree space after.locals (frames_received kind c left)
   frames_after d receives = frames_result w.classes store kind g c locals after.locals receives.key left stacked agrees receives.makes framed
@@ -359,8 +359,8 @@ module _ (p : Lowered) (w : World) (old : Space) (store : Store) (own : Owners) 
 
   -- with these words on the stack it stands for these tasks
   stands_with : (words : List ℕ) (tasks : List Task) → with_result function.target 0 ≡ Some (length words) → (d : Destination) → Receives d kind g carried after → stack_with d g ≡ words
-      → (now : Owners) (names : Known) (vs : Variables) (references : List Reference) (owners : List (Option ℕ)) (fields : List (Option FieldId)) → KeysAgree space after.locals after.references.items references owners → FieldsAgree w.classes after.fields.items fields
-      → StandsFor code names (call.place + 1) words tasks → Shows code names (visible_to now shared (resuming vs)) (record { numbers = after.numbers.items; references = references; owners = owners; fields = fields })
+      → (now : Owners) (names : Known) (vs : Variables) (references : List Reference) (owners : List (Option ℕ)) (fields : List (Option FieldId)) → KeysAgree space after.locals after.slots.references.items references owners → FieldsAgree w.classes after.slots.fields.items fields
+      → StandsFor code names (call.place + 1) words tasks → Shows code names (visible_to now shared (resuming vs)) (record { numbers = after.slots.numbers.items; references = references; owners = owners; fields = fields })
       → CallStands p w.classes space after (visible_to now next (resuming vs)) (frames_received kind c left) tasks
   stands_with words tasks count d receives put now names vs references owners fields agree fields_agree stands shows = record {
     code = code;
@@ -372,7 +372,7 @@ module _ (p : Lowered) (w : World) (old : Space) (store : Store) (own : Owners) 
     agree = agree;
     fields = fields;
     fields_agree = fields_agree;
-    shows = shows_stay now shared next keeps.statics (resuming vs) code names (record { numbers = after.numbers.items; references = references; owners = owners; fields = fields }) shows;
+    shows = shows_stay now shared next keeps.statics (resuming vs) code names (record { numbers = after.slots.numbers.items; references = references; owners = owners; fields = fields }) shows;
     depth =
         ap (depth_at code.instrs) receives.place
         ∙ depth_behind p w.classes old call code (visible_to own shared s) s.frames task rest r (instr.Call function) at (length words) (λ leaves. leaves) (ap (option_and_then (with_result function.target)) none_left ∙ count)
@@ -381,16 +381,16 @@ module _ (p : Lowered) (w : World) (old : Space) (store : Store) (own : Owners) 
   }
 
   -- what is shown of the slots that the call has then
-  shown : {numbers : List ℕ} (names : Known) (visible : Visible) (references : List Reference) (owners : List (Option ℕ)) (fields : List (Option FieldId)) → after.numbers.items ≡ numbers
-      → Shows code names visible (record { numbers = numbers; references = references; owners = owners; fields = fields }) → Shows code names visible (record { numbers = after.numbers.items; references = references; owners = owners; fields = fields })
+  shown : {numbers : List ℕ} (names : Known) (visible : Visible) (references : List Reference) (owners : List (Option ℕ)) (fields : List (Option FieldId)) → after.slots.numbers.items ≡ numbers
+      → Shows code names visible (record { numbers = numbers; references = references; owners = owners; fields = fields }) → Shows code names visible (record { numbers = after.slots.numbers.items; references = references; owners = owners; fields = fields })
   shown names visible references owners fields same_numbers h = subst (λ (l : List ℕ). Shows code names visible (record { numbers = l; references = references; owners = owners; fields = fields })) (sym same_numbers) h
 
   -- as many frames in memory as in the source
   frames_count : length locals.frames ≡ length left
   frames_count = as_many_frames space locals left framed
 
-  stands_after : HasNoWord → (d : Destination) → stack_with d g ≡ [] → Receives d kind g carried after → (now : Owners) (names : Known) (vs : Variables) (references : List Reference) (owners : List (Option ℕ)) (fields : List (Option FieldId)) → KeysAgree space after.locals after.references.items references owners → FieldsAgree w.classes after.fields.items fields
-      → StandsFor code names (call.place + 1) [] rest → Shows code names (visible_to now shared (resuming vs)) (record { numbers = after.numbers.items; references = references; owners = owners; fields = fields })
+  stands_after : HasNoWord → (d : Destination) → stack_with d g ≡ [] → Receives d kind g carried after → (now : Owners) (names : Known) (vs : Variables) (references : List Reference) (owners : List (Option ℕ)) (fields : List (Option FieldId)) → KeysAgree space after.locals after.slots.references.items references owners → FieldsAgree w.classes after.slots.fields.items fields
+      → StandsFor code names (call.place + 1) [] rest → Shows code names (visible_to now shared (resuming vs)) (record { numbers = after.slots.numbers.items; references = references; owners = owners; fields = fields })
       → CallStands p w.classes space after (visible_to now next (resuming vs)) (frames_received kind c left) rest
   stands_after no_word d empty receives = stands_with [] rest no_word d receives empty
 
@@ -400,7 +400,7 @@ module _ (p : Lowered) (w : World) (old : Space) (store : Store) (own : Owners) 
     number_stands : CallStands p w.classes space after (visible_to own next (resuming (assign x (Scalar n.value) s.variables))) (frames_received kind c left) rest
     number_stands =
         let vs = assign x (Scalar n.value) s.variables in
-        let numbers : after.numbers.items ≡ slice_set call.numbers.items i (word_of n.value) = receives.numbers ∙ ap (λ (h : Given). numbers_with (destination.Number i) h call.numbers.items) n.same in
+        let numbers : after.slots.numbers.items ≡ slice_set call.slots.numbers.items i (word_of n.value) = receives.numbers ∙ ap (λ (h : Given). numbers_with (destination.Number i) h call.slots.numbers.items) n.same in
         stands_after no_word (destination.Number i) refl receives own takes.names vs r.references r.owners r.fields (subst (λ (l : List (Option ℕ)). KeysAgree space after.locals l r.references r.owners) (sym receives.references) (kept_keys (destination.Number i) receives))
         (subst (λ (l : List (Option Handle)). FieldsAgree w.classes l r.fields) (sym receives.fields) r.fields_agree) takes.stands
         (shown takes.names (visible_to own shared (resuming vs)) r.references r.owners r.fields numbers
@@ -444,11 +444,11 @@ module _ (p : Lowered) (w : World) (old : Space) (store : Store) (own : Owners) 
         let made = made_new space g n.address n.reference locals after.locals receives.key stacked (room_frame locals (subst (λ (k : ResultKind). HasRoom k locals) local room)) n.same n.agrees (subst (λ (k : ResultKind). MakesLocal k g locals receives.key after.locals) local receives.makes) in
         stands_after no_word (destination.Local i) refl receives new takes.names vs (slice_set r.references i n.reference) (slice_set r.owners i (new x)) r.fields
         (subst (λ (l : List (Option ℕ)). KeysAgree space after.locals l (slice_set r.references i n.reference) (slice_set r.owners i (new x))) (sym receives.references)
-        (key_put space after.locals call.references.items r.references r.owners i receives.key n.reference (new x) (kept_keys (destination.Local i) receives) made.null
+        (key_put space after.locals call.slots.references.items r.references r.owners i receives.key n.reference (new x) (kept_keys (destination.Local i) receives) made.null
         (λ place m own_level at named owned.
         let same : level ≡ own_level = let both : Some level ≡ Some own_level = ap (λ (q : Reference). level_held (Some (LocalRef level q))) (sym named) ∙ sym here ∙ owned in cc in
         subst (IsKeyOf space after.locals place m) (counted ∙ same) (made.key_of place m at named))
-        (λ j place own_level at found owned. let live = live_there space locals call.references.items r.references r.owners j place own_level keyed found owned in let clash : None ≡ Some live.0 = sym (made.fresh place at) ∙ live.1 in cc)))
+        (λ j place own_level at found owned. let live = live_there space locals call.slots.references.items r.references r.owners j place own_level keyed found owned in let clash : None ≡ Some live.0 = sym (made.fresh place at) ∙ live.1 in cc)))
         (subst (λ (l : List (Option Handle)). FieldsAgree w.classes l r.fields) (sym receives.fields) r.fields_agree) takes.stands
         (shown takes.names (visible_to new shared (resuming vs)) (slice_set r.references i n.reference) (slice_set r.owners i (new x)) r.fields receives.numbers
         (takes.shows n.reference (visible_to new shared (resuming vs)) (is_referred own new shared s (resuming vs) x stay level n.reference refl)))
@@ -493,9 +493,9 @@ module _ (p : Lowered) (w : World) (old : Space) (store : Store) (own : Owners) 
     field_stands : CallStands p w.classes space after (visible_to own next (resuming (assign x (FieldHandle n.field) s.variables))) (frames_received kind c left) rest
     field_stands =
         let vs = assign x (FieldHandle n.field) s.variables in
-        let fields : after.fields.items ≡ slice_set call.fields.items i n.handle = receives.fields ∙ ap (λ (h : Given). fields_with (destination.FieldId i) h call.fields.items) n.same in
+        let fields : after.slots.fields.items ≡ slice_set call.slots.fields.items i n.handle = receives.fields ∙ ap (λ (h : Given). fields_with (destination.FieldId i) h call.slots.fields.items) n.same in
         stands_after no_word (destination.FieldId i) refl receives own takes.names vs r.references r.owners (slice_set r.fields i n.field) (subst (λ (l : List (Option ℕ)). KeysAgree space after.locals l r.references r.owners) (sym receives.references) (kept_keys (destination.FieldId i) receives))
-        (subst (λ (l : List (Option Handle)). FieldsAgree w.classes l (slice_set r.fields i n.field)) (sym fields) (field_put w.classes call.fields.items r.fields i n.handle n.field r.fields_agree n.agrees)) takes.stands
+        (subst (λ (l : List (Option Handle)). FieldsAgree w.classes l (slice_set r.fields i n.field)) (sym fields) (field_put w.classes call.slots.fields.items r.fields i n.handle n.field r.fields_agree n.agrees)) takes.stands
         (shown takes.names (visible_to own shared (resuming vs)) r.references r.owners (slice_set r.fields i n.field) receives.numbers
         (takes.shows n.field (visible_to own shared (resuming vs)) (is_field_set own own shared s (resuming vs) x (λ y other. refl) n.field refl)))
 
@@ -560,7 +560,7 @@ module _ (p : Lowered) (w : World) (old : Space) (store : Store) (own : Owners) 
           agree = subst (λ (l : List (Option ℕ)). KeysAgree space after.locals l r.references r.owners) (sym receives.references) (kept_keys (destination.Static i) receives);
           fields = r.fields;
           fields_agree = subst (λ (l : List (Option Handle)). FieldsAgree w.classes l r.fields) (sym receives.fields) r.fields_agree;
-          shows = shows_stay own seen now (inl now_statics) (resuming s.variables) code takes.names (record { numbers = after.numbers.items; references = r.references; owners = r.owners; fields = r.fields })
+          shows = shows_stay own seen now (inl now_statics) (resuming s.variables) code takes.names (record { numbers = after.slots.numbers.items; references = r.references; owners = r.owners; fields = r.fields })
               (shown takes.names (visible_to own seen (resuming s.variables)) r.references r.owners r.fields receives.numbers
               (takes.shows h (visible_to own seen (resuming s.variables)) (is_held own shared s x h unnamed)));
           depth =

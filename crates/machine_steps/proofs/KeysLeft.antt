@@ -1,9 +1,11 @@
 -- What a call leaves of the keys that are variables' own, before its result is put.
 use Rattle.std.proofs.Common.{◌≡◌, ◌≢◌, ℕ, ℤ, pos, negsuc, Bool, true, false, List, length, map, Option, Some, None, refl, sym, ap, ◌∙◌, nat_lt, if◌then◌else◌}
-use Rattle.std.specs.Prelude.{slice_get, ◌==◌}
+use Rattle.std.specs.Prelude.{slice_get, nat_le, ◌==◌}
+use Rattle.std.proofs.lemmas.Bool.{cond_both}
 use Rattle.std.specs.Option.{option_map}
 use Rattle.std.proofs.lemmas.Bool.Decides.{Decides-eqb}
 use Rattle.std.proofs.lemmas.Option.{slice_get-map}
+use Rattle.class_rules.specs.BuiltIns.{array_index_out_of_bounds, string_index_out_of_bounds}
 use Rattle.class_rules.specs.Class.{Classes}
 use Rattle.class_rules.specs.Fields.{FieldId}
 use Rattle.code.specs.Call.{Call}
@@ -11,14 +13,17 @@ use Rattle.code.specs.declared.instr.Operand.{Operand}
 use Rattle.code.specs.declared.instr.Operand.TheVariants as operand
 use Rattle.heap.specs.Heap.{Space, values_at}
 use Rattle.heap.specs.declared.value.Value.{Value}
-use Rattle.jni.specs.JniFunction.{JniFunction, FindClass, DeleteLocalRef, DeleteGlobalRef, EnsureLocalCapacity, PushLocalFrame, PopLocalFrame, GetFieldID, GetStaticFieldID, SetField, SetStaticField, SetObjectField, SetStaticObjectField, NewArray, NewObjectArray, GetObjectArrayElement, SetObjectArrayElement}
+use Rattle.jni.specs.JniFunction.{JniFunction, FindClass, DeleteLocalRef, DeleteGlobalRef, EnsureLocalCapacity, PushLocalFrame, PopLocalFrame, GetFieldID, GetStaticFieldID, SetField, SetStaticField, SetObjectField, SetStaticObjectField, NewArray, NewObjectArray, GetObjectArrayElement, SetObjectArrayElement, GetArrayRegion, SetArrayRegion, GetStringRegion}
 use Rattle.semantics_safety.specs.Owners.{other_than}
+use Rattle.code.specs.declared.instr.LocalArray.{LocalArray}
+use Rattle.machine_calls.specs.declared.array_region.ArrayRegion.{ArrayRegion}
+use Rattle.machine_calls.specs.declared.trap.Trap.TheVariants.{OutOfRange}
 use Rattle.machine_calls.specs.declared.answer.Answer.{Answer}
 use Rattle.machine_calls.specs.declared.answer.Given.TheVariants.{Nothing}
 use Rattle.machine_calls.specs.declared.answer.Answer.TheVariants as answer
 use Rattle.machine_calls.specs.CarriedOut.{IsLeft}
 use Rattle.machine_calls.specs.Scenes.{Scene}
-use Rattle.machine_calls.specs.WorkedOut.{IsFoundField, IsWorkedOut, deletes_global, element_there, found_class, frame_for, new_array, room_for, stores_there, writes_there}
+use Rattle.machine_calls.specs.WorkedOut.{IsFoundField, IsWorkedOut, copies_in, copies_out, local_array, region, deletes_global, element_there, found_class, frame_for, new_array, room_for, stores_there, writes_there}
 
 -- ---- answers that end no local reference
 
@@ -69,6 +74,14 @@ none_field : (classes : Classes) (o : Option FieldId) (a : Answer) → IsFoundFi
 none_field classes None a h = ap ends_none h
 none_field classes (Some f) a h = ap ends_none h.1
 
+none_copied_out : (exception : ℕ) (array : LocalArray) (r : Option ArrayRegion) → ends_none (copies_out exception array r) ≡ true
+none_copied_out exception array None = refl
+none_copied_out exception array (Some r) = cond_both (nat_le r.count array.len) (answer.CopiesOut r) (answer.Halts OutOfRange) (λ (a : Answer). ends_none a ≡ true) (λ e. refl) (λ e. refl)
+
+none_copied_in : (exception : ℕ) (array : LocalArray) (r : Option ArrayRegion) → ends_none (copies_in exception array r) ≡ true
+none_copied_in exception array None = refl
+none_copied_in exception array (Some r) = cond_both (nat_le r.count array.len) (answer.CopiesIn r) (answer.Halts OutOfRange) (λ (a : Answer). ends_none a ≡ true) (λ e. refl) (λ e. refl)
+
 -- the functions that end local references
 abbrev pub may_end : JniFunction → Bool
 may_end DeleteLocalRef = true
@@ -93,6 +106,9 @@ module _ (scene : Scene) (call : Call) where
   others_end_none NewObjectArray a m is = ap ends_none is ∙ none_array _ _ _
   others_end_none GetObjectArrayElement a m is = ap ends_none is ∙ none_element scene.space _ _
   others_end_none SetObjectArrayElement a m is = ap ends_none is ∙ none_store scene.space _ _ _ _
+  others_end_none (GetArrayRegion T) a m is = ap ends_none is ∙ none_copied_out array_index_out_of_bounds (local_array scene call) (region scene call)
+  others_end_none (SetArrayRegion T) a m is = ap ends_none is ∙ none_copied_in array_index_out_of_bounds (local_array scene call) (region scene call)
+  others_end_none GetStringRegion a m is = ap ends_none is ∙ none_copied_out string_index_out_of_bounds (local_array scene call) (region scene call)
   others_end_none GetFieldID a m is = none_field scene.classes _ a is
   others_end_none GetStaticFieldID a m is = none_field scene.classes _ a is
   others_end_none DeleteLocalRef a m is = absurd (cc)

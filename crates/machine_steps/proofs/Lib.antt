@@ -15,6 +15,7 @@ pub mod Invocations
 pub mod EffectFrames
 pub mod KeysLeft
 pub mod OwnedKeys
+pub mod CopiedArrays
 pub mod CallInstructions
 pub mod AnsweredCalls
 pub mod ArgumentSlots

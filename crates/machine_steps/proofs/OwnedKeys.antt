@@ -223,7 +223,7 @@ module _ (p : Lowered) (classes : Classes) (space : Space) (call : Activation) (
   reference_is x (Some n) = refl
 
   abbrev keys : List (Option ℕ)
-  keys = call.references.items
+  keys = call.slots.references.items
 
   -- a name of a local reference, its slot and its key
   pub record IsNamedKey (o : InMemory) (a : Actual) : Type 0 where

@@ -47,12 +47,12 @@ pub record BeginsIn (code : Listing) (loaded : List ℕ) (next : PendingCall) (c
   pub function : call.function ≡ next.function
   pub place : call.place ≡ 0
   pub stack : call.stack ≡ []
-  pub numbers : IsNumbersOf code.slots.numbers (map object_value_view next.arguments.items) call.numbers.items
+  pub numbers : IsNumbersOf code.slots.numbers (map object_value_view next.arguments.items) call.slots.numbers.items
   pub addresses : List (Option ℕ)
   pub given : IsReferencesOf code.slots.references loaded next.class (map object_value_view next.arguments.items) addresses
   pub locals : call.locals ≡ entry_locals addresses
-  pub references : call.references.items ≡ keys_from 0 addresses
-  pub fields : call.fields.items ≡ replicate code.slots.field_ids None
+  pub references : call.slots.references.items ≡ keys_from 0 addresses
+  pub fields : call.slots.fields.items ≡ replicate code.slots.field_ids None
 
 -- a call of a program before its first instruction
 pub record Begins (p : Lowered) (loaded : List ℕ) (next : PendingCall) (call : Activation) : Type 0 where

@@ -1,5 +1,5 @@
 -- How a call in progress stands for its tasks, and what an instruction does to it.
-use Rattle.std.specs.Prelude.{◌≡◌, ℕ, ◌<◌, Bool, true, false, List, [], ◌∷◌, length, drop, Option, Some, None, slice_get}
+use Rattle.std.specs.Prelude.{◌≡◌, ◌≢◌, ℕ, ◌<◌, Bool, true, false, List, [], ◌∷◌, length, drop, Option, Some, None, slice_get}
 use Rattle.std.specs.List.{AllByRecursion}
 use Rattle.base.specs.Bytes.{Identifier, lookup}
 use Rattle.class_rules.specs.Class.{Classes}
@@ -8,13 +8,16 @@ use Rattle.heap.specs.Heap.{Space}
 use Rattle.semantics.specs.Object.{Reference, sizes}
 use Rattle.semantics.specs.World.{World}
 use Rattle.code.specs.Depth.{Listing, depth_at}
-use Rattle.semantics.specs.Effect.{Effect, Calls, Returns}
-use Rattle.semantics.specs.Task.{Task, Assigned}
+use Rattle.semantics.specs.Effect.{Effect, Calls, Returns, NoEffect}
+use Rattle.semantics.specs.Task.{Task, Target, Assigned}
 use Rattle.semantics.specs.Checks.{frames_after}
-use Rattle.semantics.specs.Arguments.{Actual}
+use Rattle.semantics.specs.Arguments.{Actual, object_given, variable_given}
 use Rattle.semantics_safety.specs.Owners.{Owners, IsOwn, after_call}
+use Rattle.semantics_safety.specs.StepSafe.{HoldsNoBuffer, MayMeetView, MayReturn, SetsWhole, came_from}
 use Rattle.semantics_safety.specs.Used.{task_names}
-use Rattle.jni.specs.JniFunction.{JniFunction, prototype}
+use Rattle.semantics_typing.specs.Objects.{AreTypedObjects, AreTypedVariables}
+use Rattle.jni.specs.Access.{Access}
+use Rattle.jni.specs.JniFunction.{JniFunction, ReleaseBuffer, prototype}
 use Rattle.jni.specs.Prototype.{NewLocal}
 use Rattle.semantics.specs.Thread as source
 use Rattle.semantics.specs.Thread.{BuffersInUse, Shared, Advance, Advances, NoAdvance, viewed_by}
@@ -55,10 +58,10 @@ pub record CallStands (p : Lowered) (classes : Classes) (space : Space) (call : 
   pub stands : StandsFor code known call.place call.stack tasks
   pub references : List Reference
   pub owners : List (Option ℕ)
-  pub agree : KeysAgree space call.locals call.references.items references owners
+  pub agree : KeysAgree space call.locals call.slots.references.items references owners
   pub fields : List (Option FieldId)
-  pub fields_agree : FieldsAgree classes call.fields.items fields
-  pub shows : Shows code known visible (record { numbers = call.numbers.items; references = references; owners = owners; fields = fields })
+  pub fields_agree : FieldsAgree classes call.slots.fields.items fields
+  pub shows : Shows code known visible (record { numbers = call.slots.numbers.items; references = references; owners = owners; fields = fields })
   pub depth : depth_at code.instrs call.place ≡ Some (length call.stack)
   pub frames_agree : FramesAgree space call.locals frames
 
@@ -71,9 +74,15 @@ WorkAgrees p classes space visible (Some call) frames (Some tasks) = CallStands 
 
 -- ---- steps
 
--- What no step of an accepted unit breaks: a new local reference goes to a variable that was declared at the frame it comes into, and
--- a local reference that a step uses is NULL or its variable's own.
-pub record IsSteady (own : Owners) (shared : Shared) (s : source.Thread) : Type 0 where
+-- What no step of an accepted unit breaks, as `StepSafe` has it of the thread alone, and what its objects and variables are made of.
+pub record IsSteady (classes : Classes) (own : Owners) (shared : Shared) (s : source.Thread) : Type 0 where
+  pub view : (task : Task) (rest : List Task) → s.tasks ≡ Some (task ∷ rest) → viewed_by s ≢ [] → MayMeetView task
+  pub return : next_effect shared s s.tasks ≡ Returns → MayReturn s
+  pub release : (line : ℕ) (target : Target) (access : Access) (args : List Actual) → next_effect shared s s.tasks ≡ Calls line target (ReleaseBuffer access) args → came_from (lookup (variable_given args 1) s.variables) ≡ Some (object_given args 0)
+  pub free : (x : Identifier) → SetsWhole x (next_effect shared s s.tasks) → HoldsNoBuffer (lookup x s.variables)
+  pub possible : (tasks : List Task) → s.tasks ≡ Some tasks → next_effect shared s s.tasks ≢ NoEffect
+  pub objects : AreTypedObjects classes shared.heap
+  pub variables : AreTypedVariables classes shared.heap s.variables
   pub declared : (line : ℕ) (x : Identifier) (f : JniFunction) (args : List Actual) (level : ℕ) (r : Reference)
       → next_effect shared s s.tasks ≡ Calls line (Assigned x) f args → (prototype f).result ≡ NewLocal → lookup x s.variables ≡ Some (LocalRef level r) → level ≡ length (frames_after f s.frames)
   pub owned : (task : Task) (rest : List Task) → s.tasks ≡ Some (task ∷ rest) → AllByRecursion (λ x. IsOwn own x (lookup x s.variables)) (task_names task)
@@ -85,7 +94,7 @@ pub record IsExecuting (p : Lowered) (w : World) (store : Store) (call : Activat
   pub stands : CallStands p w.classes store.heap call (visible_to own shared s) s.frames (task ∷ rest)
   pub pending_agrees : ReferenceAgrees store.heap pending s.pending
   pub viewless : viewed_by s ≡ []
-  pub steady : IsSteady own shared s
+  pub steady : IsSteady w.classes own shared s
 
 -- what an effect of the first task leaves, or the same with its allocation refused
 abbrev pub after_any : Classes → BuffersInUse → ℕ → Shared → source.Thread → List Task → (refused : Bool) → Effect → Advance

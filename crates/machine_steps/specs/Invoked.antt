@@ -42,7 +42,7 @@ pub record AtCall (p : Lowered) (w : World) (store : Store) (pending : Option �
   pub pending_agrees : ReferenceAgrees store.heap pending s.pending
   pub stands : CallStands p w.classes store.heap call (visible_to own shared s) s.frames (task ∷ rest)
   pub viewless : viewed_by s ≡ []
-  pub steady : IsSteady own shared s
+  pub steady : IsSteady w.classes own shared s
   pub code : Listing
   pub of_function : slice_get p.codes call.function ≡ Some code
   pub at : slice_get code.instrs call.place ≡ Some (instr.Call (call_view function))

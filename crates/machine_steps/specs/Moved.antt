@@ -17,9 +17,9 @@ pub record HasMoved (call after : Activation) (to : ℕ) (words slots : List ℕ
   pub function : after.function ≡ call.function
   pub place : after.place ≡ to
   pub stack : after.stack ≡ words
-  pub numbers : after.numbers.items ≡ slots
-  pub references : after.references.items ≡ keys
-  pub fields : after.fields.items ≡ handles
+  pub numbers : after.slots.numbers.items ≡ slots
+  pub references : after.slots.references.items ≡ keys
+  pub fields : after.slots.fields.items ≡ handles
   pub locals : after.locals ≡ call.locals
 
 -- the place that a way leads to; a trap stays
@@ -46,6 +46,6 @@ pub record MovesPlainly (i : Instr) (call after : Activation) (seen : Event) : T
   pub way : Plain
   pub stack : List ℕ
   pub numbers : List ℕ
-  pub is : plain_of i call.stack call.numbers.items ≡ Some (way, stack, numbers)
-  pub moved : HasMoved call after (end_of_way call.place way) stack numbers call.references.items call.fields.items
+  pub is : plain_of i call.stack call.slots.numbers.items ≡ Some (way, stack, numbers)
+  pub moved : HasMoved call after (end_of_way call.place way) stack numbers call.slots.references.items call.slots.fields.items
   pub way_seen : WayIsSeen way seen

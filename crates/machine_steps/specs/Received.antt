@@ -63,7 +63,7 @@ HasStatic target count = Unit {0}
 
 -- the target's slot is there
 abbrev pub HasTarget : Target → Activation → Type 0
-HasTarget target call = HasNumber target (length call.numbers.items) × HasReference target (length call.references.items) × HasField target (length call.fields.items)
+HasTarget target call = HasNumber target (length call.slots.numbers.items) × HasReference target (length call.slots.references.items) × HasField target (length call.slots.fields.items)
 
 -- a local reference, where a function of this kind of result puts one, has room in the current frame
 abbrev pub HasRoom : ResultKind → LocalTable → Type 0
@@ -75,8 +75,8 @@ pub record Receives (target : Target) (kind : ResultKind) (g : Given) (call afte
   pub function : after.function ≡ call.function
   pub place : after.place ≡ call.place + 1
   pub stack : after.stack ≡ stack_with target g
-  pub numbers : after.numbers.items ≡ numbers_with target g call.numbers.items
+  pub numbers : after.slots.numbers.items ≡ numbers_with target g call.slots.numbers.items
   pub key : Option ℕ
   pub makes : MakesLocal kind g call.locals key after.locals
-  pub references : after.references.items ≡ references_with target key call.references.items
-  pub fields : after.fields.items ≡ fields_with target g call.fields.items
+  pub references : after.slots.references.items ≡ references_with target key call.slots.references.items
+  pub fields : after.slots.fields.items ≡ fields_with target g call.slots.fields.items

@@ -52,14 +52,14 @@ pub fn advance(
     requires lowered { IsLowered program.now }
     requires few { store.old.births + 2 < 2 ^ 32 }
     requires agrees { (own : Owners) × (shared : Shared) × (s : SourceThread) × StoreAgrees program.now world.now store.old shared
-        × ThreadAgrees program.now world.now.classes store.old.heap (length (loaded_objects world.now)) own shared thread.old s × (thread.old.ending ≡ Ending.Unfinished) × IsSteady own shared s }
+        × ThreadAgrees program.now world.now.classes store.old.heap (length (loaded_objects world.now)) own shared thread.old s × (thread.old.ending ≡ Ending.Unfinished) × IsSteady world.now.classes own shared s }
     ensures advances { IfOk result (λ advanced. (in_use : BuffersInUse) (k : ℕ) (own : Owners) (shared : Shared) (s : SourceThread) → StoreAgrees program.now world.now store.old shared
         → ThreadAgrees program.now world.now.classes store.old.heap (length (loaded_objects world.now)) own shared thread.old s
-        → IsSteady own shared s
+        → IsSteady world.now.classes own shared s
         → AdvancesBy program.now world.now store.old.heap store.new in_use k own shared s thread.new advanced) }
     ensures hindered { IfErr result (λ fault. (in_use : BuffersInUse) (k : ℕ) (own : Owners) (shared : Shared) (s : SourceThread) → StoreAgrees program.now world.now store.old shared
         → ThreadAgrees program.now world.now.classes store.old.heap (length (loaded_objects world.now)) own shared thread.old s
-        → IsSteady own shared s
+        → IsSteady world.now.classes own shared s
         → IsHindered (left_of store.old.heap) (cells_made shared (thread_step (unit_tree program.now.unit) world.now.classes in_use k shared s false)) may_refuse fault) }
     ensures refuses { result ≡ Ok Advanced.Refused → may_refuse ≡ true }
     ensures store { OnErr result (store.new ≡ store.old) }

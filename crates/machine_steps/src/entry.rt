@@ -13,7 +13,7 @@ use crate::thread::PendingCall;
 use code::code::Code;
 use code::stack::Stack;
 use heap::Addr;
-use machine_calls::activation::Activation;
+use machine_calls::activation::{Activation, Slots};
 use std::alloc::{AllocError, Global};
 use std::vec::VecCloneMethods;
 use tables::{Local, Locals, TableFault};
@@ -52,9 +52,11 @@ pub fn begin(
         function: next.function,
         place: 0,
         stack: Stack::new(),
-        numbers: number_slots(alloc, &next.arguments, slots.numbers as usize)?,
-        references,
-        fields,
+        slots: Slots {
+            numbers: number_slots(alloc, &next.arguments, slots.numbers as usize)?,
+            references,
+            fields,
+        },
         locals,
     })
 }

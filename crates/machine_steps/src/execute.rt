@@ -117,16 +117,16 @@ fn outcome_of(line: u32, invoked: Invoked) -> Executed
 fn test_null(store: &Store, call: &mut Activation, variable: NullableVariable, equal: bool)
     requires room { length call.old.stack < 64 }
     requires place { call.old.place + 1 < 2 ^ 64 }
-    ensures { HasMoved call.old call.new (call.old.place + 1) (truth_word (beq (is_null (references_of store.now call.old) call.old.fields.items variable) equal) ∷ call.old.stack)
-        call.old.numbers.items call.old.references.items call.old.fields.items }
+    ensures { HasMoved call.old call.new (call.old.place + 1) (truth_word (beq (is_null (references_of store.now call.old) call.old.slots.fields.items variable) equal) ∷ call.old.stack)
+        call.old.slots.numbers.items call.old.slots.references.items call.old.slots.fields.items }
 {
     let references = References::new(
-        &call.references,
+        &call.slots.references,
         &call.locals,
         &store.statics,
         &store.globals,
     );
-    let null = is_null(&references, &call.fields, variable);
+    let null = is_null(&references, &call.slots.fields, variable);
     call.stack.push(u32::from(null == equal));
     call.place += 1;
 }
@@ -134,26 +134,31 @@ fn test_null(store: &Store, call: &mut Activation, variable: NullableVariable, e
 /// Makes a variable NULL.
 #[inline(always)]
 fn store_null(statics: &mut [StaticReference], call: &mut Activation, variable: NullableVariable)
-    requires slot { HasSlot (length call.old.references.items) (length call.old.fields.items) (length statics.old) variable }
+    requires slot { HasSlot (length call.old.slots.references.items) (length call.old.slots.fields.items) (length statics.old) variable }
     requires place { call.old.place + 1 < 2 ^ 64 }
-    ensures call { HasMoved call.old call.new (call.old.place + 1) call.old.stack call.old.numbers.items
-        (nulled_references variable call.old.references.items) (nulled_fields variable call.old.fields.items) }
+    ensures call { HasMoved call.old call.new (call.old.place + 1) call.old.stack call.old.slots.numbers.items
+        (nulled_references variable call.old.slots.references.items) (nulled_fields variable call.old.slots.fields.items) }
     ensures statics { statics.new ≡ nulled_statics variable statics.old }
 {
-    set_null(&mut call.references, &mut call.fields, statics, variable);
+    set_null(
+        &mut call.slots.references,
+        &mut call.slots.fields,
+        statics,
+        variable,
+    );
     call.place += 1;
 }
 
 /// An instruction on the stack and the number slots alone.
 #[inline(always)]
 fn run_plain(instr: &Instr, call: &mut Activation) -> Event
-    requires operands { IsSome (plain_of instr.now call.old.stack call.old.numbers.items) }
+    requires operands { IsSome (plain_of instr.now call.old.stack call.old.slots.numbers.items) }
     requires room { IsSome (depth_after instr.now (length call.old.stack)) }
-    requires leads { (way : Plain) (stack numbers : List ℕ) → plain_of instr.now call.old.stack call.old.numbers.items ≡ Some (way, stack, numbers)
+    requires leads { (way : Plain) (stack numbers : List ℕ) → plain_of instr.now call.old.stack call.old.slots.numbers.items ≡ Some (way, stack, numbers)
         → IsReachable call.old.place way }
     ensures { MovesPlainly instr.now call.old call.new result }
 {
-    match plain(instr, &mut call.stack, &mut call.numbers) {
+    match plain(instr, &mut call.stack, &mut call.slots.numbers) {
         Plain::Next => {
             call.place += 1;
             Event::Quiet

@@ -120,12 +120,12 @@ fn answer_or_trap(
         heap: &store.heap,
         loaded: &store.loaded,
         references: References::new(
-            &call.references,
+            &call.slots.references,
             &call.locals,
             &store.statics,
             &store.globals,
         ),
-        fields: &call.fields,
+        fields: &call.slots.fields,
         stack: &call.stack,
         pending,
     };
@@ -178,6 +178,7 @@ fn finish(
         store,
         pending,
         &mut call.locals,
+        &mut call.slots,
         kind,
         &function.texts,
         answer,

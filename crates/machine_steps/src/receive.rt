@@ -34,9 +34,9 @@ pub fn receive(
     let key = make_local(&mut call.locals, kind, given);
     match target {
         Target::Dropped | Target::Buffer(_) => {}
-        Target::Number(slot) => put_number(&mut call.numbers, slot, given),
-        Target::Local(slot) => call.references[slot as usize] = key,
-        Target::FieldId(slot) => put_field(&mut call.fields, slot, given),
+        Target::Number(slot) => put_number(&mut call.slots.numbers, slot, given),
+        Target::Local(slot) => call.slots.references[slot as usize] = key,
+        Target::FieldId(slot) => put_field(&mut call.slots.fields, slot, given),
         Target::Static(slot) => put_static(statics, slot, given),
         Target::Test => put_test(&mut call.stack, given),
     }

@@ -7,7 +7,8 @@ use Rattle.semantics.specs.Start.{start, waiting_thread}
 use Rattle.semantics.specs.World.{loaded_objects}
 use Rattle.world_values.proofs.LoadedWorlds.{few_loaded}
 use Rattle.std.proofs.lemmas.List.{length-map}
-use Rattle.machine_calls.proofs.Classed.{classed_loaded}
+use Rattle.machine.proofs.TextBytes.{texts_are_bytes}
+use Rattle.semantics_typing.specs.Texts.{HasTexts}
 use Rattle.machine_steps.proofs.ThreadLoads.{agree_length}
 use Rattle.syntax.specs.Parts.{statics_of}
 use Rattle.syntax.specs.declared.unit.Item.{Item}
@@ -33,6 +34,10 @@ returns-in-Ok-clause-begins c =
       safe = c.accepted_is_safe.ensures (unit_tree c.args.program.now.unit) w
           (subst (λ (l : List Item). IsSorted (unit_tree l)) c.items.ensures.items c.items.ensures.sorted) (subst (λ (l : List Item). HasRegions (unit_tree l)) c.items.ensures.items c.items.ensures.regions)
           (all_load (unit_tree c.args.program.now.unit) w.classes w.threads c.in-Ok.ensures.all) (all_have_calls w.threads c.threads.ensures.sound.calls);
+      typed = c.objects_are_typed.ensures (unit_tree c.args.program.now.unit) w
+          (subst (λ (l : List Item). IsSorted (unit_tree l)) c.items.ensures.items c.items.ensures.sorted) (subst (λ (l : List Item). HasRegions (unit_tree l)) c.items.ensures.items c.items.ensures.regions)
+          (subst (λ (l : List Item). HasTexts (unit_tree l)) c.items.ensures.items (texts_are_bytes (unit_tree c.items.result.now) c.items.ensures.tree))
+          (all_load (unit_tree c.args.program.now.unit) w.classes w.threads c.in-Ok.ensures.all) c.threads.ensures.sound;
       state = s;
       replays = refl;
       store_agrees = record {
@@ -42,7 +47,6 @@ returns-in-Ok-clause-begins c =
         table = made.table;
         begun = omega arith;
         births = c.in_ok-store.ensures.births;
-        classed = classed_loaded w c.threads.ensures.sound;
         statics = subst (λ (globals : List (Option ℕ)). StaticsAgree c.in_ok-store.store.heap (all_held globals c.in_ok-store.store.statics.items) s.shared.statics) (sym c.in_ok-store.ensures.globals)
             (subst (λ (l : List StaticReference). StaticsAgree c.in_ok-store.store.heap (all_held [] l) s.shared.statics) (sym (c.in_ok-store.ensures.statics ∙ ap (λ (items : List Item). replicate (length (statics_of (unit_tree items))) Empty) c.items.ensures.items)) (statics_begin c.in_ok-store.store.heap (statics_of (unit_tree c.args.program.now.unit))));
         named = names_begin (statics_of (unit_tree c.args.program.now.unit));

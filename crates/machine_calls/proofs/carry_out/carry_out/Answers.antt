@@ -1,4 +1,4 @@
-use Rattle.std.proofs.Common.{◌≡◌, ℕ, List, ◌<◌, ◌≤◌, ◌^◌, Option, Some, None, length, true, false, Result, Ok, Err, sym, subst, arith}
+use Rattle.std.proofs.Common.{◌≡◌, ◌+◌, ℕ, List, ◌<◌, ◌≤◌, ◌^◌, Option, Some, None, length, true, false, Result, Ok, Err, sym, ap, ◌∙◌, subst, arith}
 use Rattle.std.specs.Prelude.{slice_get, IfOk}
 use Rattle.class_rules.specs.Class.{Classes}
 use Rattle.heap.specs.Heap.{Space, left_of}
@@ -16,6 +16,7 @@ use Rattle.machine_calls.specs.declared.answer.Given.TheVariants as given
 use Rattle.machine_calls.specs.declared.carry_out.Carried.{Carried}
 use Rattle.machine_calls.specs.declared.store.Store.{Store}
 use Rattle.machine_calls.specs.Answers.{IsAnswer, bringing}
+use Rattle.machine_calls.specs.Copies.{space_with}
 use Rattle.machine_calls.specs.CarriedOut.{CarriesOut, failed}
 use Rattle.tables.specs.Locals.{LocalTable}
 use Rattle.machine_calls.specs.declared.answer.Answer.TheVariants as answer
@@ -58,7 +59,7 @@ make-requires-clause-class c =
     let w = c.args.world.now in
     let k = result_value c.args.kind in
     let texts = texts_in c.args.texts.now in
-    let brought = bringing texts c.args.numbers.now r.1 in
+    let brought = bringing texts c.args.slots.now.numbers.items r.1 in
     small w (class_of_new c.in-Makes.new) c.threads.ensures.sound
     (makes_it w.classes brought c.args.store.now.heap c.args.locals.now k r.2 r.3 c.in-Makes.new r.4 (subst (λ (a : Answer). IsAnswer w.classes brought c.args.store.now.heap c.args.locals.now k r.2 r.3 a r.4) c.in-Makes.is r.6)).describes.makeable.high
 
@@ -68,7 +69,7 @@ make-requires-in-Throws-clause-class c =
     let w = c.args.world.now in
     let k = result_value c.args.kind in
     let texts = texts_in c.args.texts.now in
-    let brought = bringing texts c.args.numbers.now r.1 in
+    let brought = bringing texts c.args.slots.now.numbers.items r.1 in
     small w c.in-Throws.class c.threads.ensures.sound
     (throws_it w.classes brought c.args.store.now.heap c.args.locals.now k r.2 r.3 c.in-Throws.class r.4 (subst (λ (a : Answer). IsAnswer w.classes brought c.args.store.now.heap c.args.locals.now k r.2 r.3 a r.4) c.in-Throws.is r.6)).makeable.high
 
@@ -77,7 +78,7 @@ returns-in-Writes-clause-carried c p array shared s effect h does =
     let w = c.args.world.now in
     let k = result_value c.args.kind in
     let texts = texts_in c.args.texts.now in
-    let brought = bringing texts c.args.numbers.now array in
+    let brought = bringing texts c.args.slots.now.numbers.items array in
     let old = c.args.store.now in
     carries.by_answer p w old.heap c.args.locals.now k shared s effect brought c.args.answer (answer.Writes c.in-Writes.addr c.in-Writes.place c.in-Writes.value) c.in-Writes.is _ _ _ _ _ (λ writes.
     subst (λ (space : Space). CarriesOut p w old.heap c.args.locals.now (answer.Writes c.in-Writes.addr c.in-Writes.place c.in-Writes.value) k shared s effect false (record old { heap = space }) c.args.pending.now c.args.locals.now given.Nothing) (sym c.set.ensures)
@@ -88,7 +89,7 @@ returns-in-Some-clause-carried c p array shared s effect h does =
     let w = c.args.world.now in
     let k = result_value c.args.kind in
     let texts = texts_in c.args.texts.now in
-    let brought = bringing texts c.args.numbers.now array in
+    let brought = bringing texts c.args.slots.now.numbers.items array in
     let old = c.args.store.now in
     carries.by_answer p w old.heap c.args.locals.now k shared s effect brought c.args.answer (answer.Makes c.in-Makes.new) c.in-Makes.is _ _ _ _ _ (λ makes.
     carries.makes p w old c.args.pending.now c.args.locals.now k shared s h brought c.make.new.store c.in-Makes.new c.in-Some.addr
@@ -99,7 +100,7 @@ returns-in-None-clause-carried c p array shared s effect h does =
     let w = c.args.world.now in
     let k = result_value c.args.kind in
     let texts = texts_in c.args.texts.now in
-    let brought = bringing texts c.args.numbers.now array in
+    let brought = bringing texts c.args.slots.now.numbers.items array in
     let old = c.args.store.now in
     carries.by_answer p w old.heap c.args.locals.now k shared s effect brought c.args.answer (answer.Makes c.in-Makes.new) c.in-Makes.is _ _ _ _ _ (λ makes.
     refused_in p w old.heap c.args.locals.now (answer.Makes c.in-Makes.new) k shared s effect old c.make.new.store c.refuse.new.pending c.args.locals.now c.refuse.result
@@ -111,7 +112,7 @@ returns-in-Some-make-clause-carried c p array shared s effect h does =
     let w = c.args.world.now in
     let k = result_value c.args.kind in
     let texts = texts_in c.args.texts.now in
-    let brought = bringing texts c.args.numbers.now array in
+    let brought = bringing texts c.args.slots.now.numbers.items array in
     let old = c.args.store.now in
     carries.by_answer p w old.heap c.args.locals.now k shared s effect brought c.args.answer (answer.Throws c.in-Throws.class) c.in-Throws.is _ _ _ _ _ (λ throws.
     subst (λ (g : Given). CarriesOut p w old.heap c.args.locals.now (answer.Throws c.in-Throws.class) k shared s effect false c.make-in-Throws.new.store (Some c.in-Some-make.addr) c.args.locals.now g) (sym c.failed.ensures)
@@ -123,7 +124,7 @@ returns-in-None-make-clause-carried c p array shared s effect h does =
     let w = c.args.world.now in
     let k = result_value c.args.kind in
     let texts = texts_in c.args.texts.now in
-    let brought = bringing texts c.args.numbers.now array in
+    let brought = bringing texts c.args.slots.now.numbers.items array in
     let old = c.args.store.now in
     carries.by_answer p w old.heap c.args.locals.now k shared s effect brought c.args.answer (answer.Throws c.in-Throws.class) c.in-Throws.is _ _ _ _ _ (λ throws.
     refused_in p w old.heap c.args.locals.now (answer.Throws c.in-Throws.class) k shared s effect old c.make-in-Throws.new.store c.refuse-in-None-make.new.pending c.args.locals.now c.refuse-in-None-make.result
@@ -135,7 +136,7 @@ returns-in-Gives-clause-carried c p array shared s effect h does =
     let w = c.args.world.now in
     let k = result_value c.args.kind in
     let texts = texts_in c.args.texts.now in
-    let brought = bringing texts c.args.numbers.now array in
+    let brought = bringing texts c.args.slots.now.numbers.items array in
     let old = c.args.store.now in
     carries.by_answer p w old.heap c.args.locals.now k shared s effect brought c.args.answer (answer.Gives c.in-Gives.given) c.in-Gives.is _ _ _ _ _ (λ gives. carries.gives p w old c.args.pending.now c.args.locals.now k shared s h brought c.in-Gives.given effect gives) does
 
@@ -146,10 +147,10 @@ told_on P Q (Err e) f h = h
 
 pub returns-in_default-clause-carried : goal.returns-in_default-clause-carried
 returns-in_default-clause-carried c =
-    told_on _ _ c.carry_out_references.result (λ carried told p array shared s effect. told p (result_value c.args.kind) (bringing (texts_in c.args.texts.now) c.args.numbers.now array) shared s effect) c.carry_out_references.ensures.carried
+    told_on _ _ c.carry_out_references.result (λ carried told p array shared s effect. told p (result_value c.args.kind) (bringing (texts_in c.args.texts.now) c.args.slots.now.numbers.items array) shared s effect) c.carry_out_references.ensures.carried
 
 pub carry_out_references-requires-clause-possible : goal.carry_out_references-requires-clause-possible
-carry_out_references-requires-clause-possible c = let r = c.requires.possible in (r.0, result_value c.args.kind, bringing (texts_in c.args.texts.now) c.args.numbers.now r.1, r.2, r.3, r.4, r.5, r.6)
+carry_out_references-requires-clause-possible c = let r = c.requires.possible in (r.0, result_value c.args.kind, bringing (texts_in c.args.texts.now) c.args.slots.now.numbers.items r.1, r.2, r.3, r.4, r.5, r.6)
 
 -- a message and an exception were made in the store of the world's classes
 both_made : (classes table : Classes) (texts : List (List ℕ)) (old after : Store) (class place a : ℕ) (o : Option ℕ) → table ≡ classes → Raises table texts old class place after o → o ≡ Some a → Raises classes texts old class place after (Some a)
@@ -164,7 +165,7 @@ raise-requires-clause-class c =
     let w = c.args.world.now in
     let k = result_value c.args.kind in
     let texts = texts_in c.args.texts.now in
-    let brought = bringing texts c.args.numbers.now r.1 in
+    let brought = bringing texts c.args.slots.now.numbers.items r.1 in
     let does = subst (λ (a : Answer). IsAnswer w.classes brought c.args.store.now.heap c.args.locals.now k r.2 r.3 a r.4) c.in-Raises.is r.6 in
     small w c.in-Raises.class c.threads.ensures.sound does.2.high
 
@@ -173,7 +174,7 @@ returns-in-Some-raise-clause-carried c p array shared s effect h does =
     let w = c.args.world.now in
     let k = result_value c.args.kind in
     let texts = texts_in c.args.texts.now in
-    let brought = bringing texts c.args.numbers.now array in
+    let brought = bringing texts c.args.slots.now.numbers.items array in
     let old = c.args.store.now in
     let class = c.in-Raises.class in
     let place = c.in-Raises.place in
@@ -186,7 +187,7 @@ returns-in-None-raise-clause-carried c p array shared s effect h does =
     let w = c.args.world.now in
     let k = result_value c.args.kind in
     let texts = texts_in c.args.texts.now in
-    let brought = bringing texts c.args.numbers.now array in
+    let brought = bringing texts c.args.slots.now.numbers.items array in
     let old = c.args.store.now in
     let class = c.in-Raises.class in
     let place = c.in-Raises.place in
@@ -200,7 +201,7 @@ returns-in-Pends-clause-carried c p array shared s effect h does =
     let w = c.args.world.now in
     let k = result_value c.args.kind in
     let texts = texts_in c.args.texts.now in
-    let brought = bringing texts c.args.numbers.now array in
+    let brought = bringing texts c.args.slots.now.numbers.items array in
     let old = c.args.store.now in
     carries.by_answer p w old.heap c.args.locals.now k shared s effect brought c.args.answer (answer.Pends c.in-Pends.exception c.in-Pends.given) c.in-Pends.is _ _ _ _ _ (λ pends.
     carries.pends p w old c.args.pending.now c.args.locals.now k shared s h brought c.in-Pends.exception c.in-Pends.given effect pends) does
@@ -209,7 +210,7 @@ pub returns-in-CopiesOut-clause-carried : goal.returns-in-CopiesOut-clause-carri
 returns-in-CopiesOut-clause-carried c p array shared s effect h does =
     let w = c.args.world.now in
     let k = result_value c.args.kind in
-    let brought = bringing (texts_in c.args.texts.now) c.args.numbers.now array in
+    let brought = bringing (texts_in c.args.texts.now) c.args.slots.now.numbers.items array in
     let old = c.args.store.now in
     carries.by_answer p w old.heap c.args.locals.now k shared s effect brought c.args.answer (answer.CopiesOut c.in-CopiesOut.region) c.in-CopiesOut.is _ _ _ _ _ (λ copies.
     carries.copies_out p w old c.args.pending.now c.args.locals.now k shared s h brought c.in-CopiesOut.region effect copies) does
@@ -218,23 +219,23 @@ pub returns-in-CopiesIn-clause-carried : goal.returns-in-CopiesIn-clause-carried
 returns-in-CopiesIn-clause-carried c p array shared s effect h does =
     let w = c.args.world.now in
     let k = result_value c.args.kind in
-    let brought = bringing (texts_in c.args.texts.now) c.args.numbers.now array in
+    let brought = bringing (texts_in c.args.texts.now) c.args.slots.now.numbers.items array in
     let old = c.args.store.now in
     carries.by_answer p w old.heap c.args.locals.now k shared s effect brought c.args.answer (answer.CopiesIn c.in-CopiesIn.region) c.in-CopiesIn.is _ _ _ _ _ (λ copies.
-    subst (λ (space : Space). CarriesOut p w old.heap c.args.locals.now (answer.CopiesIn c.in-CopiesIn.region) k shared s effect false (record old { heap = space }) c.args.pending.now c.args.locals.now given.Nothing) (sym c.copy_in.ensures)
+    subst (λ (space : Space). CarriesOut p w old.heap c.args.locals.now (answer.CopiesIn c.in-CopiesIn.region) k shared s effect false (record old { heap = space }) c.args.pending.now c.args.locals.now given.Nothing) (sym (c.copy_in.ensures ∙ ap (space_with old.heap c.in-CopiesIn.region) c.deref.ensures.value))
     (carries.copies_in p w old c.args.pending.now c.args.locals.now k shared s h brought c.in-CopiesIn.region effect copies)) does
 
 -- what is known of a region that is copied
 pub copy_out-requires : goal.copy_out-requires
 copy_out-requires c =
     let r = c.requires.possible in
-    let brought = bringing (texts_in c.args.texts.now) c.args.numbers.now r.1 in
+    let brought = bringing (texts_in c.args.texts.now) c.args.slots.now.numbers.items r.1 in
     let copied = (subst (λ (a : Answer). IsAnswer c.args.world.now.classes brought c.args.store.now.heap c.args.locals.now (result_value c.args.kind) r.2 r.3 a r.4) c.in-CopiesOut.is r.6).1 in
-    record { within = copied.within; slots = copied.slots }
+    record { within = copied.within; slots = subst (λ (l : List ℕ). (i : ℕ) → i < c.in-CopiesOut.region.count → c.in-CopiesOut.region.slot + i < length l) (sym c.deref_mut.ensures.value) copied.slots }
 
 pub copy_in-requires : goal.copy_in-requires
 copy_in-requires c =
     let r = c.requires.possible in
-    let brought = bringing (texts_in c.args.texts.now) c.args.numbers.now r.1 in
+    let brought = bringing (texts_in c.args.texts.now) c.args.slots.now.numbers.items r.1 in
     let copied = (subst (λ (a : Answer). IsAnswer c.args.world.now.classes brought c.args.store.now.heap c.args.locals.now (result_value c.args.kind) r.2 r.3 a r.4) c.in-CopiesIn.is r.6).1 in
-    record { within = copied.within; slots = copied.slots }
+    record { within = copied.within; slots = subst (λ (l : List ℕ). (i : ℕ) → i < c.in-CopiesIn.region.count → c.in-CopiesIn.region.slot + i < length l) (sym c.deref.ensures.value) copied.slots }

@@ -30,7 +30,7 @@ use Rattle.machine_steps.proofs.advance.advance.Goals as goal
 works : (p : Lowered) (w : World) (store : Store) (own : Owners) (shared : Shared) (t : Thread) (s : source.Thread) (call : Activation) → ThreadAgrees p w.classes store.heap (length (loaded_objects w)) own shared t s → t.call ≡ Some call → Working p w.classes store.heap call (visible_to own shared s) s.frames s.tasks
 works p w store own shared t s call h is = working p w.classes store.heap (visible_to own shared s) s.frames t.call call s.tasks h.work is
 
-executing : (p : Lowered) (w : World) (store : Store) (own : Owners) (shared : Shared) (t : Thread) (s : source.Thread) (call : Activation) → StoreAgrees p w store shared → (h : ThreadAgrees p w.classes store.heap (length (loaded_objects w)) own shared t s) (is : t.call ≡ Some call) → IsSteady own shared s
+executing : (p : Lowered) (w : World) (store : Store) (own : Owners) (shared : Shared) (t : Thread) (s : source.Thread) (call : Activation) → StoreAgrees p w store shared → (h : ThreadAgrees p w.classes store.heap (length (loaded_objects w)) own shared t s) (is : t.call ≡ Some call) → IsSteady w.classes own shared s
     → IsExecuting p w store call t.pending own shared s (works p w store own shared t s call h is).task (works p w store own shared t s call h is).rest
 executing p w store own shared t s call shares h is steady =
     let k = works p w store own shared t s call h is in

@@ -89,7 +89,7 @@ store_null-requires-clause-slot c =
     let count : length s.1.statics ≡ length c.args.store.now.statics.items =
     sym (statics_count c.args.store.now.heap (all_held c.args.store.now.globals c.args.store.now.statics.items) s.1.statics s.5.store_agrees.statics) ∙ length-map c.args.store.now.statics.items (held c.args.store.now.globals) in
     let there = variable_there _ c.args.world.now.classes c.args.store.now.heap _ f.code (visible_to s.0 s.1 s.2) s.2.frames s.3 s.4 (ready_for _ c.args.world.now.classes c.args.store.now.heap _ _ f (visible_to s.0 s.1 s.2) s.2.frames s.3 s.4 s.5.stands) c.instr_at-instr.result.now f.at c.in-StoreNull.variable (length c.args.store.now.statics.items) c.in-StoreNull.is count in
-    subst (λ (l : List StaticReference). HasSlot (length c.args.call.now.references.items) (length c.args.call.now.fields.items) (length l) c.in-StoreNull.variable) (sym c.deref_mut.ensures.value) there
+    subst (λ (l : List StaticReference). HasSlot (length c.args.call.now.slots.references.items) (length c.args.call.now.slots.fields.items) (length l) c.in-StoreNull.variable) (sym c.deref_mut.ensures.value) there
 
 -- a way that leads inside code can be gone
 reachable : (instrs : List Instr) (place : ℕ) (way : Plain) (depth : ℕ) → length instrs < 2 ^ 64 → LeadsInside instrs place way depth → IsReachable place way

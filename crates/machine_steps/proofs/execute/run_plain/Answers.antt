@@ -12,14 +12,14 @@ taken i stack numbers held left slots way ahead same is which = ap (plain_of i s
 
 pub overflow_add-call : goal.overflow_add-call
 overflow_add-call c =
-    let place : c.args.call.now.place + 1 < 2 ^ 64 = c.requires.leads plain.Next c.plain.new.stack c.plain.new.numbers (taken c.args.instr.now c.args.call.now.stack c.args.call.now.numbers.items c.deref_mut.result.now c.plain.new.stack c.plain.new.numbers c.plain.result plain.Next c.deref_mut.ensures.value c.plain.ensures c.in-Next.is) in
+    let place : c.args.call.now.place + 1 < 2 ^ 64 = c.requires.leads plain.Next c.plain.new.stack c.plain.new.numbers (taken c.args.instr.now c.args.call.now.stack c.args.call.now.slots.numbers.items c.deref_mut.result.now c.plain.new.stack c.plain.new.numbers c.plain.result plain.Next c.deref_mut.ensures.value c.plain.ensures c.in-Next.is) in
     omega (arith, place)
 
 pub overflow_add-call-in-Skip-2 : goal.overflow_add-call-in-Skip-2
 overflow_add-call-in-Skip-2 c =
-    let place : c.args.call.now.place + 1 + c.in-Skip.skipped < 2 ^ 64 = c.requires.leads (plain.Skip c.in-Skip.skipped) c.plain.new.stack c.plain.new.numbers (taken c.args.instr.now c.args.call.now.stack c.args.call.now.numbers.items c.deref_mut.result.now c.plain.new.stack c.plain.new.numbers c.plain.result (plain.Skip c.in-Skip.skipped) c.deref_mut.ensures.value c.plain.ensures c.in-Skip.is) in
+    let place : c.args.call.now.place + 1 + c.in-Skip.skipped < 2 ^ 64 = c.requires.leads (plain.Skip c.in-Skip.skipped) c.plain.new.stack c.plain.new.numbers (taken c.args.instr.now c.args.call.now.stack c.args.call.now.slots.numbers.items c.deref_mut.result.now c.plain.new.stack c.plain.new.numbers c.plain.result (plain.Skip c.in-Skip.skipped) c.deref_mut.ensures.value c.plain.ensures c.in-Skip.is) in
     omega (arith, place)
 
 pub overflow_sub-call : goal.overflow_sub-call
 overflow_sub-call c =
-    c.requires.leads (plain.Back c.in-Back.back) c.plain.new.stack c.plain.new.numbers (taken c.args.instr.now c.args.call.now.stack c.args.call.now.numbers.items c.deref_mut.result.now c.plain.new.stack c.plain.new.numbers c.plain.result (plain.Back c.in-Back.back) c.deref_mut.ensures.value c.plain.ensures c.in-Back.is)
+    c.requires.leads (plain.Back c.in-Back.back) c.plain.new.stack c.plain.new.numbers (taken c.args.instr.now c.args.call.now.stack c.args.call.now.slots.numbers.items c.deref_mut.result.now c.plain.new.stack c.plain.new.numbers c.plain.result (plain.Back c.in-Back.back) c.deref_mut.ensures.value c.plain.ensures c.in-Back.is)

@@ -36,7 +36,7 @@ use Rattle.machine_steps.proofs.invoke.answer_or_trap.Goals as goal
 
 module _ (w : World) (store : Store) (pending : Option ℕ) (call : Activation) (function : Call) where
   -- what is looked at is the store's and the call's
-  seen : (classes : Classes) (loaded : List ℕ) (references : References) (fields : List (Option FieldHandle)) → classes ≡ w.classes → loaded ≡ store.loaded.items → references ≡ references_of store call → fields ≡ call.fields.items
+  seen : (classes : Classes) (loaded : List ℕ) (references : References) (fields : List (Option FieldHandle)) → classes ≡ w.classes → loaded ≡ store.loaded.items → references ≡ references_of store call → fields ≡ call.slots.fields.items
       → record { classes = classes; space = store.heap; loaded = loaded; references = references; fields = fields; stack = call.stack; pending = pending } ≡ scene_of w.classes store call pending
   seen classes loaded references fields same_classes same_loaded same_references same_fields = λ i. record { classes = same_classes i; space = store.heap; loaded = same_loaded i; references = same_references i; fields = same_fields i; stack = call.stack; pending = pending }
 
@@ -61,7 +61,7 @@ module _ (w : World) (store : Store) (pending : Option ℕ) (call : Activation) 
     there : (references : References) → references ≡ references_of store call → AreAddresses store.heap references function.operands.items
     there references same = subst (λ (l : References). AreAddresses store.heap l function.operands.items) (sym same) (objects_there a.0 w store pending call (call_view function) a.2 a.3 it.f it.args it.asked)
 
-    handled : (classes : Classes) (fields : List (Option FieldHandle)) → classes ≡ w.classes → fields ≡ call.fields.items → AreHandles classes fields function.operands.items
+    handled : (classes : Classes) (fields : List (Option FieldHandle)) → classes ≡ w.classes → fields ≡ call.slots.fields.items → AreHandles classes fields function.operands.items
     handled classes fields same_classes same =
         subst (λ (t : Classes). AreHandles t fields function.operands.items) (sym same_classes)
         (subst (λ (l : List (Option FieldHandle)). AreHandles w.classes l function.operands.items) (sym same) (handles_there a.0 w store pending call (call_view function) a.2 a.3 it.f it.args it.asked))
@@ -69,14 +69,14 @@ module _ (w : World) (store : Store) (pending : Option ℕ) (call : Activation) 
     is_built_there : is_built_function (function_value function.function) ≡ true
     is_built_there = ap is_built_function it.asked.same_function ∙ it.asked.answered
 
-    passes : (classes : Classes) (references : References) (fields : List (Option FieldHandle)) → classes ≡ w.classes → references ≡ references_of store call → fields ≡ call.fields.items → trap_at w store pending call function ≡ None
+    passes : (classes : Classes) (references : References) (fields : List (Option FieldHandle)) → classes ≡ w.classes → references ≡ references_of store call → fields ≡ call.slots.fields.items → trap_at w store pending call function ≡ None
         → fit_together classes store.heap references fields function.operands.items (function_value function.function) ≡ true
     passes classes references fields same_classes same_references same_fields free =
         (λ i. fit_together (same_classes i) store.heap (same_references i) (same_fields i) function.operands.items (it.asked.same_function i))
         ∙ has_passed a.0 w store pending call (call_view function) a.2 a.3 it.f it.args it.asked it.target (sym (trap_is a.0 w store pending call function a.1 a.2 a.3 a.4 a.5 a.6) ∙ free)
 
 -- what the operands name
-named_are : (store : Store) (call : Activation) (keys : List (Option ℕ)) (statics : List StaticReference) (r : References) → r ≡ record { keys = keys; locals = call.locals; statics = all_held store.globals statics } → keys ≡ call.references.items → statics ≡ store.statics.items → r ≡ references_of store call
+named_are : (store : Store) (call : Activation) (keys : List (Option ℕ)) (statics : List StaticReference) (r : References) → r ≡ record { keys = keys; locals = call.locals; statics = all_held store.globals statics } → keys ≡ call.slots.references.items → statics ≡ store.statics.items → r ≡ references_of store call
 named_are store call keys statics r is same_keys same_statics = is ∙ (λ i. record { keys = same_keys i; locals = call.locals; statics = all_held store.globals (same_statics i) })
 
 pub check-requires-clause-objects : goal.check-requires-clause-objects

@@ -1,0 +1,183 @@
+-- What the slots show once numbers have gone into a local array.
+use Rattle.std.proofs.Common.{◌≡◌, ◌⊎◌, inl, inr, ℕ, ℤ, zero, suc, ◌+◌, ◌<◌, ◌≤◌, false, List, [], ◌∷◌, length, Option, Some, refl, sym, ap, ◌∙◌, subst, arith}
+use Rattle.std.specs.Prelude.{slice_get, nat_le, FitsSigned}
+use Rattle.std.specs.Int.{w32, cast_unsigned}
+use Rattle.std.specs.List.{AllByRecursion, AllZip}
+use Rattle.std.specs.Option.{option_map}
+use Rattle.std.proofs.lemmas.Bool.{cases_lt, cond_both}
+use Rattle.std.proofs.lemmas.List.{length-map}
+use Rattle.std.proofs.lemmas.Option.{slice_get-get_or, slice_get-map, slice_get_past, slice_get_within}
+use Rattle.base.specs.Bytes.{Identifier}
+use Rattle.base.specs.Element.{ElementType}
+use Rattle.class_rules.specs.Class.{Classes}
+use Rattle.heap.specs.Heap.{Space}
+use Rattle.jni.specs.Prototype.{ResultKind, GivesNothing}
+use Rattle.code.specs.Depth.{Listing}
+use Rattle.code.specs.declared.instr.LocalArray.{LocalArray as ArraySlots}
+use Rattle.code.specs.declared.instr.Operand.{Operand}
+use Rattle.code.specs.declared.instr.Operand.TheVariants as operand
+use Rattle.type_rules.specs.Sorts.{Array}
+use Rattle.code_meaning.specs.Does.{IsOperand}
+use Rattle.code_meaning.specs.Fits.{HaveOwnSlots, IsArray}
+use Rattle.code_meaning.specs.Layout.{Known}
+use Rattle.code_meaning.specs.Slots.{Shows, ShowsElement, Slots, Visible, type_of_array, visible_to}
+use Rattle.code_meaning.proofs.SlotLaws.{fewer_shown, known_among, with_changed}
+use Rattle.code_meaning.proofs.StaticPlaces.{statics_stay}
+use Rattle.semantics.specs.Arguments.{Actual, VariableActual}
+use Rattle.semantics.specs.CallEffects.{CallEffect, begun_with, frames_effect, overwritten, refuses_frames, with_capacity}
+use Rattle.semantics.specs.Sight.{in_range}
+use Rattle.semantics.specs.Thread as source
+use Rattle.semantics.specs.Thread.{Shared, viewed_by}
+use Rattle.semantics.specs.Variable.{Variable, LocalArray, Variables, assign, change}
+use Rattle.semantics_safety.specs.Owners.{Owners}
+use Rattle.tables.specs.Locals.{LocalTable}
+use Rattle.machine_calls.specs.declared.answer.Answer.{Answer}
+use Rattle.machine_calls.specs.declared.answer.Answer.TheVariants as answers
+use Rattle.machine_calls.specs.declared.array_region.ArrayRegion.{ArrayRegion}
+use Rattle.machine_calls.specs.Answers.{AreWordsOf, Brought, IsAnswer, IsCopiedOut, array_given, is_halt, named_array}
+use Rattle.machine_calls.specs.CarriedOut.{numbers_after, variables_left}
+use Rattle.machine_calls.specs.Copies.{overlaid}
+use Rattle.machine_calls.proofs.AnswerCases.{gives_it, makes_it, throws_it, writes_it}
+use Rattle.machine_calls.proofs.Overlays.{get_outside, get_within, length_overlaid, overlaid_is}
+use Rattle.machine_steps.proofs.Arguments.{array_held}
+use Rattle.machine_steps.proofs.Changes.{change_is, element_of, found, others}
+use Rattle.machine_steps.proofs.Views.{assigned_viewless}
+
+-- ---- the elements of the array
+
+-- each of these
+fit_at : (zs : List ℤ) (i : ℕ) (z : ℤ) → AllByRecursion (FitsSigned w32) zs → slice_get zs i ≡ Some z → FitsSigned w32 z
+fit_at [] i z fit at = absurd (cc)
+fit_at (y ∷ zs) zero z fit at = let same : y ≡ z = cc in subst (FitsSigned w32) same fit.0
+fit_at (y ∷ zs) (suc i) z fit at = fit_at zs i z fit.1 at
+
+module _ (numbers words : List ℕ) (elements zs : List ℤ) (start : ℕ) (read : AreWordsOf words zs) (few : length zs ≤ length elements) (held : (i : ℕ) (z : ℤ) → slice_get elements i ≡ Some z → FitsSigned w32 z × (slice_get numbers (start + i) ≡ Some (cast_unsigned w32 z))) where
+  long : length words ≡ length zs
+  long = ap length read.same ∙ length-map zs (cast_unsigned w32)
+
+  -- an element of the array is there as a word
+  there : (i : ℕ) → i < length elements → start + i < length numbers
+  there i below = let at = slice_get-get_or elements i (ℤ.pos 0) below in slice_get_within numbers (start + i) _ (held i _ at).1
+
+  pub element_shown : (i : ℕ) → i < length elements → ShowsElement (in_range (slice_get (overlaid elements 0 zs) i)) (overlaid numbers start words) (start + i)
+  element_shown i below = by_place (cases_lt i (length zs))
+    where
+      by_place : (i < length zs) ⊎ (length zs ≤ i) → ShowsElement (in_range (slice_get (overlaid elements 0 zs) i)) (overlaid numbers start words) (start + i)
+      by_place (inl new) =
+          let at = slice_get-get_or zs i (ℤ.pos 0) new in
+          record {
+            number = _;
+            is = ap in_range (get_within elements 0 zs i i (omega arith) new below ∙ at);
+            fits = fit_at zs i _ read.fit at;
+            word =
+                get_within numbers start words i (start + i) refl (omega (arith, new, long)) (there i below)
+                ∙ ap (λ (l : List ℕ). slice_get l i) read.same
+                ∙ slice_get-map (cast_unsigned w32) zs i
+                ∙ ap (option_map (cast_unsigned w32)) at;
+          }
+      by_place (inr old) =
+          let at = slice_get-get_or elements i (ℤ.pos 0) below in
+          record {
+            number = _;
+            is = ap in_range (get_outside elements 0 zs i (λ k small e. omega (arith, small, e, old)) ∙ at);
+            fits = (held i _ at).0;
+            word = get_outside numbers start words (start + i) (λ k small e. omega (arith, small, e, old, long)) ∙ (held i _ at).1;
+          }
+
+-- ---- the slots
+
+module _ (code : Listing) (known : Known) (own : Owners) (shared : Shared) (s : source.Thread) (slots : Slots) (shows : Shows code known (visible_to own shared s) slots) (x : Identifier) (t : ElementType) (array : ArraySlots) (at : IsArray known x t array.len array.start) (words : List ℕ) (zs : List ℤ) (read : AreWordsOf words zs) (few : length words ≤ array.len) where
+  abbrev begun : source.Thread
+  begun = record s { variables = change x (begun_with zs) s.variables }
+
+  pub copied_viewless : viewed_by s ≡ [] → viewed_by begun ≡ []
+  copied_viewless none =
+      let held = array_held code known 0 [] slots own shared s shows x t array at in
+      subst (λ (vs : Variables). viewed_by (record s { variables = vs }) ≡ []) (sym (change_is x (begun_with zs) (LocalArray held.type held.elements) s.variables held.is))
+      (assigned_viewless x (LocalArray held.type (overwritten held.elements 0 zs)) s.variables refl none)
+
+  pub shows_copied : HaveOwnSlots known → Shows code known (visible_to own shared begun) (record slots { numbers = overlaid slots.numbers array.start words })
+  shows_copied owned =
+      let shown = shows.each x (record { sort = Array t array.len; index = array.start }) at in
+      let held = array_held code known 0 [] slots own shared s shows x t array at in
+      let new : Variable = LocalArray held.type (overwritten held.elements 0 zs) in
+      let set : begun.variables ≡ assign x new s.variables = change_is x (begun_with zs) (LocalArray held.type held.elements) s.variables held.is in
+      let long : length words ≡ length zs = ap length read.same ∙ length-map zs (cast_unsigned w32) in
+      let short : length zs ≤ length held.elements = omega (arith, few, long, held.count) in
+      let after : overwritten held.elements 0 zs ≡ overlaid held.elements 0 zs = sym (overlaid_is held.elements 0 zs (0 + length zs) refl (omega (arith, short))) in
+      let element : (i : ℕ) → (visible_to own shared begun).sight.element x i ≡ in_range (slice_get (overlaid held.elements 0 zs) i) =
+      λ i. element_of own own shared s begun x (λ y other. refl) new set i ∙ ap (λ (l : List ℤ). in_range (slice_get l i)) after in
+      fewer_shown code known ((x, record { sort = Array t array.len; index = array.start }) ∷ known) (visible_to own shared begun) (record slots { numbers = overlaid slots.numbers array.start words }) (known_among x (record { sort = Array t array.len; index = array.start }) known at)
+      (with_changed code known (visible_to own shared s) (visible_to own shared begun) slots (record slots { numbers = overlaid slots.numbers array.start words }) x (record { sort = Array t array.len; index = array.start }) shows (owned x (record { sort = Array t array.len; index = array.start }) at)
+      (others own own shared s begun x (λ y other. refl) new set) (λ y other. statics_stay shared.statics shared.statics refl y)
+      (length_overlaid slots.numbers array.start words) refl refl refl
+      (λ k outside. get_outside slots.numbers array.start words k (λ j small e. outside (omega (arith, e), omega (arith, e, small, few))))
+      (λ i other. (refl, refl)) (λ i other. refl)
+      (record {
+        few = shown.few;
+        array_type = ap type_of_array (found own own shared s begun x (λ y other. refl) new set) ∙ sym (ap type_of_array held.is) ∙ shown.array_type;
+        elements = λ i below.
+            let e = element_shown slots.numbers words held.elements zs array.start read short held.words i (omega (arith, below, held.count)) in
+            record { number = e.number; is = element i ∙ e.is; fits = e.fits; word = e.word };
+        past = λ i above. element i ∙ ap in_range (slice_get_past (overlaid held.elements 0 zs) i (omega (arith, above, held.count, length_overlaid held.elements 0 zs)));
+      }))
+
+-- ---- the array that a call names
+
+zip_at : {A B : Type 0} (P : A → B → Type 0) (xs : List A) (ys : List B) (i : ℕ) (x : A) (y : B) → AllZip P xs ys → slice_get xs i ≡ Some x → slice_get ys i ≡ Some y → P x y
+zip_at P [] ys i x y h at there = absurd (cc (at))
+zip_at P (a ∷ xs) [] i x y h at there = absurd h
+zip_at P (a ∷ xs) (b ∷ ys) zero x y h at there =
+    let first : a ≡ x = cc (at) in
+    let second : b ≡ y = cc (there) in
+    subst (λ v. P v y) first (subst (λ v. P a v) second h.0)
+zip_at P (a ∷ xs) (b ∷ ys) (suc i) x y h at there = zip_at P xs ys i x y h.1 at there
+
+named_is : (o : Option Operand) (a : Option Actual) (name : Identifier) (array : ArraySlots) → named_array o a ≡ Some (name, array) → (o ≡ Some (operand.Array array)) × (a ≡ Some (VariableActual name))
+named_is (Some (operand.Array slots)) (Some (VariableActual x)) name array h =
+    let both : (x, slots) ≡ (name, array) = cc in
+    (ap (λ (p : Identifier × ArraySlots). Some (operand.Array p.1)) both, ap (λ (p : Identifier × ArraySlots). Some (VariableActual p.0)) both)
+named_is o a name array h = absurd (cc)
+
+pub array_known : (code : Listing) (known : Known) (place : ℕ) (stack : List ℕ) (slots : Slots) (visible : Visible) (operands : List Operand) (args : List Actual) (name : Identifier) (array : ArraySlots) → AllZip (IsOperand code known place stack slots visible) operands args
+    → array_given operands args ≡ Some (name, array) → (t : ElementType) × IsArray known name t array.len array.start
+array_known code known place stack slots visible operands args name array h given =
+    let named = named_is (slice_get operands 3) (slice_get args 3) name array given in
+    let is = zip_at (IsOperand code known place stack slots visible) operands args 3 (operand.Array array) (VariableActual name) h named.0 named.1 in
+    let same : is.0 ≡ name = let e : VariableActual name ≡ VariableActual is.0 = is.1 in cc in
+    (is.2, subst (λ (x : Identifier). IsArray known x is.2 array.len array.start) same is.3)
+
+-- ---- which answers change variables
+
+module _ (classes : Classes) (brought : Brought) (space : Space) (locals : LocalTable) (kind : ResultKind) (shared : Shared) (s : source.Thread) where
+  -- numbers were copied into the array that the call names
+  pub record Copied (answer : Answer) (effect : CallEffect) : Type 0 where
+    pub region : ArrayRegion
+    pub is : answer ≡ answers.CopiesOut region
+    pub nothing : kind ≡ GivesNothing
+    pub copied : IsCopiedOut brought space shared s region effect
+
+  -- or the variables and the number slots are as they were
+  abbrev pub AreKept : Answer → CallEffect → Type 0
+  AreKept answer effect = (variables_left false s effect ≡ s.variables) × ((numbers : List ℕ) → numbers_after space answer numbers ≡ numbers)
+
+  of_frames : (frames : List source.Frame) → variables_left false s (frames_effect classes shared s frames) ≡ s.variables
+  of_frames frames = cond_both (nat_le (source.capacities frames) 1024) _ (refuses_frames classes shared s) (λ (e : CallEffect). variables_left false s e ≡ s.variables) (λ e. refl) (λ e. refl)
+
+  pub kept_or_copied : (answer : Answer) (effect : CallEffect) → is_halt answer ≡ false → IsAnswer classes brought space locals kind shared s answer effect → AreKept answer effect ⊎ Copied answer effect
+  kept_or_copied (answers.Gives g) effect runs h = inl (ap (variables_left false s) (gives_it classes brought space locals kind shared s g effect h).is, λ numbers. refl)
+  kept_or_copied (answers.Writes a place v) effect runs h = inl (ap (variables_left false s) (writes_it classes brought space locals kind shared s a place v effect h).is, λ numbers. refl)
+  kept_or_copied (answers.CopiesOut region) effect runs h = inr (record { region = region; is = refl; nothing = h.0; copied = h.1 })
+  kept_or_copied (answers.CopiesIn region) effect runs h = inl (ap (variables_left false s) h.1.is, λ numbers. refl)
+  kept_or_copied (answers.Makes new) effect runs h = inl (ap (variables_left false s) (makes_it classes brought space locals kind shared s new effect h).is, λ numbers. refl)
+  kept_or_copied (answers.Throws class) effect runs h = inl (ap (variables_left false s) (throws_it classes brought space locals kind shared s class effect h).is, λ numbers. refl)
+  kept_or_copied (answers.Raises class place) effect runs h = inl (ap (variables_left false s) h.3, λ numbers. refl)
+  kept_or_copied (answers.Pends a g) effect runs h = inl (ap (variables_left false s) h.2.2, λ numbers. refl)
+  kept_or_copied (answers.Halts trap) effect runs h = absurd (cc (runs))
+  kept_or_copied (answers.Ensures more) effect runs h = inl (ap (variables_left false s) h.1 ∙ of_frames (with_capacity more s.frames), λ numbers. refl)
+  kept_or_copied (answers.Pushes capacity) effect runs h = inl (ap (variables_left false s) h.1 ∙ of_frames (record { capacity = capacity; references = [] } ∷ s.frames), λ numbers. refl)
+  kept_or_copied answers.RefusesFrames effect runs h = inl (ap (variables_left false s) h.1, λ numbers. refl)
+  kept_or_copied (answers.Pops a) effect runs h = inl (ap (variables_left false s) h.1.2, λ numbers. refl)
+  kept_or_copied (answers.Deletes key) effect runs h = inl (ap (variables_left false s) h.1.3, λ numbers. refl)
+  kept_or_copied (answers.MakesGlobal a) effect runs h = inl (ap (variables_left false s) h.1.2, λ numbers. refl)
+  kept_or_copied (answers.DeletesGlobal i) effect runs h = inl (ap (variables_left false s) h.1.3, λ numbers. refl)
