@@ -16,6 +16,7 @@ pub mod Collected
 pub mod Steps
 pub mod Advancing
 pub mod SafeLoads
+pub mod TextBytes
 pub mod Runs
 pub mod Standings
 pub mod BlockObjects

@@ -46,6 +46,8 @@ use Rattle.machine.specs.Run.{Run, AdvancesAlways, Corresponds, CouldStep, HadNo
 use Rattle.machine.proofs.KeptThreads.{threads_stay}
 use Rattle.machine.proofs.OwnerSteps.{Found, changed, found, owner_elsewhere, owner_here, owners_stepped}
 use Rattle.machine_steps.proofs.Threads.{unblocked}
+use Rattle.semantics_typing.specs.Objects.{AreTypedVariables}
+use Rattle.semantics_typing.proofs.Lists.{all_get}
 use Rattle.semantics_safety.specs.Owners.{AllOwners, Owners, after_advance, owners_after, with_owners}
 
 -- ---- what a step changes
@@ -132,7 +134,7 @@ module _ (p : Lowered) (world : World) (store : Store) (ts : List Thread) (print
         free = safe.free;
         possible = safe.possible;
         objects = typed.heap;
-        variables = typed_variables classes c.state.shared.heap c.state.threads i the_thread.source (sym placed_there ∙ there) typed.variables;
+        variables = all_get (λ (t : source.Thread). AreTypedVariables classes c.state.shared.heap t.variables) c.state.threads i the_thread.source typed.variables the_thread.is;
         declared = safe.declared;
         owned = safe.owned;
       }
