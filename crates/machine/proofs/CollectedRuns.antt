@@ -122,11 +122,8 @@ module _ (Kept : ℕ → Type 0) (to : ℕ → ℕ) (p : Lowered) (w : World) (s
     of_function = h.of_function;
     known = h.known;
     stands = h.stands;
-    references = h.references;
-    owners = h.owners;
-    agree = keys_moved Kept to store.heap t m call.locals call.slots.references.items h.references h.owners kept h.agree;
-    fields = h.fields;
-    fields_agree = h.fields_agree;
+    meant = h.meant;
+    holds = record { keys = keys_moved Kept to store.heap t m call.locals call.slots.references.items h.meant.references h.meant.owners kept h.holds.keys; fields = h.holds.fields };
     shows = h.shows;
     depth = h.depth;
     frames_agree = locals_moved Kept to store.heap t m call.locals frames (frames_kept (reverse call.locals.frames) call.locals.slots kept) h.frames_agree;

@@ -12,6 +12,7 @@ use Rattle.semantics_safety.specs.Owners.{Owners, AllOwners}
 use Rattle.machine_steps.specs.declared.thread.Thread.{Thread}
 use Rattle.machine_calls.specs.StoreAgrees.{Keeps}
 use Rattle.machine_steps.specs.Executes.{CallStands, WorkAgrees}
+use Rattle.machine_steps.specs.SlotsHold.{slots_of}
 use Rattle.machine_steps.specs.ThreadAgrees.{ThreadAgrees, ThreadsAgree}
 use Rattle.machine_calls.proofs.Keeping.{reference_stays, keys_stay, frames_stay}
 use Rattle.machine_steps.proofs.StillShown.{shows_stay}
@@ -23,12 +24,9 @@ module _ (p : Lowered) (classes : Classes) (made : ℕ) (space space' : Space) (
     of_function = h.of_function;
     known = h.known;
     stands = h.stands;
-    references = h.references;
-    owners = h.owners;
-    agree = keys_stay space space' keeps.names call.locals call.slots.references.items h.references h.owners h.agree;
-    fields = h.fields;
-    fields_agree = h.fields_agree;
-    shows = shows_stay own shared shared' keeps.statics s h.code h.known (record { numbers = call.slots.numbers.items; references = h.references; owners = h.owners; fields = h.fields }) h.shows;
+    meant = h.meant;
+    holds = record { keys = keys_stay space space' keeps.names call.locals call.slots.references.items h.meant.references h.meant.owners h.holds.keys; fields = h.holds.fields };
+    shows = shows_stay own shared shared' keeps.statics s h.code h.known (slots_of call h.meant) h.shows;
     depth = h.depth;
     frames_agree = frames_stay space space' keeps.names call.locals frames h.frames_agree;
   }

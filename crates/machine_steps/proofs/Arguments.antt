@@ -41,7 +41,8 @@ use Rattle.machine_calls.specs.declared.references.Held.{Held}
 use Rattle.machine_calls.proofs.HeldStatics.{static_there}
 use Rattle.machine_calls.proofs.KeyLaws.{address_there}
 use Rattle.machine_calls.specs.Given.{HasArray, HasElements, held_in, IsGiven}
-use Rattle.machine_steps.proofs.Calls.{slots_of, Ready}
+use Rattle.machine_steps.proofs.Calls.{Ready}
+use Rattle.machine_steps.specs.SlotsHold.{Meant, SlotsHold, slots_of}
 
 -- ---- slots
 
@@ -64,7 +65,7 @@ module _ (p : Lowered) (classes : Classes) (space : Space) (call : Activation) (
   abbrev references : References
   references = record { keys = call.slots.references.items; locals = call.locals; statics = helds }
 
-  one_given : (o : Operand) (a : Actual) → HasOwner r.references r.owners o → IsOperand code r.known call.place call.stack (slots_of call r.references r.owners r.fields) visible o a → IsGiven classes space references call.slots.fields.items o a
+  one_given : (o : Operand) (a : Actual) → HasOwner r.meant.references r.meant.owners o → IsOperand code r.known call.place call.stack (slots_of call r.meant) visible o a → IsGiven classes space references call.slots.fields.items o a
   one_given operand.Null a owned (inl h) = inl (record { name = h.0; reference = None; is = h.1; agrees = tt })
   one_given operand.Null a owned (inr (inl h)) = inr (inl (record { field = None; is = h; agrees = tt }))
   one_given operand.Null a owned (inr (inr h)) = inr (inr h)
@@ -74,7 +75,7 @@ module _ (p : Lowered) (classes : Classes) (space : Space) (call : Activation) (
         name = h.0;
         reference = shown.reference;
         is = h.1 ∙ ap (ReferenceActual h.0) shown.is;
-        agrees = address_there space call.locals call.slots.references.items r.references r.owners i shown.reference r.agree shown.there (λ n is. owned n (shown.there ∙ ap (λ (q : Reference). Some q) is));
+        agrees = address_there space call.locals call.slots.references.items r.meant.references r.meant.owners i shown.reference r.holds.keys shown.there (λ n is. owned n (shown.there ∙ ap (λ (q : Reference). Some q) is));
       }
   one_given (operand.Static i) a owned h =
       let shown = r.shows.each h.0 (record { sort = Global; index = i }) h.2 in
@@ -87,14 +88,14 @@ module _ (p : Lowered) (classes : Classes) (space : Space) (call : Activation) (
   one_given operand.Number a owned h = h
   one_given (operand.FieldId i) a owned h =
       let shown = r.shows.each h.0 (record { sort = sort.FieldId; index = i }) h.2 in
-      record { field = shown.field; is = h.1 ∙ ap FieldActual shown.is; agrees = field_there classes call.slots.fields.items r.fields i shown.field r.fields_agree shown.there }
+      record { field = shown.field; is = h.1 ∙ ap FieldActual shown.is; agrees = field_there classes call.slots.fields.items r.meant.fields i shown.field r.holds.fields shown.there }
   one_given operand.Text a owned h = h
   one_given (operand.Array array) a owned h = (h.0, h.1)
   one_given (operand.Buffer i) a owned h = (h.0, h.1)
   one_given (operand.Mode mode) a owned h = h
   one_given (operand.IsCopy i) a owned h = (h.0, h.1)
 
-  pub all_given : (operands : List Operand) (args : List Actual) → AllByRecursion (HasOwner r.references r.owners) operands → AllZip (IsOperand code r.known call.place call.stack (slots_of call r.references r.owners r.fields) visible) operands args
+  pub all_given : (operands : List Operand) (args : List Actual) → AllByRecursion (HasOwner r.meant.references r.meant.owners) operands → AllZip (IsOperand code r.known call.place call.stack (slots_of call r.meant) visible) operands args
       → AllZip (IsGiven classes space references call.slots.fields.items) operands args
   all_given [] [] owned h = tt
   all_given [] (a ∷ args) owned h = absurd h

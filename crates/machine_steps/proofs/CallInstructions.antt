@@ -63,7 +63,8 @@ use Rattle.machine_steps.proofs.Arguments.{all_given, arrays_held, none_left_aft
 use Rattle.machine_steps.proofs.CopiedArrays.{AreKept, Copied, array_known, copied_viewless, kept_or_copied, shows_copied}
 use Rattle.std.proofs.lemmas.List.{length-map, length-take}
 use Rattle.machine_calls.proofs.CallTraps.{found_is, room_left}
-use Rattle.machine_steps.proofs.Calls.{Ready, fields_count, ready, ready_known, ready_owners, slots_of}
+use Rattle.machine_steps.proofs.Calls.{Ready, fields_count, ready, ready_known, ready_owners}
+use Rattle.machine_steps.specs.SlotsHold.{Meant, SlotsHold, slots_of}
 use Rattle.machine_steps.proofs.Effects.{call_cases}
 use Rattle.machine_steps.proofs.EffectFrames.{left_is}
 use Rattle.machine_calls.proofs.LocalFrames.{frames_left as frames_after_agree}
@@ -184,18 +185,18 @@ stays_with classes brought space locals kind shared s answers.RefusesFrames (Lea
 
 -- where the result goes is there
 module _ (p : Lowered) (classes : Classes) (space : Space) (call : Activation) (code : Listing) (visible : Visible) (frames : List source.Frame) (task : Task) (rest : List Task) (r : Ready p classes space call code visible frames task rest) where
-  target_there : (line : ℕ) (d : Destination) (kind : ResultKind) (target : Target) → TakesResult code r.known call.place call.stack (slots_of call r.references r.owners r.fields) visible line d kind target rest → HasTarget d call
+  target_there : (line : ℕ) (d : Destination) (kind : ResultKind) (target : Target) → TakesResult code r.known call.place call.stack (slots_of call r.meant) visible line d kind target rest → HasTarget d call
   target_there line destination.Dropped kind target h = (tt, tt, tt)
   target_there line (destination.Number i) kind (Declared declared x) h = (h.2.1.within, tt, tt)
   target_there line (destination.Number i) kind (Assigned x) h = (h.2.1.within, tt, tt)
   target_there line (destination.Number i) kind (Tested a b) h = absurd h.2
   target_there line (destination.Number i) kind Dropped h = absurd h.2
-  target_there line (destination.Local i) kind (Declared declared x) h = (tt, omega (arith, h.1.1.within, keys_count space call.locals call.slots.references.items r.references r.owners r.agree), tt)
-  target_there line (destination.Local i) kind (Assigned x) h = (tt, omega (arith, h.1.1.within, keys_count space call.locals call.slots.references.items r.references r.owners r.agree), tt)
+  target_there line (destination.Local i) kind (Declared declared x) h = (tt, omega (arith, h.1.1.within, keys_count space call.locals call.slots.references.items r.meant.references r.meant.owners r.holds.keys), tt)
+  target_there line (destination.Local i) kind (Assigned x) h = (tt, omega (arith, h.1.1.within, keys_count space call.locals call.slots.references.items r.meant.references r.meant.owners r.holds.keys), tt)
   target_there line (destination.Local i) kind (Tested a b) h = absurd h.1
   target_there line (destination.Local i) kind Dropped h = absurd h.1
-  target_there line (destination.FieldId i) kind (Declared declared x) h = (tt, tt, omega (arith, h.1.1.within, fields_count classes call.slots.fields.items r.fields r.fields_agree))
-  target_there line (destination.FieldId i) kind (Assigned x) h = (tt, tt, omega (arith, h.1.1.within, fields_count classes call.slots.fields.items r.fields r.fields_agree))
+  target_there line (destination.FieldId i) kind (Declared declared x) h = (tt, tt, omega (arith, h.1.1.within, fields_count classes call.slots.fields.items r.meant.fields r.holds.fields))
+  target_there line (destination.FieldId i) kind (Assigned x) h = (tt, tt, omega (arith, h.1.1.within, fields_count classes call.slots.fields.items r.meant.fields r.holds.fields))
   target_there line (destination.FieldId i) kind (Tested a b) h = absurd h.1
   target_there line (destination.FieldId i) kind Dropped h = absurd h.1
   target_there line (destination.Static i) kind target h = (tt, tt, tt)
@@ -223,8 +224,8 @@ pub record CalledAs (p : Lowered) (w : World) (store : Store) (pending : Option 
   pub is : effect ≡ Calls line target f args
   pub asked : IsAsked p w store pending call function shared s f args
   pub same_line : function.line ≡ line
-  pub operands : AllZip (IsOperand code r.known call.place call.stack (slots_of call r.references r.owners r.fields) (visible_to own shared s)) function.operands args
-  pub goes : TakesResult code r.known call.place call.stack (slots_of call r.references r.owners r.fields) (visible_to own shared s) line function.target (prototype f).result target rest
+  pub operands : AllZip (IsOperand code r.known call.place call.stack (slots_of call r.meant) (visible_to own shared s)) function.operands args
+  pub goes : TakesResult code r.known call.place call.stack (slots_of call r.meant) (visible_to own shared s) line function.target (prototype f).result target rest
   pub left : with_fewer (words_taken function.operands) (length call.stack) ≡ Some 0
   pub own_slots : HaveOwnSlots r.known
 
@@ -238,10 +239,10 @@ module _ (p : Lowered) (w : World) (store : Store) (pending : Option ℕ) (call 
   abbrev pub Called : Effect → Type 0
   Called effect = CalledAs p w store pending call h.code function own shared s task rest r effect
 
-  called_by : (line : ℕ) (target : Target) (f : JniFunction) (args : List Actual) → CallsFunction h.code r.known call.place call.stack (slots_of call r.references r.owners r.fields) (visible_to own shared s) line target f args rest → effect_of (sight_of shared s) task ≡ Calls line target f args → Called (Calls line target f args)
+  called_by : (line : ℕ) (target : Target) (f : JniFunction) (args : List Actual) → CallsFunction h.code r.known call.place call.stack (slots_of call r.meant) (visible_to own shared s) line target f args rest → effect_of (sight_of shared s) task ≡ Calls line target f args → Called (Calls line target f args)
   called_by line target f args c step =
       let same : c.call ≡ function = let both : instr.Call c.call ≡ instr.Call function = cc (h.at, c.at) in cc in
-      let operands = subst (λ (x : Call). AllZip (IsOperand h.code r.known call.place call.stack (slots_of call r.references r.owners r.fields) (visible_to own shared s)) x.operands args) same c.given in
+      let operands = subst (λ (x : Call). AllZip (IsOperand h.code r.known call.place call.stack (slots_of call r.meant) (visible_to own shared s)) x.operands args) same c.given in
       let owned = operands_owned p w.classes store.heap call h.code own shared s task rest r line target f args function.operands step (h.steady.owned task rest h.tasks) operands in
       let given = all_given p w.classes store.heap call h.code (visible_to own shared s) s.frames task rest r (all_held store.globals store.statics.items) h.shares.statics function.operands args owned operands in
       record {
@@ -260,14 +261,14 @@ module _ (p : Lowered) (w : World) (store : Store) (pending : Option ℕ) (call 
           kinds = subst (λ (x : Call). AllZip OperandFits (prototype f).parameters x.operands) same c.kinds;
           fit = c.fit;
           given = given;
-          arrays = arrays_held h.code r.known call.place call.stack (slots_of call r.references r.owners r.fields) own shared s r.shows function.operands args operands;
+          arrays = arrays_held h.code r.known call.place call.stack (slots_of call r.meant) own shared s r.shows function.operands args operands;
           typed = h.steady.objects;
           words = c.words;
           texts = ap (λ (x : Call). x.texts) (sym same) ∙ c.texts;
         };
         same_line = ap (λ (x : Call). x.line) (sym same) ∙ c.same_line;
         operands = operands;
-        goes = subst (λ (x : Call). TakesResult h.code r.known call.place call.stack (slots_of call r.references r.owners r.fields) (visible_to own shared s) line x.target (prototype f).result target rest) same c.goes;
+        goes = subst (λ (x : Call). TakesResult h.code r.known call.place call.stack (slots_of call r.meant) (visible_to own shared s) line x.target (prototype f).result target rest) same c.goes;
         left = none_left_after w.classes store.heap (references_of store call) call.slots.fields.items function.operands args call.stack given c.words;
         own_slots = c.own_slots;
       }
@@ -309,7 +310,7 @@ module _ (p : Lowered) (w : World) (store : Store) (pending : Option ℕ) (call 
   pub has_static : (statics : ℕ) → length shared.statics ≡ statics → HasStatic in_memory.target statics
   has_static statics count = static_within statics count function.target called.goes
     where
-      static_within : (statics : ℕ) → length shared.statics ≡ statics → (d : Destination) → TakesResult h.code r.known call.place call.stack (slots_of call r.references r.owners r.fields) (visible_to own shared s) called.line d (prototype called.f).result called.target rest → HasStatic d statics
+      static_within : (statics : ℕ) → length shared.statics ≡ statics → (d : Destination) → TakesResult h.code r.known call.place call.stack (slots_of call r.meant) (visible_to own shared s) called.line d (prototype called.f).result called.target rest → HasStatic d statics
       static_within statics count (destination.Static i) goes = omega (arith, count, place_below goes.1.0 shared.statics i goes.1.2.static.static.place)
       static_within statics count (destination.Number i) goes = tt
       static_within statics count (destination.Local i) goes = tt
@@ -327,8 +328,8 @@ module _ (p : Lowered) (w : World) (store : Store) (pending : Option ℕ) (call 
   -- owners that are left once function f has ended local references, and what shows them
   record LeavesOwners (f : JniFunction) (answer : Answer) : Type 0 where
     owners : List (Option ℕ)
-    shows : Shows h.code r.known (visible_to (left_by_call f called.args (length s.frames) own) shared s) (slots_of call r.references owners r.fields)
-    among : (i level : ℕ) → slice_get owners i ≡ Some (Some level) → slice_get r.owners i ≡ Some (Some level)
+    shows : Shows h.code r.known (visible_to (left_by_call f called.args (length s.frames) own) shared s) (slots_of call (record r.meant { owners = owners }))
+    among : (i level : ℕ) → slice_get owners i ≡ Some (Some level) → slice_get r.meant.owners i ≡ Some (Some level)
     left : (i key level : ℕ) → slice_get call.slots.references.items i ≡ Some (Some key) → slice_get owners i ≡ Some (Some level) → IsLeft answer (length call.locals.frames) key level
 
   module _ (answer : Answer) (works : IsWorkedOut (scene_of w.classes store call pending) function called.f answer) where
@@ -339,17 +340,17 @@ module _ (p : Lowered) (w : World) (store : Store) (pending : Option ℕ) (call 
     delete_leaves e is =
         let d = deleted e in
         record {
-          owners = slice_set r.owners d.slot None;
-          shows = subst (λ (x : Identifier). Shows h.code r.known (visible_to (λ y. if bytes_eq y x then None else own y) shared s) (slots_of call r.references (slice_set r.owners d.slot None) r.fields)) (sym d.variable)
-              (owner_lost_with_slot h.code r.known (visible_to own shared s) (slots_of call r.references r.owners r.fields) r.shows d.name d.slot (called.own_slots d.name (record { sort = Ref; index = d.slot }) d.at));
-          among = λ i level at. in_others d i level (set_cases r.owners d.slot i None (Some level) at);
-          left = λ i key level found at. by_key d (slice_get call.slots.references.items d.slot) refl i key level found (set_cases r.owners d.slot i None (Some level) at);
+          owners = slice_set r.meant.owners d.slot None;
+          shows = subst (λ (x : Identifier). Shows h.code r.known (visible_to (λ y. if bytes_eq y x then None else own y) shared s) (slots_of call (record r.meant { owners = slice_set r.meant.owners d.slot None }))) (sym d.variable)
+              (owner_lost_with_slot h.code r.known (visible_to own shared s) (slots_of call r.meant) r.shows d.name d.slot (called.own_slots d.name (record { sort = Ref; index = d.slot }) d.at));
+          among = λ i level at. in_others d i level (set_cases r.meant.owners d.slot i None (Some level) at);
+          left = λ i key level found at. by_key d (slice_get call.slots.references.items d.slot) refl i key level found (set_cases r.meant.owners d.slot i None (Some level) at);
         }
       where
         nothing : (level : ℕ) → ◌≡◌ {A = Option ℕ} None (Some level) → ⊥
         nothing level same = cc
 
-        in_others : (d : DeletesKey p w.classes store.heap call h.code own shared s task rest r function.operands called.args) (i level : ℕ) → ((i ≡ d.slot) × (◌≡◌ {A = Option ℕ} None (Some level))) ⊎ ((i ≢ d.slot) × (slice_get r.owners i ≡ Some (Some level))) → slice_get r.owners i ≡ Some (Some level)
+        in_others : (d : DeletesKey p w.classes store.heap call h.code own shared s task rest r function.operands called.args) (i level : ℕ) → ((i ≡ d.slot) × (◌≡◌ {A = Option ℕ} None (Some level))) ⊎ ((i ≢ d.slot) × (slice_get r.meant.owners i ≡ Some (Some level))) → slice_get r.meant.owners i ≡ Some (Some level)
         in_others d i level (inl (same, none)) = absurd (nothing level none)
         in_others d i level (inr (other, at)) = at
 
@@ -357,31 +358,31 @@ module _ (p : Lowered) (w : World) (store : Store) (pending : Option ℕ) (call 
         answered d o at = is ∙ ap (λ (x : Operand). deletes (key_at (references_of store call) x)) d.is ∙ ap (λ (x : Option (Option ℕ)). deletes (held_in x)) at
 
         by_key : (d : DeletesKey p w.classes store.heap call h.code own shared s task rest r function.operands called.args) (o : Option (Option ℕ)) → slice_get call.slots.references.items d.slot ≡ o → (i key level : ℕ) → slice_get call.slots.references.items i ≡ Some (Some key)
-            → ((i ≡ d.slot) × (◌≡◌ {A = Option ℕ} None (Some level))) ⊎ ((i ≢ d.slot) × (slice_get r.owners i ≡ Some (Some level))) → IsLeft answer (length call.locals.frames) key level
+            → ((i ≡ d.slot) × (◌≡◌ {A = Option ℕ} None (Some level))) ⊎ ((i ≢ d.slot) × (slice_get r.meant.owners i ≡ Some (Some level))) → IsLeft answer (length call.locals.frames) key level
         by_key d o at i key level found (inl (same, none)) = absurd (nothing level none)
         by_key d None at i key level found (inr (other, owned)) = subst (λ (a : Answer). IsLeft a (length call.locals.frames) key level) (sym (answered d None at)) tt
         by_key d (Some None) at i key level found (inr (other, owned)) = subst (λ (a : Answer). IsLeft a (length call.locals.frames) key level) (sym (answered d (Some None) at)) tt
         by_key d (Some (Some k)) at i key level found (inr (other, owned)) =
             subst (λ (a : Answer). IsLeft a (length call.locals.frames) key level) (sym (answered d (Some (Some k)) at))
             (λ same.
-            let named = name_there store.heap call.locals call.slots.references.items r.references r.owners d.slot k r.agree at in
+            let named = name_there store.heap call.locals call.slots.references.items r.meant.references r.meant.owners d.slot k r.holds.keys at in
             let owner = d.owned named.0 named.1 in
-            other (r.agree.apart i d.slot key level owner.0 found (at ∙ ap (λ (n : ℕ). Some (Some n)) (sym same)) owned owner.1))
+            other (r.holds.keys.apart i d.slot key level owner.0 found (at ∙ ap (λ (n : ℕ). Some (Some n)) (sym same)) owned owner.1))
 
     pop_leaves : Works PopLocalFrame → LeavesOwners PopLocalFrame answer
     pop_leaves is = record {
-      owners = map (other_than (length s.frames)) r.owners;
-      shows = owners_mapped h.code r.known (visible_to own shared s) (slots_of call r.references r.owners r.fields) r.shows (other_than (length s.frames)) refl;
-      among = λ i level at. (others_get (length s.frames) r.owners i level at).0;
+      owners = map (other_than (length s.frames)) r.meant.owners;
+      shows = owners_mapped h.code r.known (visible_to own shared s) (slots_of call r.meant) r.shows (other_than (length s.frames)) refl;
+      among = λ i level at. (others_get (length s.frames) r.meant.owners i level at).0;
       left = λ i key level found at.
           subst (λ (a : Answer). IsLeft a (length call.locals.frames) key level) (sym is)
-          (λ same. (others_get (length s.frames) r.owners i level at).1 (same ∙ as_many_frames store.heap call.locals s.frames r.frames_agree));
+          (λ same. (others_get (length s.frames) r.meant.owners i level at).1 (same ∙ as_many_frames store.heap call.locals s.frames r.frames_agree));
     }
 
     other_leaves : (f : JniFunction) → may_end f ≡ false → left_by_call f called.args (length s.frames) own ≡ own → Works f → LeavesOwners f answer
     other_leaves f none same is = record {
-      owners = r.owners;
-      shows = subst (λ (o : Owners). Shows h.code r.known (visible_to o shared s) (slots_of call r.references r.owners r.fields)) (sym same) r.shows;
+      owners = r.meant.owners;
+      shows = subst (λ (o : Owners). Shows h.code r.known (visible_to o shared s) (slots_of call r.meant)) (sym same) r.shows;
       among = λ i level at. at;
       left = λ i key level found at. none_left_out answer (length call.locals.frames) key level (others_end_none (scene_of w.classes store call pending) function f answer none is);
     }
@@ -402,7 +403,7 @@ module _ (p : Lowered) (w : World) (store : Store) (pending : Option ℕ) (call 
 
     -- Number slots that show the variables that the call leaves. Others than it had are left by a function that gives nothing.
     record ShowsLeft (vs : Variables) (numbers : List ℕ) : Type 0 where
-      shows : Shows h.code r.known (visible_to left_own shared (record s { variables = vs })) (record { numbers = numbers; references = r.references; owners = leaves_owners.owners; fields = r.fields })
+      shows : Shows h.code r.known (visible_to left_own shared (record s { variables = vs })) (record (slots_of call (record r.meant { owners = leaves_owners.owners })) { numbers = numbers })
       viewless : viewed_by (record s { variables = vs }) ≡ []
       kept : (vs ≡ s.variables) ⊎ ((prototype called.f).result ≡ GivesNothing)
 
@@ -410,8 +411,8 @@ module _ (p : Lowered) (w : World) (store : Store) (pending : Option ℕ) (call 
     same_left : (vs : Variables) (numbers : List ℕ) → vs ≡ s.variables → numbers ≡ call.slots.numbers.items → ShowsLeft vs numbers
     same_left vs numbers same_variables same_numbers = record {
       shows =
-          subst (λ (us : Variables). Shows h.code r.known (visible_to left_own shared (record s { variables = us })) (record { numbers = numbers; references = r.references; owners = leaves_owners.owners; fields = r.fields })) (sym same_variables)
-          (subst (λ (l : List ℕ). Shows h.code r.known (visible_to left_own shared s) (record { numbers = l; references = r.references; owners = leaves_owners.owners; fields = r.fields })) (sym same_numbers) leaves_owners.shows);
+          subst (λ (us : Variables). Shows h.code r.known (visible_to left_own shared (record s { variables = us })) (record (slots_of call (record r.meant { owners = leaves_owners.owners })) { numbers = numbers })) (sym same_variables)
+          (subst (λ (l : List ℕ). Shows h.code r.known (visible_to left_own shared s) (record (slots_of call (record r.meant { owners = leaves_owners.owners })) { numbers = l })) (sym same_numbers) leaves_owners.shows);
       viewless = subst (λ (us : Variables). viewed_by (record s { variables = us }) ≡ []) (sym same_variables) h.viewless;
       kept = inl same_variables;
     }
@@ -420,13 +421,13 @@ module _ (p : Lowered) (w : World) (store : Store) (pending : Option ℕ) (call 
     copied_left : (effect : CallEffect) (numbers : List ℕ) → Copied w.classes (brought_by call function called.args) store.heap call.locals (prototype called.f).result shared s answer effect → numbers ≡ numbers_after store.heap answer call.slots.numbers.items → ShowsLeft (variables_left false s effect) numbers
     copied_left effect numbers it slots =
         let c = it.copied in
-        let named = array_known h.code r.known call.place call.stack (slots_of call r.references r.owners r.fields) (visible_to own shared s) function.operands called.args c.name c.array called.operands c.given in
+        let named = array_known h.code r.known call.place call.stack (slots_of call r.meant) (visible_to own shared s) function.operands called.args c.name c.array called.operands c.given in
         let few : length (words_of store.heap it.region) ≤ c.array.len =
         omega (arith, c.few, length-map (take it.region.count (drop it.region.start (values_at store.heap it.region.object))) word_of, length-take it.region.count (drop it.region.start (values_at store.heap it.region.object))) in
         let variables : variables_left false s effect ≡ change c.name (begun_with c.numbers) s.variables = ap (variables_left false s) c.is in
         let slots_are : numbers ≡ overlaid call.slots.numbers.items c.array.start (words_of store.heap it.region) =
         slots ∙ ap (λ (a : Answer). numbers_after store.heap a call.slots.numbers.items) it.is ∙ ap (λ (i : ℕ). overlaid call.slots.numbers.items i (words_of store.heap it.region)) c.slot in
-        let left_slots : Slots = record { numbers = call.slots.numbers.items; references = r.references; owners = leaves_owners.owners; fields = r.fields } in
+        let left_slots : Slots = slots_of call (record r.meant { owners = leaves_owners.owners }) in
         record {
           shows =
               subst (λ (us : Variables). Shows h.code r.known (visible_to left_own shared (record s { variables = us })) (record left_slots { numbers = numbers })) (sym variables)
@@ -468,11 +469,8 @@ module _ (p : Lowered) (w : World) (store : Store) (pending : Option ℕ) (call 
         of_function = h.of_function;
         known = r.known;
         stands = r.stands;
-        references = r.references;
-        owners = leaves_owners.owners;
-        agree = fewer_owned store.heap call.locals call.slots.references.items r.references r.owners leaves_owners.owners r.agree leaves_owners.among;
-        fields = r.fields;
-        fields_agree = r.fields_agree;
+        meant = record r.meant { owners = leaves_owners.owners };
+        holds = record { keys = fewer_owned store.heap call.locals call.slots.references.items r.meant.references r.meant.owners leaves_owners.owners r.holds.keys leaves_owners.among; fields = r.holds.fields };
         shows = left.shows;
         depth = r.depth;
         frames_agree = r.frames_agree;
@@ -481,7 +479,7 @@ module _ (p : Lowered) (w : World) (store : Store) (pending : Option ℕ) (call 
       left_ready : Ready p w.classes store.heap call_left h.code (visible_to left_own shared thread_left) s.frames task rest
       left_ready = ready p w.classes store.heap call_left h.code (visible_to left_own shared thread_left) s.frames task rest h.lowered h.of_function left_stands
 
-      left_owners : left_ready.owners ≡ leaves_owners.owners
+      left_owners : left_ready.meant.owners ≡ leaves_owners.owners
       unfolding left_ready left_stands
       left_owners = ready_owners p w.classes store.heap call_left h.code (visible_to left_own shared thread_left) s.frames task rest h.lowered h.of_function left_stands
 
@@ -491,12 +489,12 @@ module _ (p : Lowered) (w : World) (store : Store) (pending : Option ℕ) (call 
 
       -- where the result goes is there for these too
       abbrev Goes : (line : ℕ) → Destination → ResultKind → Target → Type 0
-      Goes line d kind target = TakesResult h.code left_ready.known call.place call.stack (slots_of call_left left_ready.references left_ready.owners left_ready.fields) (visible_to left_own shared thread_left) line d kind target rest
+      Goes line d kind target = TakesResult h.code left_ready.known call.place call.stack (slots_of call_left left_ready.meant) (visible_to left_own shared thread_left) line d kind target rest
 
       abbrev GoesThere : Effect → Type 0
       GoesThere effect = (line : ℕ) (target : Target) (f : JniFunction) (args : List Actual) → effect ≡ Calls line target f args → Goes line function.target (prototype f).result target
 
-      goes_by : (line : ℕ) (target : Target) (f : JniFunction) (args : List Actual) → CallsFunction h.code left_ready.known call.place call.stack (slots_of call_left left_ready.references left_ready.owners left_ready.fields) (visible_to left_own shared thread_left) line target f args rest → GoesThere (Calls line target f args)
+      goes_by : (line : ℕ) (target : Target) (f : JniFunction) (args : List Actual) → CallsFunction h.code left_ready.known call.place call.stack (slots_of call_left left_ready.meant) (visible_to left_own shared thread_left) line target f args rest → GoesThere (Calls line target f args)
       goes_by line target f args c line' target' f' args' is =
           let same : c.call ≡ function = let both : instr.Call c.call ≡ instr.Call function = cc (h.at, c.at) in cc in
           let same_line : line ≡ line' = cc in
@@ -515,7 +513,7 @@ module _ (p : Lowered) (w : World) (store : Store) (pending : Option ℕ) (call 
 
       -- and nothing goes nowhere
       nowhere : (d : Destination) (kind : ResultKind) → kind ≡ GivesNothing
-          → TakesResult h.code r.known call.place call.stack (slots_of call r.references r.owners r.fields) (visible_to own shared s) called.line d kind called.target rest → Goes called.line d kind called.target
+          → TakesResult h.code r.known call.place call.stack (slots_of call r.meant) (visible_to own shared s) called.line d kind called.target rest → Goes called.line d kind called.target
       nowhere (destination.Number i) kind nothing goes = absurd (let clash : None ≡ Some goes.0 = sym (ap number_sort nothing) ∙ goes.1 in cc)
       nowhere (destination.Local i) kind nothing goes = absurd (let clash : GivesNothing ≡ NewLocal = sym nothing ∙ goes.0 in cc)
       nowhere (destination.FieldId i) kind nothing goes = absurd (let clash : GivesNothing ≡ GivesField = sym nothing ∙ goes.0 in cc)
@@ -623,7 +621,7 @@ module _ (p : Lowered) (w : World) (store : Store) (pending : Option ℕ) (call 
         let vs = variables_left refused s effect in
         let shown = shows_left answer works refused effect numbers.items runs does carried.could_refuse copied in
         let ready_left = left_ready answer works vs numbers shown in
-        let keyed = keys_left store.heap store'.heap call.locals locals call.slots.references.items ready_left.references ready_left.owners ready_left.agree
+        let keyed = keys_left store.heap store'.heap call.locals locals call.slots.references.items ready_left.meant.references ready_left.meant.owners ready_left.holds.keys
         (λ i key n level at_key owned is. carried.left key n level is (mid.left i key level at_key (subst (λ (l : List (Option ℕ)). slice_get l i ≡ Some (Some level)) (left_owners answer works vs numbers shown) owned))) in
         let ends = finishes p w store.heap store' (left_own answer works) shared next carried.store_agrees carried.keeps (record s { variables = vs }) shown.viewless (record call { slots = record call.slots { numbers = numbers } }) h.code task rest ready_left called.line called.f called.args locals stacked (room_after free refused store' pending' locals g answer carried) keyed left carried.frames_agree q g c carried.given_agrees carried.still function h.at called.left after statics function.target called.target
         (λ local x level old is at.

@@ -34,6 +34,7 @@ use Rattle.semantics.specs.Thread.{Frame}
 use Rattle.tables.specs.Locals.{LocalTable}
 use Rattle.machine_calls.specs.Locals.{FramesAgree, KeysAgree}
 use Rattle.machine_steps.specs.Executes.{CallStands}
+use Rattle.machine_steps.specs.SlotsHold.{Meant, SlotsHold, slots_of}
 use Rattle.machine_steps.specs.Moved.{HasMoved}
 use Rattle.machine_calls.specs.FieldIds.{FieldsAgree}
 
@@ -47,10 +48,6 @@ code_lowered statics (StaticItem s ∷ items) codes n code h e = code_lowered (w
 code_lowered statics (FunctionItem f ∷ items) [] n code h e = absurd h
 code_lowered statics (FunctionItem f ∷ items) (c ∷ codes) zero code h e = (statics, f, let s : c ≡ code = cc in subst (IsCodeOf statics f) s h.0)
 code_lowered statics (FunctionItem f ∷ items) (c ∷ codes) (suc n) code h e = code_lowered statics items codes n code h.1 e
-
--- the slots of a call, with the names of the objects that they refer to
-abbrev pub slots_of : Activation → List Reference → (owners : List (Option ℕ)) → List (Option FieldId) → Slots
-slots_of call references owners fields = record { numbers = call.slots.numbers.items; references = references; owners = owners; fields = fields }
 
 -- ---- effects
 
@@ -122,42 +119,36 @@ pub record Ready (p : Lowered) (classes : Classes) (space : Space) (call : Activ
   pub of_function : slice_get p.codes call.function ≡ Some code
   pub valid : IsValid code
   pub known : Known
-  pub references : List Reference
-  pub owners : List (Option ℕ)
-  pub agree : KeysAgree space call.locals call.slots.references.items references owners
-  pub fields : List (Option FieldId)
-  pub fields_agree : FieldsAgree classes call.slots.fields.items fields
+  pub meant : Meant
+  pub holds : SlotsHold classes space call meant
   pub frames_agree : FramesAgree space call.locals frames
-  pub shows : Shows code known visible (slots_of call references owners fields)
+  pub shows : Shows code known visible (slots_of call meant)
   pub stands : StandsFor code known call.place call.stack (task ∷ rest)
-  pub does : DoesEffect code known call.place call.stack (slots_of call references owners fields) visible rest (effect_of visible.sight task)
+  pub does : DoesEffect code known call.place call.stack (slots_of call meant) visible rest (effect_of visible.sight task)
   pub depth : depth_at code.instrs call.place ≡ Some (length call.stack)
 
 pub ready : (p : Lowered) (classes : Classes) (space : Space) (call : Activation) (code : Listing) (visible : Visible) (frames : List Frame) (task : Task) (rest : List Task) → IsLowered p → slice_get p.codes call.function ≡ Some code → CallStands p classes space call visible frames (task ∷ rest) → Ready p classes space call code visible frames task rest
 ready p classes space call code visible frames task rest lowered at h =
     let same : h.code ≡ code = cc (h.of_function) in
     let found = code_lowered [] (unit_tree p.unit).items p.codes call.function code lowered at in
-    let shows = subst (λ (k : Listing). Shows k h.known visible (slots_of call h.references h.owners h.fields)) same h.shows in
+    let shows = subst (λ (k : Listing). Shows k h.known visible (slots_of call h.meant)) same h.shows in
     let stands = subst (λ (k : Listing). StandsFor k h.known call.place call.stack (task ∷ rest)) same h.stands in
     record {
       of_function = at;
       valid = found.2.valid;
       known = h.known;
-      references = h.references;
-      owners = h.owners;
-      agree = h.agree;
-      fields = h.fields;
-      fields_agree = h.fields_agree;
+      meant = h.meant;
+      holds = h.holds;
       frames_agree = h.frames_agree;
       shows = shows;
       stands = stands;
-      does = found.2.steps visible h.known (slots_of call h.references h.owners h.fields) call.place call.stack task rest shows stands;
+      does = found.2.steps visible h.known (slots_of call h.meant) call.place call.stack task rest shows stands;
       depth = subst (λ (k : Listing). depth_at k.instrs call.place ≡ Some (length call.stack)) same h.depth;
     }
 
 -- the owners are those of the call
 pub ready_owners : (p : Lowered) (classes : Classes) (space : Space) (call : Activation) (code : Listing) (visible : Visible) (frames : List Frame) (task : Task) (rest : List Task) (lowered : IsLowered p) (at : slice_get p.codes call.function ≡ Some code) (h : CallStands p classes space call visible frames (task ∷ rest))
-    → (ready p classes space call code visible frames task rest lowered at h).owners ≡ h.owners
+    → (ready p classes space call code visible frames task rest lowered at h).meant.owners ≡ h.meant.owners
 unfolding ready
 ready_owners p classes space call code visible frames task rest lowered at h = refl
 
@@ -186,28 +177,28 @@ module _ (p : Lowered) (classes : Classes) (space : Space) (call : Activation) (
   -- there is an instruction
   pub here : (i : Instr) × (slice_get code.instrs call.place ≡ Some i)
   here =
-      does_cases code r.known call.place call.stack (slots_of call r.references r.owners r.fields) visible rest (λ e. (i : Instr) × (slice_get code.instrs call.place ≡ Some i))
+      does_cases code r.known call.place call.stack (slots_of call r.meant) visible rest (λ e. (i : Instr) × (slice_get code.instrs call.place ≡ Some i))
       (λ tasks g. (g.here, g.at)) (λ x v g. (g.here, g.at)) (λ target g. (instr.StoreNull g.variable, g.at)) (λ x i z t a g. (g.here, g.at)) (λ t x n g. (g.here, g.at))
       (λ z g. (instr.PutJint, g.at)) (λ line target f args g. (instr.Call g.call, g.at)) (λ g. (g.here, g.at)) (λ trap line g. (g.here, g.at))
       (effect_of visible.sight task) r.does
 
   -- the call stands for tasks at another place
   pub stands_at : (after : Activation) (to : ℕ) (stack numbers : List ℕ) (keys : List (Option ℕ)) (references : List Reference) (handles : List (Option FieldHandle)) (fields : List (Option FieldId)) (names : Known) (visible' : Visible) (tasks : List Task)
-      → depth_at code.instrs to ≡ Some (length stack) → HasMoved call after to stack numbers keys handles → KeysAgree space call.locals keys references r.owners → FieldsAgree classes handles fields → StandsFor code names to stack tasks
-      → Shows code names visible' (record { numbers = numbers; references = references; owners = r.owners; fields = fields }) → CallStands p classes space after visible' frames tasks
+      → depth_at code.instrs to ≡ Some (length stack) → HasMoved call after to stack numbers keys handles → KeysAgree space call.locals keys references r.meant.owners → FieldsAgree classes handles fields → StandsFor code names to stack tasks
+      → Shows code names visible' (record { numbers = numbers; references = references; owners = r.meant.owners; fields = fields }) → CallStands p classes space after visible' frames tasks
   stands_at after to stack numbers keys references handles fields names visible' tasks d m agree handled stands shows = record {
     code = code;
     of_function = ap (slice_get p.codes) m.function ∙ r.of_function;
     known = names;
     stands = subst (λ (n : ℕ). StandsFor code names n after.stack tasks) (sym m.place) (subst (λ (s : List ℕ). StandsFor code names to s tasks) (sym m.stack) stands);
-    references = references;
-    owners = r.owners;
-    agree =
-        subst (λ (t : LocalTable). KeysAgree space t after.slots.references.items references r.owners) (sym m.locals)
-        (subst (λ (l : List (Option ℕ)). KeysAgree space call.locals l references r.owners) (sym m.references) agree);
-    fields = fields;
-    fields_agree = subst (λ (l : List (Option FieldHandle)). FieldsAgree classes l fields) (sym m.fields) handled;
-    shows = subst (λ (ns : List ℕ). Shows code names visible' (record { numbers = ns; references = references; owners = r.owners; fields = fields })) (sym m.numbers) shows;
+    meant = record { references = references; owners = r.meant.owners; fields = fields };
+    holds = record {
+      keys =
+          subst (λ (t : LocalTable). KeysAgree space t after.slots.references.items references r.meant.owners) (sym m.locals)
+          (subst (λ (l : List (Option ℕ)). KeysAgree space call.locals l references r.meant.owners) (sym m.references) agree);
+      fields = subst (λ (l : List (Option FieldHandle)). FieldsAgree classes l fields) (sym m.fields) handled;
+    };
+    shows = subst (λ (ns : List ℕ). Shows code names visible' (record { numbers = ns; references = references; owners = r.meant.owners; fields = fields })) (sym m.numbers) shows;
     depth = ap (depth_at code.instrs) m.place ∙ d ∙ ap (λ (s : List ℕ). Some (length s)) (sym m.stack);
     frames_agree = subst (λ (t : LocalTable). FramesAgree space t frames) (sym m.locals) r.frames_agree;
   }

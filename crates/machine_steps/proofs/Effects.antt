@@ -51,7 +51,8 @@ use Rattle.machine_calls.specs.declared.statics.StaticReference.{StaticReference
 use Rattle.machine_steps.specs.Moved.{HasMoved, end_of_way, WayIsSeen}
 use Rattle.machine_steps.specs.Variables.{is_null, HasSlot, nulled_references, nulled_fields, nulled_statics}
 use Rattle.machine_steps.proofs.Views.{Viewless, assigned_viewless}
-use Rattle.machine_steps.proofs.Calls.{does_cases, slots_of, Ready, plain_instr, plain_works, IsNullTest, no_return, stands_at, runs, room, leads, depth_behind, fields_count}
+use Rattle.machine_steps.proofs.Calls.{does_cases, Ready, plain_instr, plain_works, IsNullTest, no_return, stands_at, runs, room, leads, depth_behind, fields_count}
+use Rattle.machine_steps.specs.SlotsHold.{Meant, SlotsHold, slots_of}
 use Rattle.machine_steps.proofs.Changes.{array_of, is_set, is_made, is_element_set}
 use Rattle.machine_calls.proofs.Keeping.{keeps_same}
 use Rattle.machine_calls.proofs.KeyLaws.{keys_count}
@@ -146,7 +147,7 @@ null_shows code known visible slots (nullable.Buffer i) h = h
 
 module _ (p : Lowered) (classes : Classes) (space : Space) (call : Activation) (code : Listing) (visible : Visible) (frames : List source.Frame) (task : Task) (rest : List Task) (r : Ready p classes space call code visible frames task rest) (i : Instr) (at : slice_get code.instrs call.place ≡ Some i) where
   abbrev slots : Slots
-  slots = slots_of call r.references r.owners r.fields
+  slots = slots_of call r.meant
 
   other_cases : (P : Effect → Type 0) → (IsPlain i → ⊥) → (IsNullTest i → (tasks : List Task) → GoesOn code r.known call.place call.stack slots visible (tasks ++ rest) → P (Becomes tasks))
       → ((target : Target) (h : StoresNull code r.known call.place call.stack slots visible target rest) → i ≡ instr.StoreNull h.variable → P (SetsNull target))
@@ -187,11 +188,11 @@ module _ (p : Lowered) (classes : Classes) (space : Space) (call : Activation) (
   slot_there (nullable.Local j) statics is same =
       let within : within_slots code.slots (instr.StoreNull (nullable.Local j)) ≡ true = subst (λ (h : Instr). IsTrue (within_slots code.slots h)) is (runs p classes space call code visible frames task rest r i at).slots in
       let below : j < code.slots.references = ltb-true j code.slots.references within in
-      omega (arith, below, keys_count space call.locals call.slots.references.items r.references r.owners r.agree, r.shows.references)
+      omega (arith, below, keys_count space call.locals call.slots.references.items r.meant.references r.meant.owners r.holds.keys, r.shows.references)
   slot_there (nullable.FieldId j) statics is same =
       let within : within_slots code.slots (instr.StoreNull (nullable.FieldId j)) ≡ true = subst (λ (h : Instr). IsTrue (within_slots code.slots h)) is (runs p classes space call code visible frames task rest r i at).slots in
       let below : j < code.slots.field_ids = ltb-true j code.slots.field_ids within in
-      omega (arith, below, fields_count classes call.slots.fields.items r.fields r.fields_agree, r.shows.fields)
+      omega (arith, below, fields_count classes call.slots.fields.items r.meant.fields r.holds.fields, r.shows.fields)
   slot_there (nullable.Buffer j) statics is same = tt
   slot_there (nullable.Static j) statics is same =
       other_cases (λ effect. j < statics) (λ plain. subst IsPlain is plain) (λ test tasks h. absurd (subst IsNullTest is test))
@@ -225,7 +226,7 @@ module _ (p : Lowered) (w : World) (store : Store) (in_use : BuffersInUse) (k : 
   seen = visible_to own shared s
 
   abbrev held : Slots
-  held = slots_of call r.references r.owners r.fields
+  held = slots_of call r.meant
 
   -- an instruction on the stack and the number slots alone
   module _ (tasks_are : s.tasks ≡ Some (task ∷ rest)) (after : Activation) (e : Event) (way : Plain) (stack numbers : List ℕ) (is : plain_of i call.stack call.slots.numbers.items ≡ Some (way, stack, numbers))
@@ -243,10 +244,10 @@ module _ (p : Lowered) (w : World) (store : Store) (in_use : BuffersInUse) (k : 
         record {
           next = next;
           steps = ap (λ (v : Event). source.Advances shared next (event_view v)) (sym (quiet_at_end call.place way (λ q. StandsFor code h.names q stack (tasks ++ rest)) e end way_seen));
-          work = stands_at p classes space call code seen s.frames task rest r after (end_of_way call.place way) stack numbers call.slots.references.items r.references call.slots.fields.items r.fields h.names (visible_to own shared next) (tasks ++ rest)
-              (depth_at_end code call.place way (length stack) (λ q. StandsFor code h.names q stack (tasks ++ rest)) (leads p classes space call code seen s.frames task rest r i at way stack numbers is) end) m r.agree r.fields_agree
+          work = stands_at p classes space call code seen s.frames task rest r after (end_of_way call.place way) stack numbers call.slots.references.items r.meant.references call.slots.fields.items r.meant.fields h.names (visible_to own shared next) (tasks ++ rest)
+              (depth_at_end code call.place way (length stack) (λ q. StandsFor code h.names q stack (tasks ++ rest)) (leads p classes space call code seen s.frames task rest r i at way stack numbers is) end) m r.holds.keys r.holds.fields
               (at_end call.place way (λ q. StandsFor code h.names q stack (tasks ++ rest)) end)
-              (subst (λ (ns : List ℕ). Shows code h.names (visible_to own shared next) (record { numbers = ns; references = r.references; owners = r.owners; fields = r.fields })) numbers_are h.shows);
+              (subst (λ (ns : List ℕ). Shows code h.names (visible_to own shared next) (record { numbers = ns; references = r.meant.references; owners = r.meant.owners; fields = r.meant.fields })) numbers_are h.shows);
           next_shared = shared;
           store_agrees = shares;
           keeps = keeps_same space shared;
@@ -272,10 +273,10 @@ module _ (p : Lowered) (w : World) (store : Store) (in_use : BuffersInUse) (k : 
           next = next;
           steps = steps ∙ ap (λ (v : Event). source.Advances shared next (event_view v)) (sym quiet);
           work = subst (λ (o : Owners). CallStands p classes space after (visible_to o shared next) s.frames rest) (sym left)
-              (stands_at p classes space call code seen s.frames task rest r after (call.place + 1) stack numbers call.slots.references.items r.references call.slots.fields.items r.fields h.names (visible_to own shared next) rest end.words
-              (subst (λ (w : Plain). HasMoved call after (end_of_way call.place w) stack numbers call.slots.references.items call.slots.fields.items) way_is m) r.agree r.fields_agree
+              (stands_at p classes space call code seen s.frames task rest r after (call.place + 1) stack numbers call.slots.references.items r.meant.references call.slots.fields.items r.meant.fields h.names (visible_to own shared next) rest end.words
+              (subst (λ (w : Plain). HasMoved call after (end_of_way call.place w) stack numbers call.slots.references.items call.slots.fields.items) way_is m) r.holds.keys r.holds.fields
               (subst (λ (st : List ℕ). StandsFor code h.names (call.place + 1) st rest) after_is h.stands)
-              (subst (λ (ns : List ℕ). Shows code h.names (visible_to own shared next) (record { numbers = ns; references = r.references; owners = r.owners; fields = r.fields })) numbers_are (h.shows (visible_to own shared next) shown)));
+              (subst (λ (ns : List ℕ). Shows code h.names (visible_to own shared next) (record { numbers = ns; references = r.meant.references; owners = r.meant.owners; fields = r.meant.fields })) numbers_are (h.shows (visible_to own shared next) shown)));
           next_shared = shared;
           store_agrees = shares;
           keeps = keeps_same space shared;
@@ -297,10 +298,10 @@ module _ (p : Lowered) (w : World) (store : Store) (in_use : BuffersInUse) (k : 
         let seen_trap : WayIsSeen (plain.Trap h.trap line) e = subst (λ (w : Plain). WayIsSeen w e) way_is way_seen in
         let trap_is : reason ≡ trap_view seen_trap.0 = sym h.is ∙ sym seen_trap.1 in
         let stands : CallStands p classes space after seen s.frames (task ∷ rest) =
-        stands_at p classes space call code seen s.frames task rest r after call.place stack numbers call.slots.references.items r.references call.slots.fields.items r.fields r.known seen (task ∷ rest) (r.depth ∙ ap (λ (st : List ℕ). Some (length st)) after_is)
-        (subst (λ (w : Plain). HasMoved call after (end_of_way call.place w) stack numbers call.slots.references.items call.slots.fields.items) way_is m) r.agree r.fields_agree
+        stands_at p classes space call code seen s.frames task rest r after call.place stack numbers call.slots.references.items r.meant.references call.slots.fields.items r.meant.fields r.known seen (task ∷ rest) (r.depth ∙ ap (λ (st : List ℕ). Some (length st)) after_is)
+        (subst (λ (w : Plain). HasMoved call after (end_of_way call.place w) stack numbers call.slots.references.items call.slots.fields.items) way_is m) r.holds.keys r.holds.fields
         (subst (λ (st : List ℕ). StandsFor code r.known call.place st (task ∷ rest)) after_is r.stands)
-        (subst (λ (ns : List ℕ). Shows code r.known seen (record { numbers = ns; references = r.references; owners = r.owners; fields = r.fields })) numbers_are r.shows) in
+        (subst (λ (ns : List ℕ). Shows code r.known seen (record { numbers = ns; references = r.meant.references; owners = r.meant.owners; fields = r.meant.fields })) numbers_are r.shows) in
         record {
           next = s;
           steps = ap (λ (t : Trap). source.Advances shared s (source.Trapped t line)) trap_is ∙ ap (λ (v : Event). source.Advances shared s (event_view v)) (sym seen_trap.2);
@@ -353,7 +354,7 @@ module _ (p : Lowered) (w : World) (store : Store) (in_use : BuffersInUse) (k : 
       goes tasks h =
           let same : h.here ≡ instr.TestNull variable equal = cc (h.at, at, is) in
           let v = subst (λ (j : Instr). Works seen held j call.stack h.way h.after) same h.works in
-          let null : is_null (references_of store call) call.slots.fields.items variable ≡ v.0 = variable_null_agrees classes space (references_of store call) call.slots.fields.items seen held variable v.0 r.agree shares.statics r.fields_agree v.1 in
+          let null : is_null (references_of store call) call.slots.fields.items variable ≡ v.0 = variable_null_agrees classes space (references_of store call) call.slots.fields.items seen held variable v.0 r.holds.keys shares.statics r.holds.fields v.1 in
           let words : h.after ≡ truth_word (beq (is_null (references_of store call) call.slots.fields.items variable) equal) ∷ call.stack = v.3 ∙ ap (λ (b : Bool). truth_word (beq b equal) ∷ call.stack) (sym null) in
           let next : source.Thread = with_tasks s (tasks ++ rest) in
           let stack : List ℕ = truth_word (beq (is_null (references_of store call) call.slots.fields.items variable) equal) ∷ call.stack in
@@ -362,9 +363,9 @@ module _ (p : Lowered) (w : World) (store : Store) (in_use : BuffersInUse) (k : 
           record {
             next = next;
             steps = refl;
-            work = stands_at p classes space call code seen s.frames task rest r after (call.place + 1) stack call.slots.numbers.items call.slots.references.items r.references call.slots.fields.items r.fields h.names (visible_to own shared next) (tasks ++ rest)
+            work = stands_at p classes space call code seen s.frames task rest r after (call.place + 1) stack call.slots.numbers.items call.slots.references.items r.meant.references call.slots.fields.items r.meant.fields h.names (visible_to own shared next) (tasks ++ rest)
                 (depth_behind p classes space call code seen s.frames task rest r i at (length stack) (λ leaves. subst Leaves is leaves)
-                (ap (λ (j : Instr). depth_after j (length call.stack)) is ∙ one_more (length call.stack) (subst (λ (j : Instr). IsSome (depth_after j (length call.stack))) is (room p classes space call code seen s.frames task rest r i at)))) m r.agree r.fields_agree end h.shows;
+                (ap (λ (j : Instr). depth_after j (length call.stack)) is ∙ one_more (length call.stack) (subst (λ (j : Instr). IsSome (depth_after j (length call.stack))) is (room p classes space call code seen s.frames task rest r i at)))) m r.holds.keys r.holds.fields end h.shows;
             next_shared = shared;
             store_agrees = shares;
             keeps = keeps_same space shared;
@@ -393,7 +394,7 @@ module _ (p : Lowered) (w : World) (store : Store) (in_use : BuffersInUse) (k : 
           let next : source.Thread = record s { tasks = Some rest; variables = null.variables } in
           let now : Shared = record shared { statics = lower.nulled_statics kind h.name shared.statics } in
           let stored = subst (λ (v : NullableVariable). IsStoredIn code r.known call.place call.stack held seen v kind h.name) same h.stored in
-          let nulled = nulled_agree classes space call.locals call.slots.references.items call.slots.fields.items held variable r.agree r.fields_agree in
+          let nulled = nulled_agree classes space call.locals call.slots.references.items call.slots.fields.items held variable r.holds.keys r.holds.fields in
           let m' : HasMoved call after (call.place + 1) [] (lower.with_null variable held).numbers (nulled_references variable call.slots.references.items) (nulled_fields variable call.slots.fields.items) =
           record { function = m.function; place = m.place; stack = m.stack ∙ h.empty; numbers = m.numbers ∙ sym nulled.numbers; references = m.references; fields = m.fields; locals = m.locals } in
           record {
@@ -431,8 +432,8 @@ module _ (p : Lowered) (w : World) (store : Store) (in_use : BuffersInUse) (k : 
           record {
             next = with_tasks s rest;
             steps = ap (λ (n : ℤ). source.Advances shared (with_tasks s rest) (source.PrintedNumber n)) number;
-            work = stands_at p classes space call code seen s.frames task rest r after (call.place + 1) stack call.slots.numbers.items call.slots.references.items r.references call.slots.fields.items r.fields r.known seen rest
-                (depth_behind p classes space call code seen s.frames task rest r i at (length stack) (λ leaves. subst Leaves put leaves) (ap (λ (j : Instr). depth_after j (length call.stack)) put ∙ ap (λ (st : List ℕ). depth_after instr.PutJint (length st)) top)) m r.agree r.fields_agree
+            work = stands_at p classes space call code seen s.frames task rest r after (call.place + 1) stack call.slots.numbers.items call.slots.references.items r.meant.references call.slots.fields.items r.meant.fields r.known seen rest
+                (depth_behind p classes space call code seen s.frames task rest r i at (length stack) (λ leaves. subst Leaves put leaves) (ap (λ (j : Instr). depth_after j (length call.stack)) put ∙ ap (λ (st : List ℕ). depth_after instr.PutJint (length st)) top)) m r.holds.keys r.holds.fields
                 (subst (λ (st : List ℕ). StandsFor code r.known (call.place + 1) st rest) nothing h.stands) r.shows;
             next_shared = shared;
             store_agrees = shares;

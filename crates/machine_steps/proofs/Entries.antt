@@ -281,11 +281,8 @@ begun p classes space loaded made shared s rest n c call lowered table statics f
       known = (entry_layout found.statics f.function).known;
       stands = subst (λ (m : ℕ). StandsFor b.code (entry_layout found.statics f.function).known m call.stack (tasks_of f.function.body)) (sym begins.place)
           (subst (λ (st : List ℕ). StandsFor b.code (entry_layout found.statics f.function).known 0 st (tasks_of f.function.body)) (sym begins.stack) is_code.begins);
-      references = references;
-      owners = owners;
-      agree = keys;
-      fields = fields;
-      fields_agree = subst (λ (l : List (Option FieldHandle)). FieldsAgree classes l fields) (sym begins.fields) (no_fields classes b.code.slots.field_ids);
+      meant = record { references = references; owners = owners; fields = fields };
+      holds = record { keys = keys; fields = subst (λ (l : List (Option FieldHandle)). FieldsAgree classes l fields) (sym begins.fields) (no_fields classes b.code.slots.field_ids) };
       frames_agree = subst (λ (t : LocalTable). FramesAgree space t (entry_frame (n.class ∷ filter_map named_object c.arguments) ∷ [])) (sym begins.locals)
           (entry_frames space n.class c.arguments slots.more begins.addresses agree);
       shows = is_code.shows (owned_at s rest f.function n.class c.arguments) shared s rest n.class c.arguments (record { numbers = call.slots.numbers.items; references = references; owners = owners; fields = fields })

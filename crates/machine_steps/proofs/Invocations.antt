@@ -61,7 +61,8 @@ use Rattle.machine_calls.proofs.HeldStatics.{keys_put}
 use Rattle.machine_calls.proofs.StaticStores.{with_same, with_static}
 use Rattle.machine_calls.specs.HeapAgrees.{ReferenceAgrees}
 use Rattle.machine_steps.specs.Received.{HasRoom, MakesLocal, Receives, fields_with, numbers_with, stack_with, statics_with}
-use Rattle.machine_steps.proofs.Calls.{Ready, depth_behind, slots_of}
+use Rattle.machine_steps.proofs.Calls.{Ready, depth_behind}
+use Rattle.machine_steps.specs.SlotsHold.{Meant, SlotsHold, slots_of}
 use Rattle.machine_steps.proofs.Changes.{OthersOwn, lookup_same, field_by_kind, is_field_set, is_referred, is_set, local_by_kind, scalar_by_kind}
 use Rattle.machine_steps.proofs.StillShown.{shows_stay}
 use Rattle.machine_calls.proofs.KeyLaws.{key_put, keys_left, live_there}
@@ -268,12 +269,9 @@ fewer_stands p classes space call own own' shared s frames tasks among h = recor
   of_function = h.of_function;
   known = h.known;
   stands = h.stands;
-  references = h.references;
-  owners = h.owners;
-  agree = h.agree;
-  fields = h.fields;
-  fields_agree = h.fields_agree;
-  shows = fewer_owners h.code h.known (visible_to own shared s) (slots_of call h.references h.owners h.fields) h.shows own' among;
+  meant = h.meant;
+  holds = h.holds;
+  shows = fewer_owners h.code h.known (visible_to own shared s) (slots_of call h.meant) h.shows own' among;
   depth = h.depth;
   frames_agree = h.frames_agree;
 }
@@ -318,7 +316,7 @@ pub record Finishes (p : Lowered) (w : World) (old : Space) (shared : Shared) (s
   pub viewless : viewed_by (going line f args tasks s left q c variables) ≡ []
 
 module _ (p : Lowered) (w : World) (old : Space) (store : Store) (own : Owners) (shared next : Shared) (shares : StoreAgrees p w store next) (keeps : Keeps old shared store.heap next) (s : source.Thread) (none : viewed_by s ≡ []) (call : Activation) (code : Listing) (task : Task) (rest : List Task)
-    (r : Ready p w.classes old call code (visible_to own shared s) s.frames task rest) (line : ℕ) (f : JniFunction) (args : List Actual) (locals : LocalTable) (stacked : AreStacked locals) (room : HasRoom (prototype f).result locals) (keyed : KeysAgree store.heap locals call.slots.references.items r.references r.owners) (left : List source.Frame) (framed : FramesAgree store.heap locals left) (q : Reference) (g : Given) (c : CallResult) (agrees : ResultAgrees w.classes store g (prototype f).result c)
+    (r : Ready p w.classes old call code (visible_to own shared s) s.frames task rest) (line : ℕ) (f : JniFunction) (args : List Actual) (locals : LocalTable) (stacked : AreStacked locals) (room : HasRoom (prototype f).result locals) (keyed : KeysAgree store.heap locals call.slots.references.items r.meant.references r.meant.owners) (left : List source.Frame) (framed : FramesAgree store.heap locals left) (q : Reference) (g : Given) (c : CallResult) (agrees : ResultAgrees w.classes store g (prototype f).result c)
     (still : (prototype f).result ≡ NewGlobal → next.statics ≡ shared.statics) (function : Call) (at : slice_get code.instrs call.place ≡ Some (instr.Call function)) (none_left : with_fewer (words_taken function.operands) (length call.stack) ≡ Some 0) (after : Activation) (statics : Vec InMemory) where
   abbrev space : Space
   space = store.heap
@@ -337,14 +335,14 @@ module _ (p : Lowered) (w : World) (old : Space) (store : Store) (own : Owners) 
   resuming vs = going line f args rest s left q c vs
 
   abbrev held : Slots
-  held = slots_of call r.references r.owners r.fields
+  held = slots_of call r.meant
 
   abbrev Ends : Target → Type 0
   Ends target = Finishes p w old shared store statics next line target f args rest s left q c own after
 
   -- the keys once a result is made a local reference
-  kept_keys : (d : Destination) → Receives d kind g carried after → KeysAgree space after.locals call.slots.references.items r.references r.owners
-  kept_keys d receives = keys_left space space locals after.locals call.slots.references.items r.references r.owners keyed (λ i key n level at_key owned h. made_left space kind g locals after.locals receives.key stacked receives.makes key n level h)
+  kept_keys : (d : Destination) → Receives d kind g carried after → KeysAgree space after.locals call.slots.references.items r.meant.references r.meant.owners
+  kept_keys d receives = keys_left space space locals after.locals call.slots.references.items r.meant.references r.meant.owners keyed (λ i key n level at_key owned h. made_left space kind g locals after.locals receives.key stacked receives.makes key n level h)
 
   frames_after : (d : Destination) → Receives d kind g carried after → FramesAgree space after.locals (frames_received kind c left)
   frames_after d receives = frames_result w.classes store kind g c locals after.locals receives.key left stacked agrees receives.makes framed
@@ -367,11 +365,8 @@ module _ (p : Lowered) (w : World) (old : Space) (store : Store) (own : Owners) 
     of_function = ap (slice_get p.codes) receives.function ∙ r.of_function;
     known = names;
     stands = subst (λ (n : ℕ). StandsFor code names n after.stack tasks) (sym receives.place) (subst (λ (l : List ℕ). StandsFor code names (call.place + 1) l tasks) (sym (receives.stack ∙ put)) stands);
-    references = references;
-    owners = owners;
-    agree = agree;
-    fields = fields;
-    fields_agree = fields_agree;
+    meant = record { references = references; owners = owners; fields = fields };
+    holds = record { keys = agree; fields = fields_agree };
     shows = shows_stay now shared next keeps.statics (resuming vs) code names (record { numbers = after.slots.numbers.items; references = references; owners = owners; fields = fields }) shows;
     depth =
         ap (depth_at code.instrs) receives.place
@@ -401,9 +396,9 @@ module _ (p : Lowered) (w : World) (old : Space) (store : Store) (own : Owners) 
     number_stands =
         let vs = assign x (Scalar n.value) s.variables in
         let numbers : after.slots.numbers.items ≡ slice_set call.slots.numbers.items i (word_of n.value) = receives.numbers ∙ ap (λ (h : Given). numbers_with (destination.Number i) h call.slots.numbers.items) n.same in
-        stands_after no_word (destination.Number i) refl receives own takes.names vs r.references r.owners r.fields (subst (λ (l : List (Option ℕ)). KeysAgree space after.locals l r.references r.owners) (sym receives.references) (kept_keys (destination.Number i) receives))
-        (subst (λ (l : List (Option Handle)). FieldsAgree w.classes l r.fields) (sym receives.fields) r.fields_agree) takes.stands
-        (shown takes.names (visible_to own shared (resuming vs)) r.references r.owners r.fields numbers
+        stands_after no_word (destination.Number i) refl receives own takes.names vs r.meant.references r.meant.owners r.meant.fields (subst (λ (l : List (Option ℕ)). KeysAgree space after.locals l r.meant.references r.meant.owners) (sym receives.references) (kept_keys (destination.Number i) receives))
+        (subst (λ (l : List (Option Handle)). FieldsAgree w.classes l r.meant.fields) (sym receives.fields) r.holds.fields) takes.stands
+        (shown takes.names (visible_to own shared (resuming vs)) r.meant.references r.meant.owners r.meant.fields numbers
         (takes.shows n.value (visible_to own shared (resuming vs)) n.sorted (is_set own own shared s (resuming vs) x (λ y other. refl) n.value refl)))
 
     number_viewless : viewed_by (resuming (assign x (Scalar n.value) s.variables)) ≡ []
@@ -442,15 +437,15 @@ module _ (p : Lowered) (w : World) (old : Space) (store : Store) (own : Owners) 
     reference_stands =
         let vs = assign x (LocalRef level n.reference) s.variables in
         let made = made_new space g n.address n.reference locals after.locals receives.key stacked (room_frame locals (subst (λ (k : ResultKind). HasRoom k locals) local room)) n.same n.agrees (subst (λ (k : ResultKind). MakesLocal k g locals receives.key after.locals) local receives.makes) in
-        stands_after no_word (destination.Local i) refl receives new takes.names vs (slice_set r.references i n.reference) (slice_set r.owners i (new x)) r.fields
-        (subst (λ (l : List (Option ℕ)). KeysAgree space after.locals l (slice_set r.references i n.reference) (slice_set r.owners i (new x))) (sym receives.references)
-        (key_put space after.locals call.slots.references.items r.references r.owners i receives.key n.reference (new x) (kept_keys (destination.Local i) receives) made.null
+        stands_after no_word (destination.Local i) refl receives new takes.names vs (slice_set r.meant.references i n.reference) (slice_set r.meant.owners i (new x)) r.meant.fields
+        (subst (λ (l : List (Option ℕ)). KeysAgree space after.locals l (slice_set r.meant.references i n.reference) (slice_set r.meant.owners i (new x))) (sym receives.references)
+        (key_put space after.locals call.slots.references.items r.meant.references r.meant.owners i receives.key n.reference (new x) (kept_keys (destination.Local i) receives) made.null
         (λ place m own_level at named owned.
         let same : level ≡ own_level = let both : Some level ≡ Some own_level = ap (λ (q : Reference). level_held (Some (LocalRef level q))) (sym named) ∙ sym here ∙ owned in cc in
         subst (IsKeyOf space after.locals place m) (counted ∙ same) (made.key_of place m at named))
-        (λ j place own_level at found owned. let live = live_there space locals call.slots.references.items r.references r.owners j place own_level keyed found owned in let clash : None ≡ Some live.0 = sym (made.fresh place at) ∙ live.1 in cc)))
-        (subst (λ (l : List (Option Handle)). FieldsAgree w.classes l r.fields) (sym receives.fields) r.fields_agree) takes.stands
-        (shown takes.names (visible_to new shared (resuming vs)) (slice_set r.references i n.reference) (slice_set r.owners i (new x)) r.fields receives.numbers
+        (λ j place own_level at found owned. let live = live_there space locals call.slots.references.items r.meant.references r.meant.owners j place own_level keyed found owned in let clash : None ≡ Some live.0 = sym (made.fresh place at) ∙ live.1 in cc)))
+        (subst (λ (l : List (Option Handle)). FieldsAgree w.classes l r.meant.fields) (sym receives.fields) r.holds.fields) takes.stands
+        (shown takes.names (visible_to new shared (resuming vs)) (slice_set r.meant.references i n.reference) (slice_set r.meant.owners i (new x)) r.meant.fields receives.numbers
         (takes.shows n.reference (visible_to new shared (resuming vs)) (is_referred own new shared s (resuming vs) x stay level n.reference refl)))
 
   -- a variable that takes a new local reference was declared where there were as many frames
@@ -494,9 +489,9 @@ module _ (p : Lowered) (w : World) (old : Space) (store : Store) (own : Owners) 
     field_stands =
         let vs = assign x (FieldHandle n.field) s.variables in
         let fields : after.slots.fields.items ≡ slice_set call.slots.fields.items i n.handle = receives.fields ∙ ap (λ (h : Given). fields_with (destination.FieldId i) h call.slots.fields.items) n.same in
-        stands_after no_word (destination.FieldId i) refl receives own takes.names vs r.references r.owners (slice_set r.fields i n.field) (subst (λ (l : List (Option ℕ)). KeysAgree space after.locals l r.references r.owners) (sym receives.references) (kept_keys (destination.FieldId i) receives))
-        (subst (λ (l : List (Option Handle)). FieldsAgree w.classes l (slice_set r.fields i n.field)) (sym fields) (field_put w.classes call.slots.fields.items r.fields i n.handle n.field r.fields_agree n.agrees)) takes.stands
-        (shown takes.names (visible_to own shared (resuming vs)) r.references r.owners (slice_set r.fields i n.field) receives.numbers
+        stands_after no_word (destination.FieldId i) refl receives own takes.names vs r.meant.references r.meant.owners (slice_set r.meant.fields i n.field) (subst (λ (l : List (Option ℕ)). KeysAgree space after.locals l r.meant.references r.meant.owners) (sym receives.references) (kept_keys (destination.FieldId i) receives))
+        (subst (λ (l : List (Option Handle)). FieldsAgree w.classes l (slice_set r.meant.fields i n.field)) (sym fields) (field_put w.classes call.slots.fields.items r.meant.fields i n.handle n.field r.holds.fields n.agrees)) takes.stands
+        (shown takes.names (visible_to own shared (resuming vs)) r.meant.references r.meant.owners (slice_set r.meant.fields i n.field) receives.numbers
         (takes.shows n.field (visible_to own shared (resuming vs)) (is_field_set own own shared s (resuming vs) x (λ y other. refl) n.field refl)))
 
     field_viewless : viewed_by (resuming (assign x (FieldHandle n.field) s.variables)) ≡ []
@@ -555,13 +550,13 @@ module _ (p : Lowered) (w : World) (old : Space) (store : Store) (own : Owners) 
           of_function = ap (slice_get p.codes) receives.function ∙ r.of_function;
           known = takes.names;
           stands = subst (λ (m : ℕ). StandsFor code takes.names m after.stack rest) (sym receives.place) (subst (λ (l : List ℕ). StandsFor code takes.names (call.place + 1) l rest) (sym receives.stack) takes.stands);
-          references = r.references;
-          owners = r.owners;
-          agree = subst (λ (l : List (Option ℕ)). KeysAgree space after.locals l r.references r.owners) (sym receives.references) (kept_keys (destination.Static i) receives);
-          fields = r.fields;
-          fields_agree = subst (λ (l : List (Option Handle)). FieldsAgree w.classes l r.fields) (sym receives.fields) r.fields_agree;
-          shows = shows_stay own seen now (inl now_statics) (resuming s.variables) code takes.names (record { numbers = after.slots.numbers.items; references = r.references; owners = r.owners; fields = r.fields })
-              (shown takes.names (visible_to own seen (resuming s.variables)) r.references r.owners r.fields receives.numbers
+          meant = r.meant;
+          holds = record {
+            keys = subst (λ (l : List (Option ℕ)). KeysAgree space after.locals l r.meant.references r.meant.owners) (sym receives.references) (kept_keys (destination.Static i) receives);
+            fields = subst (λ (l : List (Option Handle)). FieldsAgree w.classes l r.meant.fields) (sym receives.fields) r.holds.fields;
+          };
+          shows = shows_stay own seen now (inl now_statics) (resuming s.variables) code takes.names (record { numbers = after.slots.numbers.items; references = r.meant.references; owners = r.meant.owners; fields = r.meant.fields })
+              (shown takes.names (visible_to own seen (resuming s.variables)) r.meant.references r.meant.owners r.meant.fields receives.numbers
               (takes.shows h (visible_to own seen (resuming s.variables)) (is_held own shared s x h unnamed)));
           depth =
               ap (depth_at code.instrs) receives.place
@@ -586,9 +581,9 @@ module _ (p : Lowered) (w : World) (old : Space) (store : Store) (own : Owners) 
         keeps = keeps;
         variables = s.variables;
         steps = ap (put (Tested takes.then' takes.else') c next) (resumed_is line f args rest s left q c plain (Tested takes.then' takes.else'));
-        stands = stands_with (truth_word (is_zero c) ∷ []) tasks count destination.Test receives word own r.known s.variables r.references r.owners r.fields (subst (λ (l : List (Option ℕ)). KeysAgree space after.locals l r.references r.owners) (sym receives.references) (kept_keys (destination.Test) receives))
-            (subst (λ (l : List (Option Handle)). FieldsAgree w.classes l r.fields) (sym receives.fields) r.fields_agree) (takes.stands (is_zero c))
-            (shown r.known (visible_to own shared (resuming s.variables)) r.references r.owners r.fields receives.numbers r.shows);
+        stands = stands_with (truth_word (is_zero c) ∷ []) tasks count destination.Test receives word own r.known s.variables r.meant.references r.meant.owners r.meant.fields (subst (λ (l : List (Option ℕ)). KeysAgree space after.locals l r.meant.references r.meant.owners) (sym receives.references) (kept_keys (destination.Test) receives))
+            (subst (λ (l : List (Option Handle)). FieldsAgree w.classes l r.meant.fields) (sym receives.fields) r.holds.fields) (takes.stands (is_zero c))
+            (shown r.known (visible_to own shared (resuming s.variables)) r.meant.references r.meant.owners r.meant.fields receives.numbers r.shows);
         viewless = none;
       })
 
@@ -613,8 +608,8 @@ module _ (p : Lowered) (w : World) (old : Space) (store : Store) (own : Owners) 
         keeps = keeps;
         variables = s.variables;
         steps = dropped_is line f args rest s left q c plain next;
-        stands = stands_after (ap (λ (d : Destination). with_result d 0) same) destination.Dropped refl receives own r.known s.variables r.references r.owners r.fields (subst (λ (l : List (Option ℕ)). KeysAgree space after.locals l r.references r.owners) (sym receives.references) (kept_keys (destination.Dropped) receives))
-            (subst (λ (l : List (Option Handle)). FieldsAgree w.classes l r.fields) (sym receives.fields) r.fields_agree) goes.1
-            (shown r.known (visible_to own shared (resuming s.variables)) r.references r.owners r.fields receives.numbers r.shows);
+        stands = stands_after (ap (λ (d : Destination). with_result d 0) same) destination.Dropped refl receives own r.known s.variables r.meant.references r.meant.owners r.meant.fields (subst (λ (l : List (Option ℕ)). KeysAgree space after.locals l r.meant.references r.meant.owners) (sym receives.references) (kept_keys (destination.Dropped) receives))
+            (subst (λ (l : List (Option Handle)). FieldsAgree w.classes l r.meant.fields) (sym receives.fields) r.holds.fields) goes.1
+            (shown r.known (visible_to own shared (resuming s.variables)) r.meant.references r.meant.owners r.meant.fields receives.numbers r.shows);
         viewless = none;
       })

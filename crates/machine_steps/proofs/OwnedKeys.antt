@@ -32,7 +32,8 @@ use Rattle.code_meaning.specs.Lowered.{Lowered}
 use Rattle.code_meaning.specs.Slots.{visible_to}
 use Rattle.machine_calls.specs.declared.activation.Activation.{Activation}
 use Rattle.machine_steps.proofs.Arguments.{HasOwner}
-use Rattle.machine_steps.proofs.Calls.{slots_of, Ready}
+use Rattle.machine_steps.proofs.Calls.{Ready}
+use Rattle.machine_steps.specs.SlotsHold.{Meant, SlotsHold, slots_of}
 use Rattle.machine_steps.proofs.Changes.{local_by_kind}
 use Rattle.machine_calls.proofs.KeyLaws.{OwnKey, own_key_there}
 use Rattle.machine_calls.specs.Given.{held_in, operand_of}
@@ -189,7 +190,7 @@ static_some None n e = absurd (cc)
 static_some (Some m) n e = cc
 
 module _ (p : Lowered) (classes : Classes) (space : Space) (call : Activation) (code : Listing) (own : Owners) (shared : Shared) (s : Thread) (task : Task) (rest : List Task) (r : Ready p classes space call code (visible_to own shared s) s.frames task rest) where
-  owner_of_one : (o : InMemory) (a : Actual) → IsOperand code r.known call.place call.stack (slots_of call r.references r.owners r.fields) (visible_to own shared s) o a → IsArgumentOwn own s.variables a → HasOwner r.references r.owners o
+  owner_of_one : (o : InMemory) (a : Actual) → IsOperand code r.known call.place call.stack (slots_of call r.meant) (visible_to own shared s) o a → IsArgumentOwn own s.variables a → HasOwner r.meant.references r.meant.owners o
   owner_of_one (operand.Local i) a (x, is, at) owned = λ n found.
       let shown = r.shows.each x (record { sort = Ref; index = i }) at in
       let local = local_by_kind (lookup x s.variables) shown.kind in
@@ -204,8 +205,8 @@ module _ (p : Lowered) (classes : Classes) (space : Space) (call : Activation) (
       (local.0, shown.owner n local.0 object level)
   owner_of_one o a h owned = tt
 
-  pub owners_there : (operands : List InMemory) (args : List Actual) → AllZip (IsOperand code r.known call.place call.stack (slots_of call r.references r.owners r.fields) (visible_to own shared s)) operands args → AllByRecursion (IsArgumentOwn own s.variables) args
-      → AllByRecursion (HasOwner r.references r.owners) operands
+  pub owners_there : (operands : List InMemory) (args : List Actual) → AllZip (IsOperand code r.known call.place call.stack (slots_of call r.meant) (visible_to own shared s)) operands args → AllByRecursion (IsArgumentOwn own s.variables) args
+      → AllByRecursion (HasOwner r.meant.references r.meant.owners) operands
   owners_there [] [] h owned = tt
   owners_there [] (a ∷ args) h owned = absurd h
   owners_there (o ∷ operands) [] h owned = absurd h
@@ -213,7 +214,7 @@ module _ (p : Lowered) (classes : Classes) (space : Space) (call : Activation) (
 
   -- each operand of the call has an owner
   pub operands_owned : (line : ℕ) (target : Target) (f : JniFunction) (args : List Actual) (operands : List InMemory) → effect_of (sight_of shared s) task ≡ Calls line target f args → AllByRecursion (λ x. IsOwn own x (lookup x s.variables)) (task_names task)
-      → AllZip (IsOperand code r.known call.place call.stack (slots_of call r.references r.owners r.fields) (visible_to own shared s)) operands args → AllByRecursion (HasOwner r.references r.owners) operands
+      → AllZip (IsOperand code r.known call.place call.stack (slots_of call r.meant) (visible_to own shared s)) operands args → AllByRecursion (HasOwner r.meant.references r.meant.owners) operands
   operands_owned line target f args operands is owned h = owners_there operands args h (given_own own s.variables (sight_of shared s) task line target f args is owned)
 
   -- ---- the local reference that DeleteLocalRef is given
@@ -232,10 +233,10 @@ module _ (p : Lowered) (classes : Classes) (space : Space) (call : Activation) (
     pub name : Identifier
     pub variable : variable_given (a ∷ []) 0 ≡ name
     pub at : lookup name r.known ≡ Some (record { sort = Ref; index = slot })
-    pub owned : HasOwner r.references r.owners (operand.Local slot)
+    pub owned : HasOwner r.meant.references r.meant.owners (operand.Local slot)
     pub key : OwnKey space call.locals (held_in (slice_get keys slot)) (reference_in_actual (Some a)) (level_of (lookup name s.variables))
 
-  named_key : (o : InMemory) (a : Actual) → OperandFits LocalVariable o → IsOperand code r.known call.place call.stack (slots_of call r.references r.owners r.fields) (visible_to own shared s) o a → IsArgumentOwn own s.variables a → IsNamedKey o a
+  named_key : (o : InMemory) (a : Actual) → OperandFits LocalVariable o → IsOperand code r.known call.place call.stack (slots_of call r.meant) (visible_to own shared s) o a → IsArgumentOwn own s.variables a → IsNamedKey o a
   named_key (operand.Local i) a fits (x, is, at) owned =
       let shown = r.shows.each x (record { sort = Ref; index = i }) at in
       let local = local_by_kind (lookup x s.variables) shown.kind in
@@ -243,7 +244,7 @@ module _ (p : Lowered) (classes : Classes) (space : Space) (call : Activation) (
       let actual : a ≡ ReferenceActual x (as_static shown.reference) = is ∙ ap (ReferenceActual x) shown.is in
       let given : reference_in_actual (Some a) ≡ shown.reference = ap (λ (b : Actual). reference_in_actual (Some b)) actual ∙ reference_is x shown.reference in
       let level : level_of (lookup x s.variables) ≡ local.0 = ap level_of local.2 in
-      let own_level : (n : ℕ) → shown.reference ≡ Some n → slice_get r.owners i ≡ Some (Some local.0) = λ n object.
+      let own_level : (n : ℕ) → shown.reference ≡ Some n → slice_get r.meant.owners i ≡ Some (Some local.0) = λ n object.
       let seen : (visible_to own shared s).sight.reference x ≡ Live n = shown.is ∙ some_static shown.reference n object in
       let same : local.1 ≡ Some n = static_some local.1 n (sym held ∙ seen) in
       let variable : lookup x s.variables ≡ Some (LocalRef local.0 (Some n)) = local.2 ∙ ap (λ (q : Reference). Some (LocalRef local.0 q)) same in
@@ -257,7 +258,7 @@ module _ (p : Lowered) (classes : Classes) (space : Space) (call : Activation) (
         at = at;
         owned = owner_of_one (operand.Local i) a (x, is, at) owned;
         key = subst (λ (q : Reference). OwnKey space call.locals (held_in (slice_get keys i)) q (level_of (lookup x s.variables))) (sym given)
-            (subst (OwnKey space call.locals (held_in (slice_get keys i)) shown.reference) (sym level) (own_key_there space call.locals keys r.references r.owners i shown.reference local.0 r.agree shown.there own_level));
+            (subst (OwnKey space call.locals (held_in (slice_get keys i)) shown.reference) (sym level) (own_key_there space call.locals keys r.meant.references r.meant.owners i shown.reference local.0 r.holds.keys shown.there own_level));
       }
   named_key operand.Null a fits h owned = absurd fits
   named_key (operand.Static i) a fits h owned = absurd fits
@@ -276,14 +277,14 @@ module _ (p : Lowered) (classes : Classes) (space : Space) (call : Activation) (
     pub name : Identifier
     pub variable : variable_given args 0 ≡ name
     pub at : lookup name r.known ≡ Some (record { sort = Ref; index = slot })
-    pub owned : HasOwner r.references r.owners (operand.Local slot)
+    pub owned : HasOwner r.meant.references r.meant.owners (operand.Local slot)
     pub key : OwnKey space call.locals (held_in (slice_get keys slot)) (reference_given args 0) (level_of (lookup name s.variables))
 
   pub deletes_key : (line : ℕ) (target : Target) (f : JniFunction) (args : List Actual) (operands : List InMemory) → effect_of (sight_of shared s) task ≡ Calls line target f args → AllByRecursion (λ x. IsOwn own x (lookup x s.variables)) (task_names task)
-      → AllZip (IsOperand code r.known call.place call.stack (slots_of call r.references r.owners r.fields) (visible_to own shared s)) operands args → AllZip OperandFits (LocalVariable ∷ []) operands → DeletesKey operands args
+      → AllZip (IsOperand code r.known call.place call.stack (slots_of call r.meant) (visible_to own shared s)) operands args → AllZip OperandFits (LocalVariable ∷ []) operands → DeletesKey operands args
   deletes_key line target f args operands is owned h fits = by_operand operands args fits h (given_own own s.variables (sight_of shared s) task line target f args is owned)
     where
-      by_operand : (operands : List InMemory) (args : List Actual) → AllZip OperandFits (LocalVariable ∷ []) operands → AllZip (IsOperand code r.known call.place call.stack (slots_of call r.references r.owners r.fields) (visible_to own shared s)) operands args
+      by_operand : (operands : List InMemory) (args : List Actual) → AllZip OperandFits (LocalVariable ∷ []) operands → AllZip (IsOperand code r.known call.place call.stack (slots_of call r.meant) (visible_to own shared s)) operands args
           → AllByRecursion (IsArgumentOwn own s.variables) args → DeletesKey operands args
       by_operand [] args fits h owned = absurd fits
       by_operand (o ∷ p ∷ operands) args fits h owned = absurd (fits.1)

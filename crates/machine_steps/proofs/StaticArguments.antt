@@ -19,7 +19,8 @@ use Rattle.code_meaning.specs.Slots.{visible_to}
 use Rattle.machine_calls.specs.declared.activation.Activation.{Activation}
 use Rattle.machine_calls.specs.Answers.{HoldsObject}
 use Rattle.machine_calls.specs.Given.{operand_of}
-use Rattle.machine_steps.proofs.Calls.{slots_of, Ready}
+use Rattle.machine_steps.proofs.Calls.{Ready}
+use Rattle.machine_steps.specs.SlotsHold.{Meant, SlotsHold, slots_of}
 
 live_is : (r : StaticReference) (n : ℕ) (x : Identifier) → reference_in_actual (Some (ReferenceActual x r)) ≡ Some n → r ≡ Live n
 live_is Empty n x e = absurd (cc)
@@ -28,7 +29,7 @@ live_is (Live m) n x e = let same : m ≡ n = cc in ap Live same
 
 module _ (p : Lowered) (classes : Classes) (space : Space) (call : Activation) (code : Listing) (own : Owners) (shared : Shared) (s : Thread) (task : Task) (rest : List Task) (r : Ready p classes space call code (visible_to own shared s) s.frames task rest) where
   abbrev Gives : Operand → Actual → Type 0
-  Gives o a = IsOperand code r.known call.place call.stack (slots_of call r.references r.owners r.fields) (visible_to own shared s) o a
+  Gives o a = IsOperand code r.known call.place call.stack (slots_of call r.meant) (visible_to own shared s) o a
 
   held_by_one : (i n : ℕ) (a : Actual) → Gives (operand.Static i) a → reference_in_actual (Some a) ≡ Some n → HoldsObject shared (variable_given (a ∷ []) 0) i n
   held_by_one i n a (x, is, at) e =

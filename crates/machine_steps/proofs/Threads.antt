@@ -36,7 +36,8 @@ use Rattle.machine_steps.specs.Executes.{CallStands, WorkAgrees, GoesOn, after_a
 use Rattle.machine_calls.specs.CarriedOut.{IsShortOf}
 use Rattle.machine_calls.proofs.Keeping.{keeps_same}
 use Rattle.machine_calls.specs.HeapAgrees.{ReferenceAgrees, BlocksAgree}
-use Rattle.machine_steps.proofs.Calls.{ready, slots_of, does_cases}
+use Rattle.machine_steps.proofs.Calls.{ready, does_cases}
+use Rattle.machine_steps.specs.SlotsHold.{Meant, SlotsHold, slots_of}
 
 -- ---- work
 
@@ -63,7 +64,7 @@ resting p classes space visible frames (Some x) tasks w e = absurd (cc)
 never_waits : (p : Lowered) (space : Space) (classes : Classes) (k : ℕ) (own : Owners) (shared : Shared) (s : source.Thread) (frames : List source.Frame) (call : Activation) (task : Task) (rest : List Task) → IsLowered p → CallStands p classes space call (visible_to own shared s) frames (task ∷ rest) → waits_with classes k shared s (effect_of (sight_of shared s) task) ≡ false
 never_waits p space classes k own shared s frames call task rest l w =
     let r = ready p classes space call w.code (visible_to own shared s) frames task rest l w.of_function w in
-    does_cases w.code r.known call.place call.stack (slots_of call r.references r.owners r.fields) (visible_to own shared s) rest (λ e. waits_with classes k shared s e ≡ false)
+    does_cases w.code r.known call.place call.stack (slots_of call r.meant) (visible_to own shared s) rest (λ e. waits_with classes k shared s e ≡ false)
     (λ tasks h. refl) (λ x v h. refl) (λ target h. refl) (λ x i z t a h. refl) (λ t x n h. refl) (λ z h. refl)
     (λ line target f args h. waits_for_none classes k shared s line target f args h.built)
     (λ h. refl) (λ trap line h. refl) (effect_of (sight_of shared s) task) r.does

@@ -3,7 +3,6 @@ use Rattle.std.specs.Prelude.{◌≡◌, ◌≢◌, ℕ, ◌<◌, Bool, true, fa
 use Rattle.std.specs.List.{AllByRecursion}
 use Rattle.base.specs.Bytes.{Identifier, lookup}
 use Rattle.class_rules.specs.Class.{Classes}
-use Rattle.class_rules.specs.Fields.{FieldId}
 use Rattle.heap.specs.Heap.{Space}
 use Rattle.semantics.specs.Object.{Reference, sizes}
 use Rattle.semantics.specs.World.{World}
@@ -37,10 +36,10 @@ use Rattle.machine_steps.specs.declared.fault.StepFault.TheVariants.{NoRoom, Mem
 use Rattle.machine_calls.specs.declared.store.Store.{Store}
 use Rattle.machine_calls.specs.CarriedOut.{IsShortOf}
 use Rattle.machine_calls.specs.HeapAgrees.{ReferenceAgrees}
-use Rattle.machine_calls.specs.Locals.{FramesAgree, KeysAgree}
+use Rattle.machine_calls.specs.Locals.{FramesAgree}
+use Rattle.machine_steps.specs.SlotsHold.{Meant, SlotsHold, slots_of}
 use Rattle.machine_calls.specs.Traps.{trap_view}
 use Rattle.machine_calls.specs.StoreAgrees.{StoreAgrees, Keeps}
-use Rattle.machine_calls.specs.FieldIds.{FieldsAgree}
 
 -- what is seen of a thread's step by others
 abbrev pub event_view : Event → source.Event
@@ -56,12 +55,9 @@ pub record CallStands (p : Lowered) (classes : Classes) (space : Space) (call : 
   pub of_function : slice_get p.codes call.function ≡ Some code
   pub known : Known
   pub stands : StandsFor code known call.place call.stack tasks
-  pub references : List Reference
-  pub owners : List (Option ℕ)
-  pub agree : KeysAgree space call.locals call.slots.references.items references owners
-  pub fields : List (Option FieldId)
-  pub fields_agree : FieldsAgree classes call.slots.fields.items fields
-  pub shows : Shows code known visible (record { numbers = call.slots.numbers.items; references = references; owners = owners; fields = fields })
+  pub meant : Meant
+  pub holds : SlotsHold classes space call meant
+  pub shows : Shows code known visible (slots_of call meant)
   pub depth : depth_at code.instrs call.place ≡ Some (length call.stack)
   pub frames_agree : FramesAgree space call.locals frames
 

@@ -1,0 +1,25 @@
+-- What the slots of a call stand for.
+use Rattle.std.specs.Prelude.{ℕ, List, Option}
+use Rattle.class_rules.specs.Class.{Classes}
+use Rattle.class_rules.specs.Fields.{FieldId}
+use Rattle.heap.specs.Heap.{Space}
+use Rattle.semantics.specs.Object.{Reference}
+use Rattle.code_meaning.specs.Slots.{Slots}
+use Rattle.machine_calls.specs.declared.activation.Activation.{Activation}
+use Rattle.machine_calls.specs.FieldIds.{FieldsAgree}
+use Rattle.machine_calls.specs.Locals.{KeysAgree}
+
+-- what the slots of references and those of field IDs stand for, with the levels of the references that are variables' own
+pub record Meant : Type 0 where
+  pub references : List Reference
+  pub owners : List (Option ℕ)
+  pub fields : List (Option FieldId)
+
+-- the same with the numbers in slots, as the source's variables are shown
+abbrev pub slots_of : Activation → Meant → Slots
+slots_of call meant = record { numbers = call.slots.numbers.items; references = meant.references; owners = meant.owners; fields = meant.fields }
+
+-- the slots of a call stand for these
+pub record SlotsHold (classes : Classes) (space : Space) (call : Activation) (meant : Meant) : Type 0 where
+  pub keys : KeysAgree space call.locals call.slots.references.items meant.references meant.owners
+  pub fields : FieldsAgree classes call.slots.fields.items meant.fields
