@@ -34,7 +34,7 @@ use Rattle.semantics.specs.Thread.{Frame}
 use Rattle.tables.specs.Locals.{LocalTable}
 use Rattle.machine_calls.specs.Locals.{FramesAgree, KeysAgree}
 use Rattle.machine_steps.specs.Executes.{CallStands}
-use Rattle.machine_steps.specs.SlotsHold.{Meant, SlotsHold, slots_of}
+use Rattle.machine_steps.specs.SlotsHold.{Meant, SlotsHold, slots_of, values_in}
 use Rattle.machine_steps.specs.Moved.{HasMoved}
 use Rattle.machine_calls.specs.FieldIds.{FieldsAgree}
 
@@ -184,7 +184,7 @@ module _ (p : Lowered) (classes : Classes) (space : Space) (call : Activation) (
 
   -- the call stands for tasks at another place
   pub stands_at : (after : Activation) (to : ℕ) (stack numbers : List ℕ) (keys : List (Option ℕ)) (references : List Reference) (handles : List (Option FieldHandle)) (fields : List (Option FieldId)) (names : Known) (visible' : Visible) (tasks : List Task)
-      → depth_at code.instrs to ≡ Some (length stack) → HasMoved call after to stack numbers keys handles → KeysAgree space call.locals keys references r.meant.owners → FieldsAgree classes handles fields → StandsFor code names to stack tasks
+      → depth_at code.instrs to ≡ Some (length stack) → HasMoved call after to stack (record { numbers = numbers; keys = keys; handles = handles }) → KeysAgree space call.locals keys references r.meant.owners → FieldsAgree classes handles fields → StandsFor code names to stack tasks
       → Shows code names visible' (record { numbers = numbers; references = references; owners = r.meant.owners; fields = fields }) → CallStands p classes space after visible' frames tasks
   stands_at after to stack numbers keys references handles fields names visible' tasks d m agree handled stands shows = record {
     code = code;

@@ -49,10 +49,10 @@ use Rattle.machine_calls.specs.Traps.{trap_view}
 use Rattle.machine_calls.specs.Asked.{references_of}
 use Rattle.machine_calls.specs.declared.statics.StaticReference.{StaticReference}
 use Rattle.machine_steps.specs.Moved.{HasMoved, end_of_way, WayIsSeen}
-use Rattle.machine_steps.specs.Variables.{is_null, HasSlot, nulled_references, nulled_fields, nulled_statics}
+use Rattle.machine_steps.specs.Variables.{is_null, HasSlot, nulled_references, nulled_fields, nulled_slots, nulled_statics}
 use Rattle.machine_steps.proofs.Views.{Viewless, assigned_viewless}
 use Rattle.machine_steps.proofs.Calls.{does_cases, Ready, plain_instr, plain_works, IsNullTest, no_return, stands_at, runs, room, leads, depth_behind, fields_count}
-use Rattle.machine_steps.specs.SlotsHold.{Meant, SlotsHold, slots_of}
+use Rattle.machine_steps.specs.SlotsHold.{Meant, SlotsHold, slots_of, values_in}
 use Rattle.machine_steps.proofs.Changes.{array_of, is_set, is_made, is_element_set}
 use Rattle.machine_calls.proofs.Keeping.{keeps_same}
 use Rattle.machine_calls.proofs.KeyLaws.{keys_count}
@@ -230,7 +230,7 @@ module _ (p : Lowered) (w : World) (store : Store) (in_use : BuffersInUse) (k : 
 
   -- an instruction on the stack and the number slots alone
   module _ (tasks_are : s.tasks ≡ Some (task ∷ rest)) (after : Activation) (e : Event) (way : Plain) (stack numbers : List ℕ) (is : plain_of i call.stack call.slots.numbers.items ≡ Some (way, stack, numbers))
-      (m : HasMoved call after (end_of_way call.place way) stack numbers call.slots.references.items call.slots.fields.items) (way_seen : WayIsSeen way e) where
+      (m : HasMoved call after (end_of_way call.place way) stack (record (values_in call) { numbers = numbers })) (way_seen : WayIsSeen way e) where
     becomes : IsPlain i → (tasks : List Task) → GoesOn code r.known call.place call.stack held seen (tasks ++ rest) → agrees.GoesOn p w space store in_use k own shared s rest after pending (Becomes tasks) false e
     becomes works tasks h =
         let same : h.here ≡ i = cc (h.at, at) in
@@ -274,7 +274,7 @@ module _ (p : Lowered) (w : World) (store : Store) (in_use : BuffersInUse) (k : 
           steps = steps ∙ ap (λ (v : Event). source.Advances shared next (event_view v)) (sym quiet);
           work = subst (λ (o : Owners). CallStands p classes space after (visible_to o shared next) s.frames rest) (sym left)
               (stands_at p classes space call code seen s.frames task rest r after (call.place + 1) stack numbers call.slots.references.items r.meant.references call.slots.fields.items r.meant.fields h.names (visible_to own shared next) rest end.words
-              (subst (λ (w : Plain). HasMoved call after (end_of_way call.place w) stack numbers call.slots.references.items call.slots.fields.items) way_is m) r.holds.keys r.holds.fields
+              (subst (λ (w : Plain). HasMoved call after (end_of_way call.place w) stack (record (values_in call) { numbers = numbers })) way_is m) r.holds.keys r.holds.fields
               (subst (λ (st : List ℕ). StandsFor code h.names (call.place + 1) st rest) after_is h.stands)
               (subst (λ (ns : List ℕ). Shows code h.names (visible_to own shared next) (record { numbers = ns; references = r.meant.references; owners = r.meant.owners; fields = r.meant.fields })) numbers_are (h.shows (visible_to own shared next) shown)));
           next_shared = shared;
@@ -299,7 +299,7 @@ module _ (p : Lowered) (w : World) (store : Store) (in_use : BuffersInUse) (k : 
         let trap_is : reason ≡ trap_view seen_trap.0 = sym h.is ∙ sym seen_trap.1 in
         let stands : CallStands p classes space after seen s.frames (task ∷ rest) =
         stands_at p classes space call code seen s.frames task rest r after call.place stack numbers call.slots.references.items r.meant.references call.slots.fields.items r.meant.fields r.known seen (task ∷ rest) (r.depth ∙ ap (λ (st : List ℕ). Some (length st)) after_is)
-        (subst (λ (w : Plain). HasMoved call after (end_of_way call.place w) stack numbers call.slots.references.items call.slots.fields.items) way_is m) r.holds.keys r.holds.fields
+        (subst (λ (w : Plain). HasMoved call after (end_of_way call.place w) stack (record (values_in call) { numbers = numbers })) way_is m) r.holds.keys r.holds.fields
         (subst (λ (st : List ℕ). StandsFor code r.known call.place st (task ∷ rest)) after_is r.stands)
         (subst (λ (ns : List ℕ). Shows code r.known seen (record { numbers = ns; references = r.meant.references; owners = r.meant.owners; fields = r.meant.fields })) numbers_are r.shows) in
         record {
@@ -340,7 +340,7 @@ module _ (p : Lowered) (w : World) (store : Store) (in_use : BuffersInUse) (k : 
         (effect_of seen.sight task) r.does (sets_what_is_there seen.sight task)
 
   -- a test of NULL
-  pub test_executes : (variable : NullableVariable) (equal : Bool) (after : Activation) → i ≡ instr.TestNull variable equal → HasMoved call after (call.place + 1) (truth_word (beq (is_null (references_of store call) call.slots.fields.items variable) equal) ∷ call.stack) call.slots.numbers.items call.slots.references.items call.slots.fields.items
+  pub test_executes : (variable : NullableVariable) (equal : Bool) (after : Activation) → i ≡ instr.TestNull variable equal → HasMoved call after (call.place + 1) (truth_word (beq (is_null (references_of store call) call.slots.fields.items variable) equal) ∷ call.stack) (values_in call)
       → Executes p w space store in_use k own shared s rest after pending (effect_of (sight_of shared s) task) (Did event.Quiet)
   test_executes variable equal after is m =
       other_cases p classes space call code seen s.frames task rest r i at (λ effect. Executes p w space store in_use k own shared s rest after pending effect (Did event.Quiet)) (λ plain. subst IsPlain is plain)
@@ -377,7 +377,7 @@ module _ (p : Lowered) (w : World) (store : Store) (in_use : BuffersInUse) (k : 
           }
 
   -- NULL is stored
-  pub store_executes : (variable : NullableVariable) (after : Activation) (statics : Vec StaticReference) → i ≡ instr.StoreNull variable → statics.items ≡ nulled_statics variable store.statics.items → HasMoved call after (call.place + 1) call.stack call.slots.numbers.items (nulled_references variable call.slots.references.items) (nulled_fields variable call.slots.fields.items)
+  pub store_executes : (variable : NullableVariable) (after : Activation) (statics : Vec StaticReference) → i ≡ instr.StoreNull variable → statics.items ≡ nulled_statics variable store.statics.items → HasMoved call after (call.place + 1) call.stack (nulled_slots variable (values_in call))
       → Executes p w space (record store { statics = statics }) in_use k own shared s rest after pending (effect_of (sight_of shared s) task) (Did event.Quiet)
   store_executes variable after statics is nulled_are m =
       other_cases p classes space call code seen s.frames task rest r i at (λ effect. Executes p w space (record store { statics = statics }) in_use k own shared s rest after pending effect (Did event.Quiet)) (λ plain. subst IsPlain is plain)
@@ -395,7 +395,7 @@ module _ (p : Lowered) (w : World) (store : Store) (in_use : BuffersInUse) (k : 
           let now : Shared = record shared { statics = lower.nulled_statics kind h.name shared.statics } in
           let stored = subst (λ (v : NullableVariable). IsStoredIn code r.known call.place call.stack held seen v kind h.name) same h.stored in
           let nulled = nulled_agree classes space call.locals call.slots.references.items call.slots.fields.items held variable r.holds.keys r.holds.fields in
-          let m' : HasMoved call after (call.place + 1) [] (lower.with_null variable held).numbers (nulled_references variable call.slots.references.items) (nulled_fields variable call.slots.fields.items) =
+          let m' : HasMoved call after (call.place + 1) [] (record (nulled_slots variable (values_in call)) { numbers = (lower.with_null variable held).numbers }) =
           record { function = m.function; place = m.place; stack = m.stack ∙ h.empty; numbers = m.numbers ∙ sym nulled.numbers; references = m.references; fields = m.fields; locals = m.locals } in
           record {
             next = next;
@@ -414,7 +414,7 @@ module _ (p : Lowered) (w : World) (store : Store) (in_use : BuffersInUse) (k : 
           }
 
   -- a print
-  pub put_executes : (word : ℕ) (after : Activation) (stack : List ℕ) → i ≡ instr.PutJint → call.stack ≡ word ∷ stack → HasMoved call after (call.place + 1) stack call.slots.numbers.items call.slots.references.items call.slots.fields.items
+  pub put_executes : (word : ℕ) (after : Activation) (stack : List ℕ) → i ≡ instr.PutJint → call.stack ≡ word ∷ stack → HasMoved call after (call.place + 1) stack (values_in call)
       → Executes p w space store in_use k own shared s rest after pending (effect_of (sight_of shared s) task) (Did (event.Printed (cast_signed w32 word)))
   put_executes word after stack put top m =
       other_cases p classes space call code seen s.frames task rest r i at (λ effect. Executes p w space store in_use k own shared s rest after pending effect (Did (event.Printed (cast_signed w32 word)))) (λ plain. subst IsPlain put plain)

@@ -1,6 +1,6 @@
+pub mod SlotsHold
 pub mod Variables
 pub mod Moved
-pub mod SlotsHold
 pub mod Executes
 pub mod Received
 pub mod Invoked

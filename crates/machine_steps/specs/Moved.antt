@@ -1,6 +1,5 @@
 -- How an instruction moves a call on.
 use Rattle.std.specs.Prelude.{◌≡◌, ℕ, ◌+◌, ◌-◌, ◌≤◌, ◌<◌, ◌^◌, List, Option, Some}
-use Rattle.classes.specs.declared.class.FieldHandle.{FieldHandle}
 use Rattle.code.specs.Effect.{plain_of}
 use Rattle.code.specs.declared.instr.Instr.{Instr}
 use Rattle.code.specs.declared.instr.Plain.{Plain}
@@ -9,17 +8,18 @@ use Rattle.code_meaning.specs.Does.{trap_of}
 use Rattle.machine_calls.specs.declared.activation.Activation.{Activation}
 use Rattle.machine_calls.specs.declared.trap.Trap.{Trap as TrapInMemory}
 use Rattle.machine_calls.specs.Traps.{trap_view}
+use Rattle.machine_steps.specs.SlotsHold.{SlotValues, values_in}
 use Rattle.machine_steps.specs.declared.execute.Event.{Event}
 use Rattle.machine_steps.specs.declared.execute.Event.TheVariants as event
 
--- the call is at a place, with these operands, number slots, keys and field IDs, and its table as it was
-pub record HasMoved (call after : Activation) (to : ℕ) (words slots : List ℕ) (keys : List (Option ℕ)) (handles : List (Option FieldHandle)) : Type 0 where
+-- the call is at a place, with these operands, and with these values in slots, and its table as it was
+pub record HasMoved (call after : Activation) (to : ℕ) (words : List ℕ) (slots : SlotValues) : Type 0 where
   pub function : after.function ≡ call.function
   pub place : after.place ≡ to
   pub stack : after.stack ≡ words
-  pub numbers : after.slots.numbers.items ≡ slots
-  pub references : after.slots.references.items ≡ keys
-  pub fields : after.slots.fields.items ≡ handles
+  pub numbers : after.slots.numbers.items ≡ slots.numbers
+  pub references : after.slots.references.items ≡ slots.keys
+  pub fields : after.slots.fields.items ≡ slots.handles
   pub locals : after.locals ≡ call.locals
 
 -- the place that a way leads to; a trap stays
@@ -47,5 +47,5 @@ pub record MovesPlainly (i : Instr) (call after : Activation) (seen : Event) : T
   pub stack : List ℕ
   pub numbers : List ℕ
   pub is : plain_of i call.stack call.slots.numbers.items ≡ Some (way, stack, numbers)
-  pub moved : HasMoved call after (end_of_way call.place way) stack numbers call.slots.references.items call.slots.fields.items
+  pub moved : HasMoved call after (end_of_way call.place way) stack (record (values_in call) { numbers = numbers })
   pub way_seen : WayIsSeen way seen

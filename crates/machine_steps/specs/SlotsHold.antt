@@ -1,13 +1,24 @@
--- What the slots of a call stand for.
+-- What the slots of a call hold, and what it stands for.
 use Rattle.std.specs.Prelude.{ℕ, List, Option}
 use Rattle.class_rules.specs.Class.{Classes}
 use Rattle.class_rules.specs.Fields.{FieldId}
+use Rattle.classes.specs.declared.class.FieldHandle.{FieldHandle}
 use Rattle.heap.specs.Heap.{Space}
 use Rattle.semantics.specs.Object.{Reference}
 use Rattle.code_meaning.specs.Slots.{Slots}
 use Rattle.machine_calls.specs.declared.activation.Activation.{Activation}
 use Rattle.machine_calls.specs.FieldIds.{FieldsAgree}
 use Rattle.machine_calls.specs.Locals.{KeysAgree}
+
+-- numbers, keys and field IDs, as they lie in slots
+pub record SlotValues : Type 0 where
+  pub numbers : List ℕ
+  pub keys : List (Option ℕ)
+  pub handles : List (Option FieldHandle)
+
+-- what the slots of a call hold
+abbrev pub values_in : Activation → SlotValues
+values_in call = record { numbers = call.slots.numbers.items; keys = call.slots.references.items; handles = call.slots.fields.items }
 
 -- what the slots of references and those of field IDs stand for, with the levels of the references that are variables' own
 pub record Meant : Type 0 where

@@ -6,6 +6,7 @@ use Rattle.code.specs.declared.instr.NullableVariable.TheVariants.{Local, Static
 use Rattle.machine_calls.specs.declared.statics.StaticReference.{StaticReference}
 use Rattle.machine_calls.specs.declared.statics.StaticReference.TheVariants.{Empty}
 use Rattle.machine_calls.specs.Given.{held_in}
+use Rattle.machine_steps.specs.SlotsHold.{SlotValues}
 use Rattle.machine_calls.specs.Statics.{References, holds_null, static_at}
 
 -- whether a variable is NULL; nothing else is stored in buffers yet
@@ -31,6 +32,10 @@ nulled_references v references = references
 abbrev pub nulled_fields : NullableVariable → List (Option FieldHandle) → List (Option FieldHandle)
 nulled_fields (FieldId i) fields = slice_set fields i None
 nulled_fields v fields = fields
+
+-- the slots with NULL in a variable
+abbrev pub nulled_slots : NullableVariable → SlotValues → SlotValues
+nulled_slots v slots = record slots { keys = nulled_references v slots.keys; handles = nulled_fields v slots.handles }
 
 -- the statics with NULL in a variable
 abbrev pub nulled_statics : NullableVariable → List StaticReference → List StaticReference

@@ -15,7 +15,8 @@ ghost use Rattle.machine_calls.specs.Asked.{references_of};
 ghost use Rattle.machine_steps.specs.Executes.{IsExecuting, IsHindered, Executes, cells_made};
 ghost use Rattle.machine_steps.specs.Invoked.{executed_as};
 ghost use Rattle.machine_steps.specs.Moved.{HasMoved, IsReachable, MovesPlainly};
-ghost use Rattle.machine_steps.specs.Variables.{is_null, HasSlot, nulled_references, nulled_fields, nulled_statics};
+ghost use Rattle.machine_steps.specs.SlotsHold.{values_in};
+ghost use Rattle.machine_steps.specs.Variables.{is_null, HasSlot, nulled_slots, nulled_statics};
 
 use crate::fault::StepFault;
 use crate::invoke::{Invoked, invoke};
@@ -117,8 +118,7 @@ fn outcome_of(line: u32, invoked: Invoked) -> Executed
 fn test_null(store: &Store, call: &mut Activation, variable: NullableVariable, equal: bool)
     requires room { length call.old.stack < 64 }
     requires place { call.old.place + 1 < 2 ^ 64 }
-    ensures { HasMoved call.old call.new (call.old.place + 1) (truth_word (beq (is_null (references_of store.now call.old) call.old.slots.fields.items variable) equal) ∷ call.old.stack)
-        call.old.slots.numbers.items call.old.slots.references.items call.old.slots.fields.items }
+    ensures { HasMoved call.old call.new (call.old.place + 1) (truth_word (beq (is_null (references_of store.now call.old) call.old.slots.fields.items variable) equal) ∷ call.old.stack) (values_in call.old) }
 {
     let references = References::new(
         &call.slots.references,
@@ -136,8 +136,7 @@ fn test_null(store: &Store, call: &mut Activation, variable: NullableVariable, e
 fn store_null(statics: &mut [StaticReference], call: &mut Activation, variable: NullableVariable)
     requires slot { HasSlot (length call.old.slots.references.items) (length call.old.slots.fields.items) (length statics.old) variable }
     requires place { call.old.place + 1 < 2 ^ 64 }
-    ensures call { HasMoved call.old call.new (call.old.place + 1) call.old.stack call.old.slots.numbers.items
-        (nulled_references variable call.old.slots.references.items) (nulled_fields variable call.old.slots.fields.items) }
+    ensures call { HasMoved call.old call.new (call.old.place + 1) call.old.stack (nulled_slots variable (values_in call.old)) }
     ensures statics { statics.new ≡ nulled_statics variable statics.old }
 {
     set_null(
