@@ -42,7 +42,7 @@ use Rattle.machine_calls.proofs.HeldStatics.{static_there}
 use Rattle.machine_calls.proofs.KeyLaws.{address_there}
 use Rattle.machine_calls.specs.Given.{HasArray, HasElements, held_in, IsGiven}
 use Rattle.machine_steps.proofs.Calls.{Ready}
-use Rattle.machine_steps.specs.SlotsHold.{Meant, SlotsHold, slots_of}
+use Rattle.machine_steps.specs.SlotsHold.{slots_of}
 
 -- ---- slots
 

@@ -64,7 +64,7 @@ use Rattle.machine_steps.proofs.CopiedArrays.{AreKept, Copied, array_known, copi
 use Rattle.std.proofs.lemmas.List.{length-map, length-take}
 use Rattle.machine_calls.proofs.CallTraps.{found_is, room_left}
 use Rattle.machine_steps.proofs.Calls.{Ready, fields_count, ready, ready_known, ready_owners}
-use Rattle.machine_steps.specs.SlotsHold.{Meant, SlotsHold, slots_of}
+use Rattle.machine_steps.specs.SlotsHold.{slots_of}
 use Rattle.machine_steps.proofs.Effects.{call_cases}
 use Rattle.machine_steps.proofs.EffectFrames.{left_is}
 use Rattle.machine_calls.proofs.LocalFrames.{frames_left as frames_after_agree}

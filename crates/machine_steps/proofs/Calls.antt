@@ -8,7 +8,6 @@ use Rattle.syntax.specs.Tree.{Function, Item, StaticItem, FunctionItem}
 use Rattle.syntax.specs.Views.{unit_tree}
 use Rattle.jni.specs.JniFunction.{JniFunction}
 use Rattle.heap.specs.Heap.{Space}
-use Rattle.semantics.specs.Object.{Reference}
 use Rattle.code.specs.declared.instr.Instr.{Instr}
 use Rattle.code.specs.declared.instr.Instr.TheVariants as instr
 use Rattle.code.specs.Call.{Call}
@@ -34,7 +33,7 @@ use Rattle.semantics.specs.Thread.{Frame}
 use Rattle.tables.specs.Locals.{LocalTable}
 use Rattle.machine_calls.specs.Locals.{FramesAgree, KeysAgree}
 use Rattle.machine_steps.specs.Executes.{CallStands}
-use Rattle.machine_steps.specs.SlotsHold.{Meant, SlotsHold, slots_of, values_in}
+use Rattle.machine_steps.specs.SlotsHold.{Meant, SlotValues, SlotsHold, slots_of, values_in}
 use Rattle.machine_steps.specs.Moved.{HasMoved}
 use Rattle.machine_calls.specs.FieldIds.{FieldsAgree}
 
@@ -120,7 +119,7 @@ pub record Ready (p : Lowered) (classes : Classes) (space : Space) (call : Activ
   pub valid : IsValid code
   pub known : Known
   pub meant : Meant
-  pub holds : SlotsHold classes space call meant
+  pub holds : SlotsHold classes space call.locals (values_in call) meant
   pub frames_agree : FramesAgree space call.locals frames
   pub shows : Shows code known visible (slots_of call meant)
   pub stands : StandsFor code known call.place call.stack (task ∷ rest)
@@ -183,22 +182,22 @@ module _ (p : Lowered) (classes : Classes) (space : Space) (call : Activation) (
       (effect_of visible.sight task) r.does
 
   -- the call stands for tasks at another place
-  pub stands_at : (after : Activation) (to : ℕ) (stack numbers : List ℕ) (keys : List (Option ℕ)) (references : List Reference) (handles : List (Option FieldHandle)) (fields : List (Option FieldId)) (names : Known) (visible' : Visible) (tasks : List Task)
-      → depth_at code.instrs to ≡ Some (length stack) → HasMoved call after to stack (record { numbers = numbers; keys = keys; handles = handles }) → KeysAgree space call.locals keys references r.meant.owners → FieldsAgree classes handles fields → StandsFor code names to stack tasks
-      → Shows code names visible' (record { numbers = numbers; references = references; owners = r.meant.owners; fields = fields }) → CallStands p classes space after visible' frames tasks
-  stands_at after to stack numbers keys references handles fields names visible' tasks d m agree handled stands shows = record {
+  pub stands_at : (after : Activation) (to : ℕ) (stack : List ℕ) (slots : SlotValues) (meant : Meant) (names : Known) (visible' : Visible) (tasks : List Task)
+      → depth_at code.instrs to ≡ Some (length stack) → HasMoved call after to stack slots → SlotsHold classes space call.locals slots meant → StandsFor code names to stack tasks
+      → Shows code names visible' (record (slots_of call meant) { numbers = slots.numbers }) → CallStands p classes space after visible' frames tasks
+  stands_at after to stack slots meant names visible' tasks d m holds stands shows = record {
     code = code;
     of_function = ap (slice_get p.codes) m.function ∙ r.of_function;
     known = names;
     stands = subst (λ (n : ℕ). StandsFor code names n after.stack tasks) (sym m.place) (subst (λ (s : List ℕ). StandsFor code names to s tasks) (sym m.stack) stands);
-    meant = record { references = references; owners = r.meant.owners; fields = fields };
+    meant = meant;
     holds = record {
       keys =
-          subst (λ (t : LocalTable). KeysAgree space t after.slots.references.items references r.meant.owners) (sym m.locals)
-          (subst (λ (l : List (Option ℕ)). KeysAgree space call.locals l references r.meant.owners) (sym m.references) agree);
-      fields = subst (λ (l : List (Option FieldHandle)). FieldsAgree classes l fields) (sym m.fields) handled;
+          subst (λ (t : LocalTable). KeysAgree space t after.slots.references.items meant.references meant.owners) (sym m.locals)
+          (subst (λ (l : List (Option ℕ)). KeysAgree space call.locals l meant.references meant.owners) (sym m.references) holds.keys);
+      fields = subst (λ (l : List (Option FieldHandle)). FieldsAgree classes l meant.fields) (sym m.fields) holds.fields;
     };
-    shows = subst (λ (ns : List ℕ). Shows code names visible' (record { numbers = ns; references = references; owners = r.meant.owners; fields = fields })) (sym m.numbers) shows;
+    shows = subst (λ (ns : List ℕ). Shows code names visible' (record (slots_of call meant) { numbers = ns })) (sym m.numbers) shows;
     depth = ap (depth_at code.instrs) m.place ∙ d ∙ ap (λ (s : List ℕ). Some (length s)) (sym m.stack);
     frames_agree = subst (λ (t : LocalTable). FramesAgree space t frames) (sym m.locals) r.frames_agree;
   }

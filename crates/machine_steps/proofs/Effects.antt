@@ -49,10 +49,10 @@ use Rattle.machine_calls.specs.Traps.{trap_view}
 use Rattle.machine_calls.specs.Asked.{references_of}
 use Rattle.machine_calls.specs.declared.statics.StaticReference.{StaticReference}
 use Rattle.machine_steps.specs.Moved.{HasMoved, end_of_way, WayIsSeen}
-use Rattle.machine_steps.specs.Variables.{is_null, HasSlot, nulled_references, nulled_fields, nulled_slots, nulled_statics}
+use Rattle.machine_steps.specs.Variables.{is_null, HasSlot, nulled_slots, nulled_statics}
 use Rattle.machine_steps.proofs.Views.{Viewless, assigned_viewless}
 use Rattle.machine_steps.proofs.Calls.{does_cases, Ready, plain_instr, plain_works, IsNullTest, no_return, stands_at, runs, room, leads, depth_behind, fields_count}
-use Rattle.machine_steps.specs.SlotsHold.{Meant, SlotsHold, slots_of, values_in}
+use Rattle.machine_steps.specs.SlotsHold.{slots_of, values_in}
 use Rattle.machine_steps.proofs.Changes.{array_of, is_set, is_made, is_element_set}
 use Rattle.machine_calls.proofs.Keeping.{keeps_same}
 use Rattle.machine_calls.proofs.KeyLaws.{keys_count}
@@ -244,8 +244,8 @@ module _ (p : Lowered) (w : World) (store : Store) (in_use : BuffersInUse) (k : 
         record {
           next = next;
           steps = ap (λ (v : Event). source.Advances shared next (event_view v)) (sym (quiet_at_end call.place way (λ q. StandsFor code h.names q stack (tasks ++ rest)) e end way_seen));
-          work = stands_at p classes space call code seen s.frames task rest r after (end_of_way call.place way) stack numbers call.slots.references.items r.meant.references call.slots.fields.items r.meant.fields h.names (visible_to own shared next) (tasks ++ rest)
-              (depth_at_end code call.place way (length stack) (λ q. StandsFor code h.names q stack (tasks ++ rest)) (leads p classes space call code seen s.frames task rest r i at way stack numbers is) end) m r.holds.keys r.holds.fields
+          work = stands_at p classes space call code seen s.frames task rest r after (end_of_way call.place way) stack (record (values_in call) { numbers = numbers }) r.meant h.names (visible_to own shared next) (tasks ++ rest)
+              (depth_at_end code call.place way (length stack) (λ q. StandsFor code h.names q stack (tasks ++ rest)) (leads p classes space call code seen s.frames task rest r i at way stack numbers is) end) m (record { keys = r.holds.keys; fields = r.holds.fields })
               (at_end call.place way (λ q. StandsFor code h.names q stack (tasks ++ rest)) end)
               (subst (λ (ns : List ℕ). Shows code h.names (visible_to own shared next) (record { numbers = ns; references = r.meant.references; owners = r.meant.owners; fields = r.meant.fields })) numbers_are h.shows);
           next_shared = shared;
@@ -273,8 +273,8 @@ module _ (p : Lowered) (w : World) (store : Store) (in_use : BuffersInUse) (k : 
           next = next;
           steps = steps ∙ ap (λ (v : Event). source.Advances shared next (event_view v)) (sym quiet);
           work = subst (λ (o : Owners). CallStands p classes space after (visible_to o shared next) s.frames rest) (sym left)
-              (stands_at p classes space call code seen s.frames task rest r after (call.place + 1) stack numbers call.slots.references.items r.meant.references call.slots.fields.items r.meant.fields h.names (visible_to own shared next) rest end.words
-              (subst (λ (w : Plain). HasMoved call after (end_of_way call.place w) stack (record (values_in call) { numbers = numbers })) way_is m) r.holds.keys r.holds.fields
+              (stands_at p classes space call code seen s.frames task rest r after (call.place + 1) stack (record (values_in call) { numbers = numbers }) r.meant h.names (visible_to own shared next) rest end.words
+              (subst (λ (w : Plain). HasMoved call after (end_of_way call.place w) stack (record (values_in call) { numbers = numbers })) way_is m) (record { keys = r.holds.keys; fields = r.holds.fields })
               (subst (λ (st : List ℕ). StandsFor code h.names (call.place + 1) st rest) after_is h.stands)
               (subst (λ (ns : List ℕ). Shows code h.names (visible_to own shared next) (record { numbers = ns; references = r.meant.references; owners = r.meant.owners; fields = r.meant.fields })) numbers_are (h.shows (visible_to own shared next) shown)));
           next_shared = shared;
@@ -298,8 +298,8 @@ module _ (p : Lowered) (w : World) (store : Store) (in_use : BuffersInUse) (k : 
         let seen_trap : WayIsSeen (plain.Trap h.trap line) e = subst (λ (w : Plain). WayIsSeen w e) way_is way_seen in
         let trap_is : reason ≡ trap_view seen_trap.0 = sym h.is ∙ sym seen_trap.1 in
         let stands : CallStands p classes space after seen s.frames (task ∷ rest) =
-        stands_at p classes space call code seen s.frames task rest r after call.place stack numbers call.slots.references.items r.meant.references call.slots.fields.items r.meant.fields r.known seen (task ∷ rest) (r.depth ∙ ap (λ (st : List ℕ). Some (length st)) after_is)
-        (subst (λ (w : Plain). HasMoved call after (end_of_way call.place w) stack (record (values_in call) { numbers = numbers })) way_is m) r.holds.keys r.holds.fields
+        stands_at p classes space call code seen s.frames task rest r after call.place stack (record (values_in call) { numbers = numbers }) r.meant r.known seen (task ∷ rest) (r.depth ∙ ap (λ (st : List ℕ). Some (length st)) after_is)
+        (subst (λ (w : Plain). HasMoved call after (end_of_way call.place w) stack (record (values_in call) { numbers = numbers })) way_is m) (record { keys = r.holds.keys; fields = r.holds.fields })
         (subst (λ (st : List ℕ). StandsFor code r.known call.place st (task ∷ rest)) after_is r.stands)
         (subst (λ (ns : List ℕ). Shows code r.known seen (record { numbers = ns; references = r.meant.references; owners = r.meant.owners; fields = r.meant.fields })) numbers_are r.shows) in
         record {
@@ -363,9 +363,9 @@ module _ (p : Lowered) (w : World) (store : Store) (in_use : BuffersInUse) (k : 
           record {
             next = next;
             steps = refl;
-            work = stands_at p classes space call code seen s.frames task rest r after (call.place + 1) stack call.slots.numbers.items call.slots.references.items r.meant.references call.slots.fields.items r.meant.fields h.names (visible_to own shared next) (tasks ++ rest)
+            work = stands_at p classes space call code seen s.frames task rest r after (call.place + 1) stack (values_in call) r.meant h.names (visible_to own shared next) (tasks ++ rest)
                 (depth_behind p classes space call code seen s.frames task rest r i at (length stack) (λ leaves. subst Leaves is leaves)
-                (ap (λ (j : Instr). depth_after j (length call.stack)) is ∙ one_more (length call.stack) (subst (λ (j : Instr). IsSome (depth_after j (length call.stack))) is (room p classes space call code seen s.frames task rest r i at)))) m r.holds.keys r.holds.fields end h.shows;
+                (ap (λ (j : Instr). depth_after j (length call.stack)) is ∙ one_more (length call.stack) (subst (λ (j : Instr). IsSome (depth_after j (length call.stack))) is (room p classes space call code seen s.frames task rest r i at)))) m (record { keys = r.holds.keys; fields = r.holds.fields }) end h.shows;
             next_shared = shared;
             store_agrees = shares;
             keeps = keeps_same space shared;
@@ -400,8 +400,8 @@ module _ (p : Lowered) (w : World) (store : Store) (in_use : BuffersInUse) (k : 
           record {
             next = next;
             steps = null.steps;
-            work = stands_at p classes space call code seen s.frames task rest r after (call.place + 1) [] (lower.with_null variable held).numbers (nulled_references variable call.slots.references.items) (lower.with_null variable held).references (nulled_fields variable call.slots.fields.items) (lower.with_null variable held).fields h.names (visible_to own now next) rest
-                (depth_behind p classes space call code seen s.frames task rest r i at 0 (λ leaves. subst Leaves is leaves) (ap (λ (j : Instr). depth_after j (length call.stack)) is ∙ ap (λ (st : List ℕ). Some (length st)) h.empty)) m' nulled.references nulled.fields h.stands
+            work = stands_at p classes space call code seen s.frames task rest r after (call.place + 1) [] (record (nulled_slots variable (values_in call)) { numbers = (lower.with_null variable held).numbers }) (record r.meant { references = (lower.with_null variable held).references; fields = (lower.with_null variable held).fields }) h.names (visible_to own now next) rest
+                (depth_behind p classes space call code seen s.frames task rest r i at 0 (λ leaves. subst Leaves is leaves) (ap (λ (j : Instr). depth_after j (length call.stack)) is ∙ ap (λ (st : List ℕ). Some (length st)) h.empty)) m' (record { keys = nulled.references; fields = nulled.fields }) h.stands
                 (null_shows code h.names (visible_to own now next) held variable (subst (λ (v : NullableVariable). Shows code h.names (visible_to own now next) (lower.with_null v held)) same (h.shows (visible_to own now next) null.nulled)));
             next_shared = now;
             store_agrees = store_nulled p w store shared shares own code r.known call.place call.stack held s statics h.name variable kind stored nulled_are;
@@ -432,8 +432,8 @@ module _ (p : Lowered) (w : World) (store : Store) (in_use : BuffersInUse) (k : 
           record {
             next = with_tasks s rest;
             steps = ap (λ (n : ℤ). source.Advances shared (with_tasks s rest) (source.PrintedNumber n)) number;
-            work = stands_at p classes space call code seen s.frames task rest r after (call.place + 1) stack call.slots.numbers.items call.slots.references.items r.meant.references call.slots.fields.items r.meant.fields r.known seen rest
-                (depth_behind p classes space call code seen s.frames task rest r i at (length stack) (λ leaves. subst Leaves put leaves) (ap (λ (j : Instr). depth_after j (length call.stack)) put ∙ ap (λ (st : List ℕ). depth_after instr.PutJint (length st)) top)) m r.holds.keys r.holds.fields
+            work = stands_at p classes space call code seen s.frames task rest r after (call.place + 1) stack (values_in call) r.meant r.known seen rest
+                (depth_behind p classes space call code seen s.frames task rest r i at (length stack) (λ leaves. subst Leaves put leaves) (ap (λ (j : Instr). depth_after j (length call.stack)) put ∙ ap (λ (st : List ℕ). depth_after instr.PutJint (length st)) top)) m (record { keys = r.holds.keys; fields = r.holds.fields })
                 (subst (λ (st : List ℕ). StandsFor code r.known (call.place + 1) st rest) nothing h.stands) r.shows;
             next_shared = shared;
             store_agrees = shares;

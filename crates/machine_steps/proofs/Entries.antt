@@ -40,6 +40,7 @@ use Rattle.machine_calls.specs.declared.activation.Activation.{Activation}
 use Rattle.machine_calls.specs.declared.store.Store.{Store}
 use Rattle.machine_calls.specs.StoreAgrees.{AreNamed, StoreAgrees}
 use Rattle.machine_calls.specs.FieldIds.{FieldsAgree}
+use Rattle.machine_steps.specs.SlotsHold.{slots_of}
 use Rattle.machine_steps.specs.ThreadAgrees.{CallAgrees, CallsAgree, ThreadAgrees, ending_view}
 use Rattle.machine_steps.specs.Advances.{Advances}
 use Rattle.machine_steps.specs.Executes.{CallStands, WorkAgrees}
@@ -264,7 +265,7 @@ begun p classes space loaded made shared s rest n c call lowered table statics f
     let keys : KeysAgree space call.locals call.slots.references.items references owners =
     subst (λ (l : List (Option ℕ)). KeysAgree space call.locals l references owners) (sym begins.references)
     (subst (λ (t : LocalTable). KeysAgree space t (keys_from 0 begins.addresses) references owners) (sym begins.locals) (entry_keys space begins.addresses references b.code.slots.references agree)) in
-    let entry : EntrySlots b.code n.class c.arguments (record { numbers = call.slots.numbers.items; references = references; owners = owners; fields = fields }) =
+    let entry : EntrySlots b.code n.class c.arguments (slots_of call (record { references = references; owners = owners; fields = fields })) =
     record {
       fields = length-replicate {A = Option FieldId} b.code.slots.field_ids None;
       numbers = words.counted;
@@ -285,7 +286,7 @@ begun p classes space loaded made shared s rest n c call lowered table statics f
       holds = record { keys = keys; fields = subst (λ (l : List (Option FieldHandle)). FieldsAgree classes l fields) (sym begins.fields) (no_fields classes b.code.slots.field_ids) };
       frames_agree = subst (λ (t : LocalTable). FramesAgree space t (entry_frame (n.class ∷ filter_map named_object c.arguments) ∷ [])) (sym begins.locals)
           (entry_frames space n.class c.arguments slots.more begins.addresses agree);
-      shows = is_code.shows (owned_at s rest f.function n.class c.arguments) shared s rest n.class c.arguments (record { numbers = call.slots.numbers.items; references = references; owners = owners; fields = fields })
+      shows = is_code.shows (owned_at s rest f.function n.class c.arguments) shared s rest n.class c.arguments (slots_of call (record { references = references; owners = owners; fields = fields }))
           f.fit entry (statics_shared shared (statics_of (unit_tree p.unit)) p.codes n.function f.function found statics) (entered_lowest s rest f.function n.class c.arguments);
       depth = ap (depth_at b.code.instrs) begins.place ∙ ap (λ (st : List ℕ). Some (length st)) (sym begins.stack);
     }

@@ -62,7 +62,7 @@ use Rattle.machine_calls.proofs.StaticStores.{with_same, with_static}
 use Rattle.machine_calls.specs.HeapAgrees.{ReferenceAgrees}
 use Rattle.machine_steps.specs.Received.{HasRoom, MakesLocal, Receives, fields_with, numbers_with, stack_with, statics_with}
 use Rattle.machine_steps.proofs.Calls.{Ready, depth_behind}
-use Rattle.machine_steps.specs.SlotsHold.{Meant, SlotsHold, slots_of}
+use Rattle.machine_steps.specs.SlotsHold.{Meant, SlotsHold, slots_of, values_in}
 use Rattle.machine_steps.proofs.Changes.{OthersOwn, lookup_same, field_by_kind, is_field_set, is_referred, is_set, local_by_kind, scalar_by_kind}
 use Rattle.machine_steps.proofs.StillShown.{shows_stay}
 use Rattle.machine_calls.proofs.KeyLaws.{key_put, keys_left, live_there}
@@ -344,6 +344,13 @@ module _ (p : Lowered) (w : World) (old : Space) (store : Store) (own : Owners) 
   kept_keys : (d : Destination) → Receives d kind g carried after → KeysAgree space after.locals call.slots.references.items r.meant.references r.meant.owners
   kept_keys d receives = keys_left space space locals after.locals call.slots.references.items r.meant.references r.meant.owners keyed (λ i key n level at_key owned h. made_left space kind g locals after.locals receives.key stacked receives.makes key n level h)
 
+  -- the slots hold what they did, where a result has gone elsewhere
+  still_held : (d : Destination) → Receives d kind g carried after → after.slots.references.items ≡ call.slots.references.items → after.slots.fields.items ≡ call.slots.fields.items → SlotsHold w.classes space after.locals (values_in after) r.meant
+  still_held d receives keys fields = record {
+    keys = subst (λ (l : List (Option ℕ)). KeysAgree space after.locals l r.meant.references r.meant.owners) (sym keys) (kept_keys d receives);
+    fields = subst (λ (l : List (Option Handle)). FieldsAgree w.classes l r.meant.fields) (sym fields) r.holds.fields;
+  }
+
   frames_after : (d : Destination) → Receives d kind g carried after → FramesAgree space after.locals (frames_received kind c left)
   frames_after d receives = frames_result w.classes store kind g c locals after.locals receives.key left stacked agrees receives.makes framed
 
@@ -357,17 +364,17 @@ module _ (p : Lowered) (w : World) (old : Space) (store : Store) (own : Owners) 
 
   -- with these words on the stack it stands for these tasks
   stands_with : (words : List ℕ) (tasks : List Task) → with_result function.target 0 ≡ Some (length words) → (d : Destination) → Receives d kind g carried after → stack_with d g ≡ words
-      → (now : Owners) (names : Known) (vs : Variables) (references : List Reference) (owners : List (Option ℕ)) (fields : List (Option FieldId)) → KeysAgree space after.locals after.slots.references.items references owners → FieldsAgree w.classes after.slots.fields.items fields
-      → StandsFor code names (call.place + 1) words tasks → Shows code names (visible_to now shared (resuming vs)) (record { numbers = after.slots.numbers.items; references = references; owners = owners; fields = fields })
+      → (now : Owners) (names : Known) (vs : Variables) (meant : Meant) → SlotsHold w.classes space after.locals (values_in after) meant
+      → StandsFor code names (call.place + 1) words tasks → Shows code names (visible_to now shared (resuming vs)) (slots_of after meant)
       → CallStands p w.classes space after (visible_to now next (resuming vs)) (frames_received kind c left) tasks
-  stands_with words tasks count d receives put now names vs references owners fields agree fields_agree stands shows = record {
+  stands_with words tasks count d receives put now names vs meant holds stands shows = record {
     code = code;
     of_function = ap (slice_get p.codes) receives.function ∙ r.of_function;
     known = names;
     stands = subst (λ (n : ℕ). StandsFor code names n after.stack tasks) (sym receives.place) (subst (λ (l : List ℕ). StandsFor code names (call.place + 1) l tasks) (sym (receives.stack ∙ put)) stands);
-    meant = record { references = references; owners = owners; fields = fields };
-    holds = record { keys = agree; fields = fields_agree };
-    shows = shows_stay now shared next keeps.statics (resuming vs) code names (record { numbers = after.slots.numbers.items; references = references; owners = owners; fields = fields }) shows;
+    meant = meant;
+    holds = holds;
+    shows = shows_stay now shared next keeps.statics (resuming vs) code names (slots_of after meant) shows;
     depth =
         ap (depth_at code.instrs) receives.place
         ∙ depth_behind p w.classes old call code (visible_to own shared s) s.frames task rest r (instr.Call function) at (length words) (λ leaves. leaves) (ap (option_and_then (with_result function.target)) none_left ∙ count)
@@ -376,16 +383,16 @@ module _ (p : Lowered) (w : World) (old : Space) (store : Store) (own : Owners) 
   }
 
   -- what is shown of the slots that the call has then
-  shown : {numbers : List ℕ} (names : Known) (visible : Visible) (references : List Reference) (owners : List (Option ℕ)) (fields : List (Option FieldId)) → after.slots.numbers.items ≡ numbers
-      → Shows code names visible (record { numbers = numbers; references = references; owners = owners; fields = fields }) → Shows code names visible (record { numbers = after.slots.numbers.items; references = references; owners = owners; fields = fields })
-  shown names visible references owners fields same_numbers h = subst (λ (l : List ℕ). Shows code names visible (record { numbers = l; references = references; owners = owners; fields = fields })) (sym same_numbers) h
+  shown : {numbers : List ℕ} (names : Known) (visible : Visible) (meant : Meant) → after.slots.numbers.items ≡ numbers
+      → Shows code names visible (record (slots_of after meant) { numbers = numbers }) → Shows code names visible (slots_of after meant)
+  shown names visible meant same_numbers h = subst (λ (l : List ℕ). Shows code names visible (record (slots_of after meant) { numbers = l })) (sym same_numbers) h
 
   -- as many frames in memory as in the source
   frames_count : length locals.frames ≡ length left
   frames_count = as_many_frames space locals left framed
 
-  stands_after : HasNoWord → (d : Destination) → stack_with d g ≡ [] → Receives d kind g carried after → (now : Owners) (names : Known) (vs : Variables) (references : List Reference) (owners : List (Option ℕ)) (fields : List (Option FieldId)) → KeysAgree space after.locals after.slots.references.items references owners → FieldsAgree w.classes after.slots.fields.items fields
-      → StandsFor code names (call.place + 1) [] rest → Shows code names (visible_to now shared (resuming vs)) (record { numbers = after.slots.numbers.items; references = references; owners = owners; fields = fields })
+  stands_after : HasNoWord → (d : Destination) → stack_with d g ≡ [] → Receives d kind g carried after → (now : Owners) (names : Known) (vs : Variables) (meant : Meant) → SlotsHold w.classes space after.locals (values_in after) meant
+      → StandsFor code names (call.place + 1) [] rest → Shows code names (visible_to now shared (resuming vs)) (slots_of after meant)
       → CallStands p w.classes space after (visible_to now next (resuming vs)) (frames_received kind c left) rest
   stands_after no_word d empty receives = stands_with [] rest no_word d receives empty
 
@@ -396,9 +403,8 @@ module _ (p : Lowered) (w : World) (old : Space) (store : Store) (own : Owners) 
     number_stands =
         let vs = assign x (Scalar n.value) s.variables in
         let numbers : after.slots.numbers.items ≡ slice_set call.slots.numbers.items i (word_of n.value) = receives.numbers ∙ ap (λ (h : Given). numbers_with (destination.Number i) h call.slots.numbers.items) n.same in
-        stands_after no_word (destination.Number i) refl receives own takes.names vs r.meant.references r.meant.owners r.meant.fields (subst (λ (l : List (Option ℕ)). KeysAgree space after.locals l r.meant.references r.meant.owners) (sym receives.references) (kept_keys (destination.Number i) receives))
-        (subst (λ (l : List (Option Handle)). FieldsAgree w.classes l r.meant.fields) (sym receives.fields) r.holds.fields) takes.stands
-        (shown takes.names (visible_to own shared (resuming vs)) r.meant.references r.meant.owners r.meant.fields numbers
+        stands_after no_word (destination.Number i) refl receives own takes.names vs r.meant (still_held (destination.Number i) receives receives.references receives.fields) takes.stands
+        (shown takes.names (visible_to own shared (resuming vs)) r.meant numbers
         (takes.shows n.value (visible_to own shared (resuming vs)) n.sorted (is_set own own shared s (resuming vs) x (λ y other. refl) n.value refl)))
 
     number_viewless : viewed_by (resuming (assign x (Scalar n.value) s.variables)) ≡ []
@@ -437,15 +443,19 @@ module _ (p : Lowered) (w : World) (old : Space) (store : Store) (own : Owners) 
     reference_stands =
         let vs = assign x (LocalRef level n.reference) s.variables in
         let made = made_new space g n.address n.reference locals after.locals receives.key stacked (room_frame locals (subst (λ (k : ResultKind). HasRoom k locals) local room)) n.same n.agrees (subst (λ (k : ResultKind). MakesLocal k g locals receives.key after.locals) local receives.makes) in
-        stands_after no_word (destination.Local i) refl receives new takes.names vs (slice_set r.meant.references i n.reference) (slice_set r.meant.owners i (new x)) r.meant.fields
-        (subst (λ (l : List (Option ℕ)). KeysAgree space after.locals l (slice_set r.meant.references i n.reference) (slice_set r.meant.owners i (new x))) (sym receives.references)
-        (key_put space after.locals call.slots.references.items r.meant.references r.meant.owners i receives.key n.reference (new x) (kept_keys (destination.Local i) receives) made.null
-        (λ place m own_level at named owned.
-        let same : level ≡ own_level = let both : Some level ≡ Some own_level = ap (λ (q : Reference). level_held (Some (LocalRef level q))) (sym named) ∙ sym here ∙ owned in cc in
-        subst (IsKeyOf space after.locals place m) (counted ∙ same) (made.key_of place m at named))
-        (λ j place own_level at found owned. let live = live_there space locals call.slots.references.items r.meant.references r.meant.owners j place own_level keyed found owned in let clash : None ≡ Some live.0 = sym (made.fresh place at) ∙ live.1 in cc)))
-        (subst (λ (l : List (Option Handle)). FieldsAgree w.classes l r.meant.fields) (sym receives.fields) r.holds.fields) takes.stands
-        (shown takes.names (visible_to new shared (resuming vs)) (slice_set r.meant.references i n.reference) (slice_set r.meant.owners i (new x)) r.meant.fields receives.numbers
+        let meant : Meant = record r.meant { references = slice_set r.meant.references i n.reference; owners = slice_set r.meant.owners i (new x) } in
+        stands_after no_word (destination.Local i) refl receives new takes.names vs meant
+        (record {
+          keys =
+              subst (λ (l : List (Option ℕ)). KeysAgree space after.locals l meant.references meant.owners) (sym receives.references)
+              (key_put space after.locals call.slots.references.items r.meant.references r.meant.owners i receives.key n.reference (new x) (kept_keys (destination.Local i) receives) made.null
+              (λ place m own_level at named owned.
+              let same : level ≡ own_level = let both : Some level ≡ Some own_level = ap (λ (q : Reference). level_held (Some (LocalRef level q))) (sym named) ∙ sym here ∙ owned in cc in
+              subst (IsKeyOf space after.locals place m) (counted ∙ same) (made.key_of place m at named))
+              (λ j place own_level at found owned. let live = live_there space locals call.slots.references.items r.meant.references r.meant.owners j place own_level keyed found owned in let clash : None ≡ Some live.0 = sym (made.fresh place at) ∙ live.1 in cc));
+          fields = subst (λ (l : List (Option Handle)). FieldsAgree w.classes l r.meant.fields) (sym receives.fields) r.holds.fields;
+        }) takes.stands
+        (shown takes.names (visible_to new shared (resuming vs)) meant receives.numbers
         (takes.shows n.reference (visible_to new shared (resuming vs)) (is_referred own new shared s (resuming vs) x stay level n.reference refl)))
 
   -- a variable that takes a new local reference was declared where there were as many frames
@@ -489,9 +499,13 @@ module _ (p : Lowered) (w : World) (old : Space) (store : Store) (own : Owners) 
     field_stands =
         let vs = assign x (FieldHandle n.field) s.variables in
         let fields : after.slots.fields.items ≡ slice_set call.slots.fields.items i n.handle = receives.fields ∙ ap (λ (h : Given). fields_with (destination.FieldId i) h call.slots.fields.items) n.same in
-        stands_after no_word (destination.FieldId i) refl receives own takes.names vs r.meant.references r.meant.owners (slice_set r.meant.fields i n.field) (subst (λ (l : List (Option ℕ)). KeysAgree space after.locals l r.meant.references r.meant.owners) (sym receives.references) (kept_keys (destination.FieldId i) receives))
-        (subst (λ (l : List (Option Handle)). FieldsAgree w.classes l (slice_set r.meant.fields i n.field)) (sym fields) (field_put w.classes call.slots.fields.items r.meant.fields i n.handle n.field r.holds.fields n.agrees)) takes.stands
-        (shown takes.names (visible_to own shared (resuming vs)) r.meant.references r.meant.owners (slice_set r.meant.fields i n.field) receives.numbers
+        let meant : Meant = record r.meant { fields = slice_set r.meant.fields i n.field } in
+        stands_after no_word (destination.FieldId i) refl receives own takes.names vs meant
+        (record {
+          keys = subst (λ (l : List (Option ℕ)). KeysAgree space after.locals l r.meant.references r.meant.owners) (sym receives.references) (kept_keys (destination.FieldId i) receives);
+          fields = subst (λ (l : List (Option Handle)). FieldsAgree w.classes l meant.fields) (sym fields) (field_put w.classes call.slots.fields.items r.meant.fields i n.handle n.field r.holds.fields n.agrees);
+        }) takes.stands
+        (shown takes.names (visible_to own shared (resuming vs)) meant receives.numbers
         (takes.shows n.field (visible_to own shared (resuming vs)) (is_field_set own own shared s (resuming vs) x (λ y other. refl) n.field refl)))
 
     field_viewless : viewed_by (resuming (assign x (FieldHandle n.field) s.variables)) ≡ []
@@ -551,12 +565,9 @@ module _ (p : Lowered) (w : World) (old : Space) (store : Store) (own : Owners) 
           known = takes.names;
           stands = subst (λ (m : ℕ). StandsFor code takes.names m after.stack rest) (sym receives.place) (subst (λ (l : List ℕ). StandsFor code takes.names (call.place + 1) l rest) (sym receives.stack) takes.stands);
           meant = r.meant;
-          holds = record {
-            keys = subst (λ (l : List (Option ℕ)). KeysAgree space after.locals l r.meant.references r.meant.owners) (sym receives.references) (kept_keys (destination.Static i) receives);
-            fields = subst (λ (l : List (Option Handle)). FieldsAgree w.classes l r.meant.fields) (sym receives.fields) r.holds.fields;
-          };
-          shows = shows_stay own seen now (inl now_statics) (resuming s.variables) code takes.names (record { numbers = after.slots.numbers.items; references = r.meant.references; owners = r.meant.owners; fields = r.meant.fields })
-              (shown takes.names (visible_to own seen (resuming s.variables)) r.meant.references r.meant.owners r.meant.fields receives.numbers
+          holds = still_held (destination.Static i) receives receives.references receives.fields;
+          shows = shows_stay own seen now (inl now_statics) (resuming s.variables) code takes.names (slots_of after r.meant)
+              (shown takes.names (visible_to own seen (resuming s.variables)) r.meant receives.numbers
               (takes.shows h (visible_to own seen (resuming s.variables)) (is_held own shared s x h unnamed)));
           depth =
               ap (depth_at code.instrs) receives.place
@@ -581,9 +592,8 @@ module _ (p : Lowered) (w : World) (old : Space) (store : Store) (own : Owners) 
         keeps = keeps;
         variables = s.variables;
         steps = ap (put (Tested takes.then' takes.else') c next) (resumed_is line f args rest s left q c plain (Tested takes.then' takes.else'));
-        stands = stands_with (truth_word (is_zero c) ∷ []) tasks count destination.Test receives word own r.known s.variables r.meant.references r.meant.owners r.meant.fields (subst (λ (l : List (Option ℕ)). KeysAgree space after.locals l r.meant.references r.meant.owners) (sym receives.references) (kept_keys (destination.Test) receives))
-            (subst (λ (l : List (Option Handle)). FieldsAgree w.classes l r.meant.fields) (sym receives.fields) r.holds.fields) (takes.stands (is_zero c))
-            (shown r.known (visible_to own shared (resuming s.variables)) r.meant.references r.meant.owners r.meant.fields receives.numbers r.shows);
+        stands = stands_with (truth_word (is_zero c) ∷ []) tasks count destination.Test receives word own r.known s.variables r.meant (still_held destination.Test receives receives.references receives.fields) (takes.stands (is_zero c))
+            (shown r.known (visible_to own shared (resuming s.variables)) r.meant receives.numbers r.shows);
         viewless = none;
       })
 
@@ -608,8 +618,7 @@ module _ (p : Lowered) (w : World) (old : Space) (store : Store) (own : Owners) 
         keeps = keeps;
         variables = s.variables;
         steps = dropped_is line f args rest s left q c plain next;
-        stands = stands_after (ap (λ (d : Destination). with_result d 0) same) destination.Dropped refl receives own r.known s.variables r.meant.references r.meant.owners r.meant.fields (subst (λ (l : List (Option ℕ)). KeysAgree space after.locals l r.meant.references r.meant.owners) (sym receives.references) (kept_keys (destination.Dropped) receives))
-            (subst (λ (l : List (Option Handle)). FieldsAgree w.classes l r.meant.fields) (sym receives.fields) r.holds.fields) goes.1
-            (shown r.known (visible_to own shared (resuming s.variables)) r.meant.references r.meant.owners r.meant.fields receives.numbers r.shows);
+        stands = stands_after (ap (λ (d : Destination). with_result d 0) same) destination.Dropped refl receives own r.known s.variables r.meant (still_held destination.Dropped receives receives.references receives.fields) goes.1
+            (shown r.known (visible_to own shared (resuming s.variables)) r.meant receives.numbers r.shows);
         viewless = none;
       })

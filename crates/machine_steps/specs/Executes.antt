@@ -37,7 +37,7 @@ use Rattle.machine_calls.specs.declared.store.Store.{Store}
 use Rattle.machine_calls.specs.CarriedOut.{IsShortOf}
 use Rattle.machine_calls.specs.HeapAgrees.{ReferenceAgrees}
 use Rattle.machine_calls.specs.Locals.{FramesAgree}
-use Rattle.machine_steps.specs.SlotsHold.{Meant, SlotsHold, slots_of}
+use Rattle.machine_steps.specs.SlotsHold.{Meant, SlotsHold, slots_of, values_in}
 use Rattle.machine_calls.specs.Traps.{trap_view}
 use Rattle.machine_calls.specs.StoreAgrees.{StoreAgrees, Keeps}
 
@@ -56,7 +56,7 @@ pub record CallStands (p : Lowered) (classes : Classes) (space : Space) (call : 
   pub known : Known
   pub stands : StandsFor code known call.place call.stack tasks
   pub meant : Meant
-  pub holds : SlotsHold classes space call meant
+  pub holds : SlotsHold classes space call.locals (values_in call) meant
   pub shows : Shows code known visible (slots_of call meant)
   pub depth : depth_at code.instrs call.place ≡ Some (length call.stack)
   pub frames_agree : FramesAgree space call.locals frames

@@ -9,6 +9,7 @@ use Rattle.code_meaning.specs.Slots.{Slots}
 use Rattle.machine_calls.specs.declared.activation.Activation.{Activation}
 use Rattle.machine_calls.specs.FieldIds.{FieldsAgree}
 use Rattle.machine_calls.specs.Locals.{KeysAgree}
+use Rattle.tables.specs.Locals.{LocalTable}
 
 -- numbers, keys and field IDs, as they lie in slots
 pub record SlotValues : Type 0 where
@@ -30,7 +31,7 @@ pub record Meant : Type 0 where
 abbrev pub slots_of : Activation → Meant → Slots
 slots_of call meant = record { numbers = call.slots.numbers.items; references = meant.references; owners = meant.owners; fields = meant.fields }
 
--- the slots of a call stand for these
-pub record SlotsHold (classes : Classes) (space : Space) (call : Activation) (meant : Meant) : Type 0 where
-  pub keys : KeysAgree space call.locals call.slots.references.items meant.references meant.owners
-  pub fields : FieldsAgree classes call.slots.fields.items meant.fields
+-- the values in slots, with this table of local references, stand for these
+pub record SlotsHold (classes : Classes) (space : Space) (locals : LocalTable) (slots : SlotValues) (meant : Meant) : Type 0 where
+  pub keys : KeysAgree space locals slots.keys meant.references meant.owners
+  pub fields : FieldsAgree classes slots.handles meant.fields
