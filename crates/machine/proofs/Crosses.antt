@@ -26,7 +26,6 @@ use Rattle.region_rules.specs.contracts.checked.Checked.TheInside as checked-ins
 use Rattle.code.specs.contracts.code.Code as code
 use Rattle.code.specs.contracts.code.Code.TheInside as code-inside
 use Rattle.code.specs.contracts.instr.Instr as instr
-use Rattle.jni.proofs.access.Access.TheSendSync as access
 use Rattle.jni.proofs.function.JniFunction.TheSendSync as function
 use Rattle.jni.proofs.kinds.ResultKind.TheSendSync as result-kind
 use Rattle.code.proofs.instr.Operand.TheSendSync as operand
@@ -65,7 +64,7 @@ checked_sync = view_sync checked-inside.the_row _ _ _ _ (recorded_sync (checked-
 -- ---- what it owns
 
 call_send : IsSend call.the_row
-call_send = search (access.the_field_send, result-kind.the_field_send, function.the_field_send, operand.the_field_send, target.the_field_send, vec.the_send, crosses, sendable) depth 60 fits 20000
+call_send = search (result-kind.the_field_send, function.the_field_send, operand.the_field_send, target.the_field_send, vec.the_send, crosses, sendable) depth 60 fits 20000
 
 boxed_call_send : IsSend boxed-call.the_row
 boxed_call_send =

@@ -33,7 +33,8 @@ scene_of classes store call pending =
 abbrev pub brought_by : Activation → Call → List Actual → Brought
 brought_by call function args = bringing function.texts call.slots.numbers.items (array_given function.operands args)
 
--- Store, frames and pending exception agree with the source's, and each operand gives what the argument at its place is. The objects are typed.
+-- Store, frames and pending exception agree with the source's, and each operand gives what the argument at its place is. The
+-- objects are typed.
 pub record IsAsked (p : Lowered) (w : World) (store : Store) (pending : Option ℕ) (call : Activation) (function : Call) (shared : Shared) (s : Thread) (f : JniFunction) (args : List Actual) : Type 0 where
   pub store_agrees : StoreAgrees p w store shared
   pub pending_agrees : ReferenceAgrees store.heap pending s.pending

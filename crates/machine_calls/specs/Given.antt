@@ -82,7 +82,8 @@ pub record HasElements (numbers : List ℕ) (array : ArraySlots) (v : Option Var
   pub elements : List ℤ
   pub is : v ≡ Some (LocalArray type elements)
   pub count : length elements ≡ array.len
-  pub words : (i : ℕ) (z : ℤ) → slice_get elements i ≡ Some z → FitsSigned w32 z × (slice_get numbers (array.start + i) ≡ Some (cast_unsigned w32 z))
+  pub words : (i : ℕ) (z : ℤ) → slice_get elements i ≡ Some z
+      → FitsSigned w32 z × (slice_get numbers (array.start + i) ≡ Some (cast_unsigned w32 z))
 
 -- an operand that is a local array has the elements of the variable that is named
 abbrev pub HasArray : (numbers : List ℕ) → Variables → Operand → Actual → Type 0

@@ -6,7 +6,7 @@ use heap::Addr;
 #[derive(Clone, Copy)]
 pub struct ArrayRegion {
     pub object: Addr,
-    pub start: usize,
-    pub slot: usize,
-    pub count: usize,
+    pub start: u32,
+    pub slot: u32,
+    pub count: u32,
 }

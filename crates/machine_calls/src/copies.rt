@@ -92,7 +92,7 @@ fn region_in(
             if start < 0 || count < 0 {
                 return None;
             }
-            region_within(heap, object, start as usize, count as usize, array)
+            region_within(heap, object, start as u32, count as u32, array)
         }
         None => None,
     }
@@ -102,19 +102,18 @@ fn region_in(
 fn region_within(
     heap: &Heap,
     object: Addr,
-    start: usize,
-    count: usize,
+    start: u32,
+    count: u32,
     array: LocalArray,
 ) -> Option<ArrayRegion>
-    requires there { IsAddress heap.now object }
-    requires few { start + count < 2 ^ 64 }
+    requires { IsAddress heap.now object }
     ensures { result ≡ region_in heap.now (Some object) (pos start) (pos count) array }
 {
-    if start + count <= heap.len_of(object) {
+    if start as usize + count as usize <= heap.len_of(object) {
         Some(ArrayRegion {
             object,
             start,
-            slot: array.start as usize,
+            slot: array.start,
             count,
         })
     } else {
@@ -129,7 +128,7 @@ fn copies_out(exception: usize, array: LocalArray, region: Option<ArrayRegion>) 
 {
     match region {
         None => Answer::Throws(exception),
-        Some(region) if region.count <= array.len as usize => Answer::CopiesOut(region),
+        Some(region) if region.count <= array.len => Answer::CopiesOut(region),
         Some(_) => Answer::Halts(Trap::OutOfRange),
     }
 }
@@ -140,7 +139,7 @@ fn copies_in(exception: usize, array: LocalArray, region: Option<ArrayRegion>) -
 {
     match region {
         None => Answer::Throws(exception),
-        Some(region) if region.count <= array.len as usize => Answer::CopiesIn(region),
+        Some(region) if region.count <= array.len => Answer::CopiesIn(region),
         Some(_) => Answer::Halts(Trap::OutOfRange),
     }
 }
@@ -154,9 +153,9 @@ pub(crate) fn copy_out(heap: &Heap, numbers: &mut [u32], region: &ArrayRegion)
     // The proof reads off these calls that no object has more values than there are cells.
     let _ = heap.count();
     let _ = heap.cells();
-    for place in 0..region.count {
-        let word = word_of(heap.get(region.object, region.start + place));
-        numbers[region.slot + place] = word;
+    for place in 0..region.count as usize {
+        let word = word_of(heap.get(region.object, region.start as usize + place));
+        numbers[region.slot as usize + place] = word;
     }
 }
 
@@ -169,9 +168,13 @@ pub(crate) fn copy_in(heap: &mut Heap, numbers: &[u32], region: &ArrayRegion)
     // As in `copy_out`.
     let _ = heap.count();
     let _ = heap.cells();
-    for place in 0..region.count {
-        let word = numbers[region.slot + place];
-        heap.set(region.object, region.start + place, Value::Number(word));
+    for place in 0..region.count as usize {
+        let word = numbers[region.slot as usize + place];
+        heap.set(
+            region.object,
+            region.start as usize + place,
+            Value::Number(word),
+        );
     }
 }
 

@@ -247,7 +247,7 @@ module _ (p : Lowered) (w : World) (store : Store) (in_use : BuffersInUse) (k : 
           work = stands_at p classes space call code seen s.frames task rest r after (end_of_way call.place way) stack (record (values_in call) { numbers = numbers }) r.meant h.names (visible_to own shared next) (tasks ++ rest)
               (depth_at_end code call.place way (length stack) (λ q. StandsFor code h.names q stack (tasks ++ rest)) (leads p classes space call code seen s.frames task rest r i at way stack numbers is) end) m (record { keys = r.holds.keys; fields = r.holds.fields })
               (at_end call.place way (λ q. StandsFor code h.names q stack (tasks ++ rest)) end)
-              (subst (λ (ns : List ℕ). Shows code h.names (visible_to own shared next) (record { numbers = ns; references = r.meant.references; owners = r.meant.owners; fields = r.meant.fields })) numbers_are h.shows);
+              (subst (λ (ns : List ℕ). Shows code h.names (visible_to own shared next) (record held { numbers = ns })) numbers_are h.shows);
           next_shared = shared;
           store_agrees = shares;
           keeps = keeps_same space shared;
@@ -276,7 +276,7 @@ module _ (p : Lowered) (w : World) (store : Store) (in_use : BuffersInUse) (k : 
               (stands_at p classes space call code seen s.frames task rest r after (call.place + 1) stack (record (values_in call) { numbers = numbers }) r.meant h.names (visible_to own shared next) rest end.words
               (subst (λ (w : Plain). HasMoved call after (end_of_way call.place w) stack (record (values_in call) { numbers = numbers })) way_is m) (record { keys = r.holds.keys; fields = r.holds.fields })
               (subst (λ (st : List ℕ). StandsFor code h.names (call.place + 1) st rest) after_is h.stands)
-              (subst (λ (ns : List ℕ). Shows code h.names (visible_to own shared next) (record { numbers = ns; references = r.meant.references; owners = r.meant.owners; fields = r.meant.fields })) numbers_are (h.shows (visible_to own shared next) shown)));
+              (subst (λ (ns : List ℕ). Shows code h.names (visible_to own shared next) (record held { numbers = ns })) numbers_are (h.shows (visible_to own shared next) shown)));
           next_shared = shared;
           store_agrees = shares;
           keeps = keeps_same space shared;
@@ -301,7 +301,7 @@ module _ (p : Lowered) (w : World) (store : Store) (in_use : BuffersInUse) (k : 
         stands_at p classes space call code seen s.frames task rest r after call.place stack (record (values_in call) { numbers = numbers }) r.meant r.known seen (task ∷ rest) (r.depth ∙ ap (λ (st : List ℕ). Some (length st)) after_is)
         (subst (λ (w : Plain). HasMoved call after (end_of_way call.place w) stack (record (values_in call) { numbers = numbers })) way_is m) (record { keys = r.holds.keys; fields = r.holds.fields })
         (subst (λ (st : List ℕ). StandsFor code r.known call.place st (task ∷ rest)) after_is r.stands)
-        (subst (λ (ns : List ℕ). Shows code r.known seen (record { numbers = ns; references = r.meant.references; owners = r.meant.owners; fields = r.meant.fields })) numbers_are r.shows) in
+        (subst (λ (ns : List ℕ). Shows code r.known seen (record held { numbers = ns })) numbers_are r.shows) in
         record {
           next = s;
           steps = ap (λ (t : Trap). source.Advances shared s (source.Trapped t line)) trap_is ∙ ap (λ (v : Event). source.Advances shared s (event_view v)) (sym seen_trap.2);

@@ -74,7 +74,8 @@ WorkAgrees p classes space visible (Some call) frames (Some tasks) = CallStands 
 pub record IsSteady (classes : Classes) (own : Owners) (shared : Shared) (s : source.Thread) : Type 0 where
   pub view : (task : Task) (rest : List Task) → s.tasks ≡ Some (task ∷ rest) → viewed_by s ≢ [] → MayMeetView task
   pub return : next_effect shared s s.tasks ≡ Returns → MayReturn s
-  pub release : (line : ℕ) (target : Target) (access : Access) (args : List Actual) → next_effect shared s s.tasks ≡ Calls line target (ReleaseBuffer access) args → came_from (lookup (variable_given args 1) s.variables) ≡ Some (object_given args 0)
+  pub release : (line : ℕ) (target : Target) (access : Access) (args : List Actual) → next_effect shared s s.tasks ≡ Calls line target (ReleaseBuffer access) args
+      → came_from (lookup (variable_given args 1) s.variables) ≡ Some (object_given args 0)
   pub free : (x : Identifier) → SetsWhole x (next_effect shared s s.tasks) → HoldsNoBuffer (lookup x s.variables)
   pub possible : (tasks : List Task) → s.tasks ≡ Some tasks → next_effect shared s s.tasks ≢ NoEffect
   pub objects : AreTypedObjects classes shared.heap

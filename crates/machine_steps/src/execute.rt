@@ -118,7 +118,8 @@ fn outcome_of(line: u32, invoked: Invoked) -> Executed
 fn test_null(store: &Store, call: &mut Activation, variable: NullableVariable, equal: bool)
     requires room { length call.old.stack < 64 }
     requires place { call.old.place + 1 < 2 ^ 64 }
-    ensures { HasMoved call.old call.new (call.old.place + 1) (truth_word (beq (is_null (references_of store.now call.old) call.old.slots.fields.items variable) equal) ∷ call.old.stack) (values_in call.old) }
+    ensures { HasMoved call.old call.new (call.old.place + 1)
+        (truth_word (beq (is_null (references_of store.now call.old) call.old.slots.fields.items variable) equal) ∷ call.old.stack) (values_in call.old) }
 {
     let references = References::new(
         &call.slots.references,
