@@ -17,6 +17,7 @@ mod Accepted
 mod Arguments
 mod Arithmetic
 mod ArrayFaults
+mod ArrayRegions
 mod BrokenRules
 mod BufferFaults
 mod BuffersCopied
