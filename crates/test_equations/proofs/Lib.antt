@@ -22,6 +22,7 @@ mod BrokenRules
 mod BufferFaults
 mod BuffersCopied
 mod BuffersPinned
+mod BuffersUsed
 mod Classes
 mod Control
 mod Exceptions
