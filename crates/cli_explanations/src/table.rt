@@ -95,7 +95,7 @@ static FAULTS_20: [Explanation; 8] = [
     Explanation {
         number: 28,
         title: b"a string's characters are written to",
-        text: b"fault 28: a string's characters are written to\n\nWhat GetStringChars gives isn't to be changed (JNI Specification, chapter 4, \"String Operations\"). Copy them to an array.\n\n    JNIEXPORT void JNICALL Java_A_f(JNIEnv *env, jclass cls)\n    {\n        const jchar *chars = NULL;\n        chars[0] = 65;\n        return;\n    }\n\nfault 28 line 4\n",
+        text: b"fault 28: a string's characters are written to\n\nWhat GetStringChars gives isn't to be changed (JNI Specification, chapter 4, \"String Operations\"). Copy them to an array by GetStringRegion.\n\n    JNIEXPORT void JNICALL Java_A_f(JNIEnv *env, jclass cls)\n    {\n        const jchar *chars = NULL;\n        chars[0] = 65;\n        return;\n    }\n\nfault 28 line 4\n",
     },
 ];
 
@@ -295,7 +295,7 @@ static TRAPS_0: [Explanation; 9] = [
     Explanation {
         number: 3,
         title: b"an element past the end",
-        text: b"trap 3: an element past the end\n\nC99 (6.5.6) leaves it undefined. A jint below zero is past the end too. Test the index first.\n\n    JNIEXPORT void JNICALL Java_A_f(JNIEnv *env, jclass cls, jint n)\n    {\n        jint numbers[2] = {0};\n        numbers[n] = 1;\n        return;\n    }\n\n    heap 512\n    class A\n    thread Java_A_f 2\n\nT1 trap 3 line 4\n",
+        text: b"trap 3: an element past the end\n\nC99 (6.5.6) leaves it undefined. A jint below zero is past the end too, and so is the end of a region that is longer than the array of C that it is copied to or from (JNI Specification,\nchapter 4, Get<PrimitiveType>ArrayRegion and Set<PrimitiveType>ArrayRegion). Test the index first, or the length.\n\n    JNIEXPORT void JNICALL Java_A_f(JNIEnv *env, jclass cls, jint n)\n    {\n        jint numbers[2] = {0};\n        numbers[n] = 1;\n        return;\n    }\n\n    heap 512\n    class A\n    thread Java_A_f 2\n\nT1 trap 3 line 4\n\n    JNIEXPORT void JNICALL Java_A_f(JNIEnv *env, jclass cls, jintArray array)\n    {\n        jint numbers[2] = {0};\n        (*env)->GetIntArrayRegion(env, array, 0, 3, numbers);\n        return;\n    }\n\n    heap 512\n    class A\n    array @a I 7 8 9\n    thread Java_A_f @a\n\nT1 trap 3 line 4\n",
     },
     Explanation {
         number: 4,
@@ -310,7 +310,7 @@ static TRAPS_0: [Explanation; 9] = [
     Explanation {
         number: 6,
         title: b"an object isn't of the kind that is wanted",
-        text: b"trap 6: an object isn't of the kind that is wanted\n\nChapter 4 of the JNI Specification says with each function what is wanted: an array, for GetArrayLength; a class object, for GetSuperclass; an object that has the field, of the function's type, for\nGetIntField; a class whose objects no other function makes, for AllocObject. Give an object of that kind.\n\n    JNIEXPORT void JNICALL Java_A_f(JNIEnv *env, jclass cls, jobject object)\n    {\n        jint length = (*env)->GetArrayLength(env, object);\n        return;\n    }\n\n    heap 512\n    class A\n    thread Java_A_f class:A\n\nT1 trap 6 line 3\n",
+        text: b"trap 6: an object isn't of the kind that is wanted\n\nChapter 4 of the JNI Specification says with each function what is wanted: an array, for GetArrayLength; one of jint, for GetIntArrayRegion; a class object, for GetSuperclass; an object that has the field, of the function's type, for\nGetIntField; a class whose objects no other function makes, for AllocObject. Give an object of that kind.\n\n    JNIEXPORT void JNICALL Java_A_f(JNIEnv *env, jclass cls, jobject object)\n    {\n        jint length = (*env)->GetArrayLength(env, object);\n        return;\n    }\n\n    heap 512\n    class A\n    thread Java_A_f class:A\n\nT1 trap 6 line 3\n",
     },
     Explanation {
         number: 7,

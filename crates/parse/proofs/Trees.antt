@@ -1,14 +1,15 @@
 -- The trees that are read are those that a text may spell.
-use Rattle.std.proofs.Common.{◌≡◌, ℕ, ◌+◌, ◌-◌, ◌≤◌, Bool, true, false, List, [], ◌∷◌, ◌++◌, length, map, refl, sym, ap, ◌∙◌, arith}
+use Rattle.std.proofs.Common.{◌≡◌, ℕ, ◌+◌, ◌-◌, ◌≤◌, Bool, true, false, List, [], ◌∷◌, ◌++◌, length, map, Option, Some, None, refl, sym, ap, ◌∙◌, arith}
 use Rattle.std.specs.Prelude.{◌&&◌, nat_le, nat_lt, flat_map}
 use Rattle.std.specs.List.{list_all}
+use Rattle.std.specs.Option.{option_to_list}
 use Rattle.std.proofs.lemmas.Bool.{and_from, and_parts, leb-true, le-leb, ltb-true, lt-ltb}
 use Rattle.std.proofs.lemmas.List.{length-append, length-map}
 use Rattle.std.proofs.lemmas.List.Folds.{list_all-append}
 use Rattle.scan.specs.declared.token.Mark.TheVariants as marks
 use Rattle.syntax.specs.Tree.{Expr, Number, Named, Variable, Element, Prefix, Binary, Paren, Argument, Value, Text, AddressOf, Call, RightSide, FromExpr, FromCall, Test, TestExpr, TestCall, Stmt, Declare, DeclareBuffer, DeclareChars, DeclareArray, Assign, AssignElement, Perform, PutJint, If, IfElse, While, Return, ReturnValue, Block, End, Next, Function, Item, StaticItem, FunctionItem, SourceUnit}
-use Rattle.syntax.specs.Parts.{functions_of, statements_within, statements_of, argument_expressions, right_side_expressions, test_expressions, own_expressions, names_declared, parameter_names}
-use Rattle.syntax.specs.Limits.{operator_level, prefix_level, level, levelled, numbers_in_range, height, highest, own_height, statement_height, block_height, well_formed, block_well_formed, IsTree}
+use Rattle.syntax.specs.Parts.{functions_of, statements_within, statements_of, call_of_right_side, own_arguments, argument_expressions, right_side_expressions, test_expressions, own_expressions, names_declared, parameter_names}
+use Rattle.syntax.specs.Limits.{operator_level, prefix_level, level, levelled, numbers_in_range, text_of_bytes, height, highest, own_height, statement_height, block_height, well_formed, block_well_formed, IsTree}
 use Rattle.scan.specs.declared.reserved.Word.TheVariants as words
 use Rattle.parse_lexemes.specs.declared.first.Fixed.TheVariants as fixed
 use Rattle.parse_lexemes.specs.Meaning.{Fixed', Number'}
@@ -78,10 +79,11 @@ expressions_of arguments = flat_map argument_expressions arguments
 record ArgumentFacts (room : ℕ) (arguments : List Argument) : Type 0 where
   levels : list_all levelled (expressions_of arguments) ≡ true
   numbers : AreInRange (argument_tokens arguments) → list_all numbers_in_range (expressions_of arguments) ≡ true
+  texts : AreInRange (argument_tokens arguments) → list_all text_of_bytes arguments ≡ true
   low : highest (map height (expressions_of arguments)) ≤ room
 
 argument_facts : (room : ℕ) (arguments : List Argument) → AreArguments room arguments → ArgumentFacts room arguments
-argument_facts room [] is = record { levels = refl; numbers = λ h. refl; low = omega arith }
+argument_facts room [] is = record { levels = refl; numbers = λ h. refl; texts = λ h. refl; low = omega arith }
 argument_facts room (Value e ∷ more) is =
     let facts = argument_facts room more is.1 in
     let high = is.0.low in
@@ -89,14 +91,15 @@ argument_facts room (Value e ∷ more) is =
     record {
       levels = and_from (levelled e) _ (levelled_of 0 e is.0.levelled) facts.levels;
       numbers = λ h. and_from (numbers_in_range e) _ (numbers_of e (range_left (expression e) (argument_tokens more) h.1)) (facts.numbers (range_right (expression e) (argument_tokens more) h.1));
+      texts = λ h. facts.texts (range_right (expression e) (argument_tokens more) h.1);
       low = omega (arith, high, high_more);
     }
 argument_facts room (Text bytes ∷ more) is =
     let facts = argument_facts room more is.1 in
-    record { levels = facts.levels; numbers = λ h. facts.numbers h.1.1; low = facts.low }
+    record { levels = facts.levels; numbers = λ h. facts.numbers h.1.1; texts = λ h. and_from (text_of_bytes (Text bytes)) _ h.1.0 (facts.texts h.1.1); low = facts.low }
 argument_facts room (AddressOf x ∷ more) is =
     let facts = argument_facts room more is.1 in
-    record { levels = facts.levels; numbers = λ h. facts.numbers h.1.1.1; low = facts.low }
+    record { levels = facts.levels; numbers = λ h. facts.numbers h.1.1.1; texts = λ h. facts.texts h.1.1.1; low = facts.low }
 
 to_arguments : (room : ℕ) (arguments : List Argument) → list_all levelled (expressions_of arguments) ≡ true → highest (map height (expressions_of arguments)) ≤ room → AreArguments room arguments
 to_arguments room [] h low = tt
@@ -106,47 +109,77 @@ to_arguments room (Value e ∷ more) h low =
 to_arguments room (Text bytes ∷ more) h low = (tt, to_arguments room more h low)
 to_arguments room (AddressOf x ∷ more) h low = (tt, to_arguments room more h low)
 
-record RightFacts (room : ℕ) (r : RightSide) : Type 0 where
-  levels : list_all levelled (right_side_expressions r) ≡ true
-  numbers : AreInRange (right r) → list_all numbers_in_range (right_side_expressions r) ≡ true
-  low : highest (map height (right_side_expressions r)) ≤ room
-
-right_facts : (room : ℕ) (r : RightSide) → IsRight room r → RightFacts room r
-right_facts room (FromExpr e) is = record {
-  levels = and_from (levelled e) true (levelled_of 0 e is.levelled) refl;
-  numbers = λ h. and_from (numbers_in_range e) true (numbers_of e h) refl;
-  low = let low = is.low in omega (arith, low);
-}
-right_facts room (FromCall c) is =
-    let facts = argument_facts room c.arguments is in
-    record {
-      levels = facts.levels;
-      numbers = λ h. facts.numbers (range_left (argument_tokens c.arguments) (mark marks.CloseParen ∷ []) h.1.1.1.1.1.1.1.1);
-      low = facts.low;
-    }
-
-to_right : (room : ℕ) (r : RightSide) → list_all levelled (right_side_expressions r) ≡ true → highest (map height (right_side_expressions r)) ≤ room → IsRight room r
-to_right room (FromExpr e) h low = record { levelled = to_levelled e 0 (and_parts (levelled e) true h).0 (omega arith); low = omega (arith, low) }
-to_right room (FromCall c) h low = to_arguments room c.arguments h low
+-- numbers in range, and texts of bytes
+abbrev in_range : List Expr → List Argument → Bool
+in_range expressions arguments = list_all numbers_in_range expressions && list_all text_of_bytes arguments
 
 -- the range of a call's arguments
 call_range : (c : Call) → AreInRange (call c) → AreInRange (argument_tokens c.arguments)
 call_range c h = range_left (argument_tokens c.arguments) (mark marks.CloseParen ∷ []) h.1.1.1.1.1.1.1.1
 
+abbrev arguments_of : Option Call → List Argument
+arguments_of o = flat_map (λ (c : Call). c.arguments) (option_to_list o)
+
+call_in_range : (room : ℕ) (c : Call) → ArgumentFacts room c.arguments → AreInRange (call c) → in_range (expressions_of c.arguments) (arguments_of (Some c)) ≡ true
+call_in_range room c facts h =
+    let range = call_range c h in
+    let texts = list_all-append text_of_bytes c.arguments [] ∙ and_from (list_all text_of_bytes c.arguments) true (facts.texts range) refl in
+    and_from (list_all numbers_in_range (expressions_of c.arguments)) _ (facts.numbers range) texts
+
+-- expressions, and no call
+without_call : (expressions : List Expr) → list_all numbers_in_range expressions ≡ true → in_range expressions [] ≡ true
+without_call expressions h = and_from (list_all numbers_in_range expressions) true h refl
+
+one_number : (e : Expr) → AreInRange (expression e) → in_range (e ∷ []) [] ≡ true
+one_number e h = without_call (e ∷ []) (and_from (numbers_in_range e) true (numbers_of e h) refl)
+
+record RightFacts (room : ℕ) (r : RightSide) : Type 0 where
+  levels : list_all levelled (right_side_expressions r) ≡ true
+  range : AreInRange (right r) → in_range (right_side_expressions r) (arguments_of (call_of_right_side (Some r))) ≡ true
+  low : highest (map height (right_side_expressions r)) ≤ room
+
+right_facts : (room : ℕ) (r : RightSide) → IsRight room r → RightFacts room r
+right_facts room (FromExpr e) is = record {
+  levels = and_from (levelled e) true (levelled_of 0 e is.levelled) refl;
+  range = one_number e;
+  low = let low = is.low in omega (arith, low);
+}
+right_facts room (FromCall c) is =
+    let facts = argument_facts room c.arguments is in
+    record { levels = facts.levels; range = call_in_range room c facts; low = facts.low }
+
+to_right : (room : ℕ) (r : RightSide) → list_all levelled (right_side_expressions r) ≡ true → highest (map height (right_side_expressions r)) ≤ room → IsRight room r
+to_right room (FromExpr e) h low = record { levelled = to_levelled e 0 (and_parts (levelled e) true h).0 (omega arith); low = omega (arith, low) }
+to_right room (FromCall c) h low = to_arguments room c.arguments h low
+
+-- the call that is tested
+abbrev tested_call : Test → Option Call
+tested_call (TestExpr e) = None
+tested_call (TestCall c) = Some c
+
 record TestFacts (room : ℕ) (t : Test) : Type 0 where
   levels : list_all levelled (test_expressions t) ≡ true
-  numbers : AreInRange (test_tokens t) → list_all numbers_in_range (test_expressions t) ≡ true
+  range : AreInRange (test_tokens t) → in_range (test_expressions t) (arguments_of (tested_call t)) ≡ true
   low : highest (map height (test_expressions t)) ≤ room
 
 test_facts : (room : ℕ) (t : Test) → IsTest room t → TestFacts room t
 test_facts room (TestExpr e) is = record {
   levels = and_from (levelled e) true (levelled_of 0 e is.levelled) refl;
-  numbers = λ h. and_from (numbers_in_range e) true (numbers_of e h) refl;
+  range = one_number e;
   low = let low = is.low in omega (arith, low);
 }
 test_facts room (TestCall c) is =
     let facts = argument_facts room c.arguments is in
-    record { levels = facts.levels; numbers = λ h. facts.numbers (call_range c (range_left (call c) (mark marks.Equal ∷ Anywhere (Number' 0 false) ∷ []) h)); low = facts.low }
+    record { levels = facts.levels; range = λ h. call_in_range room c facts (range_left (call c) (mark marks.Equal ∷ Anywhere (Number' 0 false) ∷ []) h); low = facts.low }
+
+-- what an `if` gives to the call that it tests
+if_arguments : (line : ℕ) (t : Test) (b : Block) → own_arguments (If line t b) ≡ arguments_of (tested_call t)
+if_arguments line (TestExpr e) b = refl
+if_arguments line (TestCall c) b = refl
+
+else_arguments : (line : ℕ) (t : Test) (b d : Block) → own_arguments (IfElse line t b d) ≡ arguments_of (tested_call t)
+else_arguments line (TestExpr e) b d = refl
+else_arguments line (TestCall c) b d = refl
 
 to_test : (room : ℕ) (t : Test) → list_all levelled (test_expressions t) ≡ true → highest (map height (test_expressions t)) ≤ room → IsTest room t
 to_test room (TestExpr e) h low = record { levelled = to_levelled e 0 (and_parts (levelled e) true h).0 (omega arith); low = omega (arith, low) }
@@ -166,8 +199,24 @@ block_some (Next s rest) = let p = block_some rest in omega (arith, p)
 abbrev pub all_levelled : List Stmt → Bool
 all_levelled statements = list_all (λ s. list_all levelled (own_expressions s)) statements
 
-abbrev pub all_numbers : List Stmt → Bool
+-- numbers in range, and texts of bytes
+abbrev pub all_in_range : List Stmt → Bool
+all_in_range statements = list_all (λ s. in_range (own_expressions s) (own_arguments s)) statements
+
+abbrev all_numbers : List Stmt → Bool
 all_numbers statements = list_all (λ s. list_all numbers_in_range (own_expressions s)) statements
+
+abbrev all_texts : List Stmt → Bool
+all_texts statements = list_all (λ s. list_all text_of_bytes (own_arguments s)) statements
+
+-- both of each statement
+ranges_parted : (statements : List Stmt) → all_in_range statements ≡ true → (all_numbers statements ≡ true) × (all_texts statements ≡ true)
+ranges_parted [] h = (refl, refl)
+ranges_parted (s ∷ statements) h =
+    let p = and_parts (in_range (own_expressions s) (own_arguments s)) (all_in_range statements) h in
+    let own = and_parts (list_all numbers_in_range (own_expressions s)) (list_all text_of_bytes (own_arguments s)) p.0 in
+    let others = ranges_parted statements p.1 in
+    (and_from _ (all_numbers statements) own.0 others.0, and_from _ (all_texts statements) own.1 others.1)
 
 -- what is so of each statement of two lists
 both : (test : Stmt → Bool) (a b : List Stmt) → list_all test a ≡ true → list_all test b ≡ true → list_all test (a ++ b) ≡ true
@@ -178,76 +227,81 @@ parted test a b h = and_parts (list_all test a) (list_all test b) (sym (list_all
 
 record FormFacts (room : ℕ) (s : Stmt) : Type 0 where
   levels : all_levelled (statements_within s) ≡ true
-  numbers : AreInRange (statement s) → all_numbers (statements_within s) ≡ true
+  range : AreInRange (statement s) → all_in_range (statements_within s) ≡ true
   formed : well_formed s ≡ true
   low : statement_height s ≤ room
 
 pub record BlockFacts (room : ℕ) (b : Block) : Type 0 where
   pub levels : all_levelled (statements_of b) ≡ true
-  pub numbers : AreInRange (inside b) → all_numbers (statements_of b) ≡ true
+  pub range : AreInRange (inside b) → all_in_range (statements_of b) ≡ true
   pub formed : block_well_formed b ≡ true
   pub low : block_height b ≤ room + 1
 
 -- the facts of a statement's own expressions, where it has no block
 record OwnFacts (room : ℕ) (s : Stmt) : Type 0 where
   levels : list_all levelled (own_expressions s) ≡ true
-  numbers : AreInRange (statement s) → list_all numbers_in_range (own_expressions s) ≡ true
+  range : AreInRange (statement s) → in_range (own_expressions s) (own_arguments s) ≡ true
   low : own_height s ≤ room
 
 one_expression : (e : Expr) → levelled e ≡ true → list_all levelled (e ∷ []) ≡ true
 one_expression e h = and_from (levelled e) true h refl
 
-one_number : (e : Expr) → numbers_in_range e ≡ true → list_all numbers_in_range (e ∷ []) ≡ true
-one_number e h = and_from (numbers_in_range e) true h refl
-
 own_facts : (room : ℕ) (s : Stmt) → IsForm room s → OwnFacts room s
 own_facts room (Declare line t x r) is =
     let facts = right_facts room r is in
-    record { levels = facts.levels; numbers = λ h. facts.numbers (range_left (right r) (mark marks.Semicolon ∷ []) h.1.1.1); low = facts.low }
+    record { levels = facts.levels; range = λ h. facts.range (range_left (right r) (mark marks.Semicolon ∷ []) h.1.1.1); low = facts.low }
 own_facts room (DeclareBuffer line t x r) is =
     let facts = right_facts room r is in
-    record { levels = facts.levels; numbers = λ h. facts.numbers (range_left (right r) (mark marks.Semicolon ∷ []) h.1.1.1.1); low = facts.low }
+    record { levels = facts.levels; range = λ h. facts.range (range_left (right r) (mark marks.Semicolon ∷ []) h.1.1.1.1); low = facts.low }
 own_facts room (DeclareChars line x r) is =
     let facts = right_facts room r is in
-    record { levels = facts.levels; numbers = λ h. facts.numbers (range_left (right r) (mark marks.Semicolon ∷ []) h.1.1.1.1.1); low = facts.low }
-own_facts room (DeclareArray line t x size) is = record { levels = refl; numbers = λ h. refl; low = omega arith }
+    record { levels = facts.levels; range = λ h. facts.range (range_left (right r) (mark marks.Semicolon ∷ []) h.1.1.1.1.1); low = facts.low }
+own_facts room (DeclareArray line t x size) is = record { levels = refl; range = λ h. refl; low = omega arith }
 own_facts room (Assign line x r) is =
     let facts = right_facts room r is in
-    record { levels = facts.levels; numbers = λ h. facts.numbers (range_left (right r) (mark marks.Semicolon ∷ []) h.1.1); low = facts.low }
+    record { levels = facts.levels; range = λ h. facts.range (range_left (right r) (mark marks.Semicolon ∷ []) h.1.1); low = facts.low }
 own_facts room (AssignElement line x i e) is =
     let closing : List Spelled = expression e ++ mark marks.Semicolon ∷ [] in
     let low_i = is.0.low in
     let low_e = is.1.low in
     record {
       levels = and_from (levelled i) _ (levelled_of 0 i is.0.levelled) (one_expression e (levelled_of 0 e is.1.levelled));
-      numbers = λ h.
+      range = λ h.
           let after_index = range_right (expression i) (mark marks.CloseBracket ∷ mark marks.Assign ∷ closing) h.1.1 in
-          and_from (numbers_in_range i) _ (numbers_of i (range_left (expression i) (mark marks.CloseBracket ∷ mark marks.Assign ∷ closing) h.1.1)) (one_number e (numbers_of e (range_left (expression e) (mark marks.Semicolon ∷ []) after_index.1.1)));
+          let index = numbers_of i (range_left (expression i) (mark marks.CloseBracket ∷ mark marks.Assign ∷ closing) h.1.1) in
+          let value = numbers_of e (range_left (expression e) (mark marks.Semicolon ∷ []) after_index.1.1) in
+          without_call (i ∷ e ∷ []) (and_from (numbers_in_range i) _ index (and_from (numbers_in_range e) true value refl));
       low = omega (arith, low_i, low_e);
     }
 own_facts room (Perform line c) is =
     let facts = argument_facts room c.arguments is in
-    record { levels = facts.levels; numbers = λ h. facts.numbers (call_range c (range_left (call c) (mark marks.Semicolon ∷ []) h)); low = facts.low }
+    record { levels = facts.levels; range = λ h. call_in_range room c facts (range_left (call c) (mark marks.Semicolon ∷ []) h); low = facts.low }
 own_facts room (PutJint line e) is = record {
   levels = one_expression e (levelled_of 0 e is.levelled);
-  numbers = λ h. one_number e (numbers_of e (range_left (expression e) (mark marks.CloseParen ∷ mark marks.Semicolon ∷ []) h.1.1));
+  range = λ h. one_number e (range_left (expression e) (mark marks.CloseParen ∷ mark marks.Semicolon ∷ []) h.1.1);
   low = let low = is.low in omega (arith, low);
 }
 own_facts room (If line test b) is =
     let facts = test_facts room test is.1 in
-    record { levels = facts.levels; numbers = λ h. facts.numbers (tested_range (test_tokens test) (mark marks.OpenBrace ∷ inside b) h.1); low = facts.low }
+    record { levels = facts.levels; range = λ h. ap (in_range (test_expressions test)) (if_arguments line test b) ∙ facts.range (tested_range (test_tokens test) (mark marks.OpenBrace ∷ inside b) h.1); low = facts.low }
 own_facts room (IfElse line test b d) is =
     let facts = test_facts room test is.1 in
-    record { levels = facts.levels; numbers = λ h. facts.numbers (tested_range (test_tokens test) (mark marks.OpenBrace ∷ inside b) (range_left (statement (If line test b)) (word words.Else ∷ mark marks.OpenBrace ∷ inside d) h).1); low = facts.low }
+    record {
+      levels = facts.levels;
+      range = λ h.
+          let tested = tested_range (test_tokens test) (mark marks.OpenBrace ∷ inside b) (range_left (statement (If line test b)) (word words.Else ∷ mark marks.OpenBrace ∷ inside d) h).1 in
+          ap (in_range (test_expressions test)) (else_arguments line test b d) ∙ facts.range tested;
+      low = facts.low;
+    }
 own_facts room (While line test b) is = record {
   levels = one_expression test (levelled_of 0 test is.1.levelled);
-  numbers = λ h. one_number test (numbers_of test (tested_range (expression test) (mark marks.OpenBrace ∷ inside b) h.1));
+  range = λ h. one_number test (tested_range (expression test) (mark marks.OpenBrace ∷ inside b) h.1);
   low = let low = is.1.low in omega (arith, low);
 }
-own_facts room (Return line) is = record { levels = refl; numbers = λ h. refl; low = omega arith }
+own_facts room (Return line) is = record { levels = refl; range = λ h. refl; low = omega arith }
 own_facts room (ReturnValue line e) is = record {
   levels = one_expression e (levelled_of 0 e is.levelled);
-  numbers = λ h. one_number e (numbers_of e (range_left (expression e) (mark marks.Semicolon ∷ []) h.1));
+  range = λ h. one_number e (range_left (expression e) (mark marks.Semicolon ∷ []) h.1);
   low = let low = is.low in omega (arith, low);
 }
 
@@ -255,7 +309,7 @@ own_facts room (ReturnValue line e) is = record {
 alone : (room : ℕ) (s : Stmt) → OwnFacts room s → statements_within s ≡ s ∷ [] → statement_height s ≡ own_height s → well_formed s ≡ true → FormFacts room s
 alone room s own within same formed = record {
   levels = ap all_levelled within ∙ and_from _ true own.levels refl;
-  numbers = λ h. ap all_numbers within ∙ and_from _ true (own.numbers h) refl;
+  range = λ h. ap all_in_range within ∙ and_from _ true (own.range h) refl;
   formed = formed;
   low = let low = own.low in omega (arith, same, low);
 }
@@ -304,7 +358,7 @@ mutual
       let low_body = body.low in
       record {
         levels = and_from _ (all_levelled (statements_of b)) own.levels body.levels;
-        numbers = λ h. and_from _ (all_numbers (statements_of b)) (own.numbers h) (body.numbers (block_range (OnLine line (Fixed' (fixed.Word words.If))) (test_tokens test) b h));
+        range = λ h. and_from _ (all_in_range (statements_of b)) (own.range h) (body.range (block_range (OnLine line (Fixed' (fixed.Word words.If))) (test_tokens test) b h));
         formed = body.formed;
         low = omega (arith, is.0, low_own, low_body);
       }
@@ -317,7 +371,7 @@ mutual
       let low_other = other.low in
       record {
         levels = and_from _ (all_levelled (statements_of b ++ statements_of d)) own.levels (both _ (statements_of b) (statements_of d) body.levels other.levels);
-        numbers = λ h. and_from _ (all_numbers (statements_of b ++ statements_of d)) (own.numbers h) (both _ (statements_of b) (statements_of d) (body.numbers (block_range (OnLine line (Fixed' (fixed.Word words.If))) (test_tokens test) b (range_left (statement (If line test b)) (word words.Else ∷ mark marks.OpenBrace ∷ inside d) h))) (other.numbers (else_range line test b d h)));
+        range = λ h. and_from _ (all_in_range (statements_of b ++ statements_of d)) (own.range h) (both _ (statements_of b) (statements_of d) (body.range (block_range (OnLine line (Fixed' (fixed.Word words.If))) (test_tokens test) b (range_left (statement (If line test b)) (word words.Else ∷ mark marks.OpenBrace ∷ inside d) h))) (other.range (else_range line test b d h)));
         formed = and_from (block_well_formed b) (block_well_formed d) body.formed other.formed;
         low = omega (arith, is.0, low_own, low_body, low_other);
       }
@@ -328,19 +382,19 @@ mutual
       let low_body = body.low in
       record {
         levels = and_from _ (all_levelled (statements_of b)) own.levels body.levels;
-        numbers = λ h. and_from _ (all_numbers (statements_of b)) (own.numbers h) (body.numbers (block_range (OnLine line (Fixed' (fixed.Word words.While))) (expression test) b h));
+        range = λ h. and_from _ (all_in_range (statements_of b)) (own.range h) (body.range (block_range (OnLine line (Fixed' (fixed.Word words.While))) (expression test) b h));
         formed = body.formed;
         low = omega (arith, is.0, low_own, low_body);
       }
 
   pub block_facts : (room : ℕ) (b : Block) → IsBlock room b → BlockFacts room b
-  block_facts room (End line) is = record { levels = refl; numbers = λ h. refl; formed = refl; low = omega arith }
+  block_facts room (End line) is = record { levels = refl; range = λ h. refl; formed = refl; low = omega arith }
   block_facts room (Next s rest) is =
       let f = form_facts room s is.0 in
       let r = block_facts room rest is.2 in
       record {
         levels = both _ (statements_within s) (statements_of rest) f.levels r.levels;
-        numbers = λ h. both _ (statements_within s) (statements_of rest) (f.numbers (range_left (statement s) (inside rest) h)) (r.numbers (range_right (statement s) (inside rest) h));
+        range = λ h. both _ (statements_within s) (statements_of rest) (f.range (range_left (statement s) (inside rest) h)) (r.range (range_right (statement s) (inside rest) h));
         formed = well_formed_of s rest is.1 f.formed r.formed;
         low = omega (arith, f.low, r.low);
       }
@@ -470,7 +524,8 @@ is_tree items is few_functions few_statics range =
     let facts = all_facts items is range in
     record {
       levelled_expressions = all_of (λ f. all_levelled (statements_of f.body)) (λ f k. k.body.levels) items facts;
-      numbers = all_of (λ f. all_numbers (statements_of f.body)) (λ f k. k.body.numbers k.range) items facts;
+      numbers = all_of (λ f. all_numbers (statements_of f.body)) (λ f k. (ranges_parted (statements_of f.body) (k.body.range k.range)).0) items facts;
+      texts = all_of (λ f. all_texts (statements_of f.body)) (λ f k. (ranges_parted (statements_of f.body) (k.body.range k.range)).1) items facts;
       forms = all_of (λ f. block_well_formed f.body) (λ f k. k.body.formed) items facts;
       low = all_of (λ f. nat_le (block_height f.body) 32) (λ f k. le-leb (block_height f.body) 32 (let low = k.body.low in omega (arith, low))) items facts;
       few_functions = few_functions;

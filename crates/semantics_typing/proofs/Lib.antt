@@ -12,3 +12,4 @@ pub mod Results
 pub mod Steps
 pub mod Loads
 pub mod Runs
+pub mod TextsOfTrees

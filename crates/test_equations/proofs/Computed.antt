@@ -5,8 +5,8 @@ use Rattle.std.specs.Fmt.{digits}
 use Rattle.std.specs.List.{list_all, list_any, AllZip}
 use Rattle.std.specs.Str.{bytes_eq}
 use Rattle.std.proofs.lemmas.Bool.{leb-true, ltb-true}
-use Rattle.syntax.specs.Limits.{IsTree, levelled, numbers_in_range, block_height, block_well_formed}
-use Rattle.syntax.specs.Parts.{functions_of, statics_of, statements_of, own_expressions, names_declared, parameter_names}
+use Rattle.syntax.specs.Limits.{IsTree, levelled, numbers_in_range, text_of_bytes, block_height, block_well_formed}
+use Rattle.syntax.specs.Parts.{functions_of, statics_of, statements_of, own_expressions, own_arguments, names_declared, parameter_names}
 use Rattle.syntax.specs.Tree.{SourceUnit}
 use Rattle.class_rules.specs.BuiltIns.{built_ins}
 use Rattle.class_rules.specs.Class.{Classes}
@@ -67,11 +67,12 @@ both false b h = absurd cc
 
 -- ---- checks
 
--- the expressions follow precedence, and their numbers are in range
+-- the expressions follow precedence, their numbers are in range, and texts are of bytes
 abbrev pub has_expressions : SourceUnit → Bool
 has_expressions unit =
     list_all (λ f. list_all (λ s. list_all levelled (own_expressions s)) (statements_of f.body)) (functions_of unit)
-    && list_all (λ f. list_all (λ s. list_all numbers_in_range (own_expressions s)) (statements_of f.body)) (functions_of unit)
+    && (list_all (λ f. list_all (λ s. list_all numbers_in_range (own_expressions s)) (statements_of f.body)) (functions_of unit)
+    && list_all (λ f. list_all (λ s. list_all text_of_bytes (own_arguments s)) (statements_of f.body)) (functions_of unit))
 
 -- the blocks are well formed and low
 abbrev pub has_blocks : SourceUnit → Bool
@@ -95,12 +96,14 @@ a_tree unit h =
     let parts = both (has_expressions unit) (has_blocks unit && has_few unit) h in
     let further = both (has_blocks unit) (has_few unit) parts.1 in
     let expressions = both _ _ parts.0 in
+    let ranges = both _ _ expressions.1 in
     let blocks = both _ _ further.0 in
     let few = both _ _ further.1 in
     let fewer = both _ _ few.1 in
     record {
       levelled_expressions = expressions.0;
-      numbers = expressions.1;
+      numbers = ranges.0;
+      texts = ranges.1;
       forms = blocks.0;
       low = blocks.1;
       few_functions = leb-true _ _ few.0;

@@ -17,10 +17,12 @@ mod Accepted
 mod Arguments
 mod Arithmetic
 mod ArrayFaults
+mod ArrayRegions
 mod BrokenRules
 mod BufferFaults
 mod BuffersCopied
 mod BuffersPinned
+mod BuffersUsed
 mod Classes
 mod Control
 mod Exceptions

@@ -1,0 +1,844 @@
+-- The cases of texts/array_regions.cases, as examples/worked_equations writes them.
+use Rattle.std.specs.Prelude.{◌∷◌, ◌++◌, pos, true, false, [], Some, None, codes, refl}
+use Rattle.base.specs.Element.{JInt, JShort, JByte, JChar}
+use Rattle.syntax.specs.Tree.{Assign, AssignElement, Complement, Declare, DeclareArray, Element, FromCall, FromExpr, JByteArray, JCharArray, JClass, JIntArray, JIntVariable, JObject, JShortArray, JString, JThrowable, Named, Null, Number, Perform, Prefix, PutJint, ReferenceVariable, Return, SourceUnit, Text, ToInt, Value, Variable, Void}
+use Rattle.semantics.specs.declared.schedule.ScheduleWord.TheVariants.{Turn}
+use Rattle.semantics.specs.World.{World}
+use Rattle.world_values.specs.WorldLines.{NumberValue, NullValue, NamedObject, ClassLine, ArrayLine, StringLine, ThreadLine, Lines}
+use Rattle.world_values.specs.WorldMeaning.{world_of}
+use Rattle.world_values.specs.WorldRules.{IsWorldText}
+use Rattle.test_equations.specs.Claims.{IsAccepted, IsWorkedRun, IsWorkedReplay, IsStoppedReplay}
+use Rattle.test_equations.proofs.Programs.{unit_of, native, static_reference, reference_parameter, call, given, entry, entries}
+use Rattle.test_equations.proofs.Computed.{opened, accepted, world-text, worked-run, worked-replay, stopped-replay}
+
+-- a part of an array is read, turned round and written back
+-- JNIEXPORT void JNICALL Java_A_f(JNIEnv *env, jclass cls, jintArray a) {
+-- jint x[2] = {0};
+-- (*env)->GetIntArrayRegion(env, a, 1, 2, x);
+-- jint first = x[0];
+-- x[0] = x[1];
+-- x[1] = first;
+-- (*env)->SetIntArrayRegion(env, a, 1, 2, x);
+-- return;
+-- }
+abbrev pub a_part_of_an_array_is_read_turned_round_and_written_back : SourceUnit
+a_part_of_an_array_is_read_turned_round_and_written_back =
+    unit_of
+    (native 1 Void (codes "Java_A_f") (reference_parameter JIntArray (codes "a") ∷ [])
+    (DeclareArray 2 JInt (codes "x") 2
+    ∷ Perform 3 (call (codes "GetIntArrayRegion") (given (codes "a") ∷ Value (Number 1 false) ∷ Value (Number 2 false) ∷ given (codes "x") ∷ []))
+    ∷ Declare 4 JIntVariable (codes "first") (FromExpr (Element (codes "x") (Number 0 false)))
+    ∷ AssignElement 5 (codes "x") (Number 0 false) (Element (codes "x") (Number 1 false))
+    ∷ AssignElement 6 (codes "x") (Number 1 false) (Variable (codes "first"))
+    ∷ Perform 7 (call (codes "SetIntArrayRegion") (given (codes "a") ∷ Value (Number 1 false) ∷ Value (Number 2 false) ∷ given (codes "x") ∷ []))
+    ∷ Return 8
+    ∷ [])
+    9
+    ∷ [])
+
+abbrev a_part_of_an_array_is_read_turned_round_and_written_back-lines : Lines
+a_part_of_an_array_is_read_turned_round_and_written_back-lines =
+    (2, ClassLine (codes "A") None)
+    ∷ (3, ArrayLine (codes "a") JInt (NumberValue (pos 1) ∷ NumberValue (pos 2) ∷ NumberValue (pos 3) ∷ NumberValue (pos 4) ∷ []))
+    ∷ (4, ThreadLine (codes "Java_A_f") (NamedObject (codes "a") ∷ []))
+    ∷ []
+
+abbrev a_part_of_an_array_is_read_turned_round_and_written_back-world : World
+a_part_of_an_array_is_read_turned_round_and_written_back-world = world_of 512 a_part_of_an_array_is_read_turned_round_and_written_back-lines
+
+a_part_of_an_array_is_read_turned_round_and_written_back-means : IsWorldText (codes "heap 512\nclass A\narray @a I 1 2 3 4\nthread Java_A_f @a\n") a_part_of_an_array_is_read_turned_round_and_written_back-world
+unfolding opened
+a_part_of_an_array_is_read_turned_round_and_written_back-means = world-text (codes "heap 512\nclass A\narray @a I 1 2 3 4\nthread Java_A_f @a\n") 512 a_part_of_an_array_is_read_turned_round_and_written_back-lines 1 refl refl refl refl
+
+a_part_of_an_array_is_read_turned_round_and_written_back-accepted : IsAccepted a_part_of_an_array_is_read_turned_round_and_written_back
+unfolding opened
+a_part_of_an_array_is_read_turned_round_and_written_back-accepted = accepted a_part_of_an_array_is_read_turned_round_and_written_back refl refl refl
+
+a_part_of_an_array_is_read_turned_round_and_written_back-run : IsWorkedRun a_part_of_an_array_is_read_turned_round_and_written_back (codes "heap 512\nclass A\narray @a I 1 2 3 4\nthread Java_A_f @a\n") (codes "1*20\n")
+    (codes "T1 ended\n#46 [I 1 3 2 4\njournal 1 1 1 1 1 1 1 1 1 1 1 1 1 1 1 1 1 1 1\n")
+unfolding opened
+a_part_of_an_array_is_read_turned_round_and_written_back-run = worked-run a_part_of_an_array_is_read_turned_round_and_written_back a_part_of_an_array_is_read_turned_round_and_written_back-world ((Turn 1, Some 20) ∷ []) [] a_part_of_an_array_is_read_turned_round_and_written_back-accepted a_part_of_an_array_is_read_turned_round_and_written_back-means refl refl refl refl
+
+-- no region of an array begins before it, has a negative length or goes past its end
+-- JNIEXPORT void JNICALL Java_A_f(JNIEnv *env, jclass cls, jintArray a) {
+-- jint x[2] = {0};
+-- (*env)->GetIntArrayRegion(env, a, (jint)~0u, 1, x);
+-- jthrowable s = (*env)->ExceptionOccurred(env);
+-- (*env)->ExceptionClear(env);
+-- (*env)->GetIntArrayRegion(env, a, 0, (jint)~0u, x);
+-- jthrowable t = (*env)->ExceptionOccurred(env);
+-- (*env)->ExceptionClear(env);
+-- (*env)->GetIntArrayRegion(env, a, 1, 2, x);
+-- put_jint(x[0]);
+-- return;
+-- }
+abbrev pub no_region_of_an_array_begins_before_it_has_a_negative_length_or_goes_past_its_end : SourceUnit
+no_region_of_an_array_begins_before_it_has_a_negative_length_or_goes_past_its_end =
+    unit_of
+    (native 1 Void (codes "Java_A_f") (reference_parameter JIntArray (codes "a") ∷ [])
+    (DeclareArray 2 JInt (codes "x") 2
+    ∷ Perform 3 (call (codes "GetIntArrayRegion") (given (codes "a") ∷ Value (Prefix ToInt (Prefix Complement (Number 0 true))) ∷ Value (Number 1 false) ∷ given (codes "x") ∷ []))
+    ∷ Declare 4 (ReferenceVariable JThrowable) (codes "s") (FromCall (call (codes "ExceptionOccurred") []))
+    ∷ Perform 5 (call (codes "ExceptionClear") [])
+    ∷ Perform 6 (call (codes "GetIntArrayRegion") (given (codes "a") ∷ Value (Number 0 false) ∷ Value (Prefix ToInt (Prefix Complement (Number 0 true))) ∷ given (codes "x") ∷ []))
+    ∷ Declare 7 (ReferenceVariable JThrowable) (codes "t") (FromCall (call (codes "ExceptionOccurred") []))
+    ∷ Perform 8 (call (codes "ExceptionClear") [])
+    ∷ Perform 9 (call (codes "GetIntArrayRegion") (given (codes "a") ∷ Value (Number 1 false) ∷ Value (Number 2 false) ∷ given (codes "x") ∷ []))
+    ∷ PutJint 10 (Element (codes "x") (Number 0 false))
+    ∷ Return 11
+    ∷ [])
+    12
+    ∷ [])
+
+abbrev no_region_of_an_array_begins_before_it_has_a_negative_length_or_goes_past_its_end-lines : Lines
+no_region_of_an_array_begins_before_it_has_a_negative_length_or_goes_past_its_end-lines =
+    (2, ClassLine (codes "A") None)
+    ∷ (3, ArrayLine (codes "a") JInt (NumberValue (pos 5) ∷ NumberValue (pos 6) ∷ []))
+    ∷ (4, ThreadLine (codes "Java_A_f") (NamedObject (codes "a") ∷ []))
+    ∷ []
+
+abbrev no_region_of_an_array_begins_before_it_has_a_negative_length_or_goes_past_its_end-world : World
+no_region_of_an_array_begins_before_it_has_a_negative_length_or_goes_past_its_end-world = world_of 512 no_region_of_an_array_begins_before_it_has_a_negative_length_or_goes_past_its_end-lines
+
+no_region_of_an_array_begins_before_it_has_a_negative_length_or_goes_past_its_end-means : IsWorldText (codes "heap 512\nclass A\narray @a I 5 6\nthread Java_A_f @a\n") no_region_of_an_array_begins_before_it_has_a_negative_length_or_goes_past_its_end-world
+unfolding opened
+no_region_of_an_array_begins_before_it_has_a_negative_length_or_goes_past_its_end-means = world-text (codes "heap 512\nclass A\narray @a I 5 6\nthread Java_A_f @a\n") 512 no_region_of_an_array_begins_before_it_has_a_negative_length_or_goes_past_its_end-lines 1 refl refl refl refl
+
+no_region_of_an_array_begins_before_it_has_a_negative_length_or_goes_past_its_end-accepted : IsAccepted no_region_of_an_array_begins_before_it_has_a_negative_length_or_goes_past_its_end
+unfolding opened
+no_region_of_an_array_begins_before_it_has_a_negative_length_or_goes_past_its_end-accepted = accepted no_region_of_an_array_begins_before_it_has_a_negative_length_or_goes_past_its_end refl refl refl
+
+no_region_of_an_array_begins_before_it_has_a_negative_length_or_goes_past_its_end-run : IsWorkedRun no_region_of_an_array_begins_before_it_has_a_negative_length_or_goes_past_its_end (codes "heap 512\nclass A\narray @a I 5 6\nthread Java_A_f @a\n") (codes "1*22\n")
+    (codes "T1 0\nT1 running\n#46 [I 5 6\n#47 java/lang/ArrayIndexOutOfBoundsException null\n#48 java/lang/ArrayIndexOutOfBoundsException null\n#49 java/lang/ArrayIndexOutOfBoundsException null\njournal 1 1 1 1 1 1 1 1 1 1 1 1 1 1 1 1 1 1 1 1 1 1\n")
+unfolding opened
+no_region_of_an_array_begins_before_it_has_a_negative_length_or_goes_past_its_end-run = worked-run no_region_of_an_array_begins_before_it_has_a_negative_length_or_goes_past_its_end no_region_of_an_array_begins_before_it_has_a_negative_length_or_goes_past_its_end-world ((Turn 1, Some 22) ∷ []) [] no_region_of_an_array_begins_before_it_has_a_negative_length_or_goes_past_its_end-accepted no_region_of_an_array_begins_before_it_has_a_negative_length_or_goes_past_its_end-means refl refl refl refl
+
+-- a region whose end is past all numbers, and one of no length past the end
+-- JNIEXPORT void JNICALL Java_A_f(JNIEnv *env, jclass cls, jintArray a) {
+-- jint x[1] = {0};
+-- x[0] = 7;
+-- (*env)->SetIntArrayRegion(env, a, 2147483647, 2147483647, x);
+-- jthrowable s = (*env)->ExceptionOccurred(env);
+-- (*env)->ExceptionClear(env);
+-- (*env)->SetIntArrayRegion(env, a, 3, 0, x);
+-- return;
+-- }
+abbrev pub a_region_whose_end_is_past_all_numbers_and_one_of_no_length_past_the_end : SourceUnit
+a_region_whose_end_is_past_all_numbers_and_one_of_no_length_past_the_end =
+    unit_of
+    (native 1 Void (codes "Java_A_f") (reference_parameter JIntArray (codes "a") ∷ [])
+    (DeclareArray 2 JInt (codes "x") 1
+    ∷ AssignElement 3 (codes "x") (Number 0 false) (Number 7 false)
+    ∷ Perform 4 (call (codes "SetIntArrayRegion") (given (codes "a") ∷ Value (Number 2147483647 false) ∷ Value (Number 2147483647 false) ∷ given (codes "x") ∷ []))
+    ∷ Declare 5 (ReferenceVariable JThrowable) (codes "s") (FromCall (call (codes "ExceptionOccurred") []))
+    ∷ Perform 6 (call (codes "ExceptionClear") [])
+    ∷ Perform 7 (call (codes "SetIntArrayRegion") (given (codes "a") ∷ Value (Number 3 false) ∷ Value (Number 0 false) ∷ given (codes "x") ∷ []))
+    ∷ Return 8
+    ∷ [])
+    9
+    ∷ [])
+
+a_region_whose_end_is_past_all_numbers_and_one_of_no_length_past_the_end-accepted : IsAccepted a_region_whose_end_is_past_all_numbers_and_one_of_no_length_past_the_end
+unfolding opened
+a_region_whose_end_is_past_all_numbers_and_one_of_no_length_past_the_end-accepted = accepted a_region_whose_end_is_past_all_numbers_and_one_of_no_length_past_the_end refl refl refl
+
+a_region_whose_end_is_past_all_numbers_and_one_of_no_length_past_the_end-run : IsWorkedRun a_region_whose_end_is_past_all_numbers_and_one_of_no_length_past_the_end (codes "heap 512\nclass A\narray @a I 5 6\nthread Java_A_f @a\n") (codes "1*13\n")
+    (codes "T1 running\n#46 [I 5 6\n#47 java/lang/ArrayIndexOutOfBoundsException null\n#48 java/lang/ArrayIndexOutOfBoundsException null\njournal 1 1 1 1 1 1 1 1 1 1 1 1 1\n")
+unfolding opened
+a_region_whose_end_is_past_all_numbers_and_one_of_no_length_past_the_end-run = worked-run a_region_whose_end_is_past_all_numbers_and_one_of_no_length_past_the_end no_region_of_an_array_begins_before_it_has_a_negative_length_or_goes_past_its_end-world ((Turn 1, Some 13) ∷ []) [] a_region_whose_end_is_past_all_numbers_and_one_of_no_length_past_the_end-accepted no_region_of_an_array_begins_before_it_has_a_negative_length_or_goes_past_its_end-means refl refl refl refl
+
+-- both regions of an array of jint look at its end before they look at the array of C
+-- JNIEXPORT void JNICALL Java_A_f(JNIEnv *env, jclass cls, jintArray a) {
+-- jint x[1] = {0};
+-- (*env)->GetIntArrayRegion(env, a, 1, 2, x);
+-- (*env)->ExceptionClear(env);
+-- (*env)->SetIntArrayRegion(env, a, 1, 2, x);
+-- return;
+-- }
+abbrev pub both_regions_of_an_array_of_jint_look_at_its_end_before_they_look_at_the_array_of_c : SourceUnit
+both_regions_of_an_array_of_jint_look_at_its_end_before_they_look_at_the_array_of_c =
+    unit_of
+    (native 1 Void (codes "Java_A_f") (reference_parameter JIntArray (codes "a") ∷ [])
+    (DeclareArray 2 JInt (codes "x") 1
+    ∷ Perform 3 (call (codes "GetIntArrayRegion") (given (codes "a") ∷ Value (Number 1 false) ∷ Value (Number 2 false) ∷ given (codes "x") ∷ []))
+    ∷ Perform 4 (call (codes "ExceptionClear") [])
+    ∷ Perform 5 (call (codes "SetIntArrayRegion") (given (codes "a") ∷ Value (Number 1 false) ∷ Value (Number 2 false) ∷ given (codes "x") ∷ []))
+    ∷ Return 6
+    ∷ [])
+    7
+    ∷ [])
+
+both_regions_of_an_array_of_jint_look_at_its_end_before_they_look_at_the_array_of_c-accepted : IsAccepted both_regions_of_an_array_of_jint_look_at_its_end_before_they_look_at_the_array_of_c
+unfolding opened
+both_regions_of_an_array_of_jint_look_at_its_end_before_they_look_at_the_array_of_c-accepted = accepted both_regions_of_an_array_of_jint_look_at_its_end_before_they_look_at_the_array_of_c refl refl refl
+
+both_regions_of_an_array_of_jint_look_at_its_end_before_they_look_at_the_array_of_c-run : IsWorkedRun both_regions_of_an_array_of_jint_look_at_its_end_before_they_look_at_the_array_of_c (codes "heap 512\nclass A\narray @a I 5 6\nthread Java_A_f @a\n") (codes "1*11\n")
+    (codes "T1 uncaught java/lang/ArrayIndexOutOfBoundsException\n#46 [I 5 6\njournal 1 1 1 1 1 1 1 1 1 1\n")
+unfolding opened
+both_regions_of_an_array_of_jint_look_at_its_end_before_they_look_at_the_array_of_c-run = worked-run both_regions_of_an_array_of_jint_look_at_its_end_before_they_look_at_the_array_of_c no_region_of_an_array_begins_before_it_has_a_negative_length_or_goes_past_its_end-world ((Turn 1, Some 11) ∷ []) [] both_regions_of_an_array_of_jint_look_at_its_end_before_they_look_at_the_array_of_c-accepted no_region_of_an_array_begins_before_it_has_a_negative_length_or_goes_past_its_end-means refl refl refl refl
+
+-- both regions of an array of jshort look at its end before they look at the array of C
+-- JNIEXPORT void JNICALL Java_A_f(JNIEnv *env, jclass cls, jshortArray a) {
+-- jshort x[1] = {0};
+-- (*env)->GetShortArrayRegion(env, a, 1, 2, x);
+-- (*env)->ExceptionClear(env);
+-- (*env)->SetShortArrayRegion(env, a, 1, 2, x);
+-- return;
+-- }
+abbrev pub both_regions_of_an_array_of_jshort_look_at_its_end_before_they_look_at_the_array_of_c : SourceUnit
+both_regions_of_an_array_of_jshort_look_at_its_end_before_they_look_at_the_array_of_c =
+    unit_of
+    (native 1 Void (codes "Java_A_f") (reference_parameter JShortArray (codes "a") ∷ [])
+    (DeclareArray 2 JShort (codes "x") 1
+    ∷ Perform 3 (call (codes "GetShortArrayRegion") (given (codes "a") ∷ Value (Number 1 false) ∷ Value (Number 2 false) ∷ given (codes "x") ∷ []))
+    ∷ Perform 4 (call (codes "ExceptionClear") [])
+    ∷ Perform 5 (call (codes "SetShortArrayRegion") (given (codes "a") ∷ Value (Number 1 false) ∷ Value (Number 2 false) ∷ given (codes "x") ∷ []))
+    ∷ Return 6
+    ∷ [])
+    7
+    ∷ [])
+
+abbrev both_regions_of_an_array_of_jshort_look_at_its_end_before_they_look_at_the_array_of_c-lines : Lines
+both_regions_of_an_array_of_jshort_look_at_its_end_before_they_look_at_the_array_of_c-lines =
+    (2, ClassLine (codes "A") None)
+    ∷ (3, ArrayLine (codes "a") JShort (NumberValue (pos 5) ∷ NumberValue (pos 6) ∷ []))
+    ∷ (4, ThreadLine (codes "Java_A_f") (NamedObject (codes "a") ∷ []))
+    ∷ []
+
+abbrev both_regions_of_an_array_of_jshort_look_at_its_end_before_they_look_at_the_array_of_c-world : World
+both_regions_of_an_array_of_jshort_look_at_its_end_before_they_look_at_the_array_of_c-world = world_of 512 both_regions_of_an_array_of_jshort_look_at_its_end_before_they_look_at_the_array_of_c-lines
+
+both_regions_of_an_array_of_jshort_look_at_its_end_before_they_look_at_the_array_of_c-means : IsWorldText (codes "heap 512\nclass A\narray @a S 5 6\nthread Java_A_f @a\n") both_regions_of_an_array_of_jshort_look_at_its_end_before_they_look_at_the_array_of_c-world
+unfolding opened
+both_regions_of_an_array_of_jshort_look_at_its_end_before_they_look_at_the_array_of_c-means = world-text (codes "heap 512\nclass A\narray @a S 5 6\nthread Java_A_f @a\n") 512 both_regions_of_an_array_of_jshort_look_at_its_end_before_they_look_at_the_array_of_c-lines 1 refl refl refl refl
+
+both_regions_of_an_array_of_jshort_look_at_its_end_before_they_look_at_the_array_of_c-accepted : IsAccepted both_regions_of_an_array_of_jshort_look_at_its_end_before_they_look_at_the_array_of_c
+unfolding opened
+both_regions_of_an_array_of_jshort_look_at_its_end_before_they_look_at_the_array_of_c-accepted = accepted both_regions_of_an_array_of_jshort_look_at_its_end_before_they_look_at_the_array_of_c refl refl refl
+
+both_regions_of_an_array_of_jshort_look_at_its_end_before_they_look_at_the_array_of_c-run : IsWorkedRun both_regions_of_an_array_of_jshort_look_at_its_end_before_they_look_at_the_array_of_c (codes "heap 512\nclass A\narray @a S 5 6\nthread Java_A_f @a\n") (codes "1*11\n")
+    (codes "T1 uncaught java/lang/ArrayIndexOutOfBoundsException\n#46 [S 5 6\njournal 1 1 1 1 1 1 1 1 1 1\n")
+unfolding opened
+both_regions_of_an_array_of_jshort_look_at_its_end_before_they_look_at_the_array_of_c-run = worked-run both_regions_of_an_array_of_jshort_look_at_its_end_before_they_look_at_the_array_of_c both_regions_of_an_array_of_jshort_look_at_its_end_before_they_look_at_the_array_of_c-world ((Turn 1, Some 11) ∷ []) [] both_regions_of_an_array_of_jshort_look_at_its_end_before_they_look_at_the_array_of_c-accepted both_regions_of_an_array_of_jshort_look_at_its_end_before_they_look_at_the_array_of_c-means refl refl refl refl
+
+-- both regions of an array of jbyte look at its end before they look at the array of C
+-- JNIEXPORT void JNICALL Java_A_f(JNIEnv *env, jclass cls, jbyteArray a) {
+-- jbyte x[1] = {0};
+-- (*env)->GetByteArrayRegion(env, a, 1, 2, x);
+-- (*env)->ExceptionClear(env);
+-- (*env)->SetByteArrayRegion(env, a, 1, 2, x);
+-- return;
+-- }
+abbrev pub both_regions_of_an_array_of_jbyte_look_at_its_end_before_they_look_at_the_array_of_c : SourceUnit
+both_regions_of_an_array_of_jbyte_look_at_its_end_before_they_look_at_the_array_of_c =
+    unit_of
+    (native 1 Void (codes "Java_A_f") (reference_parameter JByteArray (codes "a") ∷ [])
+    (DeclareArray 2 JByte (codes "x") 1
+    ∷ Perform 3 (call (codes "GetByteArrayRegion") (given (codes "a") ∷ Value (Number 1 false) ∷ Value (Number 2 false) ∷ given (codes "x") ∷ []))
+    ∷ Perform 4 (call (codes "ExceptionClear") [])
+    ∷ Perform 5 (call (codes "SetByteArrayRegion") (given (codes "a") ∷ Value (Number 1 false) ∷ Value (Number 2 false) ∷ given (codes "x") ∷ []))
+    ∷ Return 6
+    ∷ [])
+    7
+    ∷ [])
+
+abbrev both_regions_of_an_array_of_jbyte_look_at_its_end_before_they_look_at_the_array_of_c-lines : Lines
+both_regions_of_an_array_of_jbyte_look_at_its_end_before_they_look_at_the_array_of_c-lines =
+    (2, ClassLine (codes "A") None)
+    ∷ (3, ArrayLine (codes "a") JByte (NumberValue (pos 5) ∷ NumberValue (pos 6) ∷ []))
+    ∷ (4, ThreadLine (codes "Java_A_f") (NamedObject (codes "a") ∷ []))
+    ∷ []
+
+abbrev both_regions_of_an_array_of_jbyte_look_at_its_end_before_they_look_at_the_array_of_c-world : World
+both_regions_of_an_array_of_jbyte_look_at_its_end_before_they_look_at_the_array_of_c-world = world_of 512 both_regions_of_an_array_of_jbyte_look_at_its_end_before_they_look_at_the_array_of_c-lines
+
+both_regions_of_an_array_of_jbyte_look_at_its_end_before_they_look_at_the_array_of_c-means : IsWorldText (codes "heap 512\nclass A\narray @a B 5 6\nthread Java_A_f @a\n") both_regions_of_an_array_of_jbyte_look_at_its_end_before_they_look_at_the_array_of_c-world
+unfolding opened
+both_regions_of_an_array_of_jbyte_look_at_its_end_before_they_look_at_the_array_of_c-means = world-text (codes "heap 512\nclass A\narray @a B 5 6\nthread Java_A_f @a\n") 512 both_regions_of_an_array_of_jbyte_look_at_its_end_before_they_look_at_the_array_of_c-lines 1 refl refl refl refl
+
+both_regions_of_an_array_of_jbyte_look_at_its_end_before_they_look_at_the_array_of_c-accepted : IsAccepted both_regions_of_an_array_of_jbyte_look_at_its_end_before_they_look_at_the_array_of_c
+unfolding opened
+both_regions_of_an_array_of_jbyte_look_at_its_end_before_they_look_at_the_array_of_c-accepted = accepted both_regions_of_an_array_of_jbyte_look_at_its_end_before_they_look_at_the_array_of_c refl refl refl
+
+both_regions_of_an_array_of_jbyte_look_at_its_end_before_they_look_at_the_array_of_c-run : IsWorkedRun both_regions_of_an_array_of_jbyte_look_at_its_end_before_they_look_at_the_array_of_c (codes "heap 512\nclass A\narray @a B 5 6\nthread Java_A_f @a\n") (codes "1*11\n")
+    (codes "T1 uncaught java/lang/ArrayIndexOutOfBoundsException\n#46 [B 5 6\njournal 1 1 1 1 1 1 1 1 1 1\n")
+unfolding opened
+both_regions_of_an_array_of_jbyte_look_at_its_end_before_they_look_at_the_array_of_c-run = worked-run both_regions_of_an_array_of_jbyte_look_at_its_end_before_they_look_at_the_array_of_c both_regions_of_an_array_of_jbyte_look_at_its_end_before_they_look_at_the_array_of_c-world ((Turn 1, Some 11) ∷ []) [] both_regions_of_an_array_of_jbyte_look_at_its_end_before_they_look_at_the_array_of_c-accepted both_regions_of_an_array_of_jbyte_look_at_its_end_before_they_look_at_the_array_of_c-means refl refl refl refl
+
+-- both regions of an array of jchar look at its end before they look at the array of C
+-- JNIEXPORT void JNICALL Java_A_f(JNIEnv *env, jclass cls, jcharArray a) {
+-- jchar x[1] = {0};
+-- (*env)->GetCharArrayRegion(env, a, 1, 2, x);
+-- (*env)->ExceptionClear(env);
+-- (*env)->SetCharArrayRegion(env, a, 1, 2, x);
+-- return;
+-- }
+abbrev pub both_regions_of_an_array_of_jchar_look_at_its_end_before_they_look_at_the_array_of_c : SourceUnit
+both_regions_of_an_array_of_jchar_look_at_its_end_before_they_look_at_the_array_of_c =
+    unit_of
+    (native 1 Void (codes "Java_A_f") (reference_parameter JCharArray (codes "a") ∷ [])
+    (DeclareArray 2 JChar (codes "x") 1
+    ∷ Perform 3 (call (codes "GetCharArrayRegion") (given (codes "a") ∷ Value (Number 1 false) ∷ Value (Number 2 false) ∷ given (codes "x") ∷ []))
+    ∷ Perform 4 (call (codes "ExceptionClear") [])
+    ∷ Perform 5 (call (codes "SetCharArrayRegion") (given (codes "a") ∷ Value (Number 1 false) ∷ Value (Number 2 false) ∷ given (codes "x") ∷ []))
+    ∷ Return 6
+    ∷ [])
+    7
+    ∷ [])
+
+abbrev both_regions_of_an_array_of_jchar_look_at_its_end_before_they_look_at_the_array_of_c-lines : Lines
+both_regions_of_an_array_of_jchar_look_at_its_end_before_they_look_at_the_array_of_c-lines =
+    (2, ClassLine (codes "A") None)
+    ∷ (3, ArrayLine (codes "a") JChar (NumberValue (pos 5) ∷ NumberValue (pos 6) ∷ []))
+    ∷ (4, ThreadLine (codes "Java_A_f") (NamedObject (codes "a") ∷ []))
+    ∷ []
+
+abbrev both_regions_of_an_array_of_jchar_look_at_its_end_before_they_look_at_the_array_of_c-world : World
+both_regions_of_an_array_of_jchar_look_at_its_end_before_they_look_at_the_array_of_c-world = world_of 512 both_regions_of_an_array_of_jchar_look_at_its_end_before_they_look_at_the_array_of_c-lines
+
+both_regions_of_an_array_of_jchar_look_at_its_end_before_they_look_at_the_array_of_c-means : IsWorldText (codes "heap 512\nclass A\narray @a C 5 6\nthread Java_A_f @a\n") both_regions_of_an_array_of_jchar_look_at_its_end_before_they_look_at_the_array_of_c-world
+unfolding opened
+both_regions_of_an_array_of_jchar_look_at_its_end_before_they_look_at_the_array_of_c-means = world-text (codes "heap 512\nclass A\narray @a C 5 6\nthread Java_A_f @a\n") 512 both_regions_of_an_array_of_jchar_look_at_its_end_before_they_look_at_the_array_of_c-lines 1 refl refl refl refl
+
+both_regions_of_an_array_of_jchar_look_at_its_end_before_they_look_at_the_array_of_c-accepted : IsAccepted both_regions_of_an_array_of_jchar_look_at_its_end_before_they_look_at_the_array_of_c
+unfolding opened
+both_regions_of_an_array_of_jchar_look_at_its_end_before_they_look_at_the_array_of_c-accepted = accepted both_regions_of_an_array_of_jchar_look_at_its_end_before_they_look_at_the_array_of_c refl refl refl
+
+both_regions_of_an_array_of_jchar_look_at_its_end_before_they_look_at_the_array_of_c-run : IsWorkedRun both_regions_of_an_array_of_jchar_look_at_its_end_before_they_look_at_the_array_of_c (codes "heap 512\nclass A\narray @a C 5 6\nthread Java_A_f @a\n") (codes "1*11\n")
+    (codes "T1 uncaught java/lang/ArrayIndexOutOfBoundsException\n#46 [C 5 6\njournal 1 1 1 1 1 1 1 1 1 1\n")
+unfolding opened
+both_regions_of_an_array_of_jchar_look_at_its_end_before_they_look_at_the_array_of_c-run = worked-run both_regions_of_an_array_of_jchar_look_at_its_end_before_they_look_at_the_array_of_c both_regions_of_an_array_of_jchar_look_at_its_end_before_they_look_at_the_array_of_c-world ((Turn 1, Some 11) ∷ []) [] both_regions_of_an_array_of_jchar_look_at_its_end_before_they_look_at_the_array_of_c-accepted both_regions_of_an_array_of_jchar_look_at_its_end_before_they_look_at_the_array_of_c-means refl refl refl refl
+
+-- GetIntArrayRegion of more elements than the array of C has
+-- JNIEXPORT void JNICALL Java_A_f(JNIEnv *env, jclass cls, jintArray a) {
+-- jint x[1] = {0};
+-- (*env)->GetIntArrayRegion(env, a, 0, 2, x);
+-- return;
+-- }
+abbrev pub getintarrayregion_of_more_elements_than_the_array_of_c_has : SourceUnit
+getintarrayregion_of_more_elements_than_the_array_of_c_has =
+    unit_of
+    (native 1 Void (codes "Java_A_f") (reference_parameter JIntArray (codes "a") ∷ [])
+    (DeclareArray 2 JInt (codes "x") 1
+    ∷ Perform 3 (call (codes "GetIntArrayRegion") (given (codes "a") ∷ Value (Number 0 false) ∷ Value (Number 2 false) ∷ given (codes "x") ∷ []))
+    ∷ Return 4
+    ∷ [])
+    5
+    ∷ [])
+
+getintarrayregion_of_more_elements_than_the_array_of_c_has-accepted : IsAccepted getintarrayregion_of_more_elements_than_the_array_of_c_has
+unfolding opened
+getintarrayregion_of_more_elements_than_the_array_of_c_has-accepted = accepted getintarrayregion_of_more_elements_than_the_array_of_c_has refl refl refl
+
+getintarrayregion_of_more_elements_than_the_array_of_c_has-run : IsWorkedRun getintarrayregion_of_more_elements_than_the_array_of_c_has (codes "heap 512\nclass A\narray @a I 5 6\nthread Java_A_f @a\n") (codes "1*6\n")
+    (codes "T1 trap 3 line 3\n#46 [I 5 6\njournal 1 1 1 1 1\n")
+unfolding opened
+getintarrayregion_of_more_elements_than_the_array_of_c_has-run = worked-run getintarrayregion_of_more_elements_than_the_array_of_c_has no_region_of_an_array_begins_before_it_has_a_negative_length_or_goes_past_its_end-world ((Turn 1, Some 6) ∷ []) [] getintarrayregion_of_more_elements_than_the_array_of_c_has-accepted no_region_of_an_array_begins_before_it_has_a_negative_length_or_goes_past_its_end-means refl refl refl refl
+
+-- SetIntArrayRegion of more elements than the array of C has
+-- JNIEXPORT void JNICALL Java_A_f(JNIEnv *env, jclass cls, jintArray a) {
+-- jint x[1] = {0};
+-- (*env)->SetIntArrayRegion(env, a, 0, 2, x);
+-- return;
+-- }
+abbrev pub setintarrayregion_of_more_elements_than_the_array_of_c_has : SourceUnit
+setintarrayregion_of_more_elements_than_the_array_of_c_has =
+    unit_of
+    (native 1 Void (codes "Java_A_f") (reference_parameter JIntArray (codes "a") ∷ [])
+    (DeclareArray 2 JInt (codes "x") 1
+    ∷ Perform 3 (call (codes "SetIntArrayRegion") (given (codes "a") ∷ Value (Number 0 false) ∷ Value (Number 2 false) ∷ given (codes "x") ∷ []))
+    ∷ Return 4
+    ∷ [])
+    5
+    ∷ [])
+
+setintarrayregion_of_more_elements_than_the_array_of_c_has-accepted : IsAccepted setintarrayregion_of_more_elements_than_the_array_of_c_has
+unfolding opened
+setintarrayregion_of_more_elements_than_the_array_of_c_has-accepted = accepted setintarrayregion_of_more_elements_than_the_array_of_c_has refl refl refl
+
+setintarrayregion_of_more_elements_than_the_array_of_c_has-run : IsWorkedRun setintarrayregion_of_more_elements_than_the_array_of_c_has (codes "heap 512\nclass A\narray @a I 5 6\nthread Java_A_f @a\n") (codes "1*6\n")
+    (codes "T1 trap 3 line 3\n#46 [I 5 6\njournal 1 1 1 1 1\n")
+unfolding opened
+setintarrayregion_of_more_elements_than_the_array_of_c_has-run = worked-run setintarrayregion_of_more_elements_than_the_array_of_c_has no_region_of_an_array_begins_before_it_has_a_negative_length_or_goes_past_its_end-world ((Turn 1, Some 6) ∷ []) [] setintarrayregion_of_more_elements_than_the_array_of_c_has-accepted no_region_of_an_array_begins_before_it_has_a_negative_length_or_goes_past_its_end-means refl refl refl refl
+
+-- GetShortArrayRegion of more elements than the array of C has
+-- JNIEXPORT void JNICALL Java_A_f(JNIEnv *env, jclass cls, jshortArray a) {
+-- jshort x[1] = {0};
+-- (*env)->GetShortArrayRegion(env, a, 0, 2, x);
+-- return;
+-- }
+abbrev pub getshortarrayregion_of_more_elements_than_the_array_of_c_has : SourceUnit
+getshortarrayregion_of_more_elements_than_the_array_of_c_has =
+    unit_of
+    (native 1 Void (codes "Java_A_f") (reference_parameter JShortArray (codes "a") ∷ [])
+    (DeclareArray 2 JShort (codes "x") 1
+    ∷ Perform 3 (call (codes "GetShortArrayRegion") (given (codes "a") ∷ Value (Number 0 false) ∷ Value (Number 2 false) ∷ given (codes "x") ∷ []))
+    ∷ Return 4
+    ∷ [])
+    5
+    ∷ [])
+
+getshortarrayregion_of_more_elements_than_the_array_of_c_has-accepted : IsAccepted getshortarrayregion_of_more_elements_than_the_array_of_c_has
+unfolding opened
+getshortarrayregion_of_more_elements_than_the_array_of_c_has-accepted = accepted getshortarrayregion_of_more_elements_than_the_array_of_c_has refl refl refl
+
+getshortarrayregion_of_more_elements_than_the_array_of_c_has-run : IsWorkedRun getshortarrayregion_of_more_elements_than_the_array_of_c_has (codes "heap 512\nclass A\narray @a S 5 6\nthread Java_A_f @a\n") (codes "1*6\n")
+    (codes "T1 trap 3 line 3\n#46 [S 5 6\njournal 1 1 1 1 1\n")
+unfolding opened
+getshortarrayregion_of_more_elements_than_the_array_of_c_has-run = worked-run getshortarrayregion_of_more_elements_than_the_array_of_c_has both_regions_of_an_array_of_jshort_look_at_its_end_before_they_look_at_the_array_of_c-world ((Turn 1, Some 6) ∷ []) [] getshortarrayregion_of_more_elements_than_the_array_of_c_has-accepted both_regions_of_an_array_of_jshort_look_at_its_end_before_they_look_at_the_array_of_c-means refl refl refl refl
+
+-- SetShortArrayRegion of more elements than the array of C has
+-- JNIEXPORT void JNICALL Java_A_f(JNIEnv *env, jclass cls, jshortArray a) {
+-- jshort x[1] = {0};
+-- (*env)->SetShortArrayRegion(env, a, 0, 2, x);
+-- return;
+-- }
+abbrev pub setshortarrayregion_of_more_elements_than_the_array_of_c_has : SourceUnit
+setshortarrayregion_of_more_elements_than_the_array_of_c_has =
+    unit_of
+    (native 1 Void (codes "Java_A_f") (reference_parameter JShortArray (codes "a") ∷ [])
+    (DeclareArray 2 JShort (codes "x") 1
+    ∷ Perform 3 (call (codes "SetShortArrayRegion") (given (codes "a") ∷ Value (Number 0 false) ∷ Value (Number 2 false) ∷ given (codes "x") ∷ []))
+    ∷ Return 4
+    ∷ [])
+    5
+    ∷ [])
+
+setshortarrayregion_of_more_elements_than_the_array_of_c_has-accepted : IsAccepted setshortarrayregion_of_more_elements_than_the_array_of_c_has
+unfolding opened
+setshortarrayregion_of_more_elements_than_the_array_of_c_has-accepted = accepted setshortarrayregion_of_more_elements_than_the_array_of_c_has refl refl refl
+
+setshortarrayregion_of_more_elements_than_the_array_of_c_has-run : IsWorkedRun setshortarrayregion_of_more_elements_than_the_array_of_c_has (codes "heap 512\nclass A\narray @a S 5 6\nthread Java_A_f @a\n") (codes "1*6\n")
+    (codes "T1 trap 3 line 3\n#46 [S 5 6\njournal 1 1 1 1 1\n")
+unfolding opened
+setshortarrayregion_of_more_elements_than_the_array_of_c_has-run = worked-run setshortarrayregion_of_more_elements_than_the_array_of_c_has both_regions_of_an_array_of_jshort_look_at_its_end_before_they_look_at_the_array_of_c-world ((Turn 1, Some 6) ∷ []) [] setshortarrayregion_of_more_elements_than_the_array_of_c_has-accepted both_regions_of_an_array_of_jshort_look_at_its_end_before_they_look_at_the_array_of_c-means refl refl refl refl
+
+-- SetByteArrayRegion of more elements than the array of C has
+-- JNIEXPORT void JNICALL Java_A_f(JNIEnv *env, jclass cls, jbyteArray a) {
+-- jbyte x[1] = {0};
+-- (*env)->SetByteArrayRegion(env, a, 0, 2, x);
+-- return;
+-- }
+abbrev pub setbytearrayregion_of_more_elements_than_the_array_of_c_has : SourceUnit
+setbytearrayregion_of_more_elements_than_the_array_of_c_has =
+    unit_of
+    (native 1 Void (codes "Java_A_f") (reference_parameter JByteArray (codes "a") ∷ [])
+    (DeclareArray 2 JByte (codes "x") 1
+    ∷ Perform 3 (call (codes "SetByteArrayRegion") (given (codes "a") ∷ Value (Number 0 false) ∷ Value (Number 2 false) ∷ given (codes "x") ∷ []))
+    ∷ Return 4
+    ∷ [])
+    5
+    ∷ [])
+
+setbytearrayregion_of_more_elements_than_the_array_of_c_has-accepted : IsAccepted setbytearrayregion_of_more_elements_than_the_array_of_c_has
+unfolding opened
+setbytearrayregion_of_more_elements_than_the_array_of_c_has-accepted = accepted setbytearrayregion_of_more_elements_than_the_array_of_c_has refl refl refl
+
+setbytearrayregion_of_more_elements_than_the_array_of_c_has-run : IsWorkedRun setbytearrayregion_of_more_elements_than_the_array_of_c_has (codes "heap 512\nclass A\narray @a B 5 6\nthread Java_A_f @a\n") (codes "1*6\n")
+    (codes "T1 trap 3 line 3\n#46 [B 5 6\njournal 1 1 1 1 1\n")
+unfolding opened
+setbytearrayregion_of_more_elements_than_the_array_of_c_has-run = worked-run setbytearrayregion_of_more_elements_than_the_array_of_c_has both_regions_of_an_array_of_jbyte_look_at_its_end_before_they_look_at_the_array_of_c-world ((Turn 1, Some 6) ∷ []) [] setbytearrayregion_of_more_elements_than_the_array_of_c_has-accepted both_regions_of_an_array_of_jbyte_look_at_its_end_before_they_look_at_the_array_of_c-means refl refl refl refl
+
+-- GetCharArrayRegion of more elements than the array of C has
+-- JNIEXPORT void JNICALL Java_A_f(JNIEnv *env, jclass cls, jcharArray a) {
+-- jchar x[1] = {0};
+-- (*env)->GetCharArrayRegion(env, a, 0, 2, x);
+-- return;
+-- }
+abbrev pub getchararrayregion_of_more_elements_than_the_array_of_c_has : SourceUnit
+getchararrayregion_of_more_elements_than_the_array_of_c_has =
+    unit_of
+    (native 1 Void (codes "Java_A_f") (reference_parameter JCharArray (codes "a") ∷ [])
+    (DeclareArray 2 JChar (codes "x") 1
+    ∷ Perform 3 (call (codes "GetCharArrayRegion") (given (codes "a") ∷ Value (Number 0 false) ∷ Value (Number 2 false) ∷ given (codes "x") ∷ []))
+    ∷ Return 4
+    ∷ [])
+    5
+    ∷ [])
+
+getchararrayregion_of_more_elements_than_the_array_of_c_has-accepted : IsAccepted getchararrayregion_of_more_elements_than_the_array_of_c_has
+unfolding opened
+getchararrayregion_of_more_elements_than_the_array_of_c_has-accepted = accepted getchararrayregion_of_more_elements_than_the_array_of_c_has refl refl refl
+
+getchararrayregion_of_more_elements_than_the_array_of_c_has-run : IsWorkedRun getchararrayregion_of_more_elements_than_the_array_of_c_has (codes "heap 512\nclass A\narray @a C 5 6\nthread Java_A_f @a\n") (codes "1*6\n")
+    (codes "T1 trap 3 line 3\n#46 [C 5 6\njournal 1 1 1 1 1\n")
+unfolding opened
+getchararrayregion_of_more_elements_than_the_array_of_c_has-run = worked-run getchararrayregion_of_more_elements_than_the_array_of_c_has both_regions_of_an_array_of_jchar_look_at_its_end_before_they_look_at_the_array_of_c-world ((Turn 1, Some 6) ∷ []) [] getchararrayregion_of_more_elements_than_the_array_of_c_has-accepted both_regions_of_an_array_of_jchar_look_at_its_end_before_they_look_at_the_array_of_c-means refl refl refl refl
+
+-- SetCharArrayRegion of more elements than the array of C has
+-- JNIEXPORT void JNICALL Java_A_f(JNIEnv *env, jclass cls, jcharArray a) {
+-- jchar x[1] = {0};
+-- (*env)->SetCharArrayRegion(env, a, 0, 2, x);
+-- return;
+-- }
+abbrev pub setchararrayregion_of_more_elements_than_the_array_of_c_has : SourceUnit
+setchararrayregion_of_more_elements_than_the_array_of_c_has =
+    unit_of
+    (native 1 Void (codes "Java_A_f") (reference_parameter JCharArray (codes "a") ∷ [])
+    (DeclareArray 2 JChar (codes "x") 1
+    ∷ Perform 3 (call (codes "SetCharArrayRegion") (given (codes "a") ∷ Value (Number 0 false) ∷ Value (Number 2 false) ∷ given (codes "x") ∷ []))
+    ∷ Return 4
+    ∷ [])
+    5
+    ∷ [])
+
+setchararrayregion_of_more_elements_than_the_array_of_c_has-accepted : IsAccepted setchararrayregion_of_more_elements_than_the_array_of_c_has
+unfolding opened
+setchararrayregion_of_more_elements_than_the_array_of_c_has-accepted = accepted setchararrayregion_of_more_elements_than_the_array_of_c_has refl refl refl
+
+setchararrayregion_of_more_elements_than_the_array_of_c_has-run : IsWorkedRun setchararrayregion_of_more_elements_than_the_array_of_c_has (codes "heap 512\nclass A\narray @a C 5 6\nthread Java_A_f @a\n") (codes "1*6\n")
+    (codes "T1 trap 3 line 3\n#46 [C 5 6\njournal 1 1 1 1 1\n")
+unfolding opened
+setchararrayregion_of_more_elements_than_the_array_of_c_has-run = worked-run setchararrayregion_of_more_elements_than_the_array_of_c_has both_regions_of_an_array_of_jchar_look_at_its_end_before_they_look_at_the_array_of_c-world ((Turn 1, Some 6) ∷ []) [] setchararrayregion_of_more_elements_than_the_array_of_c_has-accepted both_regions_of_an_array_of_jchar_look_at_its_end_before_they_look_at_the_array_of_c-means refl refl refl refl
+
+-- no region of a string begins before it, has a negative length or goes past its end
+-- JNIEXPORT void JNICALL Java_A_f(JNIEnv *env, jclass cls, jstring s) {
+-- jchar x[1] = {0};
+-- (*env)->GetStringRegion(env, s, (jint)~0u, 1, x);
+-- jthrowable t = (*env)->ExceptionOccurred(env);
+-- (*env)->ExceptionClear(env);
+-- (*env)->GetStringRegion(env, s, 0, (jint)~0u, x);
+-- jthrowable u = (*env)->ExceptionOccurred(env);
+-- (*env)->ExceptionClear(env);
+-- (*env)->GetStringRegion(env, s, 2, 0, x);
+-- (*env)->GetStringRegion(env, s, 1, 2, x);
+-- return;
+-- }
+abbrev pub no_region_of_a_string_begins_before_it_has_a_negative_length_or_goes_past_its_end : SourceUnit
+no_region_of_a_string_begins_before_it_has_a_negative_length_or_goes_past_its_end =
+    unit_of
+    (native 1 Void (codes "Java_A_f") (reference_parameter JString (codes "s") ∷ [])
+    (DeclareArray 2 JChar (codes "x") 1
+    ∷ Perform 3 (call (codes "GetStringRegion") (given (codes "s") ∷ Value (Prefix ToInt (Prefix Complement (Number 0 true))) ∷ Value (Number 1 false) ∷ given (codes "x") ∷ []))
+    ∷ Declare 4 (ReferenceVariable JThrowable) (codes "t") (FromCall (call (codes "ExceptionOccurred") []))
+    ∷ Perform 5 (call (codes "ExceptionClear") [])
+    ∷ Perform 6 (call (codes "GetStringRegion") (given (codes "s") ∷ Value (Number 0 false) ∷ Value (Prefix ToInt (Prefix Complement (Number 0 true))) ∷ given (codes "x") ∷ []))
+    ∷ Declare 7 (ReferenceVariable JThrowable) (codes "u") (FromCall (call (codes "ExceptionOccurred") []))
+    ∷ Perform 8 (call (codes "ExceptionClear") [])
+    ∷ Perform 9 (call (codes "GetStringRegion") (given (codes "s") ∷ Value (Number 2 false) ∷ Value (Number 0 false) ∷ given (codes "x") ∷ []))
+    ∷ Perform 10 (call (codes "GetStringRegion") (given (codes "s") ∷ Value (Number 1 false) ∷ Value (Number 2 false) ∷ given (codes "x") ∷ []))
+    ∷ Return 11
+    ∷ [])
+    12
+    ∷ [])
+
+abbrev no_region_of_a_string_begins_before_it_has_a_negative_length_or_goes_past_its_end-lines : Lines
+no_region_of_a_string_begins_before_it_has_a_negative_length_or_goes_past_its_end-lines =
+    (2, ClassLine (codes "A") None)
+    ∷ (3, StringLine (codes "s") (codes "hi"))
+    ∷ (4, ThreadLine (codes "Java_A_f") (NamedObject (codes "s") ∷ []))
+    ∷ []
+
+abbrev no_region_of_a_string_begins_before_it_has_a_negative_length_or_goes_past_its_end-world : World
+no_region_of_a_string_begins_before_it_has_a_negative_length_or_goes_past_its_end-world = world_of 512 no_region_of_a_string_begins_before_it_has_a_negative_length_or_goes_past_its_end-lines
+
+no_region_of_a_string_begins_before_it_has_a_negative_length_or_goes_past_its_end-means : IsWorldText (codes "heap 512\nclass A\nstring @s hi\nthread Java_A_f @s\n") no_region_of_a_string_begins_before_it_has_a_negative_length_or_goes_past_its_end-world
+unfolding opened
+no_region_of_a_string_begins_before_it_has_a_negative_length_or_goes_past_its_end-means = world-text (codes "heap 512\nclass A\nstring @s hi\nthread Java_A_f @s\n") 512 no_region_of_a_string_begins_before_it_has_a_negative_length_or_goes_past_its_end-lines 1 refl refl refl refl
+
+no_region_of_a_string_begins_before_it_has_a_negative_length_or_goes_past_its_end-accepted : IsAccepted no_region_of_a_string_begins_before_it_has_a_negative_length_or_goes_past_its_end
+unfolding opened
+no_region_of_a_string_begins_before_it_has_a_negative_length_or_goes_past_its_end-accepted = accepted no_region_of_a_string_begins_before_it_has_a_negative_length_or_goes_past_its_end refl refl refl
+
+no_region_of_a_string_begins_before_it_has_a_negative_length_or_goes_past_its_end-run : IsWorkedRun no_region_of_a_string_begins_before_it_has_a_negative_length_or_goes_past_its_end (codes "heap 512\nclass A\nstring @s hi\nthread Java_A_f @s\n") (codes "1*22\n")
+    (codes "T1 running\n#46 java/lang/String 104 105\n#47 java/lang/StringIndexOutOfBoundsException null\n#48 java/lang/StringIndexOutOfBoundsException null\n#49 java/lang/StringIndexOutOfBoundsException null\njournal 1 1 1 1 1 1 1 1 1 1 1 1 1 1 1 1 1 1 1 1 1 1\n")
+unfolding opened
+no_region_of_a_string_begins_before_it_has_a_negative_length_or_goes_past_its_end-run = worked-run no_region_of_a_string_begins_before_it_has_a_negative_length_or_goes_past_its_end no_region_of_a_string_begins_before_it_has_a_negative_length_or_goes_past_its_end-world ((Turn 1, Some 22) ∷ []) [] no_region_of_a_string_begins_before_it_has_a_negative_length_or_goes_past_its_end-accepted no_region_of_a_string_begins_before_it_has_a_negative_length_or_goes_past_its_end-means refl refl refl refl
+
+-- GetStringRegion of more characters than the array of C has
+-- JNIEXPORT void JNICALL Java_A_f(JNIEnv *env, jclass cls, jstring s) {
+-- jchar x[1] = {0};
+-- (*env)->GetStringRegion(env, s, 0, 2, x);
+-- return;
+-- }
+abbrev pub getstringregion_of_more_characters_than_the_array_of_c_has : SourceUnit
+getstringregion_of_more_characters_than_the_array_of_c_has =
+    unit_of
+    (native 1 Void (codes "Java_A_f") (reference_parameter JString (codes "s") ∷ [])
+    (DeclareArray 2 JChar (codes "x") 1
+    ∷ Perform 3 (call (codes "GetStringRegion") (given (codes "s") ∷ Value (Number 0 false) ∷ Value (Number 2 false) ∷ given (codes "x") ∷ []))
+    ∷ Return 4
+    ∷ [])
+    5
+    ∷ [])
+
+getstringregion_of_more_characters_than_the_array_of_c_has-accepted : IsAccepted getstringregion_of_more_characters_than_the_array_of_c_has
+unfolding opened
+getstringregion_of_more_characters_than_the_array_of_c_has-accepted = accepted getstringregion_of_more_characters_than_the_array_of_c_has refl refl refl
+
+getstringregion_of_more_characters_than_the_array_of_c_has-run : IsWorkedRun getstringregion_of_more_characters_than_the_array_of_c_has (codes "heap 512\nclass A\nstring @s hi\nthread Java_A_f @s\n") (codes "1*6\n")
+    (codes "T1 trap 3 line 3\n#46 java/lang/String 104 105\njournal 1 1 1 1 1\n")
+unfolding opened
+getstringregion_of_more_characters_than_the_array_of_c_has-run = worked-run getstringregion_of_more_characters_than_the_array_of_c_has no_region_of_a_string_begins_before_it_has_a_negative_length_or_goes_past_its_end-world ((Turn 1, Some 6) ∷ []) [] getstringregion_of_more_characters_than_the_array_of_c_has-accepted no_region_of_a_string_begins_before_it_has_a_negative_length_or_goes_past_its_end-means refl refl refl refl
+
+-- a pending exception is told before a deleted static
+-- static jintArray g = NULL;
+-- JNIEXPORT void JNICALL Java_A_f(JNIEnv *env, jclass cls) {
+-- jint x[1] = {0};
+-- g = (*env)->NewGlobalRef(env, cls);
+-- (*env)->DeleteGlobalRef(env, g);
+-- jclass c = (*env)->FindClass(env, "B");
+-- (*env)->GetIntArrayRegion(env, g, 0, 2, x);
+-- return;
+-- }
+abbrev pub a_pending_exception_is_told_before_a_deleted_static : SourceUnit
+a_pending_exception_is_told_before_a_deleted_static =
+    unit_of
+    (static_reference 1 JIntArray (codes "g")
+    ∷ native 2 Void (codes "Java_A_f") []
+    (DeclareArray 3 JInt (codes "x") 1
+    ∷ Assign 4 (codes "g") (FromCall (call (codes "NewGlobalRef") (given (codes "cls") ∷ [])))
+    ∷ Perform 5 (call (codes "DeleteGlobalRef") (given (codes "g") ∷ []))
+    ∷ Declare 6 (ReferenceVariable JClass) (codes "c") (FromCall (call (codes "FindClass") (Text (codes "B") ∷ [])))
+    ∷ Perform 7 (call (codes "GetIntArrayRegion") (given (codes "g") ∷ Value (Number 0 false) ∷ Value (Number 2 false) ∷ given (codes "x") ∷ []))
+    ∷ Return 8
+    ∷ [])
+    9
+    ∷ [])
+
+abbrev a_pending_exception_is_told_before_a_deleted_static-lines : Lines
+a_pending_exception_is_told_before_a_deleted_static-lines =
+    (2, ClassLine (codes "A") None)
+    ∷ (3, ThreadLine (codes "Java_A_f") [])
+    ∷ []
+
+abbrev a_pending_exception_is_told_before_a_deleted_static-world : World
+a_pending_exception_is_told_before_a_deleted_static-world = world_of 512 a_pending_exception_is_told_before_a_deleted_static-lines
+
+a_pending_exception_is_told_before_a_deleted_static-means : IsWorldText (codes "heap 512\nclass A\nthread Java_A_f\n") a_pending_exception_is_told_before_a_deleted_static-world
+unfolding opened
+a_pending_exception_is_told_before_a_deleted_static-means = world-text (codes "heap 512\nclass A\nthread Java_A_f\n") 512 a_pending_exception_is_told_before_a_deleted_static-lines 1 refl refl refl refl
+
+a_pending_exception_is_told_before_a_deleted_static-accepted : IsAccepted a_pending_exception_is_told_before_a_deleted_static
+unfolding opened
+a_pending_exception_is_told_before_a_deleted_static-accepted = accepted a_pending_exception_is_told_before_a_deleted_static refl refl refl
+
+a_pending_exception_is_told_before_a_deleted_static-run : IsWorkedRun a_pending_exception_is_told_before_a_deleted_static (codes "heap 512\nclass A\nthread Java_A_f\n") (codes "1*9\n")
+    (codes "T1 trap 5 line 7\n#46 java/lang/NoClassDefFoundError null\njournal 1 1 1 1 1 1 1 1\n")
+unfolding opened
+a_pending_exception_is_told_before_a_deleted_static-run = worked-run a_pending_exception_is_told_before_a_deleted_static a_pending_exception_is_told_before_a_deleted_static-world ((Turn 1, Some 9) ∷ []) [] a_pending_exception_is_told_before_a_deleted_static-accepted a_pending_exception_is_told_before_a_deleted_static-means refl refl refl refl
+
+-- a deleted static is told before an index that is past the end
+-- static jshortArray g = NULL;
+-- JNIEXPORT void JNICALL Java_A_f(JNIEnv *env, jclass cls, jshortArray a) {
+-- jshort x[1] = {0};
+-- g = (*env)->NewGlobalRef(env, a);
+-- (*env)->DeleteGlobalRef(env, g);
+-- (*env)->SetShortArrayRegion(env, g, 2, 2, x);
+-- return;
+-- }
+abbrev pub a_deleted_static_is_told_before_an_index_that_is_past_the_end : SourceUnit
+a_deleted_static_is_told_before_an_index_that_is_past_the_end =
+    unit_of
+    (static_reference 1 JShortArray (codes "g")
+    ∷ native 2 Void (codes "Java_A_f") (reference_parameter JShortArray (codes "a") ∷ [])
+    (DeclareArray 3 JShort (codes "x") 1
+    ∷ Assign 4 (codes "g") (FromCall (call (codes "NewGlobalRef") (given (codes "a") ∷ [])))
+    ∷ Perform 5 (call (codes "DeleteGlobalRef") (given (codes "g") ∷ []))
+    ∷ Perform 6 (call (codes "SetShortArrayRegion") (given (codes "g") ∷ Value (Number 2 false) ∷ Value (Number 2 false) ∷ given (codes "x") ∷ []))
+    ∷ Return 7
+    ∷ [])
+    8
+    ∷ [])
+
+a_deleted_static_is_told_before_an_index_that_is_past_the_end-accepted : IsAccepted a_deleted_static_is_told_before_an_index_that_is_past_the_end
+unfolding opened
+a_deleted_static_is_told_before_an_index_that_is_past_the_end-accepted = accepted a_deleted_static_is_told_before_an_index_that_is_past_the_end refl refl refl
+
+a_deleted_static_is_told_before_an_index_that_is_past_the_end-run : IsWorkedRun a_deleted_static_is_told_before_an_index_that_is_past_the_end (codes "heap 512\nclass A\narray @a S 5 6\nthread Java_A_f @a\n") (codes "1*8\n")
+    (codes "T1 trap 7 line 6\n#46 [S 5 6\njournal 1 1 1 1 1 1 1\n")
+unfolding opened
+a_deleted_static_is_told_before_an_index_that_is_past_the_end-run = worked-run a_deleted_static_is_told_before_an_index_that_is_past_the_end both_regions_of_an_array_of_jshort_look_at_its_end_before_they_look_at_the_array_of_c-world ((Turn 1, Some 8) ∷ []) [] a_deleted_static_is_told_before_an_index_that_is_past_the_end-accepted both_regions_of_an_array_of_jshort_look_at_its_end_before_they_look_at_the_array_of_c-means refl refl refl refl
+
+-- an array that is NULL is told before an index below zero
+-- JNIEXPORT void JNICALL Java_A_f(JNIEnv *env, jclass cls, jbyteArray a) {
+-- jbyte x[1] = {0};
+-- (*env)->GetByteArrayRegion(env, a, (jint)~0u, 1, x);
+-- return;
+-- }
+abbrev pub an_array_that_is_null_is_told_before_an_index_below_zero : SourceUnit
+an_array_that_is_null_is_told_before_an_index_below_zero =
+    unit_of
+    (native 1 Void (codes "Java_A_f") (reference_parameter JByteArray (codes "a") ∷ [])
+    (DeclareArray 2 JByte (codes "x") 1
+    ∷ Perform 3 (call (codes "GetByteArrayRegion") (given (codes "a") ∷ Value (Prefix ToInt (Prefix Complement (Number 0 true))) ∷ Value (Number 1 false) ∷ given (codes "x") ∷ []))
+    ∷ Return 4
+    ∷ [])
+    5
+    ∷ [])
+
+abbrev an_array_that_is_null_is_told_before_an_index_below_zero-lines : Lines
+an_array_that_is_null_is_told_before_an_index_below_zero-lines =
+    (2, ClassLine (codes "A") None)
+    ∷ (3, ThreadLine (codes "Java_A_f") (NullValue ∷ []))
+    ∷ []
+
+abbrev an_array_that_is_null_is_told_before_an_index_below_zero-world : World
+an_array_that_is_null_is_told_before_an_index_below_zero-world = world_of 512 an_array_that_is_null_is_told_before_an_index_below_zero-lines
+
+an_array_that_is_null_is_told_before_an_index_below_zero-means : IsWorldText (codes "heap 512\nclass A\nthread Java_A_f null\n") an_array_that_is_null_is_told_before_an_index_below_zero-world
+unfolding opened
+an_array_that_is_null_is_told_before_an_index_below_zero-means = world-text (codes "heap 512\nclass A\nthread Java_A_f null\n") 512 an_array_that_is_null_is_told_before_an_index_below_zero-lines 1 refl refl refl refl
+
+an_array_that_is_null_is_told_before_an_index_below_zero-accepted : IsAccepted an_array_that_is_null_is_told_before_an_index_below_zero
+unfolding opened
+an_array_that_is_null_is_told_before_an_index_below_zero-accepted = accepted an_array_that_is_null_is_told_before_an_index_below_zero refl refl refl
+
+an_array_that_is_null_is_told_before_an_index_below_zero-run : IsWorkedRun an_array_that_is_null_is_told_before_an_index_below_zero (codes "heap 512\nclass A\nthread Java_A_f null\n") (codes "1*8\n")
+    (codes "T1 trap 4 line 3\njournal 1 1 1 1 1 1 1\n")
+unfolding opened
+an_array_that_is_null_is_told_before_an_index_below_zero-run = worked-run an_array_that_is_null_is_told_before_an_index_below_zero an_array_that_is_null_is_told_before_an_index_below_zero-world ((Turn 1, Some 8) ∷ []) [] an_array_that_is_null_is_told_before_an_index_below_zero-accepted an_array_that_is_null_is_told_before_an_index_below_zero-means refl refl refl refl
+
+-- a string that is NULL
+-- JNIEXPORT void JNICALL Java_A_f(JNIEnv *env, jclass cls) {
+-- jchar x[1] = {0};
+-- (*env)->GetStringRegion(env, NULL, 0, 2, x);
+-- return;
+-- }
+abbrev pub a_string_that_is_null : SourceUnit
+a_string_that_is_null =
+    unit_of
+    (native 1 Void (codes "Java_A_f") []
+    (DeclareArray 2 JChar (codes "x") 1
+    ∷ Perform 3 (call (codes "GetStringRegion") (Value (Named Null) ∷ Value (Number 0 false) ∷ Value (Number 2 false) ∷ given (codes "x") ∷ []))
+    ∷ Return 4
+    ∷ [])
+    5
+    ∷ [])
+
+a_string_that_is_null-accepted : IsAccepted a_string_that_is_null
+unfolding opened
+a_string_that_is_null-accepted = accepted a_string_that_is_null refl refl refl
+
+a_string_that_is_null-run : IsWorkedRun a_string_that_is_null (codes "heap 512\nclass A\nthread Java_A_f\n") (codes "1*6\n")
+    (codes "T1 trap 4 line 3\njournal 1 1 1 1 1\n")
+unfolding opened
+a_string_that_is_null-run = worked-run a_string_that_is_null a_pending_exception_is_told_before_a_deleted_static-world ((Turn 1, Some 6) ∷ []) [] a_string_that_is_null-accepted a_pending_exception_is_told_before_a_deleted_static-means refl refl refl refl
+
+-- an array of another type is told before an index that is past the end
+-- JNIEXPORT void JNICALL Java_A_f(JNIEnv *env, jclass cls, jobject a) {
+-- jchar x[1] = {0};
+-- (*env)->SetCharArrayRegion(env, a, 3, 2, x);
+-- return;
+-- }
+abbrev pub an_array_of_another_type_is_told_before_an_index_that_is_past_the_end : SourceUnit
+an_array_of_another_type_is_told_before_an_index_that_is_past_the_end =
+    unit_of
+    (native 1 Void (codes "Java_A_f") (reference_parameter JObject (codes "a") ∷ [])
+    (DeclareArray 2 JChar (codes "x") 1
+    ∷ Perform 3 (call (codes "SetCharArrayRegion") (given (codes "a") ∷ Value (Number 3 false) ∷ Value (Number 2 false) ∷ given (codes "x") ∷ []))
+    ∷ Return 4
+    ∷ [])
+    5
+    ∷ [])
+
+an_array_of_another_type_is_told_before_an_index_that_is_past_the_end-accepted : IsAccepted an_array_of_another_type_is_told_before_an_index_that_is_past_the_end
+unfolding opened
+an_array_of_another_type_is_told_before_an_index_that_is_past_the_end-accepted = accepted an_array_of_another_type_is_told_before_an_index_that_is_past_the_end refl refl refl
+
+an_array_of_another_type_is_told_before_an_index_that_is_past_the_end-run : IsWorkedRun an_array_of_another_type_is_told_before_an_index_that_is_past_the_end (codes "heap 512\nclass A\narray @a S 5 6\nthread Java_A_f @a\n") (codes "1*6\n")
+    (codes "T1 trap 6 line 3\n#46 [S 5 6\njournal 1 1 1 1 1\n")
+unfolding opened
+an_array_of_another_type_is_told_before_an_index_that_is_past_the_end-run = worked-run an_array_of_another_type_is_told_before_an_index_that_is_past_the_end both_regions_of_an_array_of_jshort_look_at_its_end_before_they_look_at_the_array_of_c-world ((Turn 1, Some 6) ∷ []) [] an_array_of_another_type_is_told_before_an_index_that_is_past_the_end-accepted both_regions_of_an_array_of_jshort_look_at_its_end_before_they_look_at_the_array_of_c-means refl refl refl refl
+
+-- a string is no array of characters
+-- JNIEXPORT void JNICALL Java_A_f(JNIEnv *env, jclass cls, jobject s) {
+-- jchar x[2] = {0};
+-- (*env)->GetCharArrayRegion(env, s, 0, 2, x);
+-- return;
+-- }
+abbrev pub a_string_is_no_array_of_characters : SourceUnit
+a_string_is_no_array_of_characters =
+    unit_of
+    (native 1 Void (codes "Java_A_f") (reference_parameter JObject (codes "s") ∷ [])
+    (DeclareArray 2 JChar (codes "x") 2
+    ∷ Perform 3 (call (codes "GetCharArrayRegion") (given (codes "s") ∷ Value (Number 0 false) ∷ Value (Number 2 false) ∷ given (codes "x") ∷ []))
+    ∷ Return 4
+    ∷ [])
+    5
+    ∷ [])
+
+a_string_is_no_array_of_characters-accepted : IsAccepted a_string_is_no_array_of_characters
+unfolding opened
+a_string_is_no_array_of_characters-accepted = accepted a_string_is_no_array_of_characters refl refl refl
+
+a_string_is_no_array_of_characters-run : IsWorkedRun a_string_is_no_array_of_characters (codes "heap 512\nclass A\nstring @s hi\nthread Java_A_f @s\n") (codes "1*6\n")
+    (codes "T1 trap 6 line 3\n#46 java/lang/String 104 105\njournal 1 1 1 1 1\n")
+unfolding opened
+a_string_is_no_array_of_characters-run = worked-run a_string_is_no_array_of_characters no_region_of_a_string_begins_before_it_has_a_negative_length_or_goes_past_its_end-world ((Turn 1, Some 6) ∷ []) [] a_string_is_no_array_of_characters-accepted no_region_of_a_string_begins_before_it_has_a_negative_length_or_goes_past_its_end-means refl refl refl refl
+
+-- an array of characters is no string, which is told before an index past the end
+-- JNIEXPORT void JNICALL Java_A_f(JNIEnv *env, jclass cls, jobject a) {
+-- jchar x[1] = {0};
+-- (*env)->GetStringRegion(env, a, 3, 2, x);
+-- return;
+-- }
+abbrev pub an_array_of_characters_is_no_string_which_is_told_before_an_index_past_the_end : SourceUnit
+an_array_of_characters_is_no_string_which_is_told_before_an_index_past_the_end =
+    unit_of
+    (native 1 Void (codes "Java_A_f") (reference_parameter JObject (codes "a") ∷ [])
+    (DeclareArray 2 JChar (codes "x") 1
+    ∷ Perform 3 (call (codes "GetStringRegion") (given (codes "a") ∷ Value (Number 3 false) ∷ Value (Number 2 false) ∷ given (codes "x") ∷ []))
+    ∷ Return 4
+    ∷ [])
+    5
+    ∷ [])
+
+an_array_of_characters_is_no_string_which_is_told_before_an_index_past_the_end-accepted : IsAccepted an_array_of_characters_is_no_string_which_is_told_before_an_index_past_the_end
+unfolding opened
+an_array_of_characters_is_no_string_which_is_told_before_an_index_past_the_end-accepted = accepted an_array_of_characters_is_no_string_which_is_told_before_an_index_past_the_end refl refl refl
+
+an_array_of_characters_is_no_string_which_is_told_before_an_index_past_the_end-run : IsWorkedRun an_array_of_characters_is_no_string_which_is_told_before_an_index_past_the_end (codes "heap 512\nclass A\narray @a C 5 6\nthread Java_A_f @a\n") (codes "1*6\n")
+    (codes "T1 trap 6 line 3\n#46 [C 5 6\njournal 1 1 1 1 1\n")
+unfolding opened
+an_array_of_characters_is_no_string_which_is_told_before_an_index_past_the_end-run = worked-run an_array_of_characters_is_no_string_which_is_told_before_an_index_past_the_end both_regions_of_an_array_of_jchar_look_at_its_end_before_they_look_at_the_array_of_c-world ((Turn 1, Some 6) ∷ []) [] an_array_of_characters_is_no_string_which_is_told_before_an_index_past_the_end-accepted both_regions_of_an_array_of_jchar_look_at_its_end_before_they_look_at_the_array_of_c-means refl refl refl refl
+
+-- the exception of a region is refused
+-- JNIEXPORT void JNICALL Java_A_f(JNIEnv *env, jclass cls, jintArray a) {
+-- jint x[1] = {0};
+-- (*env)->GetIntArrayRegion(env, a, 2, 1, x);
+-- return;
+-- }
+abbrev pub the_exception_of_a_region_is_refused : SourceUnit
+the_exception_of_a_region_is_refused =
+    unit_of
+    (native 1 Void (codes "Java_A_f") (reference_parameter JIntArray (codes "a") ∷ [])
+    (DeclareArray 2 JInt (codes "x") 1
+    ∷ Perform 3 (call (codes "GetIntArrayRegion") (given (codes "a") ∷ Value (Number 2 false) ∷ Value (Number 1 false) ∷ given (codes "x") ∷ []))
+    ∷ Return 4
+    ∷ [])
+    5
+    ∷ [])
+
+the_exception_of_a_region_is_refused-accepted : IsAccepted the_exception_of_a_region_is_refused
+unfolding opened
+the_exception_of_a_region_is_refused-accepted = accepted the_exception_of_a_region_is_refused refl refl refl
+
+the_exception_of_a_region_is_refused-replay : IsWorkedReplay the_exception_of_a_region_is_refused (codes "heap 512\nclass A\narray @a I 5 6\nthread Java_A_f @a\n") (codes "1 1 1 1 1! 1\n") (codes "T1 uncaught java/lang/OutOfMemoryError\n#46 [I 5 6\njournal 1 1 1 1 1! 1\n")
+unfolding opened
+the_exception_of_a_region_is_refused-replay = worked-replay the_exception_of_a_region_is_refused no_region_of_an_array_begins_before_it_has_a_negative_length_or_goes_past_its_end-world (entries 1 4 ++ entry 1 true ∷ [] ++ entries 1 1) the_exception_of_a_region_is_refused-accepted no_region_of_an_array_begins_before_it_has_a_negative_length_or_goes_past_its_end-means refl refl refl refl
+
+-- a mark where a region is within its array
+-- JNIEXPORT void JNICALL Java_A_f(JNIEnv *env, jclass cls, jintArray a) {
+-- jint x[1] = {0};
+-- (*env)->GetIntArrayRegion(env, a, 1, 1, x);
+-- return;
+-- }
+abbrev pub a_mark_where_a_region_is_within_its_array : SourceUnit
+a_mark_where_a_region_is_within_its_array =
+    unit_of
+    (native 1 Void (codes "Java_A_f") (reference_parameter JIntArray (codes "a") ∷ [])
+    (DeclareArray 2 JInt (codes "x") 1
+    ∷ Perform 3 (call (codes "GetIntArrayRegion") (given (codes "a") ∷ Value (Number 1 false) ∷ Value (Number 1 false) ∷ given (codes "x") ∷ []))
+    ∷ Return 4
+    ∷ [])
+    5
+    ∷ [])
+
+a_mark_where_a_region_is_within_its_array-accepted : IsAccepted a_mark_where_a_region_is_within_its_array
+unfolding opened
+a_mark_where_a_region_is_within_its_array-accepted = accepted a_mark_where_a_region_is_within_its_array refl refl refl
+
+a_mark_where_a_region_is_within_its_array-stopped : IsStoppedReplay a_mark_where_a_region_is_within_its_array (codes "heap 512\nclass A\narray @a I 5 6\nthread Java_A_f @a\n") (codes "1 1 1 1 1!\n") 5
+unfolding opened
+a_mark_where_a_region_is_within_its_array-stopped = stopped-replay a_mark_where_a_region_is_within_its_array no_region_of_an_array_begins_before_it_has_a_negative_length_or_goes_past_its_end-world (entries 1 4) (entry 1 true) [] a_mark_where_a_region_is_within_its_array-accepted no_region_of_an_array_begins_before_it_has_a_negative_length_or_goes_past_its_end-means refl refl refl refl

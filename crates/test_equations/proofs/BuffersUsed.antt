@@ -1,0 +1,936 @@
+-- The cases of texts/buffers_used.cases, as examples/worked_equations writes them.
+use Rattle.std.specs.Prelude.{◌∷◌, pos, true, false, [], Some, None, codes, refl}
+use Rattle.base.specs.Element.{JInt, JShort, JByte, JChar}
+use Rattle.syntax.specs.Tree.{Abort, AddressOf, AssignElement, Binary, Commit, Complement, Declare, DeclareArray, DeclareBuffer, DeclareChars, Element, Equal, False, FromCall, FromExpr, If, JBoolean, JByteArray, JCharArray, JClass, JIntArray, JIntVariable, JObject, JString, LogicalAnd, Named, NotEqual, Null, Number, Perform, Prefix, PutJint, ReferenceVariable, Return, SourceUnit, TestExpr, Text, ToInt, Value, Variable, Void, While}
+use Rattle.semantics.specs.declared.schedule.ScheduleWord.TheVariants.{Turn}
+use Rattle.semantics.specs.World.{World}
+use Rattle.world_values.specs.WorldLines.{NumberValue, NullValue, NamedObject, ClassLine, ArrayLine, StringLine, ThreadLine, Lines}
+use Rattle.world_values.specs.WorldMeaning.{world_of}
+use Rattle.world_values.specs.WorldRules.{IsWorldText}
+use Rattle.region_rules.specs.RegionRules.{CallWhileCritical, ReturnWithBuffer, HeldBuffer, UntestedBuffer, WrongBuffer, WaysDiffer}
+use Rattle.test_equations.specs.Claims.{IsAccepted, IsRefused, IsWorkedRun}
+use Rattle.test_equations.proofs.Programs.{unit_of, native, block, reference_parameter, call, given}
+use Rattle.test_equations.proofs.Computed.{opened, accepted, bad_way, world-text, worked-run}
+
+-- a copy that is committed twice overwrites twice, and is the same copy then
+-- JNIEXPORT void JNICALL Java_A_f(JNIEnv *env, jclass cls, jintArray a) {
+-- jint x[2] = {0};
+-- x[0] = 7;
+-- x[1] = 8;
+-- jint *p = (*env)->GetIntArrayElements(env, a, NULL);
+-- if (p != NULL) {
+-- (*env)->SetIntArrayRegion(env, a, 0, 2, x);
+-- put_jint(p[0]);
+-- p[1] = 5;
+-- (*env)->ReleaseIntArrayElements(env, a, p, JNI_COMMIT);
+-- (*env)->SetIntArrayRegion(env, a, 0, 2, x);
+-- put_jint(p[1]);
+-- (*env)->ReleaseIntArrayElements(env, a, p, JNI_COMMIT);
+-- (*env)->ReleaseIntArrayElements(env, a, p, JNI_ABORT);
+-- }
+-- return;
+-- }
+abbrev pub a_copy_that_is_committed_twice_overwrites_twice_and_is_the_same_copy_then : SourceUnit
+a_copy_that_is_committed_twice_overwrites_twice_and_is_the_same_copy_then =
+    unit_of
+    (native 1 Void (codes "Java_A_f") (reference_parameter JIntArray (codes "a") ∷ [])
+    (DeclareArray 2 JInt (codes "x") 2
+    ∷ AssignElement 3 (codes "x") (Number 0 false) (Number 7 false)
+    ∷ AssignElement 4 (codes "x") (Number 1 false) (Number 8 false)
+    ∷ DeclareBuffer 5 JInt (codes "p") (FromCall (call (codes "GetIntArrayElements") (given (codes "a") ∷ Value (Named Null) ∷ [])))
+    ∷ If 6 (TestExpr (Binary NotEqual (Variable (codes "p")) (Named Null)))
+    (block
+    (Perform 7 (call (codes "SetIntArrayRegion") (given (codes "a") ∷ Value (Number 0 false) ∷ Value (Number 2 false) ∷ given (codes "x") ∷ []))
+    ∷ PutJint 8 (Element (codes "p") (Number 0 false))
+    ∷ AssignElement 9 (codes "p") (Number 1 false) (Number 5 false)
+    ∷ Perform 10 (call (codes "ReleaseIntArrayElements") (given (codes "a") ∷ given (codes "p") ∷ Value (Named Commit) ∷ []))
+    ∷ Perform 11 (call (codes "SetIntArrayRegion") (given (codes "a") ∷ Value (Number 0 false) ∷ Value (Number 2 false) ∷ given (codes "x") ∷ []))
+    ∷ PutJint 12 (Element (codes "p") (Number 1 false))
+    ∷ Perform 13 (call (codes "ReleaseIntArrayElements") (given (codes "a") ∷ given (codes "p") ∷ Value (Named Commit) ∷ []))
+    ∷ Perform 14 (call (codes "ReleaseIntArrayElements") (given (codes "a") ∷ given (codes "p") ∷ Value (Named Abort) ∷ []))
+    ∷ [])
+    15)
+    ∷ Return 16
+    ∷ [])
+    17
+    ∷ [])
+
+abbrev a_copy_that_is_committed_twice_overwrites_twice_and_is_the_same_copy_then-lines : Lines
+a_copy_that_is_committed_twice_overwrites_twice_and_is_the_same_copy_then-lines =
+    (2, ClassLine (codes "A") None)
+    ∷ (3, ArrayLine (codes "a") JInt (NumberValue (pos 1) ∷ NumberValue (pos 2) ∷ []))
+    ∷ (4, ThreadLine (codes "Java_A_f") (NamedObject (codes "a") ∷ []))
+    ∷ []
+
+abbrev a_copy_that_is_committed_twice_overwrites_twice_and_is_the_same_copy_then-world : World
+a_copy_that_is_committed_twice_overwrites_twice_and_is_the_same_copy_then-world = world_of 512 a_copy_that_is_committed_twice_overwrites_twice_and_is_the_same_copy_then-lines
+
+a_copy_that_is_committed_twice_overwrites_twice_and_is_the_same_copy_then-means : IsWorldText (codes "heap 512\nclass A\narray @a I 1 2\nthread Java_A_f @a\n") a_copy_that_is_committed_twice_overwrites_twice_and_is_the_same_copy_then-world
+unfolding opened
+a_copy_that_is_committed_twice_overwrites_twice_and_is_the_same_copy_then-means = world-text (codes "heap 512\nclass A\narray @a I 1 2\nthread Java_A_f @a\n") 512 a_copy_that_is_committed_twice_overwrites_twice_and_is_the_same_copy_then-lines 1 refl refl refl refl
+
+a_copy_that_is_committed_twice_overwrites_twice_and_is_the_same_copy_then-accepted : IsAccepted a_copy_that_is_committed_twice_overwrites_twice_and_is_the_same_copy_then
+unfolding opened
+a_copy_that_is_committed_twice_overwrites_twice_and_is_the_same_copy_then-accepted = accepted a_copy_that_is_committed_twice_overwrites_twice_and_is_the_same_copy_then refl refl refl
+
+a_copy_that_is_committed_twice_overwrites_twice_and_is_the_same_copy_then-run : IsWorkedRun a_copy_that_is_committed_twice_overwrites_twice_and_is_the_same_copy_then (codes "heap 512\nclass A\narray @a I 1 2\nthread Java_A_f @a\n") (codes "1*99\n")
+    (codes "T1 1\nT1 5\nT1 ended\n#46 [I 1 5\njournal 1 1 1 1 1 1 1 1 1 1 1 1 1 1 1 1 1 1 1 1 1 1 1 1 1 1 1 1 1 1 1\n")
+unfolding opened
+a_copy_that_is_committed_twice_overwrites_twice_and_is_the_same_copy_then-run = worked-run a_copy_that_is_committed_twice_overwrites_twice_and_is_the_same_copy_then a_copy_that_is_committed_twice_overwrites_twice_and_is_the_same_copy_then-world ((Turn 1, Some 99) ∷ []) [] a_copy_that_is_committed_twice_overwrites_twice_and_is_the_same_copy_then-accepted a_copy_that_is_committed_twice_overwrites_twice_and_is_the_same_copy_then-means refl refl refl refl
+
+-- of two copies the one that is released later stays
+-- JNIEXPORT void JNICALL Java_A_f(JNIEnv *env, jclass cls, jintArray a) {
+-- jint *p = (*env)->GetIntArrayElements(env, a, NULL);
+-- if (p != NULL) {
+-- jint *q = (*env)->GetIntArrayElements(env, a, NULL);
+-- if (q != NULL) {
+-- p[0] = 3;
+-- q[0] = 4;
+-- q[1] = 5;
+-- (*env)->ReleaseIntArrayElements(env, a, q, 0);
+-- }
+-- (*env)->ReleaseIntArrayElements(env, a, p, 0);
+-- }
+-- return;
+-- }
+abbrev pub of_two_copies_the_one_that_is_released_later_stays : SourceUnit
+of_two_copies_the_one_that_is_released_later_stays =
+    unit_of
+    (native 1 Void (codes "Java_A_f") (reference_parameter JIntArray (codes "a") ∷ [])
+    (DeclareBuffer 2 JInt (codes "p") (FromCall (call (codes "GetIntArrayElements") (given (codes "a") ∷ Value (Named Null) ∷ [])))
+    ∷ If 3 (TestExpr (Binary NotEqual (Variable (codes "p")) (Named Null)))
+    (block
+    (DeclareBuffer 4 JInt (codes "q") (FromCall (call (codes "GetIntArrayElements") (given (codes "a") ∷ Value (Named Null) ∷ [])))
+    ∷ If 5 (TestExpr (Binary NotEqual (Variable (codes "q")) (Named Null)))
+    (block
+    (AssignElement 6 (codes "p") (Number 0 false) (Number 3 false)
+    ∷ AssignElement 7 (codes "q") (Number 0 false) (Number 4 false)
+    ∷ AssignElement 8 (codes "q") (Number 1 false) (Number 5 false)
+    ∷ Perform 9 (call (codes "ReleaseIntArrayElements") (given (codes "a") ∷ given (codes "q") ∷ Value (Number 0 false) ∷ []))
+    ∷ [])
+    10)
+    ∷ Perform 11 (call (codes "ReleaseIntArrayElements") (given (codes "a") ∷ given (codes "p") ∷ Value (Number 0 false) ∷ []))
+    ∷ [])
+    12)
+    ∷ Return 13
+    ∷ [])
+    14
+    ∷ [])
+
+of_two_copies_the_one_that_is_released_later_stays-accepted : IsAccepted of_two_copies_the_one_that_is_released_later_stays
+unfolding opened
+of_two_copies_the_one_that_is_released_later_stays-accepted = accepted of_two_copies_the_one_that_is_released_later_stays refl refl refl
+
+of_two_copies_the_one_that_is_released_later_stays-run : IsWorkedRun of_two_copies_the_one_that_is_released_later_stays (codes "heap 512\nclass A\narray @a I 1 2\nthread Java_A_f @a\n") (codes "1*99\n")
+    (codes "T1 ended\n#46 [I 3 2\njournal 1 1 1 1 1 1 1 1 1 1 1 1 1 1 1 1 1 1 1 1 1\n")
+unfolding opened
+of_two_copies_the_one_that_is_released_later_stays-run = worked-run of_two_copies_the_one_that_is_released_later_stays a_copy_that_is_committed_twice_overwrites_twice_and_is_the_same_copy_then-world ((Turn 1, Some 99) ∷ []) [] of_two_copies_the_one_that_is_released_later_stays-accepted a_copy_that_is_committed_twice_overwrites_twice_and_is_the_same_copy_then-means refl refl refl refl
+
+-- a copy of an array without elements is a copy, and has none
+-- JNIEXPORT void JNICALL Java_A_f(JNIEnv *env, jclass cls, jintArray a) {
+-- jboolean c = JNI_FALSE;
+-- jint *p = (*env)->GetIntArrayElements(env, a, &c);
+-- if (p != NULL) {
+-- put_jint((jint)c);
+-- put_jint(p[0]);
+-- (*env)->ReleaseIntArrayElements(env, a, p, 0);
+-- }
+-- return;
+-- }
+abbrev pub a_copy_of_an_array_without_elements_is_a_copy_and_has_none : SourceUnit
+a_copy_of_an_array_without_elements_is_a_copy_and_has_none =
+    unit_of
+    (native 1 Void (codes "Java_A_f") (reference_parameter JIntArray (codes "a") ∷ [])
+    (Declare 2 JBoolean (codes "c") (FromExpr (Named False))
+    ∷ DeclareBuffer 3 JInt (codes "p") (FromCall (call (codes "GetIntArrayElements") (given (codes "a") ∷ AddressOf (codes "c") ∷ [])))
+    ∷ If 4 (TestExpr (Binary NotEqual (Variable (codes "p")) (Named Null)))
+    (block
+    (PutJint 5 (Prefix ToInt (Variable (codes "c")))
+    ∷ PutJint 6 (Element (codes "p") (Number 0 false))
+    ∷ Perform 7 (call (codes "ReleaseIntArrayElements") (given (codes "a") ∷ given (codes "p") ∷ Value (Number 0 false) ∷ []))
+    ∷ [])
+    8)
+    ∷ Return 9
+    ∷ [])
+    10
+    ∷ [])
+
+abbrev a_copy_of_an_array_without_elements_is_a_copy_and_has_none-lines : Lines
+a_copy_of_an_array_without_elements_is_a_copy_and_has_none-lines =
+    (2, ClassLine (codes "A") None)
+    ∷ (3, ArrayLine (codes "a") JInt [])
+    ∷ (4, ThreadLine (codes "Java_A_f") (NamedObject (codes "a") ∷ []))
+    ∷ []
+
+abbrev a_copy_of_an_array_without_elements_is_a_copy_and_has_none-world : World
+a_copy_of_an_array_without_elements_is_a_copy_and_has_none-world = world_of 512 a_copy_of_an_array_without_elements_is_a_copy_and_has_none-lines
+
+a_copy_of_an_array_without_elements_is_a_copy_and_has_none-means : IsWorldText (codes "heap 512\nclass A\narray @a I\nthread Java_A_f @a\n") a_copy_of_an_array_without_elements_is_a_copy_and_has_none-world
+unfolding opened
+a_copy_of_an_array_without_elements_is_a_copy_and_has_none-means = world-text (codes "heap 512\nclass A\narray @a I\nthread Java_A_f @a\n") 512 a_copy_of_an_array_without_elements_is_a_copy_and_has_none-lines 1 refl refl refl refl
+
+a_copy_of_an_array_without_elements_is_a_copy_and_has_none-accepted : IsAccepted a_copy_of_an_array_without_elements_is_a_copy_and_has_none
+unfolding opened
+a_copy_of_an_array_without_elements_is_a_copy_and_has_none-accepted = accepted a_copy_of_an_array_without_elements_is_a_copy_and_has_none refl refl refl
+
+a_copy_of_an_array_without_elements_is_a_copy_and_has_none-run : IsWorkedRun a_copy_of_an_array_without_elements_is_a_copy_and_has_none (codes "heap 512\nclass A\narray @a I\nthread Java_A_f @a\n") (codes "1*99\n")
+    (codes "T1 1\nT1 trap 3 line 6\n#46 [I\njournal 1 1 1 1 1 1 1 1 1 1 1\n")
+unfolding opened
+a_copy_of_an_array_without_elements_is_a_copy_and_has_none-run = worked-run a_copy_of_an_array_without_elements_is_a_copy_and_has_none a_copy_of_an_array_without_elements_is_a_copy_and_has_none-world ((Turn 1, Some 99) ∷ []) [] a_copy_of_an_array_without_elements_is_a_copy_and_has_none-accepted a_copy_of_an_array_without_elements_is_a_copy_and_has_none-means refl refl refl refl
+
+-- an element before a view
+-- JNIEXPORT void JNICALL Java_A_f(JNIEnv *env, jclass cls, jintArray a) {
+-- jint *q = (*env)->GetPrimitiveArrayCritical(env, a, NULL);
+-- if (q != NULL) {
+-- jint n = q[(jint)~0u];
+-- (*env)->ReleasePrimitiveArrayCritical(env, a, q, 0);
+-- put_jint(n);
+-- }
+-- return;
+-- }
+abbrev pub an_element_before_a_view : SourceUnit
+an_element_before_a_view =
+    unit_of
+    (native 1 Void (codes "Java_A_f") (reference_parameter JIntArray (codes "a") ∷ [])
+    (DeclareBuffer 2 JInt (codes "q") (FromCall (call (codes "GetPrimitiveArrayCritical") (given (codes "a") ∷ Value (Named Null) ∷ [])))
+    ∷ If 3 (TestExpr (Binary NotEqual (Variable (codes "q")) (Named Null)))
+    (block
+    (Declare 4 JIntVariable (codes "n") (FromExpr (Element (codes "q") (Prefix ToInt (Prefix Complement (Number 0 true)))))
+    ∷ Perform 5 (call (codes "ReleasePrimitiveArrayCritical") (given (codes "a") ∷ given (codes "q") ∷ Value (Number 0 false) ∷ []))
+    ∷ PutJint 6 (Variable (codes "n"))
+    ∷ [])
+    7)
+    ∷ Return 8
+    ∷ [])
+    9
+    ∷ [])
+
+an_element_before_a_view-accepted : IsAccepted an_element_before_a_view
+unfolding opened
+an_element_before_a_view-accepted = accepted an_element_before_a_view refl refl refl
+
+an_element_before_a_view-run : IsWorkedRun an_element_before_a_view (codes "heap 512\nclass A\narray @a I 1 2\nthread Java_A_f @a\n") (codes "1*99\n")
+    (codes "T1 trap 3 line 4\n#46 [I 1 2\njournal 1 1 1 1 1 1 1 1\n")
+unfolding opened
+an_element_before_a_view-run = worked-run an_element_before_a_view a_copy_that_is_committed_twice_overwrites_twice_and_is_the_same_copy_then-world ((Turn 1, Some 99) ∷ []) [] an_element_before_a_view-accepted a_copy_that_is_committed_twice_overwrites_twice_and_is_the_same_copy_then-means refl refl refl refl
+
+-- a character past the end of a view
+-- JNIEXPORT void JNICALL Java_A_f(JNIEnv *env, jclass cls, jstring s) {
+-- const jchar *q = (*env)->GetStringCritical(env, s, NULL);
+-- if (q != NULL) {
+-- jint n = q[2];
+-- (*env)->ReleaseStringCritical(env, s, q);
+-- put_jint(n);
+-- }
+-- return;
+-- }
+abbrev pub a_character_past_the_end_of_a_view : SourceUnit
+a_character_past_the_end_of_a_view =
+    unit_of
+    (native 1 Void (codes "Java_A_f") (reference_parameter JString (codes "s") ∷ [])
+    (DeclareChars 2 (codes "q") (FromCall (call (codes "GetStringCritical") (given (codes "s") ∷ Value (Named Null) ∷ [])))
+    ∷ If 3 (TestExpr (Binary NotEqual (Variable (codes "q")) (Named Null)))
+    (block
+    (Declare 4 JIntVariable (codes "n") (FromExpr (Element (codes "q") (Number 2 false)))
+    ∷ Perform 5 (call (codes "ReleaseStringCritical") (given (codes "s") ∷ given (codes "q") ∷ []))
+    ∷ PutJint 6 (Variable (codes "n"))
+    ∷ [])
+    7)
+    ∷ Return 8
+    ∷ [])
+    9
+    ∷ [])
+
+abbrev a_character_past_the_end_of_a_view-lines : Lines
+a_character_past_the_end_of_a_view-lines =
+    (2, ClassLine (codes "A") None)
+    ∷ (3, StringLine (codes "s") (codes "hi"))
+    ∷ (4, ThreadLine (codes "Java_A_f") (NamedObject (codes "s") ∷ []))
+    ∷ []
+
+abbrev a_character_past_the_end_of_a_view-world : World
+a_character_past_the_end_of_a_view-world = world_of 512 a_character_past_the_end_of_a_view-lines
+
+a_character_past_the_end_of_a_view-means : IsWorldText (codes "heap 512\nclass A\nstring @s hi\nthread Java_A_f @s\n") a_character_past_the_end_of_a_view-world
+unfolding opened
+a_character_past_the_end_of_a_view-means = world-text (codes "heap 512\nclass A\nstring @s hi\nthread Java_A_f @s\n") 512 a_character_past_the_end_of_a_view-lines 1 refl refl refl refl
+
+a_character_past_the_end_of_a_view-accepted : IsAccepted a_character_past_the_end_of_a_view
+unfolding opened
+a_character_past_the_end_of_a_view-accepted = accepted a_character_past_the_end_of_a_view refl refl refl
+
+a_character_past_the_end_of_a_view-run : IsWorkedRun a_character_past_the_end_of_a_view (codes "heap 512\nclass A\nstring @s hi\nthread Java_A_f @s\n") (codes "1*99\n")
+    (codes "T1 trap 3 line 4\n#46 java/lang/String 104 105\njournal 1 1 1 1 1 1\n")
+unfolding opened
+a_character_past_the_end_of_a_view-run = worked-run a_character_past_the_end_of_a_view a_character_past_the_end_of_a_view-world ((Turn 1, Some 99) ∷ []) [] a_character_past_the_end_of_a_view-accepted a_character_past_the_end_of_a_view-means refl refl refl refl
+
+-- a view of an array and one of a string, both at once
+-- JNIEXPORT void JNICALL Java_A_f(JNIEnv *env, jclass cls, jintArray a, jstring s) {
+-- jint *p = (*env)->GetPrimitiveArrayCritical(env, a, NULL);
+-- if (p != NULL) {
+-- const jchar *q = (*env)->GetStringCritical(env, s, NULL);
+-- if (q != NULL) {
+-- p[0] = q[1];
+-- (*env)->ReleaseStringCritical(env, s, q);
+-- }
+-- p[1] = p[0];
+-- (*env)->ReleasePrimitiveArrayCritical(env, a, p, 0);
+-- }
+-- return;
+-- }
+abbrev pub a_view_of_an_array_and_one_of_a_string_both_at_once : SourceUnit
+a_view_of_an_array_and_one_of_a_string_both_at_once =
+    unit_of
+    (native 1 Void (codes "Java_A_f") (reference_parameter JIntArray (codes "a") ∷ reference_parameter JString (codes "s") ∷ [])
+    (DeclareBuffer 2 JInt (codes "p") (FromCall (call (codes "GetPrimitiveArrayCritical") (given (codes "a") ∷ Value (Named Null) ∷ [])))
+    ∷ If 3 (TestExpr (Binary NotEqual (Variable (codes "p")) (Named Null)))
+    (block
+    (DeclareChars 4 (codes "q") (FromCall (call (codes "GetStringCritical") (given (codes "s") ∷ Value (Named Null) ∷ [])))
+    ∷ If 5 (TestExpr (Binary NotEqual (Variable (codes "q")) (Named Null)))
+    (block
+    (AssignElement 6 (codes "p") (Number 0 false) (Element (codes "q") (Number 1 false))
+    ∷ Perform 7 (call (codes "ReleaseStringCritical") (given (codes "s") ∷ given (codes "q") ∷ []))
+    ∷ [])
+    8)
+    ∷ AssignElement 9 (codes "p") (Number 1 false) (Element (codes "p") (Number 0 false))
+    ∷ Perform 10 (call (codes "ReleasePrimitiveArrayCritical") (given (codes "a") ∷ given (codes "p") ∷ Value (Number 0 false) ∷ []))
+    ∷ [])
+    11)
+    ∷ Return 12
+    ∷ [])
+    13
+    ∷ [])
+
+abbrev a_view_of_an_array_and_one_of_a_string_both_at_once-lines : Lines
+a_view_of_an_array_and_one_of_a_string_both_at_once-lines =
+    (2, ClassLine (codes "A") None)
+    ∷ (3, ArrayLine (codes "a") JInt (NumberValue (pos 1) ∷ NumberValue (pos 2) ∷ []))
+    ∷ (4, StringLine (codes "s") (codes "hi"))
+    ∷ (5, ThreadLine (codes "Java_A_f") (NamedObject (codes "a") ∷ NamedObject (codes "s") ∷ []))
+    ∷ []
+
+abbrev a_view_of_an_array_and_one_of_a_string_both_at_once-world : World
+a_view_of_an_array_and_one_of_a_string_both_at_once-world = world_of 512 a_view_of_an_array_and_one_of_a_string_both_at_once-lines
+
+a_view_of_an_array_and_one_of_a_string_both_at_once-means : IsWorldText (codes "heap 512\nclass A\narray @a I 1 2\nstring @s hi\nthread Java_A_f @a @s\n") a_view_of_an_array_and_one_of_a_string_both_at_once-world
+unfolding opened
+a_view_of_an_array_and_one_of_a_string_both_at_once-means = world-text (codes "heap 512\nclass A\narray @a I 1 2\nstring @s hi\nthread Java_A_f @a @s\n") 512 a_view_of_an_array_and_one_of_a_string_both_at_once-lines 1 refl refl refl refl
+
+a_view_of_an_array_and_one_of_a_string_both_at_once-accepted : IsAccepted a_view_of_an_array_and_one_of_a_string_both_at_once
+unfolding opened
+a_view_of_an_array_and_one_of_a_string_both_at_once-accepted = accepted a_view_of_an_array_and_one_of_a_string_both_at_once refl refl refl
+
+a_view_of_an_array_and_one_of_a_string_both_at_once-run : IsWorkedRun a_view_of_an_array_and_one_of_a_string_both_at_once (codes "heap 512\nclass A\narray @a I 1 2\nstring @s hi\nthread Java_A_f @a @s\n") (codes "1*99\n")
+    (codes "T1 ended\n#46 [I 105 105\n#47 java/lang/String 104 105\njournal 1 1 1 1 1 1 1 1 1 1 1 1 1 1 1 1 1 1 1 1\n")
+unfolding opened
+a_view_of_an_array_and_one_of_a_string_both_at_once-run = worked-run a_view_of_an_array_and_one_of_a_string_both_at_once a_view_of_an_array_and_one_of_a_string_both_at_once-world ((Turn 1, Some 99) ∷ []) [] a_view_of_an_array_and_one_of_a_string_both_at_once-accepted a_view_of_an_array_and_one_of_a_string_both_at_once-means refl refl refl refl
+
+-- two views of one array show the same elements
+-- JNIEXPORT void JNICALL Java_A_f(JNIEnv *env, jclass cls, jintArray a) {
+-- jint *p = (*env)->GetPrimitiveArrayCritical(env, a, NULL);
+-- if (p != NULL) {
+-- jint *q = (*env)->GetPrimitiveArrayCritical(env, a, NULL);
+-- if (q != NULL) {
+-- p[0] = 6;
+-- q[1] = q[0];
+-- (*env)->ReleasePrimitiveArrayCritical(env, a, q, JNI_ABORT);
+-- }
+-- (*env)->ReleasePrimitiveArrayCritical(env, a, p, JNI_ABORT);
+-- }
+-- return;
+-- }
+abbrev pub two_views_of_one_array_show_the_same_elements : SourceUnit
+two_views_of_one_array_show_the_same_elements =
+    unit_of
+    (native 1 Void (codes "Java_A_f") (reference_parameter JIntArray (codes "a") ∷ [])
+    (DeclareBuffer 2 JInt (codes "p") (FromCall (call (codes "GetPrimitiveArrayCritical") (given (codes "a") ∷ Value (Named Null) ∷ [])))
+    ∷ If 3 (TestExpr (Binary NotEqual (Variable (codes "p")) (Named Null)))
+    (block
+    (DeclareBuffer 4 JInt (codes "q") (FromCall (call (codes "GetPrimitiveArrayCritical") (given (codes "a") ∷ Value (Named Null) ∷ [])))
+    ∷ If 5 (TestExpr (Binary NotEqual (Variable (codes "q")) (Named Null)))
+    (block
+    (AssignElement 6 (codes "p") (Number 0 false) (Number 6 false)
+    ∷ AssignElement 7 (codes "q") (Number 1 false) (Element (codes "q") (Number 0 false))
+    ∷ Perform 8 (call (codes "ReleasePrimitiveArrayCritical") (given (codes "a") ∷ given (codes "q") ∷ Value (Named Abort) ∷ []))
+    ∷ [])
+    9)
+    ∷ Perform 10 (call (codes "ReleasePrimitiveArrayCritical") (given (codes "a") ∷ given (codes "p") ∷ Value (Named Abort) ∷ []))
+    ∷ [])
+    11)
+    ∷ Return 12
+    ∷ [])
+    13
+    ∷ [])
+
+two_views_of_one_array_show_the_same_elements-accepted : IsAccepted two_views_of_one_array_show_the_same_elements
+unfolding opened
+two_views_of_one_array_show_the_same_elements-accepted = accepted two_views_of_one_array_show_the_same_elements refl refl refl
+
+two_views_of_one_array_show_the_same_elements-run : IsWorkedRun two_views_of_one_array_show_the_same_elements (codes "heap 512\nclass A\narray @a I 1 2\nthread Java_A_f @a\n") (codes "1*99\n")
+    (codes "T1 ended\n#46 [I 6 6\njournal 1 1 1 1 1 1 1 1 1 1 1 1 1 1 1 1 1 1 1\n")
+unfolding opened
+two_views_of_one_array_show_the_same_elements-run = worked-run two_views_of_one_array_show_the_same_elements a_copy_that_is_committed_twice_overwrites_twice_and_is_the_same_copy_then-world ((Turn 1, Some 99) ∷ []) [] two_views_of_one_array_show_the_same_elements-accepted a_copy_that_is_committed_twice_overwrites_twice_and_is_the_same_copy_then-means refl refl refl refl
+
+-- what is written to a view is converted to the type of its elements
+-- JNIEXPORT void JNICALL Java_A_f(JNIEnv *env, jclass cls, jcharArray c, jbyteArray b) {
+-- jchar *p = (*env)->GetPrimitiveArrayCritical(env, c, NULL);
+-- if (p != NULL) {
+-- p[1] = (jint)~0u;
+-- (*env)->ReleasePrimitiveArrayCritical(env, c, p, 0);
+-- }
+-- jbyte *q = (*env)->GetPrimitiveArrayCritical(env, b, NULL);
+-- if (q != NULL) {
+-- q[0] = 300;
+-- (*env)->ReleasePrimitiveArrayCritical(env, b, q, 0);
+-- }
+-- return;
+-- }
+abbrev pub what_is_written_to_a_view_is_converted_to_the_type_of_its_elements : SourceUnit
+what_is_written_to_a_view_is_converted_to_the_type_of_its_elements =
+    unit_of
+    (native 1 Void (codes "Java_A_f") (reference_parameter JCharArray (codes "c") ∷ reference_parameter JByteArray (codes "b") ∷ [])
+    (DeclareBuffer 2 JChar (codes "p") (FromCall (call (codes "GetPrimitiveArrayCritical") (given (codes "c") ∷ Value (Named Null) ∷ [])))
+    ∷ If 3 (TestExpr (Binary NotEqual (Variable (codes "p")) (Named Null)))
+    (block
+    (AssignElement 4 (codes "p") (Number 1 false) (Prefix ToInt (Prefix Complement (Number 0 true)))
+    ∷ Perform 5 (call (codes "ReleasePrimitiveArrayCritical") (given (codes "c") ∷ given (codes "p") ∷ Value (Number 0 false) ∷ []))
+    ∷ [])
+    6)
+    ∷ DeclareBuffer 7 JByte (codes "q") (FromCall (call (codes "GetPrimitiveArrayCritical") (given (codes "b") ∷ Value (Named Null) ∷ [])))
+    ∷ If 8 (TestExpr (Binary NotEqual (Variable (codes "q")) (Named Null)))
+    (block
+    (AssignElement 9 (codes "q") (Number 0 false) (Number 300 false)
+    ∷ Perform 10 (call (codes "ReleasePrimitiveArrayCritical") (given (codes "b") ∷ given (codes "q") ∷ Value (Number 0 false) ∷ []))
+    ∷ [])
+    11)
+    ∷ Return 12
+    ∷ [])
+    13
+    ∷ [])
+
+abbrev what_is_written_to_a_view_is_converted_to_the_type_of_its_elements-lines : Lines
+what_is_written_to_a_view_is_converted_to_the_type_of_its_elements-lines =
+    (2, ClassLine (codes "A") None)
+    ∷ (3, ArrayLine (codes "c") JChar (NumberValue (pos 1) ∷ NumberValue (pos 2) ∷ []))
+    ∷ (4, ArrayLine (codes "b") JByte (NumberValue (pos 3) ∷ []))
+    ∷ (5, ThreadLine (codes "Java_A_f") (NamedObject (codes "c") ∷ NamedObject (codes "b") ∷ []))
+    ∷ []
+
+abbrev what_is_written_to_a_view_is_converted_to_the_type_of_its_elements-world : World
+what_is_written_to_a_view_is_converted_to_the_type_of_its_elements-world = world_of 512 what_is_written_to_a_view_is_converted_to_the_type_of_its_elements-lines
+
+what_is_written_to_a_view_is_converted_to_the_type_of_its_elements-means : IsWorldText (codes "heap 512\nclass A\narray @c C 1 2\narray @b B 3\nthread Java_A_f @c @b\n") what_is_written_to_a_view_is_converted_to_the_type_of_its_elements-world
+unfolding opened
+what_is_written_to_a_view_is_converted_to_the_type_of_its_elements-means = world-text (codes "heap 512\nclass A\narray @c C 1 2\narray @b B 3\nthread Java_A_f @c @b\n") 512 what_is_written_to_a_view_is_converted_to_the_type_of_its_elements-lines 1 refl refl refl refl
+
+what_is_written_to_a_view_is_converted_to_the_type_of_its_elements-accepted : IsAccepted what_is_written_to_a_view_is_converted_to_the_type_of_its_elements
+unfolding opened
+what_is_written_to_a_view_is_converted_to_the_type_of_its_elements-accepted = accepted what_is_written_to_a_view_is_converted_to_the_type_of_its_elements refl refl refl
+
+what_is_written_to_a_view_is_converted_to_the_type_of_its_elements-run : IsWorkedRun what_is_written_to_a_view_is_converted_to_the_type_of_its_elements (codes "heap 512\nclass A\narray @c C 1 2\narray @b B 3\nthread Java_A_f @c @b\n") (codes "1*99\n")
+    (codes "T1 ended\n#46 [C 1 65535\n#47 [B 44\njournal 1 1 1 1 1 1 1 1 1 1 1 1 1 1 1 1 1 1 1 1\n")
+unfolding opened
+what_is_written_to_a_view_is_converted_to_the_type_of_its_elements-run = worked-run what_is_written_to_a_view_is_converted_to_the_type_of_its_elements what_is_written_to_a_view_is_converted_to_the_type_of_its_elements-world ((Turn 1, Some 99) ∷ []) [] what_is_written_to_a_view_is_converted_to_the_type_of_its_elements-accepted what_is_written_to_a_view_is_converted_to_the_type_of_its_elements-means refl refl refl refl
+
+-- characters are released while an exception is pending
+-- JNIEXPORT void JNICALL Java_A_f(JNIEnv *env, jclass cls, jstring s) {
+-- jchar x[1] = {0};
+-- const jchar *p = (*env)->GetStringChars(env, s, NULL);
+-- if (p != NULL) {
+-- (*env)->GetStringRegion(env, s, 2, 1, x);
+-- put_jint(p[0]);
+-- (*env)->ReleaseStringChars(env, s, p);
+-- }
+-- return;
+-- }
+abbrev pub characters_are_released_while_an_exception_is_pending : SourceUnit
+characters_are_released_while_an_exception_is_pending =
+    unit_of
+    (native 1 Void (codes "Java_A_f") (reference_parameter JString (codes "s") ∷ [])
+    (DeclareArray 2 JChar (codes "x") 1
+    ∷ DeclareChars 3 (codes "p") (FromCall (call (codes "GetStringChars") (given (codes "s") ∷ Value (Named Null) ∷ [])))
+    ∷ If 4 (TestExpr (Binary NotEqual (Variable (codes "p")) (Named Null)))
+    (block
+    (Perform 5 (call (codes "GetStringRegion") (given (codes "s") ∷ Value (Number 2 false) ∷ Value (Number 1 false) ∷ given (codes "x") ∷ []))
+    ∷ PutJint 6 (Element (codes "p") (Number 0 false))
+    ∷ Perform 7 (call (codes "ReleaseStringChars") (given (codes "s") ∷ given (codes "p") ∷ []))
+    ∷ [])
+    8)
+    ∷ Return 9
+    ∷ [])
+    10
+    ∷ [])
+
+characters_are_released_while_an_exception_is_pending-accepted : IsAccepted characters_are_released_while_an_exception_is_pending
+unfolding opened
+characters_are_released_while_an_exception_is_pending-accepted = accepted characters_are_released_while_an_exception_is_pending refl refl refl
+
+characters_are_released_while_an_exception_is_pending-run : IsWorkedRun characters_are_released_while_an_exception_is_pending (codes "heap 512\nclass A\nstring @s hi\nthread Java_A_f @s\n") (codes "1*99\n")
+    (codes "T1 104\nT1 uncaught java/lang/StringIndexOutOfBoundsException\n#46 java/lang/String 104 105\njournal 1 1 1 1 1 1 1 1 1 1 1 1 1 1\n")
+unfolding opened
+characters_are_released_while_an_exception_is_pending-run = worked-run characters_are_released_while_an_exception_is_pending a_character_past_the_end_of_a_view-world ((Turn 1, Some 99) ∷ []) [] characters_are_released_while_an_exception_is_pending-accepted a_character_past_the_end_of_a_view-means refl refl refl refl
+
+-- GetIntArrayElements of an array of another kind
+-- JNIEXPORT void JNICALL Java_A_f(JNIEnv *env, jclass cls, jobject a) {
+-- jint *p = (*env)->GetIntArrayElements(env, a, NULL);
+-- if (p != NULL) {
+-- (*env)->ReleaseIntArrayElements(env, a, p, 0);
+-- }
+-- return;
+-- }
+abbrev pub getintarrayelements_of_an_array_of_another_kind : SourceUnit
+getintarrayelements_of_an_array_of_another_kind =
+    unit_of
+    (native 1 Void (codes "Java_A_f") (reference_parameter JObject (codes "a") ∷ [])
+    (DeclareBuffer 2 JInt (codes "p") (FromCall (call (codes "GetIntArrayElements") (given (codes "a") ∷ Value (Named Null) ∷ [])))
+    ∷ If 3 (TestExpr (Binary NotEqual (Variable (codes "p")) (Named Null)))
+    (block
+    (Perform 4 (call (codes "ReleaseIntArrayElements") (given (codes "a") ∷ given (codes "p") ∷ Value (Number 0 false) ∷ []))
+    ∷ [])
+    5)
+    ∷ Return 6
+    ∷ [])
+    7
+    ∷ [])
+
+abbrev getintarrayelements_of_an_array_of_another_kind-lines : Lines
+getintarrayelements_of_an_array_of_another_kind-lines =
+    (2, ClassLine (codes "A") None)
+    ∷ (3, ArrayLine (codes "a") JShort (NumberValue (pos 1) ∷ NumberValue (pos 2) ∷ []))
+    ∷ (4, ThreadLine (codes "Java_A_f") (NamedObject (codes "a") ∷ []))
+    ∷ []
+
+abbrev getintarrayelements_of_an_array_of_another_kind-world : World
+getintarrayelements_of_an_array_of_another_kind-world = world_of 512 getintarrayelements_of_an_array_of_another_kind-lines
+
+getintarrayelements_of_an_array_of_another_kind-means : IsWorldText (codes "heap 512\nclass A\narray @a S 1 2\nthread Java_A_f @a\n") getintarrayelements_of_an_array_of_another_kind-world
+unfolding opened
+getintarrayelements_of_an_array_of_another_kind-means = world-text (codes "heap 512\nclass A\narray @a S 1 2\nthread Java_A_f @a\n") 512 getintarrayelements_of_an_array_of_another_kind-lines 1 refl refl refl refl
+
+getintarrayelements_of_an_array_of_another_kind-accepted : IsAccepted getintarrayelements_of_an_array_of_another_kind
+unfolding opened
+getintarrayelements_of_an_array_of_another_kind-accepted = accepted getintarrayelements_of_an_array_of_another_kind refl refl refl
+
+getintarrayelements_of_an_array_of_another_kind-run : IsWorkedRun getintarrayelements_of_an_array_of_another_kind (codes "heap 512\nclass A\narray @a S 1 2\nthread Java_A_f @a\n") (codes "1*99\n")
+    (codes "T1 trap 6 line 2\n#46 [S 1 2\njournal 1 1\n")
+unfolding opened
+getintarrayelements_of_an_array_of_another_kind-run = worked-run getintarrayelements_of_an_array_of_another_kind getintarrayelements_of_an_array_of_another_kind-world ((Turn 1, Some 99) ∷ []) [] getintarrayelements_of_an_array_of_another_kind-accepted getintarrayelements_of_an_array_of_another_kind-means refl refl refl refl
+
+-- GetPrimitiveArrayCritical of NULL
+-- JNIEXPORT void JNICALL Java_A_f(JNIEnv *env, jclass cls, jintArray a) {
+-- jint *p = (*env)->GetPrimitiveArrayCritical(env, a, NULL);
+-- if (p != NULL) {
+-- (*env)->ReleasePrimitiveArrayCritical(env, a, p, 0);
+-- }
+-- return;
+-- }
+abbrev pub getprimitivearraycritical_of_null : SourceUnit
+getprimitivearraycritical_of_null =
+    unit_of
+    (native 1 Void (codes "Java_A_f") (reference_parameter JIntArray (codes "a") ∷ [])
+    (DeclareBuffer 2 JInt (codes "p") (FromCall (call (codes "GetPrimitiveArrayCritical") (given (codes "a") ∷ Value (Named Null) ∷ [])))
+    ∷ If 3 (TestExpr (Binary NotEqual (Variable (codes "p")) (Named Null)))
+    (block
+    (Perform 4 (call (codes "ReleasePrimitiveArrayCritical") (given (codes "a") ∷ given (codes "p") ∷ Value (Number 0 false) ∷ []))
+    ∷ [])
+    5)
+    ∷ Return 6
+    ∷ [])
+    7
+    ∷ [])
+
+abbrev getprimitivearraycritical_of_null-lines : Lines
+getprimitivearraycritical_of_null-lines =
+    (2, ClassLine (codes "A") None)
+    ∷ (3, ThreadLine (codes "Java_A_f") (NullValue ∷ []))
+    ∷ []
+
+abbrev getprimitivearraycritical_of_null-world : World
+getprimitivearraycritical_of_null-world = world_of 512 getprimitivearraycritical_of_null-lines
+
+getprimitivearraycritical_of_null-means : IsWorldText (codes "heap 512\nclass A\nthread Java_A_f null\n") getprimitivearraycritical_of_null-world
+unfolding opened
+getprimitivearraycritical_of_null-means = world-text (codes "heap 512\nclass A\nthread Java_A_f null\n") 512 getprimitivearraycritical_of_null-lines 1 refl refl refl refl
+
+getprimitivearraycritical_of_null-accepted : IsAccepted getprimitivearraycritical_of_null
+unfolding opened
+getprimitivearraycritical_of_null-accepted = accepted getprimitivearraycritical_of_null refl refl refl
+
+getprimitivearraycritical_of_null-run : IsWorkedRun getprimitivearraycritical_of_null (codes "heap 512\nclass A\nthread Java_A_f null\n") (codes "1*99\n")
+    (codes "T1 trap 4 line 2\njournal 1 1\n")
+unfolding opened
+getprimitivearraycritical_of_null-run = worked-run getprimitivearraycritical_of_null getprimitivearraycritical_of_null-world ((Turn 1, Some 99) ∷ []) [] getprimitivearraycritical_of_null-accepted getprimitivearraycritical_of_null-means refl refl refl refl
+
+-- GetPrimitiveArrayCritical while an exception is pending
+-- JNIEXPORT void JNICALL Java_A_f(JNIEnv *env, jclass cls, jintArray a) {
+-- jclass b = (*env)->FindClass(env, "B");
+-- jint *p = (*env)->GetPrimitiveArrayCritical(env, a, NULL);
+-- if (p != NULL) {
+-- (*env)->ReleasePrimitiveArrayCritical(env, a, p, 0);
+-- }
+-- return;
+-- }
+abbrev pub getprimitivearraycritical_while_an_exception_is_pending : SourceUnit
+getprimitivearraycritical_while_an_exception_is_pending =
+    unit_of
+    (native 1 Void (codes "Java_A_f") (reference_parameter JIntArray (codes "a") ∷ [])
+    (Declare 2 (ReferenceVariable JClass) (codes "b") (FromCall (call (codes "FindClass") (Text (codes "B") ∷ [])))
+    ∷ DeclareBuffer 3 JInt (codes "p") (FromCall (call (codes "GetPrimitiveArrayCritical") (given (codes "a") ∷ Value (Named Null) ∷ [])))
+    ∷ If 4 (TestExpr (Binary NotEqual (Variable (codes "p")) (Named Null)))
+    (block
+    (Perform 5 (call (codes "ReleasePrimitiveArrayCritical") (given (codes "a") ∷ given (codes "p") ∷ Value (Number 0 false) ∷ []))
+    ∷ [])
+    6)
+    ∷ Return 7
+    ∷ [])
+    8
+    ∷ [])
+
+getprimitivearraycritical_while_an_exception_is_pending-accepted : IsAccepted getprimitivearraycritical_while_an_exception_is_pending
+unfolding opened
+getprimitivearraycritical_while_an_exception_is_pending-accepted = accepted getprimitivearraycritical_while_an_exception_is_pending refl refl refl
+
+getprimitivearraycritical_while_an_exception_is_pending-run : IsWorkedRun getprimitivearraycritical_while_an_exception_is_pending (codes "heap 512\nclass A\nthread Java_A_f null\n") (codes "1*99\n")
+    (codes "T1 trap 5 line 3\n#46 java/lang/NoClassDefFoundError null\njournal 1 1 1\n")
+unfolding opened
+getprimitivearraycritical_while_an_exception_is_pending-run = worked-run getprimitivearraycritical_while_an_exception_is_pending getprimitivearraycritical_of_null-world ((Turn 1, Some 99) ∷ []) [] getprimitivearraycritical_while_an_exception_is_pending-accepted getprimitivearraycritical_of_null-means refl refl refl refl
+
+-- GetStringChars of NULL
+-- JNIEXPORT void JNICALL Java_A_f(JNIEnv *env, jclass cls, jstring a) {
+-- const jchar *p = (*env)->GetStringChars(env, a, NULL);
+-- if (p != NULL) {
+-- (*env)->ReleaseStringChars(env, a, p);
+-- }
+-- return;
+-- }
+abbrev pub getstringchars_of_null : SourceUnit
+getstringchars_of_null =
+    unit_of
+    (native 1 Void (codes "Java_A_f") (reference_parameter JString (codes "a") ∷ [])
+    (DeclareChars 2 (codes "p") (FromCall (call (codes "GetStringChars") (given (codes "a") ∷ Value (Named Null) ∷ [])))
+    ∷ If 3 (TestExpr (Binary NotEqual (Variable (codes "p")) (Named Null)))
+    (block
+    (Perform 4 (call (codes "ReleaseStringChars") (given (codes "a") ∷ given (codes "p") ∷ []))
+    ∷ [])
+    5)
+    ∷ Return 6
+    ∷ [])
+    7
+    ∷ [])
+
+getstringchars_of_null-accepted : IsAccepted getstringchars_of_null
+unfolding opened
+getstringchars_of_null-accepted = accepted getstringchars_of_null refl refl refl
+
+getstringchars_of_null-run : IsWorkedRun getstringchars_of_null (codes "heap 512\nclass A\nthread Java_A_f null\n") (codes "1*99\n")
+    (codes "T1 trap 4 line 2\njournal 1 1\n")
+unfolding opened
+getstringchars_of_null-run = worked-run getstringchars_of_null getprimitivearraycritical_of_null-world ((Turn 1, Some 99) ∷ []) [] getstringchars_of_null-accepted getprimitivearraycritical_of_null-means refl refl refl refl
+
+-- GetStringChars while an exception is pending
+-- JNIEXPORT void JNICALL Java_A_f(JNIEnv *env, jclass cls, jstring a) {
+-- jclass b = (*env)->FindClass(env, "B");
+-- const jchar *p = (*env)->GetStringChars(env, a, NULL);
+-- if (p != NULL) {
+-- (*env)->ReleaseStringChars(env, a, p);
+-- }
+-- return;
+-- }
+abbrev pub getstringchars_while_an_exception_is_pending : SourceUnit
+getstringchars_while_an_exception_is_pending =
+    unit_of
+    (native 1 Void (codes "Java_A_f") (reference_parameter JString (codes "a") ∷ [])
+    (Declare 2 (ReferenceVariable JClass) (codes "b") (FromCall (call (codes "FindClass") (Text (codes "B") ∷ [])))
+    ∷ DeclareChars 3 (codes "p") (FromCall (call (codes "GetStringChars") (given (codes "a") ∷ Value (Named Null) ∷ [])))
+    ∷ If 4 (TestExpr (Binary NotEqual (Variable (codes "p")) (Named Null)))
+    (block
+    (Perform 5 (call (codes "ReleaseStringChars") (given (codes "a") ∷ given (codes "p") ∷ []))
+    ∷ [])
+    6)
+    ∷ Return 7
+    ∷ [])
+    8
+    ∷ [])
+
+getstringchars_while_an_exception_is_pending-accepted : IsAccepted getstringchars_while_an_exception_is_pending
+unfolding opened
+getstringchars_while_an_exception_is_pending-accepted = accepted getstringchars_while_an_exception_is_pending refl refl refl
+
+getstringchars_while_an_exception_is_pending-run : IsWorkedRun getstringchars_while_an_exception_is_pending (codes "heap 512\nclass A\nthread Java_A_f null\n") (codes "1*99\n")
+    (codes "T1 trap 5 line 3\n#46 java/lang/NoClassDefFoundError null\njournal 1 1 1\n")
+unfolding opened
+getstringchars_while_an_exception_is_pending-run = worked-run getstringchars_while_an_exception_is_pending getprimitivearraycritical_of_null-world ((Turn 1, Some 99) ∷ []) [] getstringchars_while_an_exception_is_pending-accepted getprimitivearraycritical_of_null-means refl refl refl refl
+
+-- GetStringCritical of an array of another kind
+-- JNIEXPORT void JNICALL Java_A_f(JNIEnv *env, jclass cls, jobject a) {
+-- const jchar *p = (*env)->GetStringCritical(env, a, NULL);
+-- if (p != NULL) {
+-- (*env)->ReleaseStringCritical(env, a, p);
+-- }
+-- return;
+-- }
+abbrev pub getstringcritical_of_an_array_of_another_kind : SourceUnit
+getstringcritical_of_an_array_of_another_kind =
+    unit_of
+    (native 1 Void (codes "Java_A_f") (reference_parameter JObject (codes "a") ∷ [])
+    (DeclareChars 2 (codes "p") (FromCall (call (codes "GetStringCritical") (given (codes "a") ∷ Value (Named Null) ∷ [])))
+    ∷ If 3 (TestExpr (Binary NotEqual (Variable (codes "p")) (Named Null)))
+    (block
+    (Perform 4 (call (codes "ReleaseStringCritical") (given (codes "a") ∷ given (codes "p") ∷ []))
+    ∷ [])
+    5)
+    ∷ Return 6
+    ∷ [])
+    7
+    ∷ [])
+
+abbrev getstringcritical_of_an_array_of_another_kind-lines : Lines
+getstringcritical_of_an_array_of_another_kind-lines =
+    (2, ClassLine (codes "A") None)
+    ∷ (3, ArrayLine (codes "a") JChar (NumberValue (pos 1) ∷ NumberValue (pos 2) ∷ []))
+    ∷ (4, ThreadLine (codes "Java_A_f") (NamedObject (codes "a") ∷ []))
+    ∷ []
+
+abbrev getstringcritical_of_an_array_of_another_kind-world : World
+getstringcritical_of_an_array_of_another_kind-world = world_of 512 getstringcritical_of_an_array_of_another_kind-lines
+
+getstringcritical_of_an_array_of_another_kind-means : IsWorldText (codes "heap 512\nclass A\narray @a C 1 2\nthread Java_A_f @a\n") getstringcritical_of_an_array_of_another_kind-world
+unfolding opened
+getstringcritical_of_an_array_of_another_kind-means = world-text (codes "heap 512\nclass A\narray @a C 1 2\nthread Java_A_f @a\n") 512 getstringcritical_of_an_array_of_another_kind-lines 1 refl refl refl refl
+
+getstringcritical_of_an_array_of_another_kind-accepted : IsAccepted getstringcritical_of_an_array_of_another_kind
+unfolding opened
+getstringcritical_of_an_array_of_another_kind-accepted = accepted getstringcritical_of_an_array_of_another_kind refl refl refl
+
+getstringcritical_of_an_array_of_another_kind-run : IsWorkedRun getstringcritical_of_an_array_of_another_kind (codes "heap 512\nclass A\narray @a C 1 2\nthread Java_A_f @a\n") (codes "1*99\n")
+    (codes "T1 trap 6 line 2\n#46 [C 1 2\njournal 1 1\n")
+unfolding opened
+getstringcritical_of_an_array_of_another_kind-run = worked-run getstringcritical_of_an_array_of_another_kind getstringcritical_of_an_array_of_another_kind-world ((Turn 1, Some 99) ∷ []) [] getstringcritical_of_an_array_of_another_kind-accepted getstringcritical_of_an_array_of_another_kind-means refl refl refl refl
+
+-- a copy is made while a buffer is critical
+-- JNIEXPORT void JNICALL Java_A_f(JNIEnv *env, jclass cls, jintArray a) {
+-- jint *q = (*env)->GetPrimitiveArrayCritical(env, a, NULL);
+-- if (q != NULL) {
+-- jint *p = (*env)->GetIntArrayElements(env, a, NULL);
+-- (*env)->ReleasePrimitiveArrayCritical(env, a, q, 0);
+-- }
+-- return;
+-- }
+abbrev pub a_copy_is_made_while_a_buffer_is_critical : SourceUnit
+a_copy_is_made_while_a_buffer_is_critical =
+    unit_of
+    (native 1 Void (codes "Java_A_f") (reference_parameter JIntArray (codes "a") ∷ [])
+    (DeclareBuffer 2 JInt (codes "q") (FromCall (call (codes "GetPrimitiveArrayCritical") (given (codes "a") ∷ Value (Named Null) ∷ [])))
+    ∷ If 3 (TestExpr (Binary NotEqual (Variable (codes "q")) (Named Null)))
+    (block
+    (DeclareBuffer 4 JInt (codes "p") (FromCall (call (codes "GetIntArrayElements") (given (codes "a") ∷ Value (Named Null) ∷ [])))
+    ∷ Perform 5 (call (codes "ReleasePrimitiveArrayCritical") (given (codes "a") ∷ given (codes "q") ∷ Value (Number 0 false) ∷ []))
+    ∷ [])
+    6)
+    ∷ Return 7
+    ∷ [])
+    8
+    ∷ [])
+
+a_copy_is_made_while_a_buffer_is_critical-refused : IsRefused a_copy_is_made_while_a_buffer_is_critical 31 4
+unfolding opened
+a_copy_is_made_while_a_buffer_is_critical-refused = bad_way a_copy_is_made_while_a_buffer_is_critical CallWhileCritical 4 refl refl refl
+
+-- a return on the way where the second buffer is NULL
+-- JNIEXPORT void JNICALL Java_A_f(JNIEnv *env, jclass cls, jintArray a) {
+-- jint *p = (*env)->GetIntArrayElements(env, a, NULL);
+-- if (p == NULL) {
+-- return;
+-- }
+-- jint *q = (*env)->GetIntArrayElements(env, a, NULL);
+-- if (q == NULL) {
+-- return;
+-- }
+-- return;
+-- }
+abbrev pub a_return_on_the_way_where_the_second_buffer_is_null : SourceUnit
+a_return_on_the_way_where_the_second_buffer_is_null =
+    unit_of
+    (native 1 Void (codes "Java_A_f") (reference_parameter JIntArray (codes "a") ∷ [])
+    (DeclareBuffer 2 JInt (codes "p") (FromCall (call (codes "GetIntArrayElements") (given (codes "a") ∷ Value (Named Null) ∷ [])))
+    ∷ If 3 (TestExpr (Binary Equal (Variable (codes "p")) (Named Null)))
+    (block
+    (Return 4
+    ∷ [])
+    5)
+    ∷ DeclareBuffer 6 JInt (codes "q") (FromCall (call (codes "GetIntArrayElements") (given (codes "a") ∷ Value (Named Null) ∷ [])))
+    ∷ If 7 (TestExpr (Binary Equal (Variable (codes "q")) (Named Null)))
+    (block
+    (Return 8
+    ∷ [])
+    9)
+    ∷ Return 10
+    ∷ [])
+    11
+    ∷ [])
+
+a_return_on_the_way_where_the_second_buffer_is_null-refused : IsRefused a_return_on_the_way_where_the_second_buffer_is_null 32 8
+unfolding opened
+a_return_on_the_way_where_the_second_buffer_is_null-refused = bad_way a_return_on_the_way_where_the_second_buffer_is_null ReturnWithBuffer 8 refl refl refl
+
+-- a loop's body ends with a buffer that it declares
+-- JNIEXPORT void JNICALL Java_A_f(JNIEnv *env, jclass cls, jintArray a) {
+-- while (1u == 1u) {
+-- jint *p = (*env)->GetIntArrayElements(env, a, NULL);
+-- }
+-- return;
+-- }
+abbrev pub a_loop_s_body_ends_with_a_buffer_that_it_declares : SourceUnit
+a_loop_s_body_ends_with_a_buffer_that_it_declares =
+    unit_of
+    (native 1 Void (codes "Java_A_f") (reference_parameter JIntArray (codes "a") ∷ [])
+    (While 2 (Binary Equal (Number 1 true) (Number 1 true))
+    (block
+    (DeclareBuffer 3 JInt (codes "p") (FromCall (call (codes "GetIntArrayElements") (given (codes "a") ∷ Value (Named Null) ∷ [])))
+    ∷ [])
+    4)
+    ∷ Return 5
+    ∷ [])
+    6
+    ∷ [])
+
+a_loop_s_body_ends_with_a_buffer_that_it_declares-refused : IsRefused a_loop_s_body_ends_with_a_buffer_that_it_declares 33 4
+unfolding opened
+a_loop_s_body_ends_with_a_buffer_that_it_declares-refused = bad_way a_loop_s_body_ends_with_a_buffer_that_it_declares HeldBuffer 4 refl refl refl
+
+-- a test beside another teaches nothing
+-- JNIEXPORT void JNICALL Java_A_f(JNIEnv *env, jclass cls, jintArray a) {
+-- jint *p = (*env)->GetIntArrayElements(env, a, NULL);
+-- if (p != NULL && 1u == 1u) {
+-- p[0] = 1;
+-- }
+-- return;
+-- }
+abbrev pub a_test_beside_another_teaches_nothing : SourceUnit
+a_test_beside_another_teaches_nothing =
+    unit_of
+    (native 1 Void (codes "Java_A_f") (reference_parameter JIntArray (codes "a") ∷ [])
+    (DeclareBuffer 2 JInt (codes "p") (FromCall (call (codes "GetIntArrayElements") (given (codes "a") ∷ Value (Named Null) ∷ [])))
+    ∷ If 3 (TestExpr (Binary LogicalAnd (Binary NotEqual (Variable (codes "p")) (Named Null)) (Binary Equal (Number 1 true) (Number 1 true))))
+    (block
+    (AssignElement 4 (codes "p") (Number 0 false) (Number 1 false)
+    ∷ [])
+    5)
+    ∷ Return 6
+    ∷ [])
+    7
+    ∷ [])
+
+a_test_beside_another_teaches_nothing-refused : IsRefused a_test_beside_another_teaches_nothing 34 4
+unfolding opened
+a_test_beside_another_teaches_nothing-refused = bad_way a_test_beside_another_teaches_nothing UntestedBuffer 4 refl refl refl
+
+-- a loop's test teaches nothing
+-- JNIEXPORT void JNICALL Java_A_f(JNIEnv *env, jclass cls, jintArray a) {
+-- jint *p = (*env)->GetIntArrayElements(env, a, NULL);
+-- while (p != NULL) {
+-- (*env)->ReleaseIntArrayElements(env, a, p, 0);
+-- }
+-- return;
+-- }
+abbrev pub a_loop_s_test_teaches_nothing : SourceUnit
+a_loop_s_test_teaches_nothing =
+    unit_of
+    (native 1 Void (codes "Java_A_f") (reference_parameter JIntArray (codes "a") ∷ [])
+    (DeclareBuffer 2 JInt (codes "p") (FromCall (call (codes "GetIntArrayElements") (given (codes "a") ∷ Value (Named Null) ∷ [])))
+    ∷ While 3 (Binary NotEqual (Variable (codes "p")) (Named Null))
+    (block
+    (Perform 4 (call (codes "ReleaseIntArrayElements") (given (codes "a") ∷ given (codes "p") ∷ Value (Number 0 false) ∷ []))
+    ∷ [])
+    5)
+    ∷ Return 6
+    ∷ [])
+    7
+    ∷ [])
+
+a_loop_s_test_teaches_nothing-refused : IsRefused a_loop_s_test_teaches_nothing 34 4
+unfolding opened
+a_loop_s_test_teaches_nothing-refused = bad_way a_loop_s_test_teaches_nothing UntestedBuffer 4 refl refl refl
+
+-- a buffer is read where it is NULL
+-- JNIEXPORT void JNICALL Java_A_f(JNIEnv *env, jclass cls, jintArray a) {
+-- jint *p = (*env)->GetIntArrayElements(env, a, NULL);
+-- if (p == NULL) {
+-- put_jint(p[0]);
+-- }
+-- return;
+-- }
+abbrev pub a_buffer_is_read_where_it_is_null : SourceUnit
+a_buffer_is_read_where_it_is_null =
+    unit_of
+    (native 1 Void (codes "Java_A_f") (reference_parameter JIntArray (codes "a") ∷ [])
+    (DeclareBuffer 2 JInt (codes "p") (FromCall (call (codes "GetIntArrayElements") (given (codes "a") ∷ Value (Named Null) ∷ [])))
+    ∷ If 3 (TestExpr (Binary Equal (Variable (codes "p")) (Named Null)))
+    (block
+    (PutJint 4 (Element (codes "p") (Number 0 false))
+    ∷ [])
+    5)
+    ∷ Return 6
+    ∷ [])
+    7
+    ∷ [])
+
+a_buffer_is_read_where_it_is_null-refused : IsRefused a_buffer_is_read_where_it_is_null 35 4
+unfolding opened
+a_buffer_is_read_where_it_is_null-refused = bad_way a_buffer_is_read_where_it_is_null WrongBuffer 4 refl refl refl
+
+-- a buffer is released with another reference to its array
+-- JNIEXPORT void JNICALL Java_A_f(JNIEnv *env, jclass cls, jintArray a) {
+-- jobject b = (*env)->NewLocalRef(env, a);
+-- jint *p = (*env)->GetIntArrayElements(env, a, NULL);
+-- if (p != NULL) {
+-- (*env)->ReleaseIntArrayElements(env, b, p, 0);
+-- }
+-- return;
+-- }
+abbrev pub a_buffer_is_released_with_another_reference_to_its_array : SourceUnit
+a_buffer_is_released_with_another_reference_to_its_array =
+    unit_of
+    (native 1 Void (codes "Java_A_f") (reference_parameter JIntArray (codes "a") ∷ [])
+    (Declare 2 (ReferenceVariable JObject) (codes "b") (FromCall (call (codes "NewLocalRef") (given (codes "a") ∷ [])))
+    ∷ DeclareBuffer 3 JInt (codes "p") (FromCall (call (codes "GetIntArrayElements") (given (codes "a") ∷ Value (Named Null) ∷ [])))
+    ∷ If 4 (TestExpr (Binary NotEqual (Variable (codes "p")) (Named Null)))
+    (block
+    (Perform 5 (call (codes "ReleaseIntArrayElements") (given (codes "b") ∷ given (codes "p") ∷ Value (Number 0 false) ∷ []))
+    ∷ [])
+    6)
+    ∷ Return 7
+    ∷ [])
+    8
+    ∷ [])
+
+a_buffer_is_released_with_another_reference_to_its_array-refused : IsRefused a_buffer_is_released_with_another_reference_to_its_array 35 5
+unfolding opened
+a_buffer_is_released_with_another_reference_to_its_array-refused = bad_way a_buffer_is_released_with_another_reference_to_its_array WrongBuffer 5 refl refl refl
+
+-- a buffer is held on one way alone
+-- JNIEXPORT void JNICALL Java_A_f(JNIEnv *env, jclass cls, jintArray a) {
+-- jint *p = (*env)->GetIntArrayElements(env, a, NULL);
+-- if (p != NULL) {
+-- p[0] = 1;
+-- }
+-- return;
+-- }
+abbrev pub a_buffer_is_held_on_one_way_alone : SourceUnit
+a_buffer_is_held_on_one_way_alone =
+    unit_of
+    (native 1 Void (codes "Java_A_f") (reference_parameter JIntArray (codes "a") ∷ [])
+    (DeclareBuffer 2 JInt (codes "p") (FromCall (call (codes "GetIntArrayElements") (given (codes "a") ∷ Value (Named Null) ∷ [])))
+    ∷ If 3 (TestExpr (Binary NotEqual (Variable (codes "p")) (Named Null)))
+    (block
+    (AssignElement 4 (codes "p") (Number 0 false) (Number 1 false)
+    ∷ [])
+    5)
+    ∷ Return 6
+    ∷ [])
+    7
+    ∷ [])
+
+a_buffer_is_held_on_one_way_alone-refused : IsRefused a_buffer_is_held_on_one_way_alone 40 3
+unfolding opened
+a_buffer_is_held_on_one_way_alone-refused = bad_way a_buffer_is_held_on_one_way_alone WaysDiffer 3 refl refl refl
