@@ -9,12 +9,15 @@ use Rattle.syntax.specs.Views.{argument_tree, constant_tree, element_tree, prefi
 use Rattle.syntax.specs.Limits.{number_limit}
 use Rattle.classes.specs.FieldViews.{field_id_view}
 use Rattle.semantics.specs.CallEffects.{CallResult, NoResult, NullResult, ScalarResult, ReferenceResult, FieldResult}
+use Rattle.semantics.specs.Heap.{number_in}
 use Rattle.semantics.specs.Sight.{Sight, in_range}
 use Rattle.semantics.specs.Task.{Operand, NumberOperand}
 use Rattle.semantics.specs.Task as task
 use Rattle.semantics.specs.Term.{Term, Done, Number, Named, Read, Element, IsNull, Prefix, And, Or, Binary, Reduction, binary_term, done, reduce}
 use Rattle.semantics.specs.Value.{Value, Word, Int, Flag, Truth, Trap, DivisionByZero, ShiftTooFar, OutOfRange, NullReference, ExceptionPending, WrongObject, DeletedReference, NoCapacity, Fatal, Outcome, Gives, Traps, Stuck, outcome_then, outcome_map, convert}
 use Rattle.semantics.specs.Variable.{Variable, Scalar, LocalRef, FieldHandle, Elements, LocalArray, NoBuffer, Copy, View, StaticReference, Empty, Live, Deleted, Variables, Statics, assign}
+use Rattle.semantics.specs.Views.{object_value_view}
+use Rattle.semantics.specs.declared.object_value.ObjectValue.{ObjectValue as ObjectValueInMemory}
 use Rattle.replay_terms.specs.declared.given.Given.{Given}
 use Rattle.replay_terms.specs.declared.given.Given.TheVariants as given
 use Rattle.replay_terms.specs.declared.operand.Operand.{Operand as OperandInMemory}
@@ -111,6 +114,10 @@ if_there None = Stuck
 -- an index within the range of these numbers
 abbrev pub place_in : Outcome (List ℤ) → Outcome ℕ → Outcome ℕ
 place_in numbers i = outcome_then (λ n. outcome_map (λ (z : ℤ). n) (outcome_then (λ (zs : List ℤ). in_range (slice_get zs n)) numbers)) i
+
+-- the number of a value in memory, and 0 of a reference
+abbrev pub held_number : ObjectValueInMemory → ℤ
+held_number v = number_in (object_value_view v)
 
 -- an array with a number, converted to its type, at an index; no other variable has elements today
 abbrev pub written : ℕ → ℤ → Variable → Option Variable

@@ -19,4 +19,4 @@ pub use statics::{StaticReference, Statics, null_statics};
 pub use term::{Term, put_term, term_of};
 pub use trap::{Trap, trap_number};
 pub use value::{Evaluated, Value, constant, convert};
-pub use variable::{Content, Variables, zeros};
+pub use variable::{Content, Variables, held_number, zeros};

@@ -1,16 +1,20 @@
 //! The variables of a call in progress.
 
-ghost use Rattle.std.specs.Prelude.{◌≡◌, [], IfOk, Some, None, pos, replicate, slice_set, if◌then◌else◌};
+ghost use Rattle.std.specs.Prelude.{◌≡◌, ◌≤◌, ◌++◌, [], IfOk, Some, None, drop, length, map, pos, replicate, slice_set, if◌then◌else◌};
 ghost use Rattle.std.specs.Option.{option_map};
 ghost use Rattle.base.specs.Bytes.{lookup};
 ghost use Rattle.syntax.specs.Views.{element_tree};
+ghost use Rattle.semantics.specs.CallEffects.{begun_with, local_array};
+ghost use Rattle.semantics.specs.Heap.{number_in};
 ghost use Rattle.semantics.specs.Value.{convert};
-ghost use Rattle.semantics.specs.Variable.{assign};
-ghost use Rattle.replay_terms.specs.Views.{content_view, variables_view, written, WritesElement};
+ghost use Rattle.semantics.specs.Variable.{assign, change};
+ghost use Rattle.semantics.specs.Views.{object_value_view};
+ghost use Rattle.replay_terms.specs.Views.{content_view, held_number, variables_view, written, WritesElement};
 
 use crate::value::{Value, convert};
 use classes::fields::FieldId;
 use indexmap::IndexMap;
+use semantics::ObjectValue;
 use std::alloc::{AllocError, Global};
 use std::marker::Model;
 use syntax::{ElementType, Name};
@@ -93,6 +97,69 @@ impl<'a> Variables<'a> {
             Some(place) => write_content(&mut self.contents[place], index, number),
             None => false,
         }
+    }
+
+    /// The numbers of the local array of this name; none where there is no such array.
+    pub fn array_named(&self, name: &[u8]) -> &[i32]
+        ensures { result.now ≡ local_array (lookup name.now (variables_view self.now)) }
+    {
+        match self.content_named(name) {
+            Some(content) => array_of(content),
+            None => &[],
+        }
+    }
+
+    /// Lets the local array of this name, if there is one, begin with the numbers of these values. The cost goes by the values.
+    pub fn begin_array(&mut self, name: &[u8], values: &[ObjectValue])
+        requires { length values.now ≤ length (local_array (lookup name.now (variables_view self.old))) }
+        ensures { variables_view self.new ≡ change name.now (begun_with (map held_number values.now)) (variables_view self.old) }
+    {
+        if let Some(place) = self.contents.get_index_of(name) {
+            begin_content(&mut self.contents[place], values);
+        }
+    }
+}
+
+/// The number of a value; 0 for a reference.
+pub fn held_number(value: ObjectValue) -> i32
+    ensures { result ≡ number_in (object_value_view value) }
+{
+    match value {
+        ObjectValue::Number(number) => number,
+        ObjectValue::Reference(_) => 0,
+    }
+}
+
+/// The numbers of a local array; none where it is something else.
+fn array_of<'c>(content: &'c Content<'_>) -> &'c [i32]
+    ensures { result.now ≡ local_array (Some (content_view content.now)) }
+{
+    match content {
+        Content::Array(_, numbers) => numbers.as_slice(),
+        Content::Number(_) | Content::Reference(_, _) => &[],
+        Content::Field(_) | Content::Buffer(_) => &[],
+    }
+}
+
+/// Lets an array begin with the numbers of these values.
+fn begin(numbers: &mut [i32], values: &[ObjectValue])
+    requires { length values.now ≤ length numbers.old }
+    ensures { numbers.new ≡ map held_number values.now ++ drop (length values.now) numbers.old }
+{
+    for (place, value) in values.iter().enumerate() {
+        numbers[place] = held_number(*value);
+    }
+}
+
+/// Lets what a variable holds, if it is a local array, begin with the numbers of these values.
+fn begin_content(content: &mut Content<'_>, values: &[ObjectValue])
+    requires { length values.now ≤ length (local_array (Some (content_view content.old))) }
+    ensures { content_view content.new ≡ begun_with (map held_number values.now) (content_view content.old) }
+{
+    match content {
+        Content::Array(_, numbers) => begin(numbers, values),
+        Content::Number(_) | Content::Reference(_, _) => {}
+        Content::Field(_) | Content::Buffer(_) => {}
     }
 }
 
