@@ -31,6 +31,7 @@ use crate::actual::{
 use crate::check::{check, element_type, fits_class};
 use crate::exceptions::exception_answer;
 use crate::field;
+use crate::regions::region_answer;
 use classes::built_ins::{
     ARRAY_INDEX_OUT_OF_BOUNDS_EXCEPTION, ARRAY_STORE_EXCEPTION, NEGATIVE_ARRAY_SIZE_EXCEPTION,
     NO_CLASS_DEF_FOUND_ERROR, NO_SUCH_FIELD_ERROR, number_array,
@@ -73,8 +74,22 @@ pub enum Answer<'a> {
     DeletesGlobal(&'a [u8], usize),
     /// The exception of this name is pending, or none is, whatever was pending before, and this is given.
     Pends(Option<usize>, Given<'a>),
+    /// The local array of a region begins with the region's numbers.
+    GetsRegion(Region<'a>),
+    /// The numbers of a region become the first of its local array.
+    SetsRegion(Region<'a>),
     /// The run stops.
     Halts(Trap),
+}
+
+/// A part of an array or of a string, and a local array to or from which its numbers are copied.
+#[derive(Clone, Copy)]
+pub struct Region<'a> {
+    pub object: usize,
+    /// The place of the first value, counted from 0.
+    pub start: usize,
+    pub count: usize,
+    pub array: &'a [u8],
 }
 
 /// What a function works on.
@@ -88,6 +103,8 @@ pub(crate) enum Subject {
     Statics,
     /// Arrays and strings.
     Arrays,
+    /// Arrays and strings, and local arrays.
+    Regions,
     /// The pending exception.
     Exceptions,
 }
@@ -110,6 +127,8 @@ fn subject_of(function: JniFunction) -> Subject
         JniFunction::NewArray(_) | JniFunction::NewObjectArray => Subject::Arrays,
         JniFunction::GetObjectArrayElement | JniFunction::SetObjectArrayElement => Subject::Arrays,
         JniFunction::NewStringUTF => Subject::Arrays,
+        JniFunction::GetArrayRegion(_) | JniFunction::SetArrayRegion(_) => Subject::Regions,
+        JniFunction::GetStringRegion => Subject::Regions,
         JniFunction::Throw | JniFunction::ThrowNew => Subject::Exceptions,
         JniFunction::ExceptionClear | JniFunction::FatalError => Subject::Exceptions,
         JniFunction::ExceptionOccurred | JniFunction::ExceptionCheck => Subject::Exceptions,
@@ -172,6 +191,7 @@ fn work_out<'a>(
         Subject::Fields => field_answer(classes, store, function, actuals),
         Subject::Statics => static_answer(classes, store, function, actuals),
         Subject::Arrays => array_answer(classes, store, function, actuals),
+        Subject::Regions => region_answer(store, variables, function, actuals),
         Subject::Exceptions => exception_answer(pending, function, actuals),
     }
 }

@@ -8,7 +8,8 @@ pub mod carry_out;
 pub mod check;
 mod exceptions;
 pub mod field;
+mod regions;
 mod shared;
 
-pub use answer::{Answer, answer_or_trap, trap_in};
+pub use answer::{Answer, Region, answer_or_trap, trap_in};
 pub use shared::Shared;
