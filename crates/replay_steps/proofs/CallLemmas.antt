@@ -4,14 +4,15 @@ use Rattle.std.specs.Prelude.{ℤ, pos, negsuc, drop, nat_le, nat_lt, if◌then�
 use Rattle.std.specs.Option.{option_to_list}
 use Rattle.base.specs.Bytes.{Identifier, lookup}
 use Rattle.base.specs.Element.{ElementType}
-use Rattle.class_rules.specs.BuiltIns.{array_index_out_of_bounds, no_class_def_found_error, no_such_field_error, number_array}
+use Rattle.class_rules.specs.BuiltIns.{array_index_out_of_bounds, no_class_def_found_error, no_such_field_error, number_array, string_index_out_of_bounds}
 use Rattle.class_rules.specs.Class.{Classes}
 use Rattle.class_rules.specs.Fields.{FieldId}
 use Rattle.jni.specs.Access.{ArrayView}
-use Rattle.jni.specs.JniFunction.{is_built_function, JniFunction, FindClass, NewGlobalRef, DeleteLocalRef, DeleteGlobalRef, EnsureLocalCapacity, PushLocalFrame, GetFieldID, GetStaticFieldID, prototype, NewArray, NewObjectArray, GetObjectArrayElement, SetObjectArrayElement, GetBuffer}
+use Rattle.jni.specs.JniFunction.{is_built_function, JniFunction, FindClass, NewGlobalRef, DeleteLocalRef, DeleteGlobalRef, EnsureLocalCapacity, PushLocalFrame, GetFieldID, GetStaticFieldID, prototype, NewArray, NewObjectArray, GetObjectArrayElement, SetObjectArrayElement, GetArrayRegion, SetArrayRegion, GetStringRegion, GetBuffer}
 use Rattle.jni.specs.Prototype.{ResultKind, NewLocal}
 use Rattle.semantics.specs.Arguments.{Actual, number_given, object_given, reference_given, variable_given}
-use Rattle.semantics.specs.CallEffects.{CallResult, NoResult, ReferenceResult, CallEffect, Leaves, Throws, at_index, delete_global_effect, delete_local_effect, ensure_effect, found_class_effect, found_field_effect, level_of, new_array_effect, out_of_memory, push_effect, refuses_frames, store_effect, with_capacity, without_local}
+use Rattle.semantics.specs.CallEffects.{CallResult, NoResult, ReferenceResult, CallEffect, Leaves, Throws, at_index, at_region, delete_global_effect, delete_local_effect, ensure_effect, found_class_effect, found_field_effect, get_region_effect, level_of, local_array, new_array_effect, out_of_memory, push_effect, refuses_frames, set_region_effect, store_effect, with_capacity, without_local}
+use Rattle.semantics.specs.CallEffects as call_effects
 use Rattle.semantics.specs.CallStep.{after_call, after_refusal, call_step, checked, completed, failure, is_zero, makes_objects, put, received, target_element, tell_copy}
 use Rattle.semantics.specs.CallTable.{call_effect, go_together}
 use Rattle.semantics.specs.Checks.{call_trap}
@@ -22,7 +23,7 @@ use Rattle.semantics.specs.World.{fresh_object}
 use Rattle.semantics.specs.Task.{Task}
 use Rattle.semantics.specs.Thread.{Frame, Thread, Shared, BuffersInUse, Trapped, Advance, Advances, capacities}
 use Rattle.semantics.specs.ThreadStep.{with_tasks}
-use Rattle.semantics.specs.Value.{Trap}
+use Rattle.semantics.specs.Value.{Trap, OutOfRange}
 use Rattle.semantics.specs.Variable.{Variable, Variables}
 use Rattle.replay_terms.specs.declared.given.Given.{Given}
 use Rattle.replay_terms.specs.declared.given.Given.TheVariants as given
@@ -33,7 +34,7 @@ use Rattle.replay_tasks.specs.declared.outcome.Purpose.TheVariants as purposes
 use Rattle.replay_tasks.specs.declared.outcome.Target.TheVariants as target
 use Rattle.replay_tasks.specs.declared.task.Task.{Task as TaskInMemory}
 use Rattle.replay_terms.specs.declared.trap.Trap.{Trap as TrapInMemory}
-use Rattle.replay_calls.specs.Answers.{Answer, Gives, Writes, Makes, Raises, ThrowsNew, Ensures, Pushes, RefusesFrames, Pops, DeletesLocal, MakesGlobal, DeletesGlobal, Pends, Halts, answer_or_trap, effect_as, frames_after, frames_with, given_after, makes_object, pending_after, shared_after, trap_in, without_global, zero_result}
+use Rattle.replay_calls.specs.Answers.{Answer, Gives, Writes, Makes, Raises, ThrowsNew, Ensures, Pushes, RefusesFrames, Pops, DeletesLocal, MakesGlobal, DeletesGlobal, Pends, Region, GetsRegion, SetsRegion, Halts, answer_or_trap, effect_as, frames_after, frames_with, given_after, makes_object, pending_after, shared_after, trap_in, variables_after, variables_with, without_global, zero_result}
 use Rattle.replay_terms.specs.Views.{given_view, Contents, trap_view, variables_view}
 use Rattle.replay_steps.specs.Calls.{MakesCall}
 use Rattle.replay_calls.specs.Checked.{fit_together, trap_found}
@@ -42,7 +43,7 @@ use Rattle.replay_objects.specs.New.{array_class, object_of, thrown}
 use Rattle.replay_tasks.specs.Outcomes.{outcome_for, purpose_view}
 use Rattle.replay_steps.specs.Steps.{Scene, Sees, left_by, scene_with}
 use Rattle.replay_tasks.specs.Tasks.{task_view}
-use Rattle.replay_calls.specs.WorkedOut.{element_given, element_set, ensured, fits_element, found_class, found_field, global_deleted, index_within, local_deleted, made_global, new_array, new_object_array, pushed, worked_out}
+use Rattle.replay_calls.specs.WorkedOut.{element_given, element_set, ensured, fits_element, found_class, found_field, global_deleted, index_within, local_deleted, made_global, new_array, new_object_array, pushed, region_got, region_set, region_within, worked_out}
 use Rattle.replay_steps.proofs.TaskLemmas.{same_thread}
 
 -- ---- checks
@@ -130,6 +131,33 @@ module _ (classes : Classes) (in_use : BuffersInUse) (k : ℕ) (s : Shared) (t :
   sets : (fits : Bool) (r : Reference) (z : ℤ) → at_index array_index_out_of_bounds count z (store_effect s t fits array r) ≡ effect_as classes s t (element_set fits array r (index_within count z))
   sets fits r = at_place (store_effect s t fits array r) (element_set fits array r) (stores fits array r) refl count
 
+  -- what is done with a region that is inside, and else
+  at_place_of : (go : ℕ → ℕ → CallEffect) (a : Option Region → Answer) (exception n : ℕ) (x : Identifier)
+      → ((start m : ℕ) → go start m ≡ effect_as classes s t (a (Some (record { object = n; start = start; count = m; array = x })))) → Throws exception ≡ effect_as classes s t (a None)
+      → (length : ℕ) (start count : ℤ) → at_region exception length start count go ≡ effect_as classes s t (a (region_within n length x start count))
+  at_place_of go a exception n x there past length (pos start) (pos m) = by_test (nat_le (start + m) length)
+    where
+      by_test : (b : Bool) → (if b then go start m else Throws exception) ≡ effect_as classes s t (a (if b then Some (record { object = n; start = start; count = m; array = x }) else None))
+      by_test true = there start m
+      by_test false = past
+  at_place_of go a exception n x there past length (pos start) (negsuc m) = past
+  at_place_of go a exception n x there past length (negsuc start) z = past
+
+  -- where the local array is too short the run stops
+  if_room : (b : Bool) (a : Answer) → (if b then effect_as classes s t a else call_effects.Halts OutOfRange) ≡ effect_as classes s t (if b then a else Halts OutOfRange)
+  if_room true a = refl
+  if_room false a = refl
+
+  gets_region : (exception n : ℕ) (x : Identifier) (length : ℕ) (start count : ℤ) → at_region exception length start count (get_region_effect s t n x) ≡ effect_as classes s t (region_got exception t.variables (region_within n length x start count))
+  gets_region exception n x =
+      at_place_of (get_region_effect s t n x) (region_got exception t.variables) exception n x
+      (λ start m. if_room (nat_le m (length (local_array (lookup x t.variables)))) (GetsRegion (record { object = n; start = start; count = m; array = x }))) refl
+
+  sets_region : (n : ℕ) (x : Identifier) (length : ℕ) (start count : ℤ) → at_region array_index_out_of_bounds length start count (set_region_effect s t n x) ≡ effect_as classes s t (region_set t.variables (region_within n length x start count))
+  sets_region n x =
+      at_place_of (set_region_effect s t n x) (region_set t.variables) array_index_out_of_bounds n x
+      (λ start m. if_room (nat_le m (length (local_array (lookup x t.variables)))) (SetsRegion (record { object = n; start = start; count = m; array = x }))) refl
+
   -- what is worked out is the effect
   effects : (f : JniFunction) → is_built_function f ≡ true → call_effect classes in_use k s t args f ≡ effect_as classes s t (worked_out classes s.heap t.variables t.frames t.pending args f)
   unfolding call_effect
@@ -145,6 +173,9 @@ module _ (classes : Classes) (in_use : BuffersInUse) (k : ℕ) (s : Shared) (t :
   effects NewObjectArray built = new_object_arrays (object_given args 1) (reference_given args 2) (number_given args 0)
   effects GetObjectArrayElement built = gets (number_given args 1)
   effects SetObjectArrayElement built = sets (fits_element classes s.heap args) (reference_given args 2) (number_given args 1)
+  effects (GetArrayRegion T) built = gets_region array_index_out_of_bounds array (variable_given args 3) count (number_given args 1) (number_given args 2)
+  effects (SetArrayRegion T) built = sets_region array (variable_given args 3) count (number_given args 1) (number_given args 2)
+  effects GetStringRegion built = gets_region string_index_out_of_bounds array (variable_given args 3) count (number_given args 1) (number_given args 2)
   effects f built = cc
 
 -- ---- what a call leaves
@@ -159,31 +190,27 @@ not_told (b ∷ x) (given.Flag c) vs = refl
 not_told (b ∷ x) (given.Reference r) vs = refl
 not_told (b ∷ x) (given.Field f) vs = refl
 
--- a thread with these frames and this pending exception
-abbrev in_frames : Thread → List Frame → Reference → Thread
-in_frames t frames pending = record t { frames = frames; pending = pending }
+-- a thread with these variables, these frames and this pending exception
+abbrev in_locals : Thread → Variables → List Frame → Reference → Thread
+in_locals t vs frames pending = record t { variables = vs; frames = frames; pending = pending }
 
 -- the thread before a call
-as_it_is : (t : Thread) (frames : List Frame) (pending : Reference) → t.frames ≡ frames → t.pending ≡ pending → t ≡ in_frames t frames pending
-as_it_is t frames pending framed is =
-    ap (λ (fs : List Frame). let u : Thread = record t { frames = fs } in u) framed
-    ∙ ap (λ (r : Reference). let u : Thread = record t { frames = frames; pending = r } in u) is
-
--- its variables are as they were
-in_variables : (k : ℕ) (s : Shared) (t : Thread) (vs : Contents) (frames : List Frame) (pending : Reference) (rest : List Task) (took : Outcome) (new : TaskInMemory) → t.variables ≡ variables_view vs
-    → left_by k s (in_frames t frames pending) rest took new ≡ left_by k s (record t { variables = variables_view vs; frames = frames; pending = pending }) rest took new
-in_variables k s t vs frames pending rest took new same = ap (λ (us : Variables). let u : Thread = record t { variables = us; frames = frames; pending = pending } in left_by k s u rest took new) same
+as_it_is : (t : Thread) (vs : Variables) (frames : List Frame) (pending : Reference) → t.variables ≡ vs → t.frames ≡ frames → t.pending ≡ pending → t ≡ in_locals t vs frames pending
+as_it_is t vs frames pending held framed is =
+    ap (λ (us : Variables). let u : Thread = record t { variables = us } in u) held
+    ∙ ap (λ (fs : List Frame). let u : Thread = record t { variables = vs; frames = fs } in u) framed
+    ∙ ap (λ (r : Reference). let u : Thread = record t { variables = vs; frames = frames; pending = r } in u) is
 
 -- the result goes into the current frame
-in_received : (kind : ResultKind) (g : Given) (t : Thread) (frames : List Frame) (pending : Reference) → received kind (given_view g) (in_frames t frames pending) ≡ in_frames t (frames_with kind (given_view g) frames) pending
-in_received NewLocal given.Nothing t frames pending = refl
-in_received NewLocal given.Null t frames pending = refl
-in_received NewLocal (given.Number z) t frames pending = refl
-in_received NewLocal (given.Flag b) t frames pending = refl
-in_received NewLocal (given.Reference None) t frames pending = refl
-in_received NewLocal (given.Reference (Some n)) t frames pending = refl
-in_received NewLocal (given.Field f) t frames pending = refl
-in_received kind g t frames pending = refl
+in_received : (kind : ResultKind) (g : Given) (t : Thread) (vs : Variables) (frames : List Frame) (pending : Reference) → received kind (given_view g) (in_locals t vs frames pending) ≡ in_locals t vs (frames_with kind (given_view g) frames) pending
+in_received NewLocal given.Nothing t vs frames pending = refl
+in_received NewLocal given.Null t vs frames pending = refl
+in_received NewLocal (given.Number z) t vs frames pending = refl
+in_received NewLocal (given.Flag b) t vs frames pending = refl
+in_received NewLocal (given.Reference None) t vs frames pending = refl
+in_received NewLocal (given.Reference (Some n)) t vs frames pending = refl
+in_received NewLocal (given.Field f) t vs frames pending = refl
+in_received kind g t vs frames pending = refl
 
 -- a failure leaves the frames alone
 failed_frames : (kind : ResultKind) (frames : List Frame) → frames_with kind (failure kind) frames ≡ frames
@@ -205,6 +232,8 @@ makes_alike classes s t (DeletesLocal l n) = refl
 makes_alike classes s t (MakesGlobal n) = refl
 makes_alike classes s t (DeletesGlobal x n) = refl
 makes_alike classes s t (Pends r g) = refl
+makes_alike classes s t (GetsRegion r) = refl
+makes_alike classes s t (SetsRegion r) = refl
 makes_alike classes s t (Halts trap) = refl
 
 -- an answer with a trap is the one that stops the run
@@ -222,69 +251,73 @@ halts_with (DeletesLocal l n) trap is = absurd (cc)
 halts_with (MakesGlobal n) trap is = absurd (cc)
 halts_with (DeletesGlobal x n) trap is = absurd (cc)
 halts_with (Pends r g) trap is = absurd (cc)
+halts_with (GetsRegion r) trap is = absurd (cc)
+halts_with (SetsRegion r) trap is = absurd (cc)
 halts_with (Halts found) trap is = let same : found ≡ trap = cc in ap Halts same
 
-module _ (classes : Classes) (in_use : BuffersInUse) (k : ℕ) (s : Shared) (t : Thread) (line : ℕ) (purpose : PurposeInMemory) (f : JniFunction) (args : List Actual) (rest : List Task) (frames : List Frame) (pending : Reference) where
+module _ (classes : Classes) (in_use : BuffersInUse) (k : ℕ) (s : Shared) (t : Thread) (line : ℕ) (purpose : PurposeInMemory) (f : JniFunction) (args : List Actual) (rest : List Task) (vs : Variables) (frames : List Frame) (pending : Reference) where
   abbrev kind : ResultKind
   kind = (prototype f).result
 
   -- the thread before the call
   abbrev caller : Thread
-  caller = in_frames t frames pending
+  caller = in_locals t vs frames pending
 
   -- what goes where it belongs
   abbrev completes : List Object → Shared → Thread → CallResult → Advance
   completes made s' u c = completed classes in_use k s caller line (purpose_view line purpose) f args rest made s' u c
 
-  by_purpose : (p : PurposeInMemory) (s' : Shared) (fs : List Frame) (r : Reference) (g : Given) (new : TaskInMemory)
-      → put (purpose_view line p) (given_view g) s' (with_tasks (in_frames t fs r) (tasks_after line (purpose_view line p) (is_zero (given_view g)) ++ rest)) ≡ left_by k s' (in_frames t fs r) rest (outcome_for line p g) new
-  by_purpose (purposes.Put (target.Declared t x)) s' fs r g new = refl
-  by_purpose (purposes.Put (target.Assigned x)) s' fs r g new = refl
-  by_purpose (purposes.Put target.Dropped) s' fs r g new = refl
-  by_purpose (purposes.Test b other) s' fs r g new = refl
+  by_purpose : (p : PurposeInMemory) (s' : Shared) (us : Variables) (fs : List Frame) (r : Reference) (g : Given) (new : TaskInMemory)
+      → put (purpose_view line p) (given_view g) s' (with_tasks (in_locals t us fs r) (tasks_after line (purpose_view line p) (is_zero (given_view g)) ++ rest)) ≡ left_by k s' (in_locals t us fs r) rest (outcome_for line p g) new
+  by_purpose (purposes.Put (target.Declared t x)) s' us fs r g new = refl
+  by_purpose (purposes.Put (target.Assigned x)) s' us fs r g new = refl
+  by_purpose (purposes.Put target.Dropped) s' us fs r g new = refl
+  by_purpose (purposes.Test b other) s' us fs r g new = refl
 
-  finished : (made : List Object) (s' : Shared) (fs : List Frame) (r : Reference) (c : CallResult) (g : Given) (new : TaskInMemory) → given_view g ≡ c
-      → completes made s' (in_frames t fs r) c ≡ left_by k (record s' { heap = s'.heap ++ made }) (in_frames t (frames_with kind (given_view g) fs) r) rest (outcome_for line purpose g) new
-  finished made s' fs r c g new same =
+  finished : (made : List Object) (s' : Shared) (us : Variables) (fs : List Frame) (r : Reference) (c : CallResult) (g : Given) (new : TaskInMemory) → given_view g ≡ c
+      → completes made s' (in_locals t us fs r) c ≡ left_by k (record s' { heap = s'.heap ++ made }) (in_locals t us (frames_with kind (given_view g) fs) r) rest (outcome_for line purpose g) new
+  finished made s' us fs r c g new same =
       let after : Shared = record s' { heap = s'.heap ++ made } in
       let todo : List Task = tasks_after line (purpose_view line purpose) (is_zero (given_view g)) ++ rest in
-      ap (completes made s' (in_frames t fs r)) (sym same)
-      ∙ ap (λ (w : Thread). let u : Thread = record w { tasks = Some todo; variables = tell_copy (variable_given args 1) (given_view g) t.variables } in put (purpose_view line purpose) (given_view g) after u) (in_received kind g t fs r)
-      ∙ ap (λ (vs : Variables). let u : Thread = record (in_frames t (frames_with kind (given_view g) fs) r) { tasks = Some todo; variables = vs } in put (purpose_view line purpose) (given_view g) after u) (not_told (variable_given args 1) g t.variables)
-      ∙ by_purpose purpose after (frames_with kind (given_view g) fs) r g new
+      ap (completes made s' (in_locals t us fs r)) (sym same)
+      ∙ ap (λ (w : Thread). let u : Thread = record w { tasks = Some todo; variables = tell_copy (variable_given args 1) (given_view g) us } in put (purpose_view line purpose) (given_view g) after u) (in_received kind g t us fs r)
+      ∙ ap (λ (ws : Variables). let u : Thread = record (in_locals t us (frames_with kind (given_view g) fs) r) { tasks = Some todo; variables = ws } in put (purpose_view line purpose) (given_view g) after u) (not_told (variable_given args 1) g us)
+      ∙ by_purpose purpose after us (frames_with kind (given_view g) fs) r g new
 
   -- the same where no object is made
-  plain : (s' : Shared) (fs : List Frame) (r : Reference) (c : CallResult) (g : Given) (new : TaskInMemory) → given_view g ≡ c
-      → completes [] s' (in_frames t fs r) c ≡ left_by k s' (in_frames t (frames_with kind (given_view g) fs) r) rest (outcome_for line purpose g) new
-  plain s' fs r c g new same =
-      finished [] s' fs r c g new same
-      ∙ ap (λ (heap : Heap). let after : Shared = record s' { heap = heap } in left_by k after (in_frames t (frames_with kind (given_view g) fs) r) rest (outcome_for line purpose g) new) (append-nil s'.heap)
+  plain : (s' : Shared) (us : Variables) (fs : List Frame) (r : Reference) (c : CallResult) (g : Given) (new : TaskInMemory) → given_view g ≡ c
+      → completes [] s' (in_locals t us fs r) c ≡ left_by k s' (in_locals t us (frames_with kind (given_view g) fs) r) rest (outcome_for line purpose g) new
+  plain s' us fs r c g new same =
+      finished [] s' us fs r c g new same
+      ∙ ap (λ (heap : Heap). let after : Shared = record s' { heap = heap } in left_by k after (in_locals t us (frames_with kind (given_view g) fs) r) rest (outcome_for line purpose g) new) (append-nil s'.heap)
 
   -- so it is after each answer that lets the run go on
   answered : (a : Answer) (g : Given) (new : TaskInMemory) → trap_in a ≡ None → given_view g ≡ given_after s.heap kind a
       → after_call classes in_use k s caller line (purpose_view line purpose) f args rest (effect_as classes s caller a)
-      ≡ left_by k (shared_after classes s a) (in_frames t (frames_with kind (given_view g) (frames_after frames a)) (pending_after classes s.heap pending a)) rest (outcome_for line purpose g) new
-  answered (Gives c) g new goes same = plain s frames pending c g new same
-  answered (Writes n i v) g new goes same = plain (shared_after classes s (Writes n i v)) frames pending NoResult g new same
-  answered (Makes n) g new goes same = finished (object_of classes n ∷ []) s frames pending (ReferenceResult (Some (next_name s.heap))) g new same
-  answered (Raises c) g new goes same = finished (fresh_object classes c ∷ []) s frames (Some (next_name s.heap)) (failure kind) g new same
-  answered (ThrowsNew c text) g new goes same = finished (thrown classes s.heap c text) s frames (Some (next_name s.heap + 1)) zero_result g new same
-  answered (Ensures n) g new goes same = plain s (with_capacity n frames) pending zero_result g new same
-  answered (Pushes n) g new goes same = plain s (new_frame n ∷ frames) pending zero_result g new same
-  answered RefusesFrames g new goes same = plain s frames (Some (out_of_memory classes)) (given_after s.heap kind RefusesFrames) g new same
-  answered (Pops r) g new goes same = plain s (drop 1 frames) pending (ReferenceResult r) g new same
-  answered (DeletesLocal l n) g new goes same = plain s (without_local l n frames) pending NoResult g new same
-  answered (MakesGlobal n) g new goes same = plain (shared_after classes s (MakesGlobal n)) frames pending (ReferenceResult (Some n)) g new same
-  answered (DeletesGlobal x n) g new goes same = plain (without_global x n s) frames pending NoResult g new same
-  answered (Pends r c) g new goes same = plain s frames r c g new same
+      ≡ left_by k (shared_after classes s vs a) (in_locals t (variables_after s.heap vs a) (frames_with kind (given_view g) (frames_after frames a)) (pending_after classes s.heap pending a)) rest (outcome_for line purpose g) new
+  answered (Gives c) g new goes same = plain s vs frames pending c g new same
+  answered (Writes n i v) g new goes same = plain (shared_after classes s vs (Writes n i v)) vs frames pending NoResult g new same
+  answered (Makes n) g new goes same = finished (object_of classes n ∷ []) s vs frames pending (ReferenceResult (Some (next_name s.heap))) g new same
+  answered (Raises c) g new goes same = finished (fresh_object classes c ∷ []) s vs frames (Some (next_name s.heap)) (failure kind) g new same
+  answered (ThrowsNew c text) g new goes same = finished (thrown classes s.heap c text) s vs frames (Some (next_name s.heap + 1)) zero_result g new same
+  answered (Ensures n) g new goes same = plain s vs (with_capacity n frames) pending zero_result g new same
+  answered (Pushes n) g new goes same = plain s vs (new_frame n ∷ frames) pending zero_result g new same
+  answered RefusesFrames g new goes same = plain s vs frames (Some (out_of_memory classes)) (given_after s.heap kind RefusesFrames) g new same
+  answered (Pops r) g new goes same = plain s vs (drop 1 frames) pending (ReferenceResult r) g new same
+  answered (DeletesLocal l n) g new goes same = plain s vs (without_local l n frames) pending NoResult g new same
+  answered (MakesGlobal n) g new goes same = plain (shared_after classes s vs (MakesGlobal n)) vs frames pending (ReferenceResult (Some n)) g new same
+  answered (DeletesGlobal x n) g new goes same = plain (without_global x n s) vs frames pending NoResult g new same
+  answered (Pends r c) g new goes same = plain s vs frames r c g new same
+  answered (GetsRegion r) g new goes same = plain s (variables_with s.heap r vs) frames pending NoResult g new same
+  answered (SetsRegion r) g new goes same = plain (shared_after classes s vs (SetsRegion r)) vs frames pending NoResult g new same
   answered (Halts trap) g new goes same = absurd (cc)
 
   -- and where its object is refused
   refused_is : (g : Given) (new : TaskInMemory) → given_view g ≡ failure kind
-      → after_refusal classes in_use k s caller line (purpose_view line purpose) f args rest true ≡ left_by k s (in_frames t frames (Some (out_of_memory classes))) rest (outcome_for line purpose g) new
+      → after_refusal classes in_use k s caller line (purpose_view line purpose) f args rest true ≡ left_by k s (in_locals t vs frames (Some (out_of_memory classes))) rest (outcome_for line purpose g) new
   refused_is g new same =
-      plain s frames (Some (out_of_memory classes)) (failure kind) g new same
-      ∙ ap (λ (fs : List Frame). left_by k s (in_frames t fs (Some (out_of_memory classes))) rest (outcome_for line purpose g) new) (ap (λ (c : CallResult). frames_with kind c frames) same ∙ failed_frames kind frames)
+      plain s vs frames (Some (out_of_memory classes)) (failure kind) g new same
+      ∙ ap (λ (fs : List Frame). left_by k s (in_locals t vs fs (Some (out_of_memory classes))) rest (outcome_for line purpose g) new) (ap (λ (c : CallResult). frames_with kind c frames) same ∙ failed_frames kind frames)
 
 -- ---- the call of a function that is implemented
 
@@ -303,7 +336,7 @@ module _ (classes : Classes) (in_use : BuffersInUse) (k : ℕ) (s : Shared) (vs 
 
   module _ (t : Thread) (rest : List Task) (sees : Sees scene t) where
     abbrev calls : Thread
-    calls = in_frames t frames pending
+    calls = in_locals t (variables_view vs) frames pending
 
     abbrev by_effect : Bool → CallEffect → Advance
     by_effect false effect = after_call classes in_use k s calls line (purpose_view line purpose) f args rest effect
@@ -312,20 +345,21 @@ module _ (classes : Classes) (in_use : BuffersInUse) (k : ℕ) (s : Shared) (vs 
     abbrev checks : Option Trap → CallEffect
     checks o = checked o (call_effect classes in_use k s calls args f)
 
-    steps : (refused : Bool) → call_step classes in_use k s calls line (purpose_view line purpose) f args rest refused ≡ by_effect refused (checks (call_trap classes s.heap calls (target_element t.variables (purpose_view line purpose)) f args))
+    steps : (refused : Bool) → call_step classes in_use k s calls line (purpose_view line purpose) f args rest refused
+        ≡ by_effect refused (checks (call_trap classes s.heap calls (target_element (variables_view vs) (purpose_view line purpose)) f args))
     steps false = refl
     steps true = refl
 
     checks_alike : (o : Option Trap) → checks o ≡ effect_as classes s calls (answer_or_trap o (untrapped (variables_view vs)))
-    checks_alike None = effects classes in_use k s calls args f built ∙ ap (λ (us : Variables). effect_as classes s calls (untrapped us)) sees.variables
+    checks_alike None = effects classes in_use k s calls args f built
     checks_alike (Some found) = refl
 
     -- the step goes by an answer that is told
     by_told : (refused : Bool) (a : Answer) → a ≡ told → call_step classes in_use k s t line (purpose_view line purpose) f args rest refused ≡ by_effect refused (effect_as classes s calls a)
     by_told refused a same =
-        ap (λ (u : Thread). call_step classes in_use k s u line (purpose_view line purpose) f args rest refused) (as_it_is t frames pending sees.frames sees.pending)
+        ap (λ (u : Thread). call_step classes in_use k s u line (purpose_view line purpose) f args rest refused) (as_it_is t (variables_view vs) frames pending sees.variables sees.frames sees.pending)
         ∙ steps refused
-        ∙ ap (by_effect refused) (ap checks (trap_is classes s.heap (target_element t.variables (purpose_view line purpose)) args f calls built) ∙ checks_alike trap)
+        ∙ ap (by_effect refused) (ap checks (trap_is classes s.heap (target_element (variables_view vs) (purpose_view line purpose)) args f calls built) ∙ checks_alike trap)
         ∙ ap (λ (b : Answer). by_effect refused (effect_as classes s calls b)) (sym same)
 
   -- the run stops; no object can be refused
@@ -333,24 +367,24 @@ module _ (classes : Classes) (in_use : BuffersInUse) (k : ℕ) (s : Shared) (vs 
       → MakesCall refused scene line purpose f args (if refused then outcome.Impossible else outcome.Trapped found line) scene
   call_stopped false a found same stops = λ t rest new sees has.
       by_told t rest sees false (Halts (trap_view found)) (sym (halts_with a (trap_view found) stops) ∙ same)
-      ∙ ap (λ (u : Thread). Advances s u (Trapped (trap_view found) line)) (same_thread (in_frames t frames pending) (task_view new ∷ rest) has)
-      ∙ in_variables k s t vs frames pending rest (outcome.Trapped found line) new sees.variables
+      ∙ ap (λ (u : Thread). Advances s u (Trapped (trap_view found) line)) (same_thread (in_locals t (variables_view vs) frames pending) (task_view new ∷ rest) has)
   call_stopped true a found same stops = λ t rest new sees has. by_told t rest sees true (Halts (trap_view found)) (sym (halts_with a (trap_view found) stops) ∙ same)
 
   -- the call is made
-  pub call_made : (a : Answer) (g : Given) → a ≡ told → trap_in a ≡ None → given_view g ≡ given_after s.heap (prototype f).result a
+  pub call_made : (a : Answer) (g : Given) (vs' : Contents) → a ≡ told → trap_in a ≡ None → given_view g ≡ given_after s.heap (prototype f).result a → variables_view vs' ≡ variables_after s.heap (variables_view vs) a
       → MakesCall false scene line purpose f args (outcome_for line purpose g)
-      (scene_with classes in_use k (shared_after classes s a) vs (frames_with (prototype f).result (given_view g) (frames_after frames a)) (pending_after classes s.heap pending a))
-  call_made a g same goes given = λ t rest new sees has.
+      (scene_with classes in_use k (shared_after classes s (variables_view vs) a) vs' (frames_with (prototype f).result (given_view g) (frames_after frames a)) (pending_after classes s.heap pending a))
+  call_made a g vs' same goes given varied = λ t rest new sees has.
+      let s' = shared_after classes s (variables_view vs) a in
       by_told t rest sees false a same
-      ∙ answered classes in_use k s t line purpose f args rest frames pending a g new goes given
-      ∙ in_variables k (shared_after classes s a) t vs (frames_with (prototype f).result (given_view g) (frames_after frames a)) (pending_after classes s.heap pending a) rest (outcome_for line purpose g) new sees.variables
+      ∙ answered classes in_use k s t line purpose f args rest (variables_view vs) frames pending a g new goes given
+      ∙ ap (λ (us : Variables). left_by k s' (in_locals t us (frames_with (prototype f).result (given_view g) (frames_after frames a)) (pending_after classes s.heap pending a)) rest (outcome_for line purpose g) new) (sym varied)
 
   by_makes : (a : Answer) (b : Bool) → makes_object a ≡ b → a ≡ told → (t : Thread) (rest : List Task) → Sees scene t
-      → call_step classes in_use k s t line (purpose_view line purpose) f args rest true ≡ after_refusal classes in_use k s (in_frames t frames pending) line (purpose_view line purpose) f args rest b
+      → call_step classes in_use k s t line (purpose_view line purpose) f args rest true ≡ after_refusal classes in_use k s (in_locals t (variables_view vs) frames pending) line (purpose_view line purpose) f args rest b
   by_makes a b makes same = λ t rest sees.
       by_told t rest sees true a same
-      ∙ ap (after_refusal classes in_use k s (in_frames t frames pending) line (purpose_view line purpose) f args rest) (makes_alike classes s (in_frames t frames pending) a ∙ makes)
+      ∙ ap (after_refusal classes in_use k s (in_locals t (variables_view vs) frames pending) line (purpose_view line purpose) f args rest) (makes_alike classes s (in_locals t (variables_view vs) frames pending) a ∙ makes)
 
   -- it makes no object that can be refused
   pub none_refused : (a : Answer) → a ≡ told → makes_object a ≡ false → MakesCall true scene line purpose f args outcome.Impossible scene
@@ -361,15 +395,15 @@ module _ (classes : Classes) (in_use : BuffersInUse) (k : ℕ) (s : Shared) (vs 
       → MakesCall true scene line purpose f args (outcome_for line purpose g) (scene_with classes in_use k s vs frames (Some (out_of_memory classes)))
   object_refused a g same makes failed = λ t rest new sees has.
       by_makes a true makes same t rest sees
-      ∙ refused_is classes in_use k s t line purpose f args rest frames pending g new failed
-      ∙ in_variables k s t vs frames (Some (out_of_memory classes)) rest (outcome_for line purpose g) new sees.variables
+      ∙ refused_is classes in_use k s t line purpose f args rest (variables_view vs) frames pending g new failed
 
   -- the same, by what it leaves
-  pub call_made_so : (refused : Bool) (a : Answer) (g : Given) (kind : ResultKind) (s' : Shared) (between frames' : List Frame) (pending' : Reference) (took : Outcome) → refused ≡ false → a ≡ told → trap_in a ≡ None → kind ≡ (prototype f).result
-      → given_view g ≡ given_after s.heap kind a → s' ≡ shared_after classes s a → between ≡ frames_after frames a → frames' ≡ frames_with kind (given_view g) between → pending' ≡ pending_after classes s.heap pending a → took ≡ outcome_for line purpose g
-      → MakesCall refused scene line purpose f args took (scene_with classes in_use k s' vs frames' pending')
-  call_made_so refused a g kind s' between frames' pending' took possible same goes is given left changed framed pended is_for =
-      rw (possible, left, framed, changed, pended, is, is_for) (call_made a g same goes (given ∙ ap (λ (k : ResultKind). given_after s.heap k a) is))
+  pub call_made_so : (refused : Bool) (a : Answer) (g : Given) (kind : ResultKind) (s' : Shared) (vs' : Contents) (between frames' : List Frame) (pending' : Reference) (took : Outcome) → refused ≡ false → a ≡ told → trap_in a ≡ None → kind ≡ (prototype f).result
+      → given_view g ≡ given_after s.heap kind a → s' ≡ shared_after classes s (variables_view vs) a → variables_view vs' ≡ variables_after s.heap (variables_view vs) a
+      → between ≡ frames_after frames a → frames' ≡ frames_with kind (given_view g) between → pending' ≡ pending_after classes s.heap pending a → took ≡ outcome_for line purpose g
+      → MakesCall refused scene line purpose f args took (scene_with classes in_use k s' vs' frames' pending')
+  call_made_so refused a g kind s' vs' between frames' pending' took possible same goes is given left varied changed framed pended is_for =
+      rw (possible, left, framed, changed, pended, is, is_for) (call_made a g vs' same goes (given ∙ ap (λ (k : ResultKind). given_after s.heap k a) is) varied)
 
   pub object_refused_so : (refused : Bool) (a : Answer) (g : Given) (kind : ResultKind) (pending' : Reference) (took : Outcome) → refused ≡ true → a ≡ told → makes_object a ≡ true → kind ≡ (prototype f).result
       → given_view g ≡ failure kind → pending' ≡ Some (out_of_memory classes) → took ≡ outcome_for line purpose g → MakesCall refused scene line purpose f args took (scene_with classes in_use k s vs frames pending')

@@ -9,13 +9,14 @@ ghost use Rattle.replay_tasks.specs.declared.task.Task.TheVariants as task;
 ghost use Rattle.semantics.specs.Arguments.{Actual as ActualOfCall};
 ghost use Rattle.semantics.specs.Thread.{Shared as SharedOfThreads};
 ghost use Rattle.replay_calls.specs.Actuals.{actual_view};
-ghost use Rattle.replay_calls.specs.Answers.{FitsFrames, answer_view, trap_in};
+ghost use Rattle.replay_calls.specs.Answers.{FitsArrays, FitsFrames, answer_view, trap_in};
 ghost use Rattle.replay_steps.specs.Calls.{HasAnswer, MakesCall, MakesInvocation, ReducesFirst, ReducesOne};
 ghost use Rattle.replay_tasks.specs.Outcomes.{outcome_for};
 ghost use Rattle.replay_steps.specs.declared.activation.Locals.{Locals as LocalsInMemory};
 ghost use Rattle.replay_steps.specs.Steps.{Does, scene_of};
 ghost use Rattle.replay_calls.specs.Shares.{shared_view, sight_in};
 ghost use Rattle.replay_tasks.specs.Tasks.{OperandInRange, OperandsInRange, OutcomeInRange, PurposeInRange};
+ghost use Rattle.replay_terms.specs.Views.{variables_view};
 
 use crate::activation::Locals;
 use crate::turn::Turn;
@@ -226,6 +227,7 @@ fn complete<'a>(
     requires ways { PurposeInRange i.now.purpose }
     requires goes { trap_in (answer_view answer) ≡ None }
     requires fits { FitsFrames locals.old.frames (answer_view answer) }
+    requires arrays { FitsArrays shared.old.store (variables_view locals.old.variables) (answer_view answer) }
     ensures step { (args : List ActualOfCall)
         → HasAnswer (scene_of turn.entry (shared_view shared.old) locals.old pending.old) (function_value i.now.function) args (answer_view answer.entry)
         → IfOk result (λ o. MakesCall false (scene_of turn.entry (shared_view shared.old) locals.old pending.old) i.now.line i.now.purpose (function_value i.now.function) args o
@@ -233,16 +235,16 @@ fn complete<'a>(
     ensures range { IfOk result OutcomeInRange }
 {
     let kind = i.function.prototype().result;
-    let frames = &mut locals.frames;
     let given = carry_out(
         turn.alloc,
         turn.classes,
         shared,
-        frames,
+        &mut locals.variables,
+        &mut locals.frames,
         pending,
         kind,
         answer,
     )?;
-    put_local(frames, kind, given)?;
+    put_local(&mut locals.frames, kind, given)?;
     Ok(outcome_for(i.line, i.purpose, given))
 }

@@ -2,14 +2,14 @@ use Rattle.std.proofs.Common.{IfOk, is_some, sym, ap, ◌∙◌, subst, map}
 use Rattle.std.specs.Option.{option_map}
 use Rattle.jni.specs.Table.{function_value}
 use Rattle.replay_calls.specs.Actuals.{actual_view}
-use Rattle.replay_calls.specs.Answers.{FitsFrames, answer_view}
+use Rattle.replay_calls.specs.Answers.{FitsArrays, FitsFrames, answer_view}
 use Rattle.replay_calls.specs.Checked.{trap_found}
 use Rattle.replay_calls.specs.Shares.{shared_view}
 use Rattle.replay_terms.specs.Views.{trap_view, variables_view}
 use Rattle.replay_steps.specs.Calls.{MakesCall}
 use Rattle.replay_steps.specs.Steps.{Scene, scene_of}
 use Rattle.replay_steps.specs.Turns.{in_use_view}
-use Rattle.replay_calls.proofs.FittingFrames.{told_fits}
+use Rattle.replay_calls.proofs.FittingFrames.{told_copies, told_fits}
 use Rattle.replay_steps.proofs.CallLemmas.{call_stopped}
 use Rattle.replay_steps.proofs.invoke.call.Goals as goal
 
@@ -22,6 +22,16 @@ complete-requires-clause-fits c =
     let locals = c.args.locals.now in
     let pending = c.args.pending.now in
     subst (FitsFrames locals.frames) (sym c.answer_or_trap-answer.ensures) (told_fits locals.frames classes store (variables_view locals.variables) pending args f (trap_found classes store locals.frames (is_some pending) f args))
+
+pub complete-requires-clause-arrays : goal.complete-requires-clause-arrays
+complete-requires-clause-arrays c =
+    let f = function_value c.args.i.now.function in
+    let args = map actual_view c.args.actuals.now in
+    let classes = c.args.turn.classes.now in
+    let store = c.args.shared.now.store in
+    let locals = c.args.locals.now in
+    let pending = c.args.pending.now in
+    subst (FitsArrays store (variables_view locals.variables)) (sym c.answer_or_trap-answer.ensures) (told_copies store (variables_view locals.variables) args classes locals.frames pending f (trap_found classes store locals.frames (is_some pending) f args))
 
 pub complete-requires-clause-goes : goal.complete-requires-clause-goes
 complete-requires-clause-goes c = sym c.trap_in.ensures ∙ ap (option_map trap_view) c.in_default.is
