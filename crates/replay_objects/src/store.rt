@@ -157,6 +157,26 @@ impl Store {
         }
     }
 
+    /// Gives an object these numbers as its values. There is no memory for more or fewer than it has, as in no accepted program. The
+    /// name 0 is as in `set`.
+    pub fn put_numbers(&mut self, name: usize, numbers: &[i32]) -> Result<(), AllocError>
+        ensures ok { IfOk result (λ _. self.new ≡ with_numbers self.old name numbers.now) }
+        ensures err { OnErr result (self.new ≡ self.old) }
+    {
+        if self.values_of(name).len() != numbers.len() {
+            return Err(AllocError);
+        }
+        self.set_numbers(name, 0, numbers);
+        Ok(())
+    }
+
+    /// The numbers of an object, with 0 for a reference. The cost goes by them.
+    pub fn numbers_of(&self, alloc: Global, name: usize) -> Result<Vec<i32>, AllocError>
+        ensures { IfOk result (λ numbers. numbers.items ≡ numbers_of self.now name) }
+    {
+        numbers_in(alloc, self.values_of(name))
+    }
+
     /// Makes the next object.
     pub fn add(&mut self, class: usize, values: Vec<ObjectValue>) -> Result<(), AllocError>
         requires { length values.items < 2 ^ 31 }
@@ -194,6 +214,27 @@ fn empty(object: &mut Object)
 {
     object.class = 0;
     object.values.clear();
+}
+
+/// The numbers of values, with 0 for a reference.
+fn numbers_in(alloc: Global, values: &[ObjectValue]) -> Result<Vec<i32>, AllocError>
+    ensures { IfOk result (λ numbers. numbers.items ≡ map number_in (map object_value_view values.now)) }
+{
+    let mut numbers = Vec::new(alloc);
+    for value in values {
+        numbers.push(number_in(*value))?;
+    }
+    Ok(numbers)
+}
+
+/// The number of a value; 0 for a reference.
+fn number_in(value: ObjectValue) -> i32
+    ensures { result ≡ number_in (object_value_view value) }
+{
+    match value {
+        ObjectValue::Number(number) => number,
+        ObjectValue::Reference(_) => 0,
+    }
 }
 
 /// Whether a value is a number.
