@@ -4,17 +4,18 @@ use Rattle.std.specs.Prelude.{◌+◌, ℤ, pos, negsuc, length, nat_le, if◌th
 use Rattle.base.specs.Bytes.{Identifier, lookup}
 use Rattle.class_rules.specs.Class.{Classes}
 use Rattle.class_rules.specs.Fields.{FieldId}
-use Rattle.jni.specs.JniFunction.{JniFunction, FindClass, NewGlobalRef, DeleteLocalRef, DeleteGlobalRef, EnsureLocalCapacity, PushLocalFrame, GetFieldID, GetStaticFieldID, NewArray, NewObjectArray, GetObjectArrayElement, SetObjectArrayElement, GetArrayRegion, SetArrayRegion, GetStringRegion}
-use Rattle.semantics.specs.Arguments.{Actual, variable_given, reference_given, number_given, object_given}
+use Rattle.jni.specs.Access.{ElementsCopy}
+use Rattle.jni.specs.JniFunction.{JniFunction, FindClass, NewGlobalRef, DeleteLocalRef, DeleteGlobalRef, EnsureLocalCapacity, PushLocalFrame, GetFieldID, GetStaticFieldID, NewArray, NewObjectArray, GetObjectArrayElement, SetObjectArrayElement, GetArrayRegion, SetArrayRegion, GetStringRegion, ReleaseBuffer}
+use Rattle.semantics.specs.Arguments.{Actual, ReleaseMode, CopyBackAndFree, CopyBack, FreeUncopied, mode_given, variable_given, reference_given, number_given, object_given}
 use Rattle.semantics.specs.CallEffects.{local_array, with_capacity}
 use Rattle.semantics.specs.Heap.{Heap, values_of}
 use Rattle.semantics.specs.Object.{Reference}
-use Rattle.semantics.specs.Thread.{Frame, capacities}
+use Rattle.semantics.specs.Thread.{BuffersInUse, Frame, capacities}
 use Rattle.semantics.specs.Value.{Trap, OutOfRange}
 use Rattle.semantics.specs.Variable.{Variables}
 use Rattle.replay_calls.specs.Answers.{Answer, Ensures, Pushes, RefusesFrames, Region, GetsRegion, SetsRegion, Halts, FitsArrays, FitsFrames, HasRoom, IsInside, answer_or_trap}
 use Rattle.replay_objects.specs.Frames.{new_frame}
-use Rattle.replay_calls.specs.WorkedOut.{element_given, element_set, ensured, found_class, found_field, global_deleted, if_it_has_room, local_deleted, made_global, new_array, new_object_array, pushed, region_given, region_got, region_set, region_within, worked_out}
+use Rattle.replay_calls.specs.WorkedOut.{element_given, element_set, ensured, found_class, found_field, global_deleted, if_it_has_room, local_deleted, made_global, new_array, new_object_array, pushed, region_given, region_got, region_set, region_within, released, worked_out}
 
 module _ (frames : List Frame) where
   class_fits : (c : Option ℕ) → FitsFrames frames (found_class c)
@@ -85,28 +86,34 @@ module _ (frames : List Frame) where
   set_region_fits vs None = tt
   set_region_fits vs (Some r) = region_fits vs r (SetsRegion r) tt
 
-  answer_fits : (classes : Classes) (heap : Heap) (vs : Variables) (pending : Reference) (args : List Actual) (f : JniFunction) → FitsFrames frames (worked_out classes heap vs frames pending args f)
-  answer_fits classes heap vs pending args FindClass = class_fits _
-  answer_fits classes heap vs pending args NewGlobalRef = global_fits (reference_given args 0)
-  answer_fits classes heap vs pending args DeleteLocalRef = local_fits _ (reference_given args 0)
-  answer_fits classes heap vs pending args DeleteGlobalRef = deleted_fits (variable_given args 0) (reference_given args 0)
-  answer_fits classes heap vs pending args EnsureLocalCapacity = ensured_fits (number_given args 0)
-  answer_fits classes heap vs pending args PushLocalFrame = pushed_fits (number_given args 0)
-  answer_fits classes heap vs pending args GetFieldID = field_fits _
-  answer_fits classes heap vs pending args GetStaticFieldID = field_fits _
-  answer_fits classes heap vs pending args (NewArray T) = array_fits _ (number_given args 0)
-  answer_fits classes heap vs pending args NewObjectArray = object_array_fits _ _ (number_given args 0)
-  answer_fits classes heap vs pending args GetObjectArrayElement = element_fits heap _ _
-  answer_fits classes heap vs pending args SetObjectArrayElement = set_fits _ _ _ _
-  answer_fits classes heap vs pending args (GetArrayRegion T) = got_fits _ vs (region_given heap args)
-  answer_fits classes heap vs pending args (SetArrayRegion T) = set_region_fits vs (region_given heap args)
-  answer_fits classes heap vs pending args GetStringRegion = got_fits _ vs (region_given heap args)
-  answer_fits classes heap vs pending args f = tt
+  released_fits : (n : ℕ) (p : Identifier) (m : ReleaseMode) → FitsFrames frames (released n p m)
+  released_fits n p CopyBackAndFree = tt
+  released_fits n p CopyBack = tt
+  released_fits n p FreeUncopied = tt
+
+  answer_fits : (classes : Classes) (in_use : BuffersInUse) (heap : Heap) (vs : Variables) (pending : Reference) (args : List Actual) (f : JniFunction) → FitsFrames frames (worked_out classes in_use heap vs frames pending args f)
+  answer_fits classes in_use heap vs pending args FindClass = class_fits _
+  answer_fits classes in_use heap vs pending args NewGlobalRef = global_fits (reference_given args 0)
+  answer_fits classes in_use heap vs pending args DeleteLocalRef = local_fits _ (reference_given args 0)
+  answer_fits classes in_use heap vs pending args DeleteGlobalRef = deleted_fits (variable_given args 0) (reference_given args 0)
+  answer_fits classes in_use heap vs pending args EnsureLocalCapacity = ensured_fits (number_given args 0)
+  answer_fits classes in_use heap vs pending args PushLocalFrame = pushed_fits (number_given args 0)
+  answer_fits classes in_use heap vs pending args GetFieldID = field_fits _
+  answer_fits classes in_use heap vs pending args GetStaticFieldID = field_fits _
+  answer_fits classes in_use heap vs pending args (NewArray T) = array_fits _ (number_given args 0)
+  answer_fits classes in_use heap vs pending args NewObjectArray = object_array_fits _ _ (number_given args 0)
+  answer_fits classes in_use heap vs pending args GetObjectArrayElement = element_fits heap _ _
+  answer_fits classes in_use heap vs pending args SetObjectArrayElement = set_fits _ _ _ _
+  answer_fits classes in_use heap vs pending args (GetArrayRegion T) = got_fits _ vs (region_given heap args)
+  answer_fits classes in_use heap vs pending args (SetArrayRegion T) = set_region_fits vs (region_given heap args)
+  answer_fits classes in_use heap vs pending args GetStringRegion = got_fits _ vs (region_given heap args)
+  answer_fits classes in_use heap vs pending args (ReleaseBuffer (ElementsCopy T)) = released_fits _ _ (mode_given args 2)
+  answer_fits classes in_use heap vs pending args f = tt
 
   -- so does it with a trap before it
-  pub told_fits : (classes : Classes) (heap : Heap) (vs : Variables) (pending : Reference) (args : List Actual) (f : JniFunction) (o : Option Trap) → FitsFrames frames (answer_or_trap o (worked_out classes heap vs frames pending args f))
-  told_fits classes heap vs pending args f None = answer_fits classes heap vs pending args f
-  told_fits classes heap vs pending args f (Some trap) = tt
+  pub told_fits : (classes : Classes) (in_use : BuffersInUse) (heap : Heap) (vs : Variables) (pending : Reference) (args : List Actual) (f : JniFunction) (o : Option Trap) → FitsFrames frames (answer_or_trap o (worked_out classes in_use heap vs frames pending args f))
+  told_fits classes in_use heap vs pending args f None = answer_fits classes in_use heap vs pending args f
+  told_fits classes in_use heap vs pending args f (Some trap) = tt
 
 -- ---- regions
 
@@ -188,24 +195,30 @@ module _ (heap : Heap) (vs : Variables) where
         given_inside (object_given args 0) (variable_given args 3) (number_given args 1) (number_given args 2) (λ o. FitsArrays heap vs (region_set vs o)) tt
         (λ r inside. region_copies r (SetsRegion r) (λ room. (inside, room)))
 
-    answer_copies : (classes : Classes) (frames : List Frame) (pending : Reference) (f : JniFunction) → FitsArrays heap vs (worked_out classes heap vs frames pending args f)
-    answer_copies classes frames pending FindClass = class_copies _
-    answer_copies classes frames pending NewGlobalRef = global_copies (reference_given args 0)
-    answer_copies classes frames pending DeleteLocalRef = local_copies _ (reference_given args 0)
-    answer_copies classes frames pending DeleteGlobalRef = deleted_copies (variable_given args 0) (reference_given args 0)
-    answer_copies classes frames pending EnsureLocalCapacity = ensured_copies frames (number_given args 0)
-    answer_copies classes frames pending PushLocalFrame = pushed_copies frames (number_given args 0)
-    answer_copies classes frames pending GetFieldID = field_copies _
-    answer_copies classes frames pending GetStaticFieldID = field_copies _
-    answer_copies classes frames pending (NewArray T) = array_copies _ (number_given args 0)
-    answer_copies classes frames pending NewObjectArray = object_array_copies _ _ (number_given args 0)
-    answer_copies classes frames pending GetObjectArrayElement = element_copies _ _
-    answer_copies classes frames pending SetObjectArrayElement = set_copies _ _ _ _
-    answer_copies classes frames pending (GetArrayRegion T) = got_copies _
-    answer_copies classes frames pending (SetArrayRegion T) = set_region_copies
-    answer_copies classes frames pending GetStringRegion = got_copies _
-    answer_copies classes frames pending f = tt
+    released_copies : (n : ℕ) (p : Identifier) (m : ReleaseMode) → FitsArrays heap vs (released n p m)
+    released_copies n p CopyBackAndFree = tt
+    released_copies n p CopyBack = tt
+    released_copies n p FreeUncopied = tt
 
-    pub told_copies : (classes : Classes) (frames : List Frame) (pending : Reference) (f : JniFunction) (o : Option Trap) → FitsArrays heap vs (answer_or_trap o (worked_out classes heap vs frames pending args f))
-    told_copies classes frames pending f None = answer_copies classes frames pending f
-    told_copies classes frames pending f (Some trap) = tt
+    answer_copies : (classes : Classes) (in_use : BuffersInUse) (frames : List Frame) (pending : Reference) (f : JniFunction) → FitsArrays heap vs (worked_out classes in_use heap vs frames pending args f)
+    answer_copies classes in_use frames pending FindClass = class_copies _
+    answer_copies classes in_use frames pending NewGlobalRef = global_copies (reference_given args 0)
+    answer_copies classes in_use frames pending DeleteLocalRef = local_copies _ (reference_given args 0)
+    answer_copies classes in_use frames pending DeleteGlobalRef = deleted_copies (variable_given args 0) (reference_given args 0)
+    answer_copies classes in_use frames pending EnsureLocalCapacity = ensured_copies frames (number_given args 0)
+    answer_copies classes in_use frames pending PushLocalFrame = pushed_copies frames (number_given args 0)
+    answer_copies classes in_use frames pending GetFieldID = field_copies _
+    answer_copies classes in_use frames pending GetStaticFieldID = field_copies _
+    answer_copies classes in_use frames pending (NewArray T) = array_copies _ (number_given args 0)
+    answer_copies classes in_use frames pending NewObjectArray = object_array_copies _ _ (number_given args 0)
+    answer_copies classes in_use frames pending GetObjectArrayElement = element_copies _ _
+    answer_copies classes in_use frames pending SetObjectArrayElement = set_copies _ _ _ _
+    answer_copies classes in_use frames pending (GetArrayRegion T) = got_copies _
+    answer_copies classes in_use frames pending (SetArrayRegion T) = set_region_copies
+    answer_copies classes in_use frames pending GetStringRegion = got_copies _
+    answer_copies classes in_use frames pending (ReleaseBuffer (ElementsCopy T)) = released_copies _ _ (mode_given args 2)
+    answer_copies classes in_use frames pending f = tt
+
+    pub told_copies : (classes : Classes) (in_use : BuffersInUse) (frames : List Frame) (pending : Reference) (f : JniFunction) (o : Option Trap) → FitsArrays heap vs (answer_or_trap o (worked_out classes in_use heap vs frames pending args f))
+    told_copies classes in_use frames pending f None = answer_copies classes in_use frames pending f
+    told_copies classes in_use frames pending f (Some trap) = tt

@@ -3,7 +3,7 @@ use Rattle.std.specs.Prelude.{ℕ, ◌+◌, pos, negsuc, Bool, true, false, List
 use Rattle.base.specs.Bytes.{Identifier, lookup}
 use Rattle.class_rules.specs.Class.{Classes}
 use Rattle.jni.specs.Prototype.{ResultKind, NewLocal}
-use Rattle.semantics.specs.CallEffects.{CallResult, NoResult, ScalarResult, ReferenceResult, CallEffect, Throws, Leaves, begun_with, heap_effect, local_array, new_effect, out_of_memory, overwritten, refuses_frames, throw_new_effect, with_capacity, with_local, without_local, without_one}
+use Rattle.semantics.specs.CallEffects.{CallResult, NoResult, ScalarResult, ReferenceResult, BufferResult, CallEffect, Throws, Leaves, begun_with, copied_elements, freed, heap_effect, local_array, new_effect, out_of_memory, overwritten, refuses_frames, throw_new_effect, with_capacity, with_freed, with_local, without_local, without_one}
 use Rattle.semantics.specs.CallEffects as effects
 use Rattle.semantics.specs.CallStep.{failure}
 use Rattle.semantics.specs.Heap.{Heap, next_name, numbers_of, values_of, with_numbers, with_value_at}
@@ -17,7 +17,8 @@ use Rattle.replay_calls.specs.declared.answer.Answer.TheVariants as answer
 use Rattle.replay_calls.specs.declared.answer.Region.{Region as RegionInMemory}
 use Rattle.replay_objects.specs.Frames.{new_frame}
 use Rattle.replay_objects.specs.New.{New, new_view, object_of, thrown}
-use Rattle.replay_terms.specs.Views.{given_view, trap_view}
+use Rattle.replay_terms.specs.Views.{given_view, lent_view, trap_view}
+use Rattle.replay_terms.specs.declared.given.Lent.{Lent}
 use Rattle.world_values.specs.Views.{object_value_view}
 
 -- a part of an array or of a string, and the name of a local array
@@ -35,8 +36,9 @@ region_view r = record { object = r.object; start = r.start; count = r.count; ar
 -- gets room for this many more and 0 is given, a frame of this capacity is made and 0 is given, the OutOfMemoryError object is
 -- pending and -4 is given, the current frame is dropped and this is given, a local reference in the frame of a level is deleted, a
 -- global reference is made and given, the one of a static is deleted, a pending exception or none replaces that before it and this
--- is given, a local array begins with the numbers of a region, a region's numbers become the first of a local array, or the run
--- stops.
+-- is given, a local array begins with the numbers of a region, a region's numbers become the first of a local array, a buffer is
+-- given, an object gets the numbers of the copy of a variable, which is given up or not, the buffer of a variable is given up, or the
+-- run stops.
 pub data Answer : Type 0 where
   Gives : CallResult → Answer
   Writes : (object place : ℕ) → ObjectValue → Answer
@@ -53,6 +55,9 @@ pub data Answer : Type 0 where
   Pends : Reference → CallResult → Answer
   GetsRegion : Region → Answer
   SetsRegion : Region → Answer
+  Lends : Lent → Answer
+  CopiesBack : (object : ℕ) → (buffer : Identifier) → (frees : Bool) → Answer
+  Frees : (buffer : Identifier) → Answer
   Halts : Trap → Answer
 
 abbrev pub answer_view : InMemory → Answer
@@ -71,6 +76,9 @@ answer_view (answer.DeletesGlobal x n) = DeletesGlobal x.now n
 answer_view (answer.Pends r g) = Pends r (given_view g)
 answer_view (answer.GetsRegion r) = GetsRegion (region_view r)
 answer_view (answer.SetsRegion r) = SetsRegion (region_view r)
+answer_view (answer.Lends b) = Lends b
+answer_view (answer.CopiesBack n p frees) = CopiesBack n p.now frees
+answer_view (answer.Frees p) = Frees p.now
 answer_view (answer.Halts trap) = Halts (trap_view trap)
 
 -- the trap with which the run stops
@@ -111,6 +119,20 @@ variables_with heap r vs = change r.array (begun_with (take r.count (drop r.star
 abbrev pub heap_with : Variables → Region → Heap → Heap
 heap_with vs r heap = with_numbers heap r.object (overwritten (numbers_of heap r.object) r.start (take r.count (local_array (lookup r.array vs))))
 
+-- a heap in which an object has the numbers of a copy
+abbrev pub heap_copied : (object : ℕ) → (buffer : Identifier) → Variables → Heap → Heap
+heap_copied n p vs heap = with_numbers heap n (copied_elements (lookup p vs))
+
+-- variables of which a buffer is given up or not
+abbrev pub variables_freed : Bool → (buffer : Identifier) → Variables → Variables
+variables_freed true p vs = change p freed vs
+variables_freed false p vs = vs
+
+-- the buffer that is given
+abbrev pub lent_in : Answer → Option Lent
+lent_in (Lends b) = Some b
+lent_in a = None
+
 -- 0
 abbrev pub zero_result : CallResult
 zero_result = ScalarResult (Int (pos 0))
@@ -136,6 +158,9 @@ effect_as classes s t (DeletesGlobal x n) = Leaves [] (without_global x n s) t N
 effect_as classes s t (Pends r g) = Leaves [] s (record t { pending = r }) g
 effect_as classes s t (GetsRegion r) = Leaves [] s (record t { variables = variables_with s.heap r t.variables }) NoResult
 effect_as classes s t (SetsRegion r) = heap_effect s t (heap_with t.variables r s.heap)
+effect_as classes s t (Lends b) = Leaves [] s t (BufferResult (lent_view s.heap b))
+effect_as classes s t (CopiesBack n p frees) = heap_effect s (record t { variables = variables_freed frees p t.variables }) (heap_copied n p t.variables s.heap)
+effect_as classes s t (Frees p) = Leaves [] s (with_freed t p) NoResult
 effect_as classes s t (Halts trap) = effects.Halts trap
 
 -- whether it is done to the frames of a call alone
@@ -171,11 +196,14 @@ shared_after classes s vs (ThrowsNew c text) = record s { heap = s.heap ++ throw
 shared_after classes s vs (MakesGlobal n) = record s { globals = n ∷ s.globals }
 shared_after classes s vs (DeletesGlobal x n) = without_global x n s
 shared_after classes s vs (SetsRegion r) = record s { heap = heap_with vs r s.heap }
+shared_after classes s vs (CopiesBack n p frees) = record s { heap = heap_copied n p vs s.heap }
 shared_after classes s vs a = s
 
--- the variables after it
+-- the variables after it, without what it tells of a buffer
 abbrev pub variables_after : Heap → Variables → Answer → Variables
 variables_after heap vs (GetsRegion r) = variables_with heap r vs
+variables_after heap vs (CopiesBack n p frees) = variables_freed frees p vs
+variables_after heap vs (Frees p) = change p freed vs
 variables_after heap vs a = vs
 
 -- the frames after it, without what it gives
@@ -211,6 +239,9 @@ given_after heap kind (DeletesGlobal x n) = NoResult
 given_after heap kind (Pends r g) = g
 given_after heap kind (GetsRegion r) = NoResult
 given_after heap kind (SetsRegion r) = NoResult
+given_after heap kind (Lends b) = BufferResult (lent_view heap b)
+given_after heap kind (CopiesBack n p frees) = NoResult
+given_after heap kind (Frees p) = NoResult
 given_after heap kind (Halts trap) = NoResult
 
 -- the frames with what a call of this kind of result gave

@@ -7,12 +7,13 @@ ghost use Rattle.semantics.specs.CallEffects.{out_of_memory};
 ghost use Rattle.semantics.specs.CallStep.{failure};
 ghost use Rattle.semantics.specs.Heap.{Heap};
 ghost use Rattle.semantics.specs.Variable.{Variables as VariablesOfCall};
-ghost use Rattle.replay_calls.specs.Answers.{FitsArrays, FitsFrames, answer_view, frames_after, frames_with, given_after, is_of_frames, is_of_references, makes_object, pending_after, shared_after, trap_in, variables_after};
+ghost use Rattle.replay_calls.specs.Answers.{FitsArrays, FitsFrames, answer_view, frames_after, frames_with, given_after, is_of_frames, is_of_references, lent_in, makes_object, pending_after, shared_after, trap_in, variables_after};
 ghost use Rattle.replay_terms.specs.Views.{given_view, variables_view};
 ghost use Rattle.replay_calls.specs.Shares.{shared_view};
 
 use crate::Shared;
 use crate::answer::Answer;
+use crate::buffers::copy_back;
 use crate::regions::{get_region, set_region};
 use classes::table::ClassTable;
 use jni::ResultKind;
@@ -20,7 +21,7 @@ use replay_objects::{Frames, New, make, make_thrown};
 use replay_terms::{Given, StaticReference, Variables};
 use std::alloc::{AllocError, Global};
 
-/// Does what a function of this kind of result answers, where the run goes on, and tells what it gives.
+/// Does what a function of this kind of result answers, where the run goes on, and tells what it gives. It gives no buffer.
 pub fn carry_out<'a>(
     alloc: Global,
     classes: &ClassTable,
@@ -32,6 +33,7 @@ pub fn carry_out<'a>(
     answer: Answer<'a>,
 ) -> Result<Given<'a>, AllocError>
     requires goes { trap_in (answer_view answer) ≡ None }
+    requires unlent { lent_in (answer_view answer) ≡ None }
     requires fits { FitsFrames frames.old (answer_view answer) }
     requires arrays { FitsArrays shared.old.store (variables_view variables.old) (answer_view answer) }
     ensures shared { IfOk result (λ _. shared_view shared.new ≡ shared_after classes.now (shared_view shared.old) (variables_view variables.old) (answer_view answer.entry)) }
@@ -72,7 +74,15 @@ pub fn carry_out<'a>(
             set_region(&mut shared.store, variables, region);
             Ok(Given::Nothing)
         }
-        Answer::Halts(_) => unreachable!(),
+        Answer::CopiesBack(object, buffer, frees) => {
+            copy_back(&mut shared.store, variables, object, buffer, frees)?;
+            Ok(Given::Nothing)
+        }
+        Answer::Frees(buffer) => {
+            variables.free(buffer);
+            Ok(Given::Nothing)
+        }
+        Answer::Halts(_) | Answer::Lends(_) => unreachable!(),
         _ => carry_out_references(alloc, classes, shared, frames, pending, answer),
     }
 }
@@ -170,6 +180,7 @@ pub fn makes_object(answer: Answer<'_>) -> bool
         Answer::Pops(_) | Answer::DeletesLocal(_, _) => false,
         Answer::MakesGlobal(_) | Answer::DeletesGlobal(_, _) => false,
         Answer::GetsRegion(_) | Answer::SetsRegion(_) => false,
+        Answer::Lends(_) | Answer::CopiesBack(_, _, _) | Answer::Frees(_) => false,
         Answer::Pends(_, _) | Answer::Halts(_) => false,
     }
 }
