@@ -1,17 +1,19 @@
 -- What the buffers of variables take.
-use Rattle.std.proofs.Common.{◌≡◌, ◌≤◌, ◌+◌, ◌-◌, ℕ, ℤ, Bool, true, false, cond, List, [], ◌∷◌, length, Option, Some, None, refl, ap, sym, ◌∙◌, arith}
-use Rattle.std.specs.Prelude.{slice_set}
+use Rattle.std.proofs.Common.{◌≡◌, ◌≤◌, ◌+◌, ◌-◌, ℕ, ℤ, Bool, true, false, cond, List, [], ◌∷◌, ◌++◌, Bor, zero, suc, length, map, drop, slice_get, Option, Some, None, refl, ap, sym, ◌∙◌, arith, append_assoc}
+use Rattle.std.specs.Prelude.{slice_set, flat_map}
+use Rattle.std.proofs.lemmas.List.Concat.{flat_map-cons}
 use Rattle.std.specs.Str.{bytes_eq}
 use Rattle.std.proofs.lemmas.List.{length-set}
 use Rattle.base.specs.Bytes.{Identifier, lookup}
 use Rattle.base.specs.Element.{ElementType}
 use Rattle.semantics.specs.CallEffects.{begun_with, freed}
 use Rattle.semantics.specs.Value.{convert}
-use Rattle.semantics.specs.Variable.{Variable, Scalar, LocalRef, FieldHandle, Elements, LocalArray, NoBuffer, Copy, View, Variables, assign, change, copied_length}
+use Rattle.semantics.specs.Variable.{Variable, Scalar, LocalRef, FieldHandle, Elements, LocalArray, NoBuffer, Copy, View, Variables, assign, change, copied_length, viewed}
 use Rattle.replay_terms.specs.declared.buffers.BuffersInUse.{BuffersInUse}
+use Rattle.replay_terms.specs.declared.variable.Content.{Content}
 use Rattle.replay_terms.specs.declared.variable.Written.{Written}
 use Rattle.replay_terms.specs.declared.variable.Written.TheVariants as outcome
-use Rattle.replay_terms.specs.Views.{Contents, Takes, WritesElement, count_viewed, had, total, variables_view, written}
+use Rattle.replay_terms.specs.Views.{Contents, Takes, WritesElement, by_name, content_view, viewed_by, count_viewed, had, total, variables_view, written}
 
 module _ (g : Variable → ℕ) where
   -- what is assigned is exchanged for what was there
@@ -144,3 +146,21 @@ module _ (old new : Contents) (u : BuffersInUse) (takes : Takes old u) where
     within = omega (arith, takes.within);
     few = omega (arith, takes.few);
   }
+
+-- ---- what they show
+
+-- what a place of a list adds to what comes after it
+pub flat_map_next : {A : Type 0} (f : A → List ℕ) (xs : List A) (i : ℕ) (x : A) (names : List ℕ) → slice_get xs i ≡ Some x → names ++ f x ++ flat_map f (drop (i + 1) xs) ≡ names ++ flat_map f (drop i xs)
+flat_map_next f [] i x names at = absurd (cc)
+flat_map_next f (y ∷ xs) zero x names at =
+    let same : y ≡ x = cc in
+    append_assoc names (f x) (flat_map f xs) ∙ ap (λ (l : List ℕ). names ++ l) (ap (λ z. f z ++ flat_map f xs) (sym same) ∙ sym (flat_map-cons f y xs))
+flat_map_next f (y ∷ xs) (suc i) x names at = let e : suc i + 1 ≡ suc (i + 1) = omega arith in rw e (flat_map_next f xs i x names at)
+
+-- the objects of entries are those of the variables
+pub viewed_same : (es : List (Bor Identifier × Content)) → flat_map viewed_by (map (λ (e : Bor Identifier × Content). e.1) es) ≡ flat_map (λ (v : Identifier × Variable). viewed v.1) (variables_view (by_name es))
+viewed_same [] = refl
+viewed_same (e ∷ es) =
+    flat_map-cons viewed_by e.1 (map (λ (d : Bor Identifier × Content). d.1) es)
+    ∙ ap (λ (l : List ℕ). viewed_by e.1 ++ l) (viewed_same es)
+    ∙ sym (flat_map-cons (λ (v : Identifier × Variable). viewed v.1) (e.0.now, content_view e.1) (variables_view (by_name es)))

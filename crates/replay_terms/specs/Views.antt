@@ -196,6 +196,10 @@ had g (Some v) = g v
 abbrev pub count_viewed : Variable → ℕ
 count_viewed v = length (viewed v)
 
+-- the object that a variable in memory shows
+abbrev pub viewed_by : Content → List ℕ
+viewed_by c = viewed (content_view c)
+
 abbrev pub in_use_view : InUseInMemory → BuffersInUse
 in_use_view u = record { copied = u.copied; views = u.views }
 

@@ -1,16 +1,17 @@
 //! The variables of a call in progress.
 
-ghost use Rattle.std.specs.Prelude.{◌≡◌, ◌≤◌, ◌++◌, [], IfOk, Some, drop, length, map, pos, replicate, slice_set};
+ghost use Rattle.std.specs.Prelude.{◌≡◌, ◌≤◌, ◌++◌, [], IfOk, Some, drop, flat_map, length, map, pos, replicate, slice_set};
 ghost use Rattle.std.specs.Option.{option_map};
 ghost use Rattle.base.specs.Bytes.{lookup};
+ghost use Rattle.indexmap.specs.IndexMap.{values};
 ghost use Rattle.syntax.specs.Views.{element_tree};
 ghost use Rattle.semantics.specs.CallEffects.{begun_with, copied_elements, freed, local_array};
 ghost use Rattle.semantics.specs.CallStep.{element_type};
 ghost use Rattle.semantics.specs.Heap.{number_in};
 ghost use Rattle.semantics.specs.Value.{convert};
-ghost use Rattle.semantics.specs.Variable.{assign, change, copied_length};
+ghost use Rattle.semantics.specs.Variable.{assign, change, copied_length, viewed};
 ghost use Rattle.semantics.specs.Views.{object_value_view};
-ghost use Rattle.replay_terms.specs.Views.{Takes, WritesContent, WritesElement, content_view, count_viewed, had, held_number, variables_view};
+ghost use Rattle.replay_terms.specs.Views.{Takes, WritesContent, WritesElement, content_view, count_viewed, had, held_number, variables_view, viewed_by};
 
 use crate::buffers::{BuffersInUse, NOTHING, exchanged, taken};
 use crate::value::{Value, convert};
@@ -177,6 +178,13 @@ impl<'a> Variables<'a> {
         }
     }
 
+    /// Adds the names of the objects that buffers show to others, in the order of the variables. The cost goes by the variables.
+    pub fn add_viewed(&self, names: &mut Vec<usize>) -> Result<(), AllocError>
+        ensures { IfOk result (λ _. names.new.items ≡ names.old.items ++ flat_map (λ v. viewed v.1) (variables_view self.now)) }
+    {
+        add_viewed(&self.contents, names)
+    }
+
     /// The numbers of the local array of this name; none where there is no such array.
     pub fn array_named(&self, name: &[u8]) -> &[i32]
         ensures { result.now ≡ local_array (lookup name.now (variables_view self.now)) }
@@ -250,6 +258,33 @@ fn begin_content(content: &mut Content<'_>, values: &[ObjectValue])
         Content::Number(_) | Content::Reference(_, _) | Content::Field(_) => {}
         Content::Buffer(_) | Content::Copy(_, _, _) | Content::View(_, _) => {}
     }
+}
+
+/// Adds the name of the object that a buffer shows.
+fn push_viewed(names: &mut Vec<usize>, content: &Content<'_>) -> Result<(), AllocError>
+    ensures { IfOk result (λ _. names.new.items ≡ names.old.items ++ viewed (content_view content.now)) }
+{
+    match content {
+        Content::View(_, object) => {
+            names.push(*object)?;
+            Ok(())
+        }
+        Content::Number(_) | Content::Reference(_, _) | Content::Field(_) => Ok(()),
+        Content::Buffer(_) | Content::Copy(_, _, _) | Content::Array(_, _) => Ok(()),
+    }
+}
+
+/// Adds the names of the objects that variables show.
+fn add_viewed(
+    contents: &IndexMap<&[u8], Content<'_>>,
+    names: &mut Vec<usize>,
+) -> Result<(), AllocError>
+    ensures { IfOk result (λ _. names.new.items ≡ names.old.items ++ flat_map viewed_by (values contents.now)) }
+{
+    for place in 0..contents.len() {
+        push_viewed(names, &contents[place])?;
+    }
+    Ok(())
 }
 
 /// `size` zeros.
