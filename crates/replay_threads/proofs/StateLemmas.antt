@@ -90,7 +90,7 @@ module _ (unit : SourceUnit) (classes : Classes) where
       ∙ ap (λ n. copied_by s + n) (copied_same ts ss h.1)
       ∙ sym (sum_by-cons copied_by s ss)
 
-  viewed_same : (ts : List ThreadInMemory) (ss : List Thread) → ThreadsStand unit classes ts ss → flat_map viewed_in ts ≡ flat_map viewed_by ss
+  pub viewed_same : (ts : List ThreadInMemory) (ss : List Thread) → ThreadsStand unit classes ts ss → flat_map viewed_in ts ≡ flat_map viewed_by ss
   viewed_same [] [] h = refl
   viewed_same [] (s ∷ ss) h = absurd h
   viewed_same (t ∷ ts) [] h = absurd h
