@@ -117,7 +117,8 @@ variables_with heap r vs = change r.array (begun_with (take r.count (drop r.star
 
 -- a heap in which the numbers of a region are the first of its local array
 abbrev pub heap_with : Variables → Region → Heap → Heap
-heap_with vs r heap = with_numbers heap r.object (overwritten (numbers_of heap r.object) r.start (take r.count (local_array (lookup r.array vs))))
+heap_with vs r heap =
+    with_numbers heap r.object (overwritten (numbers_of heap r.object) r.start (take r.count (local_array (lookup r.array vs))))
 
 -- a heap in which an object has the numbers of a copy
 abbrev pub heap_copied : (object : ℕ) → (buffer : Identifier) → Variables → Heap → Heap
@@ -159,7 +160,8 @@ effect_as classes s t (Pends r g) = Leaves [] s (record t { pending = r }) g
 effect_as classes s t (GetsRegion r) = Leaves [] s (record t { variables = variables_with s.heap r t.variables }) NoResult
 effect_as classes s t (SetsRegion r) = heap_effect s t (heap_with t.variables r s.heap)
 effect_as classes s t (Lends b) = Leaves [] s t (BufferResult (lent_view s.heap b))
-effect_as classes s t (CopiesBack n p frees) = heap_effect s (record t { variables = variables_freed frees p t.variables }) (heap_copied n p t.variables s.heap)
+effect_as classes s t (CopiesBack n p frees) =
+    heap_effect s (record t { variables = variables_freed frees p t.variables }) (heap_copied n p t.variables s.heap)
 effect_as classes s t (Frees p) = Leaves [] s (with_freed t p) NoResult
 effect_as classes s t (Halts trap) = effects.Halts trap
 
@@ -177,6 +179,13 @@ abbrev pub is_of_references : Answer → Bool
 is_of_references (MakesGlobal n) = true
 is_of_references (DeletesGlobal x n) = true
 is_of_references a = is_of_frames a
+
+-- whether it copies numbers between an object and a variable
+abbrev pub is_of_numbers : Answer → Bool
+is_of_numbers (GetsRegion r) = true
+is_of_numbers (SetsRegion r) = true
+is_of_numbers (CopiesBack n p frees) = true
+is_of_numbers a = false
 
 -- ---- what it leaves
 

@@ -137,12 +137,15 @@ element_set fits n r (Some i) = if fits then Writes n i (Refers r) else Raises a
 
 -- a region of an array or a string of this length, with this start and this number of values, where it is inside
 abbrev pub region_within : (object length : ℕ) → (array : Identifier) → (start count : ℤ) → Option Region
-region_within n length x (pos start) (pos count) = if nat_le (start + count) length then Some (record { object = n; start = start; count = count; array = x }) else None
+region_within n length x (pos start) (pos count) =
+    if nat_le (start + count) length then Some (record { object = n; start = start; count = count; array = x }) else None
 region_within n length x start count = None
 
 -- the region of arguments 0 to 3
 abbrev pub region_given : Heap → List Actual → Option Region
-region_given heap args = region_within (object_given args 0) (length (values_of heap (object_given args 0))) (variable_given args 3) (number_given args 1) (number_given args 2)
+region_given heap args =
+    let n = object_given args 0 in
+    region_within n (length (values_of heap n)) (variable_given args 3) (number_given args 1) (number_given args 2)
 
 -- a local array has room for a region
 abbrev pub if_it_has_room : Variables → Region → Answer → Answer

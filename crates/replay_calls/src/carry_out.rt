@@ -1,13 +1,16 @@
 //! What the answer of a function does to what all threads share, to the variables, to the frames and to the pending exception.
 
-ghost use Rattle.std.specs.Prelude.{◌≡◌, IfOk, None, Some, true};
+ghost use Rattle.std.specs.Prelude.{◌≡◌, IfOk, List, None, Some, true};
 ghost use Rattle.jni.specs.Prototype.{ResultKind as SourceKind};
 ghost use Rattle.jni.specs.Table.{result_value};
 ghost use Rattle.semantics.specs.CallEffects.{out_of_memory};
 ghost use Rattle.semantics.specs.CallStep.{failure};
 ghost use Rattle.semantics.specs.Heap.{Heap};
+ghost use Rattle.class_rules.specs.Class.{Classes};
+ghost use Rattle.semantics.specs.Object.{Reference};
+ghost use Rattle.semantics.specs.Thread.{Frame};
 ghost use Rattle.semantics.specs.Variable.{Variables as VariablesOfCall};
-ghost use Rattle.replay_calls.specs.Answers.{FitsArrays, FitsFrames, answer_view, frames_after, frames_with, given_after, is_of_frames, is_of_references, lent_in, makes_object, pending_after, shared_after, trap_in, variables_after};
+ghost use Rattle.replay_calls.specs.Answers.{FitsArrays, FitsFrames, answer_view, frames_after, frames_with, given_after, is_of_frames, is_of_numbers, is_of_references, lent_in, makes_object, pending_after, shared_after, trap_in, variables_after};
 ghost use Rattle.replay_terms.specs.Views.{given_view, variables_view};
 ghost use Rattle.replay_calls.specs.Shares.{shared_view};
 
@@ -66,17 +69,8 @@ pub fn carry_out<'a>(
             *pending = reference;
             Ok(given)
         }
-        Answer::GetsRegion(region) => {
-            get_region(&shared.store, variables, region);
-            Ok(Given::Nothing)
-        }
-        Answer::SetsRegion(region) => {
-            set_region(&mut shared.store, variables, region);
-            Ok(Given::Nothing)
-        }
-        Answer::CopiesBack(object, buffer, frees) => {
-            copy_back(&mut shared.store, variables, object, buffer, frees)?;
-            Ok(Given::Nothing)
+        Answer::GetsRegion(_) | Answer::SetsRegion(_) | Answer::CopiesBack(_, _, _) => {
+            carry_out_numbers(shared, variables, answer)
         }
         Answer::Frees(buffer) => {
             variables.free(buffer);
@@ -85,6 +79,32 @@ pub fn carry_out<'a>(
         Answer::Halts(_) | Answer::Lends(_) => unreachable!(),
         _ => carry_out_references(alloc, classes, shared, frames, pending, answer),
     }
+}
+
+/// Copies between an object and a variable what an answer of numbers says.
+#[inline(always)]
+fn carry_out_numbers<'a>(
+    shared: &mut Shared<'a>,
+    variables: &mut Variables<'a>,
+    answer: Answer<'a>,
+) -> Result<Given<'a>, AllocError>
+    requires of_numbers { is_of_numbers (answer_view answer) ≡ true }
+    requires arrays { FitsArrays shared.old.store (variables_view variables.old) (answer_view answer) }
+    ensures shared { IfOk result (λ _. (classes : Classes) → shared_view shared.new ≡ shared_after classes (shared_view shared.old) (variables_view variables.old) (answer_view answer.entry)) }
+    ensures variables { IfOk result (λ _. variables_view variables.new ≡ variables_after shared.old.store (variables_view variables.old) (answer_view answer.entry)) }
+    ensures frames { (frames : List Frame) → frames ≡ frames_after frames (answer_view answer.entry) }
+    ensures pending { (classes : Classes) (heap : Heap) (pending : Reference) → pending ≡ pending_after classes heap pending (answer_view answer.entry) }
+    ensures given { IfOk result (λ g. (heap : Heap) (kind : SourceKind) → given_view g ≡ given_after heap kind (answer_view answer.entry)) }
+{
+    match answer {
+        Answer::GetsRegion(region) => get_region(&shared.store, variables, region),
+        Answer::SetsRegion(region) => set_region(&mut shared.store, variables, region),
+        Answer::CopiesBack(object, buffer, frees) => {
+            copy_back(&mut shared.store, variables, object, buffer, frees)?;
+        }
+        _ => unreachable!(),
+    }
+    Ok(Given::Nothing)
 }
 
 /// Does to the references of all threads and of a call what an answer of references or of frames says.

@@ -1,5 +1,5 @@
 -- Values that are overwritten by numbers.
-use Rattle.std.proofs.Common.{◌≡◌, ℕ, ℤ, zero, suc, ◌+◌, ◌-◌, ◌<◌, ◌≤◌, Bool, true, false, IsTrue, List, [], ◌∷◌, ◌++◌, length, map, take, drop, get_or, set, slice_get, Some, refl, sym, ap, ◌∙◌, subst, arith, append_assoc}
+use Rattle.std.proofs.Common.{◌≡◌, ℕ, ℤ, zero, suc, ◌+◌, ◌-◌, ◌<◌, Bool, true, false, IsTrue, List, [], ◌∷◌, ◌++◌, length, map, take, drop, get_or, set, slice_get, Some, refl, sym, ap, ◌∙◌, subst, arith, append_assoc}
 use Rattle.std.specs.Prelude.{slice_set, ◌&&◌}
 use Rattle.std.proofs.lemmas.List.{length-append, length-map, length-take-le, drop_more, set_at, map_more, map-set, map-append, take-map, drop-map}
 use Rattle.semantics.specs.CallEffects.{overwritten}

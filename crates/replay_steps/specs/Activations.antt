@@ -142,4 +142,6 @@ pub record IsDone (ss : Statics) (heap : Heap) (old : Activation) (took : Outcom
 abbrev pub IsApplied : Statics → Heap → Activation → Outcome → (possible : Bool) → Statics → Heap → Activation → Type 0
 IsApplied ss heap old took true ss' heap' new = IsDone ss heap old took ss' heap' new
 IsApplied ss heap old took false ss' heap' new =
-    LeavesIf (length old.locals.frames) ss heap old.locals.variables (variable_step took) false ss' heap' new.locals.variables × (new.locals.frames ≡ old.locals.frames) × (new.work ≡ old.work)
+    LeavesIf (length old.locals.frames) ss heap old.locals.variables (variable_step took) false ss' heap' new.locals.variables
+    × (new.locals.frames ≡ old.locals.frames)
+    × (new.work ≡ old.work)

@@ -67,4 +67,6 @@ wanted_element vs p = target_element (variables_view vs) (purpose_view 0 p)
 abbrev pub HasAnswer : Scene → PurposeInMemory → JniFunction → List Actual → Answer → Type 0
 HasAnswer scene p f args a =
     (is_built_function f ≡ true)
-    × (a ≡ answer_or_trap (trap_found scene.classes scene.shared.heap scene.frames (is_some scene.pending) (wanted_element scene.variables p) f args) (worked_out scene.classes scene.in_use scene.shared.heap (variables_view scene.variables) scene.frames scene.pending args f))
+    × (a ≡ answer_or_trap
+    (trap_found scene.classes scene.shared.heap scene.frames (is_some scene.pending) (wanted_element scene.variables p) f args)
+    (worked_out scene.classes scene.in_use scene.shared.heap (variables_view scene.variables) scene.frames scene.pending args f))

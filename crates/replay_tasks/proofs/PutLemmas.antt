@@ -13,7 +13,7 @@ use Rattle.semantics.specs.ThreadStep.{set_variable, set_element}
 use Rattle.semantics.specs.Value.{convert}
 use Rattle.semantics.specs.Variable.{Variable, Scalar, LocalRef, FieldHandle, Elements, NoBuffer, Copy, View, LocalArray, Variables, Statics, assign}
 use Rattle.replay_tasks.specs.declared.outcome.Outcome.TheVariants as outcome
-use Rattle.replay_tasks.specs.Outcomes.{variable_step, Holds, LeavesVariables, LeavesIf}
+use Rattle.replay_tasks.specs.Outcomes.{variable_step, Holds, LeavesVariables}
 use Rattle.replay_terms.specs.Views.{Contents, variables_view, written, HasNoElements, IsToWrite, IsWritten}
 
 -- ---- steps

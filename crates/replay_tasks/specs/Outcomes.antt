@@ -75,7 +75,8 @@ pub record Holds (count : ℕ) (ss : Statics) (objects : Heap) (vs : Contents) (
 -- a step leaves each such thread with the new variables, and these statics and objects
 abbrev pub LeavesVariables : ℕ → Statics → Heap → Contents → (Shared → Thread → Advance) → Statics → Heap → Contents → Type 0
 LeavesVariables frames ss heap old step ss' heap' new =
-    (s : Shared) (t : Thread) → Holds frames ss heap old s t → step s t ≡ Advances (record s { statics = ss'; heap = heap' }) (record t { variables = variables_view new }) Quiet
+    (s : Shared) (t : Thread) → Holds frames ss heap old s t
+    → step s t ≡ Advances (record s { statics = ss'; heap = heap' }) (record t { variables = variables_view new }) Quiet
 
 -- the same if it is possible
 abbrev pub LeavesIf : ℕ → Statics → Heap → Contents → (Shared → Thread → Advance) → (possible : Bool) → Statics → Heap → Contents → Type 0

@@ -1,4 +1,4 @@
-use Rattle.std.proofs.Common.{◌≡◌, ℕ, ◌+◌, ◌++◌, List, length, map, take, drop, ap, ◌∙◌, sym, subst, arith}
+use Rattle.std.proofs.Common.{◌≡◌, ℕ, ◌+◌, ◌++◌, List, length, map, take, drop, ap, ◌∙◌, arith}
 use Rattle.std.specs.Vec.{with_items}
 use Rattle.std.proofs.lemmas.List.{with_items_is}
 use Rattle.semantics.specs.CallEffects.{overwritten}
@@ -6,7 +6,6 @@ use Rattle.semantics.specs.Heap.{number_in}
 use Rattle.semantics.specs.Object.{Object, ObjectValue, Number}
 use Rattle.semantics.specs.Views.{object_value_view}
 use Rattle.semantics.specs.declared.object_value.ObjectValue.{ObjectValue as InMemory}
-use Rattle.replay_objects.specs.Stores.{as_number}
 use Rattle.replay_objects.proofs.NumberLemmas.{overwritten_marked, overwritten_values}
 use Rattle.replay_objects.proofs.store.overwrite.Goals.{After-object-1}
 use Rattle.replay_objects.proofs.store.overwrite.Goals as goal

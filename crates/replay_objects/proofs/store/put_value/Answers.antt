@@ -1,5 +1,4 @@
-use Rattle.std.proofs.Common.{◌≡◌, List, map, sym, ap, ◌∙◌, subst}
-use Rattle.std.specs.Prelude.{slice_set}
+use Rattle.std.proofs.Common.{◌≡◌, List, map, sym, ap, subst}
 use Rattle.std.proofs.lemmas.List.{map-set}
 use Rattle.semantics.specs.Object.{Object, ObjectValue}
 use Rattle.world_values.specs.Views.{object_value_view}

@@ -1,5 +1,4 @@
-use Rattle.std.proofs.Common.{◌≡◌, false, ap, sym, ◌∙◌, subst, arith}
-use Rattle.base.specs.Bytes.{lookup}
+use Rattle.std.proofs.Common.{ap, sym, ◌∙◌, subst, arith}
 use Rattle.semantics.specs.Variable.{assign, copied_length}
 use Rattle.replay_terms.specs.Views.{Contents, Takes, by_name, content_view, count_viewed, variables_view}
 use Rattle.replay_terms.proofs.BufferLemmas.{had_within, takes_set}

@@ -4,7 +4,7 @@ use Rattle.std.proofs.Math.Facts.{to_z-of_z}
 use Rattle.base.specs.Bytes.{Identifier, lookup}
 use Rattle.indexmap.specs.IndexMap.{set_value_at}
 use Rattle.semantics.specs.Variable.{Variable}
-use Rattle.replay_terms.specs.Views.{Contents, Takes, WritesContent, by_name, content_view, variables_view, HasNoElements, WritesElement}
+use Rattle.replay_terms.specs.Views.{Contents, WritesContent, by_name, content_view, variables_view, HasNoElements, WritesElement}
 use Rattle.replay_terms.proofs.BufferLemmas.{takes_written}
 use Rattle.replay_terms.proofs.ByNameLemmas.{looked_up, missing, values, written_there}
 use Rattle.replay_terms.proofs.VariableLemmas.{content_written}
