@@ -1,8 +1,8 @@
-use Rattle.std.proofs.Common.{◌≡◌, ℕ, [], length, drop, ap, arith}
+use Rattle.std.proofs.Common.{◌≡◌, [], length, drop, ap, arith}
 use Rattle.std.proofs.lemmas.List.{drop_all}
 use Rattle.std.specs.Prelude.{sum_by, flat_map}
 use Rattle.replay_threads.specs.States.{copied_in, viewed_in}
-use Rattle.replay_threads.proofs.BufferLemmas.{copied_from, copied_next, in_use_so, viewed_from, viewed_next}
+use Rattle.replay_threads.proofs.BufferLemmas.{copied_from, in_use_so, viewed_from}
 use Rattle.replay_threads.proofs.state.buffers_in_use.Goals as goal
 
 pub returns : goal.returns
