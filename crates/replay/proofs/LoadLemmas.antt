@@ -1,5 +1,5 @@
 -- The first call that doesn't fit, and the threads before their first calls.
-use Rattle.std.proofs.Common.{◌≡◌, ℕ, zero, suc, ◌+◌, Bool, true, false, cond, ◌&&◌, is_some, drop, take, List, [], ◌∷◌, ◌++◌, map, Option, Some, None, refl, sym, ap, ◌∙◌, append_assoc, subst, arith, IsTrue}
+use Rattle.std.proofs.Common.{◌≡◌, ℕ, zero, suc, ◌+◌, ◌≤◌, length, Bool, true, false, cond, ◌&&◌, is_some, drop, take, List, [], ◌∷◌, ◌++◌, map, Option, Some, None, refl, sym, ap, ◌∙◌, append_assoc, subst, arith, IsTrue}
 use Rattle.std.specs.Prelude.{slice_get, not, filter}
 use Rattle.std.specs.List.{flat_map, list_all}
 use Rattle.std.specs.Global.{Vec}
@@ -10,7 +10,7 @@ use Rattle.semantics.specs.Load.{call_loads, refused_calls}
 use Rattle.semantics.specs.Start.{waiting_thread}
 use Rattle.replay_threads.specs.declared.thread.Thread.{Thread as ThreadInMemory}
 use Rattle.replay.specs.Loading.{first_line, IsWaiting, AddsWaiting, AreWaiting}
-use Rattle.replay_threads.specs.States.{AreInRange, ThreadsStand}
+use Rattle.replay_threads.specs.States.{AreInRange, EachInRange, ThreadsStand}
 use Rattle.replay_threads.specs.Threads.{ThreadStands, WorkInRange, WorkStands, tasks_in, ending_view}
 use Rattle.replay_steps.specs.declared.activation.Activation.{Activation}
 
@@ -112,7 +112,17 @@ more_waiting items i v old new at adds before rest h =
     (before (adds.thread ∷ rest) (subst (λ (vs : List (Vec Invocation)). AreWaiting (adds.thread ∷ rest) (calls_of vs)) (sym (drop_more items i v at)) (adds.waiting, h))))
 
 -- no call is in progress
-pub waiting_range : (ts : List ThreadInMemory) (threads : List (List Invocation)) → AreWaiting ts threads → AreInRange ts
-waiting_range [] threads h = tt
-waiting_range (t ∷ ts) [] h = absurd h
-waiting_range (t ∷ ts) (c ∷ cs) h = (subst WorkInRange (sym h.0.idle) tt, waiting_range ts cs h.1)
+each_waiting : (ts : List ThreadInMemory) (threads : List (List Invocation)) → AreWaiting ts threads → EachInRange ts
+each_waiting [] threads h = tt
+each_waiting (t ∷ ts) [] h = absurd h
+each_waiting (t ∷ ts) (c ∷ cs) h = (subst WorkInRange (sym h.0.idle) tt, each_waiting ts cs h.1)
+
+pub waiting_range : (ts : List ThreadInMemory) (threads : List (List Invocation)) → AreWaiting ts threads → length ts ≤ 8 → AreInRange ts
+waiting_range ts threads h few = record { few = few; each = each_waiting ts threads h }
+
+-- they are as many
+pub as_many_waiting : (ts : List ThreadInMemory) (threads : List (List Invocation)) → AreWaiting ts threads → length ts ≡ length threads
+as_many_waiting [] [] h = refl
+as_many_waiting [] (c ∷ cs) h = absurd h
+as_many_waiting (t ∷ ts) [] h = absurd h
+as_many_waiting (t ∷ ts) (c ∷ cs) h = ap suc (as_many_waiting ts cs h.1)

@@ -3,47 +3,20 @@ use Rattle.std.proofs.Common.{◌≡◌, ℕ, List, [], ◌∷◌, ◌++◌, map
 use Rattle.std.specs.List.{flat_map}
 use Rattle.std.specs.Option.{option_to_list}
 use Rattle.std.proofs.lemmas.List.Concat.{flat_map-cons}
-use Rattle.base.specs.Bytes.{Identifier}
 use Rattle.syntax.specs.Tree.{SourceUnit}
 use Rattle.class_rules.specs.Class.{Classes}
 use Rattle.semantics.specs.Object.{Reference}
 use Rattle.semantics.specs.Reachable.{from_one, loaded_count, roots, thread_roots}
 use Rattle.semantics.specs.State.{State, views}
-use Rattle.semantics.specs.Thread.{Frame, Monitor, Shared, Thread, viewed_by}
-use Rattle.semantics.specs.Variable.{Variable, Variables, viewed}
+use Rattle.semantics.specs.Thread.{Frame, Monitor, Shared, Thread}
 use Rattle.semantics.specs.World.{World}
 use Rattle.replay_steps.specs.declared.activation.Activation.{Activation}
-use Rattle.replay_terms.specs.declared.variable.Content.{Content}
-use Rattle.replay_terms.specs.declared.variable.Content.TheVariants as content
-use Rattle.replay_terms.specs.Views.{Contents, content_view, variable_view, variables_view}
 use Rattle.replay_threads.specs.declared.state.State.{State as StateInMemory}
 use Rattle.replay_threads.specs.declared.thread.Thread.{Thread as ThreadInMemory}
-use Rattle.replay_threads.specs.Rows.{thread_names, activation_names}
-use Rattle.replay_threads.specs.States.{Stands, ThreadsStand}
+use Rattle.replay_threads.specs.Rows.{thread_names, activation_names, root_names}
+use Rattle.replay_threads.specs.States.{Stands, ThreadsStand, viewed_in}
 use Rattle.replay_threads.specs.Threads.{ThreadStands, WorkStands}
-
--- ---- no variable is a view
-
-content_viewless : (c : Content) → viewed (content_view c) ≡ []
-content_viewless (content.Number v) = refl
-content_viewless (content.Reference level r) = refl
-content_viewless (content.Field f) = refl
-content_viewless (content.Buffer T) = refl
-content_viewless (content.Array T numbers) = refl
-
-abbrev views_in : Variables → List ℕ
-views_in vs = flat_map (λ (v : Identifier × Variable). viewed v.1) vs
-
-variables_viewless : (vs : Contents) → views_in (variables_view vs) ≡ []
-variables_viewless [] = refl
-variables_viewless (v ∷ vs) =
-    flat_map-cons (λ (x : Identifier × Variable). viewed x.1) (variable_view v) (variables_view vs)
-    ∙ ap (λ (l : List ℕ). l ++ views_in (variables_view vs)) (content_viewless v.1)
-    ∙ variables_viewless vs
-
-viewless : (o : Option Activation) (s : Thread) → WorkStands o s → viewed_by s ≡ []
-viewless None s h = ap views_in h.0
-viewless (Some a) s h = ap views_in h.0 ∙ variables_viewless a.locals.variables
+use Rattle.replay_threads.proofs.StateLemmas.{viewed_same}
 
 -- ---- what a thread refers to
 
@@ -57,15 +30,6 @@ names_are unit classes t s h =
     ∙ ap (λ (r : Reference). activation_names t.activation ++ option_to_list r) h.pending
 
 module _ (unit : SourceUnit) (classes : Classes) where
-  views_none : (ts : List ThreadInMemory) (ss : List Thread) → ThreadsStand unit classes ts ss → flat_map viewed_by ss ≡ []
-  views_none [] [] h = refl
-  views_none [] (s ∷ ss) h = absurd h
-  views_none (t ∷ ts) [] h = absurd h
-  views_none (t ∷ ts) (s ∷ ss) h =
-      flat_map-cons viewed_by s ss
-      ∙ ap (λ (l : List ℕ). l ++ flat_map viewed_by ss) (viewless t.activation s (h.0).work)
-      ∙ views_none ts ss h.1
-
   all_names : (ts : List ThreadInMemory) (ss : List Thread) → ThreadsStand unit classes ts ss → flat_map thread_roots ss ≡ flat_map thread_names ts
   all_names [] [] h = refl
   all_names [] (s ∷ ss) h = absurd h
@@ -77,14 +41,15 @@ module _ (unit : SourceUnit) (classes : Classes) where
       ∙ sym (flat_map-cons thread_names t ts)
 
 -- the roots of a state that one in memory stands for
-pub roots_are : (unit : SourceUnit) (w : World) (m : StateInMemory) (s : State) → Stands unit w m s → roots w s ≡ from_one (loaded_count w) ++ (m.shared.globals ++ flat_map thread_names m.threads.items)
+pub roots_are : (unit : SourceUnit) (w : World) (m : StateInMemory) (s : State) → Stands unit w m s → roots w s ≡ from_one (loaded_count w) ++ root_names m.shared.globals m.threads.items
 roots_are unit w m s h =
     let loaded = from_one (loaded_count w) in
     let names = flat_map thread_roots s.threads in
     let globals = m.shared.globals in
+    let ts = m.threads.items in
     ap (λ (x : Shared). loaded ++ x.globals ++ names ++ map (λ (o : Monitor). o.object) x.monitors ++ views s) h.shared
     ∙ ap (λ (l : List ℕ). l ++ views s) (append-nil (loaded ++ globals ++ names))
-    ∙ ap (λ (l : List ℕ). loaded ++ globals ++ names ++ l) (views_none unit w.classes m.threads.items s.threads h.threads)
-    ∙ append-nil (loaded ++ globals ++ names)
-    ∙ ap (λ (l : List ℕ). loaded ++ globals ++ l) (all_names unit w.classes m.threads.items s.threads h.threads)
-    ∙ append_assoc loaded globals (flat_map thread_names m.threads.items)
+    ∙ ap (λ (l : List ℕ). loaded ++ globals ++ l ++ views s) (all_names unit w.classes ts s.threads h.threads)
+    ∙ ap (λ (l : List ℕ). loaded ++ globals ++ flat_map thread_names ts ++ l) (sym (viewed_same unit w.classes ts s.threads h.threads))
+    ∙ ap (λ (l : List ℕ). l ++ flat_map viewed_in ts) (append_assoc loaded globals (flat_map thread_names ts))
+    ∙ append_assoc loaded (globals ++ flat_map thread_names ts) (flat_map viewed_in ts)

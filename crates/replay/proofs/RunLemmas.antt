@@ -1,7 +1,6 @@
 -- A journal's replay goes on by an entry, or stops before it.
 use Rattle.std.proofs.Common.{Contains, ◌≡◌, ℕ, ◌+◌, ◌<◌, ◌≤◌, true, false, List, ◌∷◌, ◌++◌, length, map, drop, take, Option, Some, None, refl, sym, ap, ◌∙◌, subst, arith}
 use Rattle.std.specs.Prelude.{slice_get, is_some, Result, Ok, Err, IfOk, IfErr, OnOk}
-use Rattle.std.specs.List.{flat_map}
 use Rattle.std.specs.Option.{option_and_then, option_map}
 use Rattle.std.proofs.lemmas.List.{take-append-drop, length-take-le, take_all}
 use Rattle.syntax.specs.Tree.{SourceUnit}
@@ -34,7 +33,7 @@ use Rattle.replay.specs.TrapAt.{trap_at}
 use Rattle.replay_threads.specs.declared.state.Stop.{Stop as StopInMemory}
 use Rattle.report.specs.declared.thread_status.ThreadStatus.{ThreadStatus}
 use Rattle.report.specs.ThreadStatus.{standing_view}
-use Rattle.replay_threads.specs.Rows.{thread_names}
+use Rattle.replay_threads.specs.Rows.{root_names}
 use Rattle.replay.specs.Replays.{Answers, IsFirstImpossible, Replayed, IsRefused, IsLoadFault, IsStoppedBy, IsReplayable, IsFromOutside, EndsBy, ShowsRows, WritesRun, shown_stop}
 use Rattle.replay.proofs.LoadLemmas.{drop_more, take_more}
 use Rattle.replay.proofs.RootLemmas.{roots_are}
@@ -122,11 +121,11 @@ ends unit w journal m h = record {
 
 -- the rows of what the threads in memory refer to are those of the report
 pub rows_are : (unit : SourceUnit) (w : World) (m : StateInMemory) (s : State) (classes : Classes) (objects : Heap) (loaded : ℕ) (names : List ℕ) (rows : List ShownRow) → Stands unit w m s
-    → classes ≡ m.world.now.classes → objects ≡ m.shared.store → loaded ≡ loaded_count w → names ≡ m.shared.globals ++ flat_map thread_names m.threads.items → AreReported classes objects loaded names rows → rows ≡ (report w s).objects
+    → classes ≡ m.world.now.classes → objects ≡ m.shared.store → loaded ≡ loaded_count w → names ≡ root_names m.shared.globals m.threads.items → AreReported classes objects loaded names rows → rows ≡ (report w s).objects
 rows_are unit w m s classes objects loaded names rows h k o l n told =
     let same : roots w s ≡ from_one loaded ++ names =
     roots_are unit w m s h
-    ∙ ap (λ c. from_one c ++ (m.shared.globals ++ flat_map thread_names m.threads.items)) (sym l)
+    ∙ ap (λ c. from_one c ++ root_names m.shared.globals m.threads.items) (sym l)
     ∙ ap (λ (ns : List ℕ). from_one loaded ++ ns) (sym n) in
     told w s (record {
       classes = ap (λ (v : World). v.classes) h.world ∙ sym k;

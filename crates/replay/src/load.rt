@@ -1,6 +1,6 @@
 //! The state in which a replay begins.
 
-ghost use Rattle.std.specs.Prelude.{◌≡◌, IfOk, IfErr, map, [], None};
+ghost use Rattle.std.specs.Prelude.{◌≡◌, ◌≤◌, IfOk, IfErr, length, map, [], None};
 ghost use Rattle.syntax.specs.Views.{unit_tree, function_tree, parameter_tree};
 ghost use Rattle.type_rules.specs.SortRules.{IsSorted};
 ghost use Rattle.world_values.specs.Views.{object_value_view};
@@ -137,7 +137,8 @@ fn push_waiting<'a>(threads: &mut Vec<Thread<'a>>, calls: &'a [Call]) -> Result<
 #[inline]
 fn add_waiting<'a>(threads: &mut Vec<Thread<'a>>, world: &'a World) -> Result<(), AllocError>
     requires { threads.old.items ≡ [] }
-    ensures { IfOk result (λ _. AreWaiting threads.new.items world.entry.now.threads) }
+    ensures waiting { IfOk result (λ _. AreWaiting threads.new.items world.entry.now.threads) }
+    ensures few { IfOk result (λ _. length threads.new.items ≤ 8) }
 {
     for calls in world.threads() {
         push_waiting(threads, calls)?;
@@ -147,7 +148,8 @@ fn add_waiting<'a>(threads: &mut Vec<Thread<'a>>, world: &'a World) -> Result<()
 
 /// The threads before their first calls.
 fn waiting_threads<'a>(alloc: Global, world: &'a World) -> Result<Vec<Thread<'a>>, AllocError>
-    ensures { IfOk result (λ threads. AreWaiting threads.items world.now.threads) }
+    ensures waiting { IfOk result (λ threads. AreWaiting threads.items world.now.threads) }
+    ensures few { IfOk result (λ threads. length threads.items ≤ 8) }
 {
     let mut threads = Vec::new(alloc);
     add_waiting(&mut threads, world)?;

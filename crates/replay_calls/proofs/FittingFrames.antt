@@ -1,20 +1,21 @@
--- What is worked out of a call asks the frames for no more than they can have.
+-- What is worked out of a call asks the frames for no more than they can have, and copies what is there to where it has its place.
 use Rattle.std.proofs.Common.{◌≡◌, ℕ, Bool, true, false, List, ◌∷◌, Option, Some, None, refl}
-use Rattle.std.specs.Prelude.{ℤ, pos, negsuc, nat_le, if◌then◌else◌}
-use Rattle.base.specs.Bytes.{Identifier}
+use Rattle.std.specs.Prelude.{◌+◌, ℤ, pos, negsuc, length, nat_le, if◌then◌else◌}
+use Rattle.base.specs.Bytes.{Identifier, lookup}
 use Rattle.class_rules.specs.Class.{Classes}
 use Rattle.class_rules.specs.Fields.{FieldId}
-use Rattle.jni.specs.JniFunction.{JniFunction, FindClass, NewGlobalRef, DeleteLocalRef, DeleteGlobalRef, EnsureLocalCapacity, PushLocalFrame, GetFieldID, GetStaticFieldID, NewArray, NewObjectArray, GetObjectArrayElement, SetObjectArrayElement}
-use Rattle.semantics.specs.Arguments.{Actual, variable_given, reference_given, number_given}
-use Rattle.semantics.specs.CallEffects.{with_capacity}
-use Rattle.semantics.specs.Heap.{Heap}
+use Rattle.jni.specs.Access.{ElementsCopy}
+use Rattle.jni.specs.JniFunction.{JniFunction, FindClass, NewGlobalRef, DeleteLocalRef, DeleteGlobalRef, EnsureLocalCapacity, PushLocalFrame, GetFieldID, GetStaticFieldID, NewArray, NewObjectArray, GetObjectArrayElement, SetObjectArrayElement, GetArrayRegion, SetArrayRegion, GetStringRegion, ReleaseBuffer}
+use Rattle.semantics.specs.Arguments.{Actual, ReleaseMode, CopyBackAndFree, CopyBack, FreeUncopied, mode_given, variable_given, reference_given, number_given, object_given}
+use Rattle.semantics.specs.CallEffects.{local_array, with_capacity}
+use Rattle.semantics.specs.Heap.{Heap, values_of}
 use Rattle.semantics.specs.Object.{Reference}
-use Rattle.semantics.specs.Thread.{Frame, capacities}
-use Rattle.semantics.specs.Value.{Trap}
+use Rattle.semantics.specs.Thread.{BuffersInUse, Frame, capacities}
+use Rattle.semantics.specs.Value.{Trap, OutOfRange}
 use Rattle.semantics.specs.Variable.{Variables}
-use Rattle.replay_calls.specs.Answers.{Ensures, Pushes, RefusesFrames, FitsFrames, answer_or_trap}
+use Rattle.replay_calls.specs.Answers.{Answer, Ensures, Pushes, RefusesFrames, Region, GetsRegion, SetsRegion, Halts, FitsArrays, FitsFrames, HasRoom, IsInside, answer_or_trap}
 use Rattle.replay_objects.specs.Frames.{new_frame}
-use Rattle.replay_calls.specs.WorkedOut.{element_given, element_set, ensured, found_class, found_field, global_deleted, local_deleted, made_global, new_array, new_object_array, pushed, worked_out}
+use Rattle.replay_calls.specs.WorkedOut.{element_given, element_set, ensured, found_class, found_field, global_deleted, if_it_has_room, local_deleted, made_global, new_array, new_object_array, pushed, region_given, region_got, region_set, region_within, released, worked_out}
 
 module _ (frames : List Frame) where
   class_fits : (c : Option ℕ) → FitsFrames frames (found_class c)
@@ -70,22 +71,154 @@ module _ (frames : List Frame) where
   set_fits true n r (Some i) = tt
   set_fits false n r (Some i) = tt
 
-  answer_fits : (classes : Classes) (heap : Heap) (vs : Variables) (pending : Reference) (args : List Actual) (f : JniFunction) → FitsFrames frames (worked_out classes heap vs frames pending args f)
-  answer_fits classes heap vs pending args FindClass = class_fits _
-  answer_fits classes heap vs pending args NewGlobalRef = global_fits (reference_given args 0)
-  answer_fits classes heap vs pending args DeleteLocalRef = local_fits _ (reference_given args 0)
-  answer_fits classes heap vs pending args DeleteGlobalRef = deleted_fits (variable_given args 0) (reference_given args 0)
-  answer_fits classes heap vs pending args EnsureLocalCapacity = ensured_fits (number_given args 0)
-  answer_fits classes heap vs pending args PushLocalFrame = pushed_fits (number_given args 0)
-  answer_fits classes heap vs pending args GetFieldID = field_fits _
-  answer_fits classes heap vs pending args GetStaticFieldID = field_fits _
-  answer_fits classes heap vs pending args (NewArray T) = array_fits _ (number_given args 0)
-  answer_fits classes heap vs pending args NewObjectArray = object_array_fits _ _ (number_given args 0)
-  answer_fits classes heap vs pending args GetObjectArrayElement = element_fits heap _ _
-  answer_fits classes heap vs pending args SetObjectArrayElement = set_fits _ _ _ _
-  answer_fits classes heap vs pending args f = tt
+  region_fits : (vs : Variables) (r : Region) (a : Answer) → FitsFrames frames a → FitsFrames frames (if_it_has_room vs r a)
+  region_fits vs r a fits = by_test (nat_le r.count (length (local_array (lookup r.array vs))))
+    where
+      by_test : (b : Bool) → FitsFrames frames (if b then a else Halts OutOfRange)
+      by_test true = fits
+      by_test false = tt
+
+  got_fits : (exception : ℕ) (vs : Variables) (o : Option Region) → FitsFrames frames (region_got exception vs o)
+  got_fits exception vs None = tt
+  got_fits exception vs (Some r) = region_fits vs r (GetsRegion r) tt
+
+  set_region_fits : (vs : Variables) (o : Option Region) → FitsFrames frames (region_set vs o)
+  set_region_fits vs None = tt
+  set_region_fits vs (Some r) = region_fits vs r (SetsRegion r) tt
+
+  released_fits : (n : ℕ) (p : Identifier) (m : ReleaseMode) → FitsFrames frames (released n p m)
+  released_fits n p CopyBackAndFree = tt
+  released_fits n p CopyBack = tt
+  released_fits n p FreeUncopied = tt
+
+  answer_fits : (classes : Classes) (in_use : BuffersInUse) (heap : Heap) (vs : Variables) (pending : Reference) (args : List Actual) (f : JniFunction) → FitsFrames frames (worked_out classes in_use heap vs frames pending args f)
+  answer_fits classes in_use heap vs pending args FindClass = class_fits _
+  answer_fits classes in_use heap vs pending args NewGlobalRef = global_fits (reference_given args 0)
+  answer_fits classes in_use heap vs pending args DeleteLocalRef = local_fits _ (reference_given args 0)
+  answer_fits classes in_use heap vs pending args DeleteGlobalRef = deleted_fits (variable_given args 0) (reference_given args 0)
+  answer_fits classes in_use heap vs pending args EnsureLocalCapacity = ensured_fits (number_given args 0)
+  answer_fits classes in_use heap vs pending args PushLocalFrame = pushed_fits (number_given args 0)
+  answer_fits classes in_use heap vs pending args GetFieldID = field_fits _
+  answer_fits classes in_use heap vs pending args GetStaticFieldID = field_fits _
+  answer_fits classes in_use heap vs pending args (NewArray T) = array_fits _ (number_given args 0)
+  answer_fits classes in_use heap vs pending args NewObjectArray = object_array_fits _ _ (number_given args 0)
+  answer_fits classes in_use heap vs pending args GetObjectArrayElement = element_fits heap _ _
+  answer_fits classes in_use heap vs pending args SetObjectArrayElement = set_fits _ _ _ _
+  answer_fits classes in_use heap vs pending args (GetArrayRegion T) = got_fits _ vs (region_given heap args)
+  answer_fits classes in_use heap vs pending args (SetArrayRegion T) = set_region_fits vs (region_given heap args)
+  answer_fits classes in_use heap vs pending args GetStringRegion = got_fits _ vs (region_given heap args)
+  answer_fits classes in_use heap vs pending args (ReleaseBuffer (ElementsCopy T)) = released_fits _ _ (mode_given args 2)
+  answer_fits classes in_use heap vs pending args f = tt
 
   -- so does it with a trap before it
-  pub told_fits : (classes : Classes) (heap : Heap) (vs : Variables) (pending : Reference) (args : List Actual) (f : JniFunction) (o : Option Trap) → FitsFrames frames (answer_or_trap o (worked_out classes heap vs frames pending args f))
-  told_fits classes heap vs pending args f None = answer_fits classes heap vs pending args f
-  told_fits classes heap vs pending args f (Some trap) = tt
+  pub told_fits : (classes : Classes) (in_use : BuffersInUse) (heap : Heap) (vs : Variables) (pending : Reference) (args : List Actual) (f : JniFunction) (o : Option Trap) → FitsFrames frames (answer_or_trap o (worked_out classes in_use heap vs frames pending args f))
+  told_fits classes in_use heap vs pending args f None = answer_fits classes in_use heap vs pending args f
+  told_fits classes in_use heap vs pending args f (Some trap) = tt
+
+-- ---- regions
+
+module _ (heap : Heap) (vs : Variables) where
+  class_copies : (c : Option ℕ) → FitsArrays heap vs (found_class c)
+  class_copies None = tt
+  class_copies (Some c) = tt
+
+  field_copies : (f : Option FieldId) → FitsArrays heap vs (found_field f)
+  field_copies None = tt
+  field_copies (Some f) = tt
+
+  frames_copy : (b : Bool) (a : Answer) → FitsArrays heap vs a → FitsArrays heap vs (if b then a else RefusesFrames)
+  frames_copy true a fits = fits
+  frames_copy false a fits = tt
+
+  ensured_copies : (frames : List Frame) (z : ℤ) → FitsArrays heap vs (ensured frames z)
+  ensured_copies frames (pos n) = frames_copy (nat_le (capacities (with_capacity n frames)) 1024) (Ensures n) tt
+  ensured_copies frames (negsuc n) = tt
+
+  pushed_copies : (frames : List Frame) (z : ℤ) → FitsArrays heap vs (pushed frames z)
+  pushed_copies frames (pos n) = frames_copy (nat_le (capacities (new_frame n ∷ frames)) 1024) (Pushes n) tt
+  pushed_copies frames (negsuc n) = tt
+
+  local_copies : (level : ℕ) (r : Reference) → FitsArrays heap vs (local_deleted level r)
+  local_copies level None = tt
+  local_copies level (Some n) = tt
+
+  global_copies : (r : Reference) → FitsArrays heap vs (made_global r)
+  global_copies None = tt
+  global_copies (Some n) = tt
+
+  deleted_copies : (x : Identifier) (r : Reference) → FitsArrays heap vs (global_deleted x r)
+  deleted_copies x None = tt
+  deleted_copies x (Some n) = tt
+
+  array_copies : (class : ℕ) (z : ℤ) → FitsArrays heap vs (new_array class z)
+  array_copies class (pos n) = tt
+  array_copies class (negsuc n) = tt
+
+  object_array_copies : (element : ℕ) (r : Reference) (z : ℤ) → FitsArrays heap vs (new_object_array element r z)
+  object_array_copies element r (pos n) = tt
+  object_array_copies element r (negsuc n) = tt
+
+  element_copies : (n : ℕ) (i : Option ℕ) → FitsArrays heap vs (element_given heap n i)
+  element_copies n None = tt
+  element_copies n (Some i) = tt
+
+  set_copies : (fits : Bool) (n : ℕ) (r : Reference) (i : Option ℕ) → FitsArrays heap vs (element_set fits n r i)
+  set_copies fits n r None = tt
+  set_copies true n r (Some i) = tt
+  set_copies false n r (Some i) = tt
+
+  region_copies : (r : Region) (a : Answer) → (HasRoom vs r → FitsArrays heap vs a) → FitsArrays heap vs (if_it_has_room vs r a)
+  region_copies r a fits = by_test (nat_le r.count (length (local_array (lookup r.array vs)))) refl
+    where
+      by_test : (b : Bool) → nat_le r.count (length (local_array (lookup r.array vs))) ≡ b → FitsArrays heap vs (if b then a else Halts OutOfRange)
+      by_test true room = fits room
+      by_test false room = tt
+
+  -- a region that is given is inside
+  given_inside : (n : ℕ) (x : Identifier) (start count : ℤ) (P : Option Region → Type 0) → P None → ((r : Region) → IsInside heap r → P (Some r)) → P (region_within n (length (values_of heap n)) x start count)
+  given_inside n x (pos start) (pos count) P none some = by_test (nat_le (start + count) (length (values_of heap n))) refl
+    where
+      by_test : (b : Bool) → nat_le (start + count) (length (values_of heap n)) ≡ b → P (if b then Some (record { object = n; start = start; count = count; array = x }) else None)
+      by_test true inside = some _ inside
+      by_test false inside = none
+  given_inside n x (pos start) (negsuc count) P none some = none
+  given_inside n x (negsuc start) count P none some = none
+
+  module _ (args : List Actual) where
+    got_copies : (exception : ℕ) → FitsArrays heap vs (region_got exception vs (region_given heap args))
+    got_copies exception =
+        given_inside (object_given args 0) (variable_given args 3) (number_given args 1) (number_given args 2) (λ o. FitsArrays heap vs (region_got exception vs o)) tt
+        (λ r inside. region_copies r (GetsRegion r) (λ room. (inside, room)))
+
+    set_region_copies : FitsArrays heap vs (region_set vs (region_given heap args))
+    set_region_copies =
+        given_inside (object_given args 0) (variable_given args 3) (number_given args 1) (number_given args 2) (λ o. FitsArrays heap vs (region_set vs o)) tt
+        (λ r inside. region_copies r (SetsRegion r) (λ room. (inside, room)))
+
+    released_copies : (n : ℕ) (p : Identifier) (m : ReleaseMode) → FitsArrays heap vs (released n p m)
+    released_copies n p CopyBackAndFree = tt
+    released_copies n p CopyBack = tt
+    released_copies n p FreeUncopied = tt
+
+    answer_copies : (classes : Classes) (in_use : BuffersInUse) (frames : List Frame) (pending : Reference) (f : JniFunction) → FitsArrays heap vs (worked_out classes in_use heap vs frames pending args f)
+    answer_copies classes in_use frames pending FindClass = class_copies _
+    answer_copies classes in_use frames pending NewGlobalRef = global_copies (reference_given args 0)
+    answer_copies classes in_use frames pending DeleteLocalRef = local_copies _ (reference_given args 0)
+    answer_copies classes in_use frames pending DeleteGlobalRef = deleted_copies (variable_given args 0) (reference_given args 0)
+    answer_copies classes in_use frames pending EnsureLocalCapacity = ensured_copies frames (number_given args 0)
+    answer_copies classes in_use frames pending PushLocalFrame = pushed_copies frames (number_given args 0)
+    answer_copies classes in_use frames pending GetFieldID = field_copies _
+    answer_copies classes in_use frames pending GetStaticFieldID = field_copies _
+    answer_copies classes in_use frames pending (NewArray T) = array_copies _ (number_given args 0)
+    answer_copies classes in_use frames pending NewObjectArray = object_array_copies _ _ (number_given args 0)
+    answer_copies classes in_use frames pending GetObjectArrayElement = element_copies _ _
+    answer_copies classes in_use frames pending SetObjectArrayElement = set_copies _ _ _ _
+    answer_copies classes in_use frames pending (GetArrayRegion T) = got_copies _
+    answer_copies classes in_use frames pending (SetArrayRegion T) = set_region_copies
+    answer_copies classes in_use frames pending GetStringRegion = got_copies _
+    answer_copies classes in_use frames pending (ReleaseBuffer (ElementsCopy T)) = released_copies _ _ (mode_given args 2)
+    answer_copies classes in_use frames pending f = tt
+
+    pub told_copies : (classes : Classes) (in_use : BuffersInUse) (frames : List Frame) (pending : Reference) (f : JniFunction) (o : Option Trap) → FitsArrays heap vs (answer_or_trap o (worked_out classes in_use heap vs frames pending args f))
+    told_copies classes in_use frames pending f None = answer_copies classes in_use frames pending f
+    told_copies classes in_use frames pending f (Some trap) = tt

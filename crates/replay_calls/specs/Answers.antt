@@ -1,30 +1,44 @@
 -- What calls do, as data, and what that leaves.
-use Rattle.std.specs.Prelude.{ℕ, ◌+◌, pos, negsuc, Bool, true, false, List, [], ◌∷◌, ◌++◌, drop, nat_le, IsTrue, Option, Some, None}
-use Rattle.base.specs.Bytes.{Identifier}
+use Rattle.std.specs.Prelude.{ℕ, ◌+◌, pos, negsuc, Bool, true, false, List, [], ◌∷◌, ◌++◌, drop, take, length, nat_le, IsTrue, Option, Some, None}
+use Rattle.base.specs.Bytes.{Identifier, lookup}
 use Rattle.class_rules.specs.Class.{Classes}
 use Rattle.jni.specs.Prototype.{ResultKind, NewLocal}
-use Rattle.semantics.specs.CallEffects.{CallResult, NoResult, ScalarResult, ReferenceResult, CallEffect, Throws, Leaves, heap_effect, new_effect, out_of_memory, refuses_frames, throw_new_effect, with_capacity, with_local, without_local, without_one}
+use Rattle.semantics.specs.CallEffects.{CallResult, NoResult, ScalarResult, ReferenceResult, BufferResult, CallEffect, Throws, Leaves, begun_with, copied_elements, freed, heap_effect, local_array, new_effect, out_of_memory, overwritten, refuses_frames, throw_new_effect, with_capacity, with_freed, with_local, without_local, without_one}
 use Rattle.semantics.specs.CallEffects as effects
 use Rattle.semantics.specs.CallStep.{failure}
-use Rattle.semantics.specs.Heap.{Heap, next_name, with_value_at}
+use Rattle.semantics.specs.Heap.{Heap, next_name, numbers_of, values_of, with_numbers, with_value_at}
 use Rattle.semantics.specs.Object.{ObjectValue, Reference}
 use Rattle.semantics.specs.Thread.{Frame, Shared, Thread, capacities}
 use Rattle.semantics.specs.Value.{Int, Trap}
-use Rattle.semantics.specs.Variable.{Deleted, assign}
+use Rattle.semantics.specs.Variable.{Deleted, Variables, assign, change}
 use Rattle.semantics.specs.World.{fresh_object}
 use Rattle.replay_calls.specs.declared.answer.Answer.{Answer as InMemory}
 use Rattle.replay_calls.specs.declared.answer.Answer.TheVariants as answer
+use Rattle.replay_calls.specs.declared.answer.Region.{Region as RegionInMemory}
 use Rattle.replay_objects.specs.Frames.{new_frame}
 use Rattle.replay_objects.specs.New.{New, new_view, object_of, thrown}
-use Rattle.replay_terms.specs.Views.{given_view, trap_view}
+use Rattle.replay_terms.specs.Views.{given_view, lent_view, trap_view}
+use Rattle.replay_terms.specs.declared.given.Lent.{Lent}
 use Rattle.world_values.specs.Views.{object_value_view}
+
+-- a part of an array or of a string, and the name of a local array
+pub record Region : Type 0 where
+  pub object : ℕ
+  pub start : ℕ
+  pub count : ℕ
+  pub array : Identifier
+
+abbrev pub region_view : RegionInMemory → Region
+region_view r = record { object = r.object; start = r.start; count = r.count; array = r.array.now }
 
 -- What a call does: nothing changes and this is given, a value of an object is written, an object is made and given, an exception
 -- of a class is made, a string of a text and an exception of a class with it as message are made and 0 is given, the current frame
 -- gets room for this many more and 0 is given, a frame of this capacity is made and 0 is given, the OutOfMemoryError object is
 -- pending and -4 is given, the current frame is dropped and this is given, a local reference in the frame of a level is deleted, a
 -- global reference is made and given, the one of a static is deleted, a pending exception or none replaces that before it and this
--- is given, or the run stops.
+-- is given, a local array begins with the numbers of a region, a region's numbers become the first of a local array, a buffer is
+-- given, an object gets the numbers of the copy of a variable, which is given up or not, the buffer of a variable is given up, or the
+-- run stops.
 pub data Answer : Type 0 where
   Gives : CallResult → Answer
   Writes : (object place : ℕ) → ObjectValue → Answer
@@ -39,6 +53,11 @@ pub data Answer : Type 0 where
   MakesGlobal : (object : ℕ) → Answer
   DeletesGlobal : Identifier → (object : ℕ) → Answer
   Pends : Reference → CallResult → Answer
+  GetsRegion : Region → Answer
+  SetsRegion : Region → Answer
+  Lends : Lent → Answer
+  CopiesBack : (object : ℕ) → (buffer : Identifier) → (frees : Bool) → Answer
+  Frees : (buffer : Identifier) → Answer
   Halts : Trap → Answer
 
 abbrev pub answer_view : InMemory → Answer
@@ -55,6 +74,11 @@ answer_view (answer.DeletesLocal l n) = DeletesLocal l n
 answer_view (answer.MakesGlobal n) = MakesGlobal n
 answer_view (answer.DeletesGlobal x n) = DeletesGlobal x.now n
 answer_view (answer.Pends r g) = Pends r (given_view g)
+answer_view (answer.GetsRegion r) = GetsRegion (region_view r)
+answer_view (answer.SetsRegion r) = SetsRegion (region_view r)
+answer_view (answer.Lends b) = Lends b
+answer_view (answer.CopiesBack n p frees) = CopiesBack n p.now frees
+answer_view (answer.Frees p) = Frees p.now
 answer_view (answer.Halts trap) = Halts (trap_view trap)
 
 -- the trap with which the run stops
@@ -72,6 +96,43 @@ abbrev pub FitsFrames : List Frame → Answer → Type 0
 FitsFrames frames (Ensures n) = IsTrue (nat_le (capacities (with_capacity n frames)) 1024)
 FitsFrames frames (Pushes n) = IsTrue (nat_le (capacities (new_frame n ∷ frames)) 1024)
 FitsFrames frames a = Unit {0}
+
+-- the array or the string has the region
+abbrev pub IsInside : Heap → Region → Type 0
+IsInside heap r = IsTrue (nat_le (r.start + r.count) (length (values_of heap r.object)))
+
+-- its local array has as many numbers
+abbrev pub HasRoom : Variables → Region → Type 0
+HasRoom vs r = IsTrue (nat_le r.count (length (local_array (lookup r.array vs))))
+
+-- what it copies is there, and has its place
+abbrev pub FitsArrays : Heap → Variables → Answer → Type 0
+FitsArrays heap vs (GetsRegion r) = IsInside heap r × HasRoom vs r
+FitsArrays heap vs (SetsRegion r) = IsInside heap r × HasRoom vs r
+FitsArrays heap vs a = Unit {0}
+
+-- variables of which a local array begins with the numbers of its region
+abbrev pub variables_with : Heap → Region → Variables → Variables
+variables_with heap r vs = change r.array (begun_with (take r.count (drop r.start (numbers_of heap r.object)))) vs
+
+-- a heap in which the numbers of a region are the first of its local array
+abbrev pub heap_with : Variables → Region → Heap → Heap
+heap_with vs r heap =
+    with_numbers heap r.object (overwritten (numbers_of heap r.object) r.start (take r.count (local_array (lookup r.array vs))))
+
+-- a heap in which an object has the numbers of a copy
+abbrev pub heap_copied : (object : ℕ) → (buffer : Identifier) → Variables → Heap → Heap
+heap_copied n p vs heap = with_numbers heap n (copied_elements (lookup p vs))
+
+-- variables of which a buffer is given up or not
+abbrev pub variables_freed : Bool → (buffer : Identifier) → Variables → Variables
+variables_freed true p vs = change p freed vs
+variables_freed false p vs = vs
+
+-- the buffer that is given
+abbrev pub lent_in : Answer → Option Lent
+lent_in (Lends b) = Some b
+lent_in a = None
 
 -- 0
 abbrev pub zero_result : CallResult
@@ -96,6 +157,12 @@ effect_as classes s t (DeletesLocal l n) = Leaves [] s (record t { frames = with
 effect_as classes s t (MakesGlobal n) = Leaves [] (record s { globals = n ∷ s.globals }) t (ReferenceResult (Some n))
 effect_as classes s t (DeletesGlobal x n) = Leaves [] (without_global x n s) t NoResult
 effect_as classes s t (Pends r g) = Leaves [] s (record t { pending = r }) g
+effect_as classes s t (GetsRegion r) = Leaves [] s (record t { variables = variables_with s.heap r t.variables }) NoResult
+effect_as classes s t (SetsRegion r) = heap_effect s t (heap_with t.variables r s.heap)
+effect_as classes s t (Lends b) = Leaves [] s t (BufferResult (lent_view s.heap b))
+effect_as classes s t (CopiesBack n p frees) =
+    heap_effect s (record t { variables = variables_freed frees p t.variables }) (heap_copied n p t.variables s.heap)
+effect_as classes s t (Frees p) = Leaves [] s (with_freed t p) NoResult
 effect_as classes s t (Halts trap) = effects.Halts trap
 
 -- whether it is done to the frames of a call alone
@@ -113,6 +180,13 @@ is_of_references (MakesGlobal n) = true
 is_of_references (DeletesGlobal x n) = true
 is_of_references a = is_of_frames a
 
+-- whether it copies numbers between an object and a variable
+abbrev pub is_of_numbers : Answer → Bool
+is_of_numbers (GetsRegion r) = true
+is_of_numbers (SetsRegion r) = true
+is_of_numbers (CopiesBack n p frees) = true
+is_of_numbers a = false
+
 -- ---- what it leaves
 
 -- whether there is an object to refuse
@@ -123,14 +197,23 @@ makes_object (ThrowsNew c text) = true
 makes_object a = false
 
 -- what is shared after it
-abbrev pub shared_after : Classes → Shared → Answer → Shared
-shared_after classes s (Writes n i v) = record s { heap = with_value_at s.heap n i v }
-shared_after classes s (Makes n) = record s { heap = s.heap ++ object_of classes n ∷ [] }
-shared_after classes s (Raises c) = record s { heap = s.heap ++ fresh_object classes c ∷ [] }
-shared_after classes s (ThrowsNew c text) = record s { heap = s.heap ++ thrown classes s.heap c text }
-shared_after classes s (MakesGlobal n) = record s { globals = n ∷ s.globals }
-shared_after classes s (DeletesGlobal x n) = without_global x n s
-shared_after classes s a = s
+abbrev pub shared_after : Classes → Shared → Variables → Answer → Shared
+shared_after classes s vs (Writes n i v) = record s { heap = with_value_at s.heap n i v }
+shared_after classes s vs (Makes n) = record s { heap = s.heap ++ object_of classes n ∷ [] }
+shared_after classes s vs (Raises c) = record s { heap = s.heap ++ fresh_object classes c ∷ [] }
+shared_after classes s vs (ThrowsNew c text) = record s { heap = s.heap ++ thrown classes s.heap c text }
+shared_after classes s vs (MakesGlobal n) = record s { globals = n ∷ s.globals }
+shared_after classes s vs (DeletesGlobal x n) = without_global x n s
+shared_after classes s vs (SetsRegion r) = record s { heap = heap_with vs r s.heap }
+shared_after classes s vs (CopiesBack n p frees) = record s { heap = heap_copied n p vs s.heap }
+shared_after classes s vs a = s
+
+-- the variables after it, without what it tells of a buffer
+abbrev pub variables_after : Heap → Variables → Answer → Variables
+variables_after heap vs (GetsRegion r) = variables_with heap r vs
+variables_after heap vs (CopiesBack n p frees) = variables_freed frees p vs
+variables_after heap vs (Frees p) = change p freed vs
+variables_after heap vs a = vs
 
 -- the frames after it, without what it gives
 abbrev pub frames_after : List Frame → Answer → List Frame
@@ -163,6 +246,11 @@ given_after heap kind (DeletesLocal l n) = NoResult
 given_after heap kind (MakesGlobal n) = ReferenceResult (Some n)
 given_after heap kind (DeletesGlobal x n) = NoResult
 given_after heap kind (Pends r g) = g
+given_after heap kind (GetsRegion r) = NoResult
+given_after heap kind (SetsRegion r) = NoResult
+given_after heap kind (Lends b) = BufferResult (lent_view heap b)
+given_after heap kind (CopiesBack n p frees) = NoResult
+given_after heap kind (Frees p) = NoResult
 given_after heap kind (Halts trap) = NoResult
 
 -- the frames with what a call of this kind of result gave

@@ -4,11 +4,13 @@ use Rattle.std.specs.List.{list_any}
 use Rattle.class_rules.specs.BuiltIns.{class_class, has_own_making, string_class, throwable_class, number_array}
 use Rattle.class_rules.specs.Class.{Classes, class_kind, is_plain, is_object_array, assignable}
 use Rattle.class_rules.specs.Fields.{FieldId}
-use Rattle.jni.specs.JniFunction.{is_allowed_pending, JniFunction, AllocObject, GetField, SetField, GetStaticField, SetStaticField, GetObjectField, SetObjectField, GetStaticObjectField, SetStaticObjectField, NewObjectArray, Throw, ThrowNew, prototype}
+use Rattle.base.specs.Element.{ElementType}
+use Rattle.jni.specs.Access.{ArrayView}
+use Rattle.jni.specs.JniFunction.{is_allowed_pending, JniFunction, AllocObject, GetField, SetField, GetStaticField, SetStaticField, GetObjectField, SetObjectField, GetStaticObjectField, SetStaticObjectField, NewObjectArray, GetBuffer, Throw, ThrowNew, prototype}
 use Rattle.jni.specs.Prototype.{ParameterKind, ClassObject, AnyArray, ObjectArray, StringObject, NumberArray}
 use Rattle.semantics.specs.Arguments.{Actual, reference_given, object_given, field_given}
 use Rattle.semantics.specs.Checks.{first_trap, frames_after, is_deleted, is_misfit, is_missing, lacks_room}
-use Rattle.semantics.specs.Heap.{fits_class, fits_type, holds_number, holds_reference, Heap, is_instance}
+use Rattle.semantics.specs.Heap.{fits_class, fits_type, holds_number, holds_reference, class_of, Heap, is_instance}
 use Rattle.semantics.specs.Thread.{Frame}
 use Rattle.semantics.specs.Value.{Trap, NullReference, ExceptionPending, WrongObject, DeletedReference, NoCapacity}
 
@@ -38,29 +40,30 @@ module _ (classes : Classes) (heap : Heap) (args : List Actual) where
   abbrev pub fits_new_array : Bool
   fits_new_array = is_plain (class_kind classes (object_given args 1)) && fits_class classes heap (reference_given args 2) (object_given args 1)
 
-  -- the arguments of a function, each of its kind, go together
-  abbrev pub fit_together : JniFunction → Bool
-  fit_together AllocObject = not (has_own_making classes (object_given args 0))
-  fit_together (GetField T) = has_field && holds_number T field.field.type
-  fit_together (SetField T) = has_field && holds_number T field.field.type
-  fit_together GetObjectField = has_field && holds_reference field.field.type
-  fit_together SetObjectField = has_field && fits_type classes heap (reference_given args 2) field.field.type
-  fit_together (GetStaticField T) = has_static classes args && holds_number T field.field.type
-  fit_together (SetStaticField T) = has_static classes args && holds_number T field.field.type
-  fit_together GetStaticObjectField = has_static classes args && holds_reference field.field.type
-  fit_together SetStaticObjectField = has_static classes args && fits_type classes heap (reference_given args 2) field.field.type
-  fit_together NewObjectArray = fits_new_array
-  fit_together Throw = is_instance classes heap (object_given args 0) throwable_class
-  fit_together ThrowNew = assignable classes (object_given args 0) throwable_class
-  fit_together f = true
+  -- the arguments of a function, each of its kind, go together; a critical buffer is to have this element type
+  abbrev pub fit_together : (buffer : ElementType) → JniFunction → Bool
+  fit_together buffer AllocObject = not (has_own_making classes (object_given args 0))
+  fit_together buffer (GetField T) = has_field && holds_number T field.field.type
+  fit_together buffer (SetField T) = has_field && holds_number T field.field.type
+  fit_together buffer GetObjectField = has_field && holds_reference field.field.type
+  fit_together buffer SetObjectField = has_field && fits_type classes heap (reference_given args 2) field.field.type
+  fit_together buffer (GetStaticField T) = has_static classes args && holds_number T field.field.type
+  fit_together buffer (SetStaticField T) = has_static classes args && holds_number T field.field.type
+  fit_together buffer GetStaticObjectField = has_static classes args && holds_reference field.field.type
+  fit_together buffer SetStaticObjectField = has_static classes args && fits_type classes heap (reference_given args 2) field.field.type
+  fit_together buffer (GetBuffer ArrayView) = class_of heap (object_given args 0) == number_array buffer
+  fit_together buffer NewObjectArray = fits_new_array
+  fit_together buffer Throw = is_instance classes heap (object_given args 0) throwable_class
+  fit_together buffer ThrowNew = assignable classes (object_given args 0) throwable_class
+  fit_together buffer f = true
 
 -- The trap of a call before it does anything.
-abbrev pub trap_found : Classes → Heap → List Frame → (is_pending : Bool) → JniFunction → List Actual → Option Trap
-trap_found classes heap frames is_pending f args =
+abbrev pub trap_found : Classes → Heap → List Frame → (is_pending : Bool) → (buffer : ElementType) → JniFunction → List Actual → Option Trap
+trap_found classes heap frames is_pending buffer f args =
     first_trap (
     (is_pending && not (is_allowed_pending f), ExceptionPending)
     ∷ (list_any is_deleted args, DeletedReference)
     ∷ (list_any is_missing (zip (prototype f).parameters args), NullReference)
-    ∷ (list_any (is_misfit classes heap) (zip (prototype f).parameters args) || not (fit_together classes heap args f), WrongObject)
+    ∷ (list_any (is_misfit classes heap) (zip (prototype f).parameters args) || not (fit_together classes heap args buffer f), WrongObject)
     ∷ (lacks_room (prototype f).result (slice_get (frames_after f frames) 0), NoCapacity)
     ∷ [])

@@ -1,20 +1,23 @@
 -- What is worked out of a call, its arguments being looked up and its checks passed.
-use Rattle.std.specs.Prelude.{ℕ, nat_le, nat_lt, if◌then◌else◌, Bool, ℤ, pos, negsuc, List, ◌∷◌, length, Option, Some, None, is_some}
+use Rattle.std.specs.Prelude.{ℕ, ◌+◌, nat_le, nat_lt, if◌then◌else◌, Bool, true, false, ℤ, pos, negsuc, List, ◌∷◌, length, Option, Some, None, is_some}
 use Rattle.base.specs.Bytes.{Identifier, lookup}
-use Rattle.class_rules.specs.BuiltIns.{array_index_out_of_bounds, array_store_exception, negative_array_size, no_class_def_found_error, no_such_field_error, number_array}
+use Rattle.class_rules.specs.BuiltIns.{array_index_out_of_bounds, array_store_exception, negative_array_size, no_class_def_found_error, no_such_field_error, number_array, string_index_out_of_bounds}
 use Rattle.class_rules.specs.Class.{Classes, class_kind, class_named, element_class, superclass, assignable}
 use Rattle.class_rules.specs.Fields.{FieldId, find_field, find_static}
-use Rattle.jni.specs.JniFunction.{JniFunction, FindClass, GetSuperclass, GetObjectClass, IsInstanceOf, IsAssignableFrom, AllocObject, NewLocalRef, NewGlobalRef, DeleteLocalRef, DeleteGlobalRef, IsSameObject, EnsureLocalCapacity, PushLocalFrame, PopLocalFrame, GetFieldID, GetStaticFieldID, GetField, SetField, GetStaticField, SetStaticField, GetObjectField, SetObjectField, GetStaticObjectField, SetStaticObjectField, GetArrayLength, NewArray, NewObjectArray, GetObjectArrayElement, SetObjectArrayElement, NewStringUTF, GetStringLength, Throw, ThrowNew, ExceptionOccurred, ExceptionCheck, ExceptionClear, FatalError}
-use Rattle.semantics.specs.Arguments.{Actual, reference_given, object_given, number_given, text_given, field_given, variable_given}
-use Rattle.semantics.specs.CallEffects.{NoResult, ScalarResult, ReferenceResult, FieldResult, level_of, same_reference, with_capacity}
-use Rattle.semantics.specs.Heap.{Heap, class_of, values_of, value_at, number_in, reference_in, field_place, static_place, fits_class}
+use Rattle.jni.specs.Access.{Access, ElementsCopy, ArrayView, CharsCopy, CharsView}
+use Rattle.jni.specs.JniFunction.{JniFunction, FindClass, GetSuperclass, GetObjectClass, IsInstanceOf, IsAssignableFrom, AllocObject, NewLocalRef, NewGlobalRef, DeleteLocalRef, DeleteGlobalRef, IsSameObject, EnsureLocalCapacity, PushLocalFrame, PopLocalFrame, GetFieldID, GetStaticFieldID, GetField, SetField, GetStaticField, SetStaticField, GetObjectField, SetObjectField, GetStaticObjectField, SetStaticObjectField, GetArrayLength, NewArray, NewObjectArray, GetObjectArrayElement, SetObjectArrayElement, GetArrayRegion, SetArrayRegion, NewStringUTF, GetStringLength, GetStringRegion, GetBuffer, ReleaseBuffer, Throw, ThrowNew, ExceptionOccurred, ExceptionCheck, ExceptionClear, FatalError}
+use Rattle.semantics.specs.Arguments.{Actual, ReleaseMode, CopyBackAndFree, CopyBack, FreeUncopied, reference_given, object_given, mode_given, number_given, text_given, field_given, variable_given}
+use Rattle.semantics.specs.CallEffects.{NoResult, ScalarResult, ReferenceResult, FieldResult, level_of, local_array, same_reference, with_capacity}
+use Rattle.semantics.specs.Heap.{Heap, class_of, numbers_of, values_of, value_at, number_in, reference_in, field_place, static_place, fits_class}
 use Rattle.semantics.specs.Object.{Number, Refers, Reference}
-use Rattle.semantics.specs.Thread.{Frame, capacities}
-use Rattle.semantics.specs.Value.{Int, Flag, Fatal, convert}
+use Rattle.semantics.specs.Thread.{BuffersInUse, Frame, capacities}
+use Rattle.semantics.specs.Value.{Int, Flag, Fatal, OutOfRange, convert}
 use Rattle.semantics.specs.Variable.{Variables}
-use Rattle.replay_calls.specs.Answers.{Answer, Gives, Writes, Makes, Raises, ThrowsNew, Ensures, Pushes, RefusesFrames, Pops, DeletesLocal, MakesGlobal, DeletesGlobal, Pends, Halts, zero_result}
+use Rattle.replay_calls.specs.Answers.{Answer, Gives, Writes, Makes, Raises, ThrowsNew, Ensures, Pushes, RefusesFrames, Pops, DeletesLocal, MakesGlobal, DeletesGlobal, Pends, Region, GetsRegion, SetsRegion, Lends, CopiesBack, Frees, Halts, zero_result}
 use Rattle.replay_calls.specs.declared.answer.Subject.{Subject}
 use Rattle.replay_calls.specs.declared.answer.Subject.TheVariants as subject
+use Rattle.replay_terms.specs.declared.given.Lent.{Lent}
+use Rattle.replay_terms.specs.declared.given.Lent.TheVariants as lent
 use Rattle.replay_objects.specs.Frames.{new_frame}
 use Rattle.replay_objects.specs.New.{Array, Fresh, ObjectArray, Text}
 
@@ -43,6 +46,11 @@ subject_of GetObjectArrayElement = subject.Arrays
 subject_of SetObjectArrayElement = subject.Arrays
 subject_of NewStringUTF = subject.Arrays
 subject_of GetStringLength = subject.Arrays
+subject_of (GetArrayRegion T) = subject.Regions
+subject_of (SetArrayRegion T) = subject.Regions
+subject_of GetStringRegion = subject.Regions
+subject_of (GetBuffer access) = subject.Buffers
+subject_of (ReleaseBuffer access) = subject.Buffers
 subject_of Throw = subject.Exceptions
 subject_of ThrowNew = subject.Exceptions
 subject_of ExceptionOccurred = subject.Exceptions
@@ -125,7 +133,58 @@ abbrev pub element_set : (fits : Bool) → (array : ℕ) → Reference → (inde
 element_set fits n r None = Raises array_index_out_of_bounds
 element_set fits n r (Some i) = if fits then Writes n i (Refers r) else Raises array_store_exception
 
-module _ (classes : Classes) (heap : Heap) (variables : Variables) (frames : List Frame) (pending : Reference) (args : List Actual) where
+-- ---- regions
+
+-- a region of an array or a string of this length, with this start and this number of values, where it is inside
+abbrev pub region_within : (object length : ℕ) → (array : Identifier) → (start count : ℤ) → Option Region
+region_within n length x (pos start) (pos count) =
+    if nat_le (start + count) length then Some (record { object = n; start = start; count = count; array = x }) else None
+region_within n length x start count = None
+
+-- the region of arguments 0 to 3
+abbrev pub region_given : Heap → List Actual → Option Region
+region_given heap args =
+    let n = object_given args 0 in
+    region_within n (length (values_of heap n)) (variable_given args 3) (number_given args 1) (number_given args 2)
+
+-- a local array has room for a region
+abbrev pub if_it_has_room : Variables → Region → Answer → Answer
+if_it_has_room vs r a = if nat_le r.count (length (local_array (lookup r.array vs))) then a else Halts OutOfRange
+
+-- a local array begins with the numbers of a region; where it isn't inside an exception, and where there is no room a trap
+abbrev pub region_got : (exception : ℕ) → Variables → Option Region → Answer
+region_got exception vs None = Raises exception
+region_got exception vs (Some r) = if_it_has_room vs r (GetsRegion r)
+
+-- the numbers of a region become the first of a local array, or else the same
+abbrev pub region_set : Variables → Option Region → Answer
+region_set vs None = Raises array_index_out_of_bounds
+region_set vs (Some r) = if_it_has_room vs r (SetsRegion r)
+
+-- ---- buffers
+
+-- a copy of an object with this number of values, or NULL where all copies together would be too long
+abbrev pub copy_lent : BuffersInUse → (length object : ℕ) → Lent
+copy_lent in_use length n = if nat_le (in_use.copied + length) 65536 then lent.Copy n else lent.Nothing
+
+-- a view of an object, or NULL where 64 are out
+abbrev pub view_lent : BuffersInUse → (object : ℕ) → Lent
+view_lent in_use n = if nat_lt in_use.views 64 then lent.View n else lent.Nothing
+
+-- the buffer with which an object is accessed so
+abbrev pub lent_by : Access → BuffersInUse → Heap → (object : ℕ) → Lent
+lent_by (ElementsCopy T) in_use heap n = copy_lent in_use (length (numbers_of heap n)) n
+lent_by ArrayView in_use heap n = view_lent in_use n
+lent_by CharsCopy in_use heap n = copy_lent in_use (length (numbers_of heap n)) n
+lent_by CharsView in_use heap n = view_lent in_use n
+
+-- what a release of a copy in a mode does
+abbrev pub released : (object : ℕ) → (buffer : Identifier) → ReleaseMode → Answer
+released n p CopyBackAndFree = CopiesBack n p true
+released n p CopyBack = CopiesBack n p false
+released n p FreeUncopied = Frees p
+
+module _ (classes : Classes) (in_use : BuffersInUse) (heap : Heap) (variables : Variables) (frames : List Frame) (pending : Reference) (args : List Actual) where
   abbrev pub reference : ℕ → Option ℕ
   reference i = reference_given args i
 
@@ -182,6 +241,12 @@ module _ (classes : Classes) (heap : Heap) (variables : Variables) (frames : Lis
   worked_out SetObjectArrayElement = element_set (fits_element classes heap args) (object 0) (reference 2) (index_given heap args)
   worked_out NewStringUTF = Makes (Text (text 0))
   worked_out GetStringLength = Gives (ScalarResult (Int (pos (length (values_of heap (object 0))))))
+  worked_out (GetArrayRegion T) = region_got array_index_out_of_bounds variables (region_given heap args)
+  worked_out (SetArrayRegion T) = region_set variables (region_given heap args)
+  worked_out GetStringRegion = region_got string_index_out_of_bounds variables (region_given heap args)
+  worked_out (GetBuffer access) = Lends (lent_by access in_use heap (object 0))
+  worked_out (ReleaseBuffer (ElementsCopy T)) = released (object 0) (variable_given args 1) (mode_given args 2)
+  worked_out (ReleaseBuffer access) = Frees (variable_given args 1)
   worked_out Throw = Pends (reference 0) zero_result
   worked_out ThrowNew = ThrowsNew (object 0) (text 1)
   worked_out ExceptionOccurred = Gives (ReferenceResult pending)

@@ -7,7 +7,7 @@ ghost use Rattle.syntax.specs.Views.{argument_tree, expr_tree};
 ghost use Rattle.classes.specs.FieldViews.{field_id_view};
 ghost use Rattle.jni.specs.Prototype.{ParameterKind as Kind};
 ghost use Rattle.jni.specs.Table.{function_value, parameter_value};
-ghost use Rattle.semantics.specs.Arguments.{actuals, field_argument, field_given, look_up, look_up_expression, mode_of, named_variable, number_given, object_given, reference_argument, reference_given, text_given, variable_given};
+ghost use Rattle.semantics.specs.Arguments.{actuals, field_argument, field_given, look_up, look_up_expression, mode_given, mode_of, named_variable, number_given, object_given, reference_argument, reference_given, text_given, variable_given};
 ghost use Rattle.semantics.specs.CallEffects.{level_of};
 ghost use Rattle.semantics.specs.Sight.{Sight, held_field, held_reference};
 ghost use Rattle.semantics.specs.Task.{Given, NumberOperand};
@@ -191,8 +191,8 @@ fn field_of<'a>(variables: &Variables<'a>, name: &Name) -> Option<FieldId<'a>>
         None => None,
         Some(content) => match content {
             Content::Field(field) => *field,
-            Content::Number(_) | Content::Reference(_, _) => None,
-            Content::Buffer(_) | Content::Array(_, _) => None,
+            Content::Number(_) | Content::Reference(_, _) | Content::Array(_, _) => None,
+            Content::Buffer(_) | Content::Copy(_, _, _) | Content::View(_, _) => None,
         },
     }
 }
@@ -219,8 +219,9 @@ fn held_by(shared: &Shared<'_>, variables: &Variables<'_>, name: &Name) -> Stati
         Some(content) => match content {
             Content::Reference(_, Some(object)) => StaticReference::Live(*object),
             Content::Reference(_, None) | Content::Number(_) => StaticReference::Empty,
-            Content::Field(_) | Content::Buffer(_) => StaticReference::Empty,
-            Content::Array(_, _) => StaticReference::Empty,
+            Content::Field(_) | Content::Array(_, _) => StaticReference::Empty,
+            Content::Buffer(_) | Content::Copy(_, _, _) => StaticReference::Empty,
+            Content::View(_, _) => StaticReference::Empty,
         },
     }
 }
@@ -233,8 +234,8 @@ pub fn level_of(variables: &Variables<'_>, name: &[u8]) -> usize
         None => 0,
         Some(content) => match content {
             Content::Reference(level, _) => *level,
-            Content::Number(_) | Content::Field(_) => 0,
-            Content::Buffer(_) | Content::Array(_, _) => 0,
+            Content::Number(_) | Content::Field(_) | Content::Array(_, _) => 0,
+            Content::Buffer(_) | Content::Copy(_, _, _) | Content::View(_, _) => 0,
         },
     }
 }
@@ -305,6 +306,16 @@ pub fn text_given<'a>(actuals: &[Actual<'a>], place: usize) -> &'a [u8]
     match actual_at(actuals, place) {
         Some(Actual::Text(bytes)) => bytes,
         _ => &[],
+    }
+}
+
+/// The mode at a place.
+pub fn mode_given(actuals: &[Actual<'_>], place: usize) -> ReleaseMode
+    ensures { mode_view result ≡ mode_given (map actual_view actuals.now) place }
+{
+    match actual_at(actuals, place) {
+        Some(Actual::Mode(mode)) => mode,
+        _ => ReleaseMode::CopyBackAndFree,
     }
 }
 

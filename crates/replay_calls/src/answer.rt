@@ -14,23 +14,26 @@ ghost use Rattle.semantics.specs.CallEffects.{level_of, same_reference};
 ghost use Rattle.semantics.specs.Heap.{Heap, field_place, fits_class, number_in, reference_in, static_place};
 ghost use Rattle.semantics.specs.Arguments.{field_given, number_given, object_given, reference_given, text_given, variable_given};
 ghost use Rattle.semantics.specs.Object.{Reference};
-ghost use Rattle.semantics.specs.Thread.{Frame};
+ghost use Rattle.semantics.specs.Thread.{BuffersInUse as InUse, Frame};
 ghost use Rattle.semantics.specs.Variable.{Variables as VariablesOfCall};
 ghost use Rattle.replay_calls.specs.Actuals.{actual_view};
-ghost use Rattle.replay_calls.specs.Answers.{answer_or_trap, answer_view, trap_in};
+ghost use Rattle.replay_calls.specs.Answers.{answer_or_trap, answer_view, lent_in, trap_in};
 ghost use Rattle.replay_calls.specs.Checked.{trap_found};
 ghost use Rattle.replay_calls.specs.WorkedOut.{element_given, element_set, ensured, fits_element, found_class, found_field, global_deleted, index_given, local_deleted, made_global, new_array, new_object_array, pushed, subject_of, worked_out};
 ghost use Rattle.replay_calls.specs.declared.answer.Subject.TheVariants as subject;
-ghost use Rattle.replay_terms.specs.Views.{trap_view, variables_view};
+ghost use Rattle.replay_terms.specs.Views.{in_use_view, trap_view, variables_view};
+ghost use Rattle.syntax.specs.Views.{element_tree};
 ghost use Rattle.world_values.specs.Views.{object_value_view};
 
 use crate::actual::{
     Actual, field_given, level_of, number_given, object_given, reference_given, text_given,
     variable_given,
 };
+use crate::buffers::buffer_answer;
 use crate::check::{check, element_type, fits_class};
 use crate::exceptions::exception_answer;
 use crate::field;
+use crate::regions::region_answer;
 use classes::built_ins::{
     ARRAY_INDEX_OUT_OF_BOUNDS_EXCEPTION, ARRAY_STORE_EXCEPTION, NEGATIVE_ARRAY_SIZE_EXCEPTION,
     NO_CLASS_DEF_FOUND_ERROR, NO_SUCH_FIELD_ERROR, number_array,
@@ -40,7 +43,8 @@ use classes::fields::FieldId;
 use classes::table::ClassTable;
 use jni::JniFunction;
 use replay_objects::{Frames, New, Store};
-use replay_terms::{Given, Trap, Variables, convert};
+use replay_terms::{BuffersInUse, Given, Lent, Trap, Variables, convert};
+use syntax::ElementType;
 use world_values::ObjectValue;
 
 /// What a call does.
@@ -73,8 +77,37 @@ pub enum Answer<'a> {
     DeletesGlobal(&'a [u8], usize),
     /// The exception of this name is pending, or none is, whatever was pending before, and this is given.
     Pends(Option<usize>, Given<'a>),
+    /// The local array of a region begins with the region's numbers.
+    GetsRegion(Region<'a>),
+    /// The numbers of a region become the first of its local array.
+    SetsRegion(Region<'a>),
+    /// This buffer is given.
+    Lends(Lent),
+    /// The object of this name gets the numbers of the copy that a variable holds, which is given up or not.
+    CopiesBack(usize, &'a [u8], bool),
+    /// The buffer that a variable holds is given up.
+    Frees(&'a [u8]),
     /// The run stops.
     Halts(Trap),
+}
+
+/// A part of an array or of a string, and a local array to or from which its numbers are copied.
+#[derive(Clone, Copy)]
+pub struct Region<'a> {
+    pub object: usize,
+    /// The place of the first value, counted from 0.
+    pub start: usize,
+    pub count: usize,
+    pub array: &'a [u8],
+}
+
+/// What a call that gives a buffer goes by.
+#[derive(Clone, Copy)]
+pub struct Lending {
+    /// What the buffers of all threads take before it.
+    pub in_use: BuffersInUse,
+    /// The element type of the buffer that is to hold it.
+    pub element: ElementType,
 }
 
 /// What a function works on.
@@ -88,6 +121,10 @@ pub(crate) enum Subject {
     Statics,
     /// Arrays and strings.
     Arrays,
+    /// Arrays and strings, and local arrays.
+    Regions,
+    /// Arrays and strings, and element buffers.
+    Buffers,
     /// The pending exception.
     Exceptions,
 }
@@ -110,6 +147,9 @@ fn subject_of(function: JniFunction) -> Subject
         JniFunction::NewArray(_) | JniFunction::NewObjectArray => Subject::Arrays,
         JniFunction::GetObjectArrayElement | JniFunction::SetObjectArrayElement => Subject::Arrays,
         JniFunction::NewStringUTF => Subject::Arrays,
+        JniFunction::GetArrayRegion(_) | JniFunction::SetArrayRegion(_) => Subject::Regions,
+        JniFunction::GetStringRegion => Subject::Regions,
+        JniFunction::GetBuffer(_) | JniFunction::ReleaseBuffer(_) => Subject::Buffers,
         JniFunction::Throw | JniFunction::ThrowNew => Subject::Exceptions,
         JniFunction::ExceptionClear | JniFunction::FatalError => Subject::Exceptions,
         JniFunction::ExceptionOccurred | JniFunction::ExceptionCheck => Subject::Exceptions,
@@ -125,19 +165,28 @@ pub fn answer_or_trap<'a>(
     variables: &Variables<'_>,
     frames: &Frames,
     pending: Option<usize>,
+    lending: Lending,
     function: JniFunction,
     actuals: &[Actual<'a>],
 ) -> Answer<'a>
     requires built { IsTrue (is_built_function (function_value function)) }
     requires grown { IsGrown classes.now }
-    ensures { answer_view result ≡ answer_or_trap (trap_found classes.now store.now frames.now (is_some pending) (function_value function) (map actual_view actuals.now))
-        (worked_out classes.now store.now (variables_view variables.now) frames.now pending (map actual_view actuals.now) (function_value function)) }
+    ensures { answer_view result ≡ answer_or_trap (trap_found classes.now store.now frames.now (is_some pending) (element_tree lending.element) (function_value function) (map actual_view actuals.now))
+        (worked_out classes.now (in_use_view lending.in_use) store.now (variables_view variables.now) frames.now pending (map actual_view actuals.now) (function_value function)) }
 {
     let is_pending = pending.is_some();
-    match check(classes, store, frames, is_pending, function, actuals) {
+    match check(
+        classes,
+        store,
+        frames,
+        is_pending,
+        lending.element,
+        function,
+        actuals,
+    ) {
         Some(trap) => Answer::Halts(trap),
         None => work_out(
-            classes, store, variables, frames, pending, function, actuals,
+            classes, store, variables, frames, pending, lending, function, actuals,
         ),
     }
 }
@@ -152,6 +201,16 @@ pub fn trap_in(answer: Answer<'_>) -> Option<Trap>
     }
 }
 
+/// The buffer that a call gives.
+pub fn lent_in(answer: Answer<'_>) -> Option<Lent>
+    ensures { result ≡ lent_in (answer_view answer.entry) }
+{
+    match answer {
+        Answer::Lends(buffer) => Some(buffer),
+        _ => None,
+    }
+}
+
 /// What a function does, all checks being passed.
 fn work_out<'a>(
     classes: &'a ClassTable,
@@ -159,12 +218,13 @@ fn work_out<'a>(
     variables: &Variables<'_>,
     frames: &Frames,
     pending: Option<usize>,
+    lending: Lending,
     function: JniFunction,
     actuals: &[Actual<'a>],
 ) -> Answer<'a>
     requires built { IsTrue (is_built_function (function_value function)) }
     requires grown { IsGrown classes.now }
-    ensures { answer_view result ≡ worked_out classes.now store.now (variables_view variables.now) frames.now pending (map actual_view actuals.now) (function_value function) }
+    ensures { answer_view result ≡ worked_out classes.now (in_use_view lending.in_use) store.now (variables_view variables.now) frames.now pending (map actual_view actuals.now) (function_value function) }
 {
     match subject_of(function) {
         Subject::Classes => class_answer(classes, store, function, actuals),
@@ -172,6 +232,8 @@ fn work_out<'a>(
         Subject::Fields => field_answer(classes, store, function, actuals),
         Subject::Statics => static_answer(classes, store, function, actuals),
         Subject::Arrays => array_answer(classes, store, function, actuals),
+        Subject::Regions => region_answer(store, variables, function, actuals),
+        Subject::Buffers => buffer_answer(store, lending.in_use, function, actuals),
         Subject::Exceptions => exception_answer(pending, function, actuals),
     }
 }
@@ -186,7 +248,7 @@ fn class_answer<'a>(
 ) -> Answer<'a>
     requires built { IsTrue (is_built_function (function_value function)) }
     requires subject { subject_of (function_value function) ≡ subject.Classes }
-    ensures { (variables : VariablesOfCall) (frames : List Frame) (pending : Reference) → answer_view result ≡ worked_out classes.now store.now variables frames pending (map actual_view actuals.now) (function_value function) }
+    ensures { (in_use : InUse) (variables : VariablesOfCall) (frames : List Frame) (pending : Reference) → answer_view result ≡ worked_out classes.now in_use store.now variables frames pending (map actual_view actuals.now) (function_value function) }
 {
     let first = object_given(actuals, 0);
     let second = object_given(actuals, 1);
@@ -219,7 +281,7 @@ fn reference_answer<'a>(
     actuals: &[Actual<'a>],
 ) -> Answer<'a>
     requires { subject_of (function_value function) ≡ subject.References }
-    ensures { (classes : Classes) (heap : Heap) (pending : Reference) → answer_view result ≡ worked_out classes heap (variables_view variables.now) frames.now pending (map actual_view actuals.now) (function_value function) }
+    ensures { (classes : Classes) (in_use : InUse) (heap : Heap) (pending : Reference) → answer_view result ≡ worked_out classes in_use heap (variables_view variables.now) frames.now pending (map actual_view actuals.now) (function_value function) }
 {
     match function {
         JniFunction::NewLocalRef => { Answer::Gives(Given::Reference(reference_given(actuals, 0))) }
@@ -247,7 +309,7 @@ fn field_answer<'a>(
 ) -> Answer<'a>
     requires subject { subject_of (function_value function) ≡ subject.Fields }
     requires grown { IsGrown classes.now }
-    ensures { (variables : VariablesOfCall) (frames : List Frame) (pending : Reference) → answer_view result ≡ worked_out classes.now store.now variables frames pending (map actual_view actuals.now) (function_value function) }
+    ensures { (in_use : InUse) (variables : VariablesOfCall) (frames : List Frame) (pending : Reference) → answer_view result ≡ worked_out classes.now in_use store.now variables frames pending (map actual_view actuals.now) (function_value function) }
 {
     let object = object_given(actuals, 0);
     let place = place_of_field(classes, store, actuals);
@@ -283,7 +345,7 @@ fn static_answer<'a>(
 ) -> Answer<'a>
     requires subject { subject_of (function_value function) ≡ subject.Statics }
     requires grown { IsGrown classes.now }
-    ensures { (variables : VariablesOfCall) (frames : List Frame) (pending : Reference) → answer_view result ≡ worked_out classes.now store.now variables frames pending (map actual_view actuals.now) (function_value function) }
+    ensures { (in_use : InUse) (variables : VariablesOfCall) (frames : List Frame) (pending : Reference) → answer_view result ≡ worked_out classes.now in_use store.now variables frames pending (map actual_view actuals.now) (function_value function) }
 {
     let class = declarer(actuals);
     let place = place_of_static(classes, actuals);
@@ -318,7 +380,7 @@ fn array_answer<'a>(
     actuals: &[Actual<'a>],
 ) -> Answer<'a>
     requires { subject_of (function_value function) ≡ subject.Arrays }
-    ensures { (variables : VariablesOfCall) (frames : List Frame) (pending : Reference) → answer_view result ≡ worked_out classes.now store.now variables frames pending (map actual_view actuals.now) (function_value function) }
+    ensures { (in_use : InUse) (variables : VariablesOfCall) (frames : List Frame) (pending : Reference) → answer_view result ≡ worked_out classes.now in_use store.now variables frames pending (map actual_view actuals.now) (function_value function) }
 {
     match function {
         JniFunction::GetArrayLength | JniFunction::GetStringLength => {

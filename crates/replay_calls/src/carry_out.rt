@@ -1,36 +1,46 @@
-//! What the answer of a function does to what all threads share, to the frames and to the pending exception.
+//! What the answer of a function does to what all threads share, to the variables, to the frames and to the pending exception.
 
-ghost use Rattle.std.specs.Prelude.{◌≡◌, IfOk, None, Some, true};
+ghost use Rattle.std.specs.Prelude.{◌≡◌, IfOk, List, None, Some, true};
 ghost use Rattle.jni.specs.Prototype.{ResultKind as SourceKind};
 ghost use Rattle.jni.specs.Table.{result_value};
 ghost use Rattle.semantics.specs.CallEffects.{out_of_memory};
 ghost use Rattle.semantics.specs.CallStep.{failure};
 ghost use Rattle.semantics.specs.Heap.{Heap};
-ghost use Rattle.replay_calls.specs.Answers.{FitsFrames, answer_view, frames_after, frames_with, given_after, is_of_frames, is_of_references, makes_object, pending_after, shared_after, trap_in};
-ghost use Rattle.replay_terms.specs.Views.{given_view};
+ghost use Rattle.class_rules.specs.Class.{Classes};
+ghost use Rattle.semantics.specs.Object.{Reference};
+ghost use Rattle.semantics.specs.Thread.{Frame};
+ghost use Rattle.semantics.specs.Variable.{Variables as VariablesOfCall};
+ghost use Rattle.replay_calls.specs.Answers.{FitsArrays, FitsFrames, answer_view, frames_after, frames_with, given_after, is_of_frames, is_of_numbers, is_of_references, lent_in, makes_object, pending_after, shared_after, trap_in, variables_after};
+ghost use Rattle.replay_terms.specs.Views.{given_view, variables_view};
 ghost use Rattle.replay_calls.specs.Shares.{shared_view};
 
 use crate::Shared;
 use crate::answer::Answer;
+use crate::buffers::copy_back;
+use crate::regions::{get_region, set_region};
 use classes::table::ClassTable;
 use jni::ResultKind;
 use replay_objects::{Frames, New, make, make_thrown};
-use replay_terms::{Given, StaticReference};
+use replay_terms::{Given, StaticReference, Variables};
 use std::alloc::{AllocError, Global};
 
-/// Does what a function of this kind of result answers, where the run goes on, and tells what it gives.
+/// Does what a function of this kind of result answers, where the run goes on, and tells what it gives. It gives no buffer.
 pub fn carry_out<'a>(
     alloc: Global,
     classes: &ClassTable,
     shared: &mut Shared<'a>,
+    variables: &mut Variables<'a>,
     frames: &mut Frames,
     pending: &mut Option<usize>,
     kind: ResultKind,
     answer: Answer<'a>,
 ) -> Result<Given<'a>, AllocError>
     requires goes { trap_in (answer_view answer) ≡ None }
+    requires unlent { lent_in (answer_view answer) ≡ None }
     requires fits { FitsFrames frames.old (answer_view answer) }
-    ensures shared { IfOk result (λ _. shared_view shared.new ≡ shared_after classes.now (shared_view shared.old) (answer_view answer.entry)) }
+    requires arrays { FitsArrays shared.old.store (variables_view variables.old) (answer_view answer) }
+    ensures shared { IfOk result (λ _. shared_view shared.new ≡ shared_after classes.now (shared_view shared.old) (variables_view variables.old) (answer_view answer.entry)) }
+    ensures variables { IfOk result (λ _. variables_view variables.new ≡ variables_after shared.old.store (variables_view variables.old) (answer_view answer.entry)) }
     ensures frames { IfOk result (λ _. frames.new ≡ frames_after frames.old (answer_view answer.entry)) }
     ensures pending { IfOk result (λ _. pending.new ≡ pending_after classes.now shared.old.store pending.old (answer_view answer.entry)) }
     ensures given { IfOk result (λ g. given_view g ≡ given_after shared.old.store (result_value kind) (answer_view answer.entry)) }
@@ -59,9 +69,42 @@ pub fn carry_out<'a>(
             *pending = reference;
             Ok(given)
         }
-        Answer::Halts(_) => unreachable!(),
+        Answer::GetsRegion(_) | Answer::SetsRegion(_) | Answer::CopiesBack(_, _, _) => {
+            carry_out_numbers(shared, variables, answer)
+        }
+        Answer::Frees(buffer) => {
+            variables.free(buffer);
+            Ok(Given::Nothing)
+        }
+        Answer::Halts(_) | Answer::Lends(_) => unreachable!(),
         _ => carry_out_references(alloc, classes, shared, frames, pending, answer),
     }
+}
+
+/// Copies between an object and a variable what an answer of numbers says.
+#[inline(always)]
+fn carry_out_numbers<'a>(
+    shared: &mut Shared<'a>,
+    variables: &mut Variables<'a>,
+    answer: Answer<'a>,
+) -> Result<Given<'a>, AllocError>
+    requires of_numbers { is_of_numbers (answer_view answer) ≡ true }
+    requires arrays { FitsArrays shared.old.store (variables_view variables.old) (answer_view answer) }
+    ensures shared { IfOk result (λ _. (classes : Classes) → shared_view shared.new ≡ shared_after classes (shared_view shared.old) (variables_view variables.old) (answer_view answer.entry)) }
+    ensures variables { IfOk result (λ _. variables_view variables.new ≡ variables_after shared.old.store (variables_view variables.old) (answer_view answer.entry)) }
+    ensures frames { (frames : List Frame) → frames ≡ frames_after frames (answer_view answer.entry) }
+    ensures pending { (classes : Classes) (heap : Heap) (pending : Reference) → pending ≡ pending_after classes heap pending (answer_view answer.entry) }
+    ensures given { IfOk result (λ g. (heap : Heap) (kind : SourceKind) → given_view g ≡ given_after heap kind (answer_view answer.entry)) }
+{
+    match answer {
+        Answer::GetsRegion(region) => get_region(&shared.store, variables, region),
+        Answer::SetsRegion(region) => set_region(&mut shared.store, variables, region),
+        Answer::CopiesBack(object, buffer, frees) => {
+            copy_back(&mut shared.store, variables, object, buffer, frees)?;
+        }
+        _ => unreachable!(),
+    }
+    Ok(Given::Nothing)
 }
 
 /// Does to the references of all threads and of a call what an answer of references or of frames says.
@@ -76,7 +119,8 @@ fn carry_out_references<'a>(
 ) -> Result<Given<'a>, AllocError>
     requires of_references { is_of_references (answer_view answer) ≡ true }
     requires fits { FitsFrames frames.old (answer_view answer) }
-    ensures shared { IfOk result (λ _. shared_view shared.new ≡ shared_after classes.now (shared_view shared.old) (answer_view answer.entry)) }
+    ensures shared { IfOk result (λ _. (vs : VariablesOfCall) → shared_view shared.new ≡ shared_after classes.now (shared_view shared.old) vs (answer_view answer.entry)) }
+    ensures variables { (heap : Heap) (vs : VariablesOfCall) → vs ≡ variables_after heap vs (answer_view answer.entry) }
     ensures frames { IfOk result (λ _. frames.new ≡ frames_after frames.old (answer_view answer.entry)) }
     ensures pending { IfOk result (λ _. (heap : Heap) → pending.new ≡ pending_after classes.now heap pending.old (answer_view answer.entry)) }
     ensures given { IfOk result (λ g. (heap : Heap) (kind : SourceKind) → given_view g ≡ given_after heap kind (answer_view answer.entry)) }
@@ -155,6 +199,8 @@ pub fn makes_object(answer: Answer<'_>) -> bool
         Answer::Ensures(_) | Answer::Pushes(_) | Answer::RefusesFrames => false,
         Answer::Pops(_) | Answer::DeletesLocal(_, _) => false,
         Answer::MakesGlobal(_) | Answer::DeletesGlobal(_, _) => false,
+        Answer::GetsRegion(_) | Answer::SetsRegion(_) => false,
+        Answer::Lends(_) | Answer::CopiesBack(_, _, _) | Answer::Frees(_) => false,
         Answer::Pends(_, _) | Answer::Halts(_) => false,
     }
 }

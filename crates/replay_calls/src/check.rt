@@ -18,20 +18,21 @@ use crate::field::{declaring, is_static, type_of};
 use classes::built_ins::{CLASS, STRING, THROWABLE, number_array};
 use classes::class::{ClassKind, ElementType, FieldType};
 use classes::table::ClassTable;
-use jni::{JniFunction, ParameterKind, ResultKind};
+use jni::{Access, JniFunction, ParameterKind, ResultKind};
 use replay_objects::{Frames, Store};
 use replay_terms::{StaticReference, Trap};
 
-/// The trap of a call before it does anything.
+/// The trap of a call before it does anything, which may give a buffer of this element type.
 pub fn check(
     classes: &ClassTable,
     store: &Store,
     frames: &Frames,
     is_pending: bool,
+    buffer: syntax::ElementType,
     function: JniFunction,
     actuals: &[Actual<'_>],
 ) -> Option<Trap>
-    ensures { option_map trap_view result ≡ trap_found classes.now store.now frames.now is_pending (function_value function) (map actual_view actuals.now) }
+    ensures { option_map trap_view result ≡ trap_found classes.now store.now frames.now is_pending (element_tree buffer) (function_value function) (map actual_view actuals.now) }
 {
     let asked = function.prototype();
     if is_pending && !asked.pending {
@@ -44,7 +45,7 @@ pub fn check(
         return Some(Trap::NullReference);
     }
     if some_misfit(classes, store, asked.parameters, actuals)
-        || !fit_together(classes, store, function, actuals)
+        || !fit_together(classes, store, buffer, function, actuals)
     {
         return Some(Trap::WrongObject);
     }
@@ -173,10 +174,11 @@ pub(crate) fn element_type(element: syntax::ElementType) -> ElementType
 fn fit_together(
     classes: &ClassTable,
     store: &Store,
+    buffer: syntax::ElementType,
     function: JniFunction,
     actuals: &[Actual<'_>],
 ) -> bool
-    ensures { result ≡ fit_together classes.now store.now (map actual_view actuals.now) (function_value function) }
+    ensures { result ≡ fit_together classes.now store.now (map actual_view actuals.now) (element_tree buffer) (function_value function) }
 {
     let field = field_given(actuals, 1);
     match function {
@@ -201,6 +203,9 @@ fn fit_together(
         JniFunction::SetStaticObjectField => {
             has_static(classes, actuals)
                 && fits_type(classes, store, reference_given(actuals, 2), type_of(field))
+        }
+        JniFunction::GetBuffer(Access::ArrayView) => {
+            store.class_of(object_given(actuals, 0)) == number_array(element_type(buffer))
         }
         JniFunction::NewObjectArray => fits_new_array(classes, store, actuals),
         JniFunction::Throw => is_throwable(classes, store, object_given(actuals, 0)),

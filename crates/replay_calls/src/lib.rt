@@ -4,11 +4,14 @@
 
 pub mod actual;
 mod answer;
+mod buffers;
 pub mod carry_out;
 pub mod check;
 mod exceptions;
 pub mod field;
+mod regions;
 mod shared;
 
-pub use answer::{Answer, answer_or_trap, trap_in};
+pub use answer::{Answer, Lending, Region, answer_or_trap, lent_in, trap_in};
+pub use buffers::tell_copy;
 pub use shared::Shared;

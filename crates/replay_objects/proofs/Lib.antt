@@ -1,3 +1,4 @@
 mod Lists
 mod LoadedLemmas
 mod FrameLemmas
+mod NumberLemmas

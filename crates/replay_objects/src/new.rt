@@ -6,7 +6,7 @@ ghost use Rattle.semantics.specs.Heap.{next_name};
 ghost use Rattle.semantics.specs.Object.{Number};
 ghost use Rattle.semantics.specs.World.{fresh_object};
 ghost use Rattle.replay_objects.specs.New.{array_class, new_view, object_of, thrown};
-ghost use Rattle.replay_objects.specs.Stores.{object_view};
+ghost use Rattle.replay_objects.specs.Stores.{IsMarked, object_view};
 ghost use Rattle.world_values.specs.Views.{object_value_view};
 
 use crate::loaded::fresh_values;
@@ -146,6 +146,7 @@ pub fn make_thrown(
     let message = Object {
         class: STRING,
         values: units(alloc, text)?,
+        has_numbers: false,
     };
     let exception = exception_with(alloc, classes, class, store.len() + 1)?;
     store.add_both(message, exception)?;
@@ -160,10 +161,15 @@ fn exception_with(
     message: usize,
 ) -> Result<Object, AllocError>
     ensures short { IfOk result (λ exception. length exception.values.items < 2 ^ 31) }
+    ensures mark { IfOk result IsMarked }
     ensures view { IfOk result (λ exception. object_view exception ≡ with_message (fresh_object classes.now class) (Some message)) }
 {
     let values = fresh_values(alloc, classes, class)?;
-    let mut exception = Object { class, values };
+    let mut exception = Object {
+        class,
+        values,
+        has_numbers: false,
+    };
     put_value(&mut exception, 0, ObjectValue::Reference(Some(message)));
     Ok(exception)
 }

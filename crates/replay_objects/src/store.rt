@@ -1,9 +1,11 @@
 //! The objects that all threads share.
 
-ghost use Rattle.std.specs.Prelude.{◌≡◌, ◌<◌, ◌^◌, ◌++◌, ◌∷◌, [], IfOk, IfSome, OnErr, length, map, slice_set};
+ghost use Rattle.std.specs.Prelude.{◌≡◌, ◌<◌, ◌≤◌, ◌^◌, ◌+◌, ◌++◌, ◌∷◌, [], IfOk, IfSome, IsTrue, OnErr, drop, length, map, slice_set, take};
 ghost use Rattle.std.specs.Option.{option_map};
-ghost use Rattle.semantics.specs.Heap.{object_at, class_of, value_at, values_of, with_value_at};
-ghost use Rattle.replay_objects.specs.Stores.{object_view};
+ghost use Rattle.semantics.specs.CallEffects.{overwritten};
+ghost use Rattle.semantics.specs.Heap.{object_at, class_of, number_in, numbers_of, value_at, values_of, with_numbers, with_value_at};
+ghost use Rattle.semantics.specs.Object.{Number};
+ghost use Rattle.replay_objects.specs.Stores.{IsMarked, as_number, object_view};
 ghost use Rattle.semantics.specs.Views.{object_value_view};
 
 use semantics::{ObjectValue, Objects};
@@ -15,6 +17,8 @@ use std::marker::Model;
 pub(crate) struct Object {
     pub(crate) class: usize,
     pub(crate) values: Vec<ObjectValue>,
+    /// Whether it is known that no value is a reference.
+    pub(crate) has_numbers: bool,
 }
 
 /// The objects, seen as the heap of the definitions. Each goes by its name, its number in the order in which they are made,
@@ -27,13 +31,13 @@ pub struct Store {
 impl Model for Store {
     ghost use Rattle.std.specs.Prelude.{map};
     ghost use Rattle.semantics.specs.Heap.{Heap};
-    ghost use Rattle.replay_objects.specs.Stores.{object_view, AreShort};
+    ghost use Rattle.replay_objects.specs.Stores.{object_view, AreMarked, AreShort};
 
     ghost Value = { Heap };
 
     ghost view = { λ s. map object_view s.objects.items };
 
-    ghost invariant = { λ s. AreShort s.objects.items };
+    ghost invariant = { λ s. AreShort s.objects.items × AreMarked s.objects.items };
 }
 
 impl Objects for Store {
@@ -136,13 +140,54 @@ impl Store {
         }
     }
 
+    /// Overwrites numbers of an object, from a place on; a reference in it, as in no accepted program, becomes 0. The cost goes by
+    /// the new numbers, and the first time by all of the object's. The name 0 is as in `set`.
+    pub fn set_numbers(&mut self, name: usize, start: usize, numbers: &[i32])
+        requires { start + length numbers.now ≤ length (values_of self.old name) }
+        ensures { self.new ≡ with_numbers self.old name (overwritten (numbers_of self.old name) start numbers.now) }
+    {
+        let count = self.objects.len();
+        if name > count || count == 0 {
+            return;
+        }
+        if name == 0 {
+            empty(&mut self.objects[0]);
+        } else {
+            overwrite(&mut self.objects[name - 1], start, numbers);
+        }
+    }
+
+    /// Gives an object these numbers as its values. There is no memory for more or fewer than it has, as in no accepted program. The
+    /// name 0 is as in `set`.
+    pub fn put_numbers(&mut self, name: usize, numbers: &[i32]) -> Result<(), AllocError>
+        ensures ok { IfOk result (λ _. self.new ≡ with_numbers self.old name numbers.now) }
+        ensures err { OnErr result (self.new ≡ self.old) }
+    {
+        if self.values_of(name).len() != numbers.len() {
+            return Err(AllocError);
+        }
+        self.set_numbers(name, 0, numbers);
+        Ok(())
+    }
+
+    /// The numbers of an object, with 0 for a reference. The cost goes by them.
+    pub fn numbers_of(&self, alloc: Global, name: usize) -> Result<Vec<i32>, AllocError>
+        ensures { IfOk result (λ numbers. numbers.items ≡ numbers_of self.now name) }
+    {
+        numbers_in(alloc, self.values_of(name))
+    }
+
     /// Makes the next object.
     pub fn add(&mut self, class: usize, values: Vec<ObjectValue>) -> Result<(), AllocError>
         requires { length values.items < 2 ^ 31 }
         ensures ok { IfOk result (λ _. self.new ≡ self.old ++ record { class = class; values = map object_value_view values.items } ∷ []) }
         ensures err { OnErr result (self.new ≡ self.old) }
     {
-        self.objects.push(Object { class, values })?;
+        self.objects.push(Object {
+            class,
+            values,
+            has_numbers: false,
+        })?;
         Ok(())
     }
 
@@ -150,6 +195,8 @@ impl Store {
     pub(crate) fn add_both(&mut self, first: Object, second: Object) -> Result<(), AllocError>
         requires first { length first.values.items < 2 ^ 31 }
         requires second { length second.values.items < 2 ^ 31 }
+        requires first_mark { IsMarked first }
+        requires second_mark { IsMarked second }
         ensures ok { IfOk result (λ _. self.new ≡ self.old ++ object_view first ∷ object_view second ∷ []) }
         ensures err { OnErr result (self.new ≡ self.old) }
     {
@@ -169,12 +216,97 @@ fn empty(object: &mut Object)
     object.values.clear();
 }
 
+/// The numbers of values, with 0 for a reference.
+fn numbers_in(alloc: Global, values: &[ObjectValue]) -> Result<Vec<i32>, AllocError>
+    ensures { IfOk result (λ numbers. numbers.items ≡ map number_in (map object_value_view values.now)) }
+{
+    let mut numbers = Vec::new(alloc);
+    for value in values {
+        numbers.push(number_in(*value))?;
+    }
+    Ok(numbers)
+}
+
+/// The number of a value; 0 for a reference.
+fn number_in(value: ObjectValue) -> i32
+    ensures { result ≡ number_in (object_value_view value) }
+{
+    match value {
+        ObjectValue::Number(number) => number,
+        ObjectValue::Reference(_) => 0,
+    }
+}
+
+/// Whether a value is a number.
+fn is_number(value: ObjectValue) -> bool
+    ensures { IsTrue result → as_number (object_value_view value) ≡ object_value_view value }
+{
+    matches!(value, ObjectValue::Number(_))
+}
+
 /// Puts a value into an object, if it has the place.
 pub(crate) fn put_value(object: &mut Object, place: usize, value: ObjectValue)
     ensures view { object_view object.new ≡ record { class = (object_view object.old).class; values = slice_set (object_view object.old).values place (object_value_view value) } }
     ensures length { length object.new.values.items ≡ length object.old.values.items }
+    ensures mark { IsMarked object.old → IsMarked object.new }
 {
     if place < object.values.len() {
         object.values[place] = value;
+        object.has_numbers &= is_number(value);
+    }
+}
+
+/// Overwrites values of an object by numbers, from a place on, and its references by 0.
+fn overwrite(object: &mut Object, start: usize, numbers: &[i32])
+    requires mark { IsMarked object.old }
+    requires room { start + length numbers.now ≤ length object.old.values.items }
+    ensures view { object_view object.new ≡ record { class = object.old.class; values = map Number (overwritten (map number_in (object_view object.old).values) start numbers.now) } }
+    ensures length { length object.new.values.items ≡ length object.old.values.items }
+    ensures mark { IsMarked object.new }
+{
+    keep_numbers(object);
+    write_numbers(&mut object.values, start, numbers);
+}
+
+/// Overwrites references of an object by 0, unless it is known that there are none.
+fn keep_numbers(object: &mut Object)
+    requires { IsMarked object.old }
+    ensures values { map object_value_view object.new.values.items ≡ map as_number (map object_value_view object.old.values.items) }
+    ensures class { object.new.class ≡ object.old.class }
+    ensures length { length object.new.values.items ≡ length object.old.values.items }
+{
+    if object.has_numbers {
+        return;
+    }
+    forget_references(&mut object.values);
+    object.has_numbers = true;
+}
+
+/// A number, and 0 of a reference.
+fn as_number(value: ObjectValue) -> ObjectValue
+    ensures { object_value_view result ≡ as_number (object_value_view value) }
+{
+    match value {
+        ObjectValue::Number(_) => value,
+        ObjectValue::Reference(_) => ObjectValue::Number(0),
+    }
+}
+
+/// Overwrites references by 0.
+fn forget_references(values: &mut [ObjectValue])
+    ensures { map object_value_view values.new ≡ map as_number (map object_value_view values.old) }
+{
+    for value in values.iter_mut() {
+        *value = as_number(*value);
+    }
+}
+
+/// Overwrites values by numbers, from a place on.
+fn write_numbers(values: &mut [ObjectValue], start: usize, numbers: &[i32])
+    requires { start + length numbers.now ≤ length values.old }
+    ensures { map object_value_view values.new ≡ take start (map object_value_view values.old) ++ map Number numbers.now ++ drop (start + length numbers.now) (map object_value_view values.old) }
+{
+    for (place, number) in numbers.iter().enumerate() {
+        values[start + place] = ObjectValue::Number(*number);
     }
 }

@@ -8,6 +8,7 @@ use Rattle.syntax.specs.Tree.{SourceUnit}
 use Rattle.syntax.specs.Views.{expr_tree, block_tree}
 use Rattle.class_rules.specs.Class.{Classes}
 use Rattle.semantics.specs.Activation.{return_step}
+use Rattle.semantics.specs.Heap.{Heap}
 use Rattle.semantics.specs.Task.{Task, Loop, tasks_of}
 use Rattle.semantics.specs.Term.{term_of}
 use Rattle.semantics.specs.Thread.{Thread, Shared, BuffersInUse, Event, Quiet, PrintedNumber, Trapped, Advance, NoAdvance}
@@ -95,13 +96,13 @@ body_tasks body w none rest outer =
 
 -- ---- the step of a task
 
-module _ (refused : Bool) (before between : Scene) (statics : Statics) (variables : Contents) (old : Work) (begun_task left : TaskInMemory) (new : Work) (is : old.task ≡ Some begun_task) where
+module _ (refused : Bool) (before between : Scene) (statics : Statics) (heap : Heap) (variables : Contents) (old : Work) (begun_task left : TaskInMemory) (new : Work) (is : old.task ≡ Some begun_task) where
   abbrev rest : List Task
   rest = tasks_after old.rest old.outer.items
 
-  -- what is shared when the statics are set too
+  -- what is shared when the statics and the objects are set too
   abbrev shared' : Shared
-  shared' = record between.shared { statics = statics }
+  shared' = record between.shared { statics = statics; heap = heap }
 
   -- and the scene when the variables are
   abbrev after : Scene
@@ -117,16 +118,16 @@ module _ (refused : Bool) (before between : Scene) (statics : Statics) (variable
 
   -- what a step does to the variables and the statics
   abbrev OnVariables : Outcome → Type 0
-  OnVariables took = LeavesVariables (length between.frames) between.shared.statics between.variables (variable_step took) statics variables
+  OnVariables took = LeavesVariables (length between.frames) between.shared.statics between.shared.heap between.variables (variable_step took) statics heap variables
 
   abbrev Never : Outcome → Type 0
-  Never took = LeavesIf (length between.frames) between.shared.statics between.variables (variable_step took) false statics variables
+  Never took = LeavesIf (length between.frames) between.shared.statics between.shared.heap between.variables (variable_step took) false statics heap variables
 
   first : tasks_left old ≡ task_view begun_task ∷ rest
   first = ap (λ (o : Option TaskInMemory). tasks_from o rest) is
 
-  holds : (t : Thread) (ts : List Task) → Holds (length between.frames) between.shared.statics between.variables between.shared (with_tasks (within t) ts)
-  holds t ts = record { variables = refl; frames = refl; statics = refl }
+  holds : (t : Thread) (ts : List Task) → Holds (length between.frames) between.shared.statics between.shared.heap between.variables between.shared (with_tasks (within t) ts)
+  holds t ts = record { variables = refl; frames = refl; statics = refl; heap = refl }
 
   stepped : (took : Outcome) (end : Scene) → Does refused before begun_task took between left
       → ((t : Thread) → left_by before.thread between.shared (within t) rest took left ≡ NoAdvance) → Advances refused before old outcome.Impossible end new
@@ -146,6 +147,7 @@ module _ (refused : Bool) (before between : Scene) (statics : Statics) (variable
       by_outcome (outcome.Sets x v) none t = none between.shared (with_tasks (within t) rest) (holds t rest)
       by_outcome (outcome.SetsNull to) none t = none between.shared (with_tasks (within t) rest) (holds t rest)
       by_outcome (outcome.Gives to g) none t = none between.shared (with_tasks (within t) rest) (holds t rest)
+      by_outcome (outcome.Lends to b) none t = none between.shared (with_tasks (within t) rest) (holds t rest)
       by_outcome (outcome.Tests line zero b other) none t = absurd (let bad = none between.shared (with_tasks (within t) rest) (holds t rest) in cc)
       by_outcome (outcome.SetsElement x i z) none t = none between.shared (with_tasks (within t) rest) (holds t rest)
       by_outcome (outcome.Makes T x n) none t = none between.shared (with_tasks (within t) rest) (holds t rest)
@@ -161,7 +163,7 @@ module _ (refused : Bool) (before between : Scene) (statics : Statics) (variable
     tasks_are event ts same = ap (λ (us : List Task). thread.Advances shared' (thread_in t us after) event) (sym same)
 
     -- all but the tasks is as before
-    left_alone : (event : Event) (ts : List Task) → LeavesVariables (length between.frames) between.shared.statics between.variables (λ s' t'. thread.Advances s' t' Quiet) statics variables → tasks_left new ≡ ts
+    left_alone : (event : Event) (ts : List Task) → LeavesVariables (length between.frames) between.shared.statics between.shared.heap between.variables (λ s' t'. thread.Advances s' t' Quiet) statics heap variables → tasks_left new ≡ ts
         → thread.Advances between.shared (with_tasks (within t) ts) event ≡ thread.Advances shared' (thread_in t (tasks_left new) after) event
     left_alone event ts leaves same = ap (with_event event) (leaves between.shared (with_tasks (within t) ts) (holds t ts)) ∙ tasks_are event ts same
 
@@ -169,7 +171,7 @@ module _ (refused : Bool) (before between : Scene) (statics : Statics) (variable
         → variable_step took between.shared (with_tasks (within t) rest) ≡ thread.Advances shared' (thread_in t (tasks_left new) after) Quiet
     set took leaves same = leaves between.shared (with_tasks (within t) rest) (holds t rest) ∙ tasks_are Quiet rest same
 
-    -- a step that leaves the call does not change the statics
+    -- a step that leaves the call does not change the statics or the objects
     returned : OnVariables outcome.Returned → (u : Thread) → return_step before.thread between.shared u ≡ return_step before.thread shared' u
     returned leaves u =
         ap (λ (s' : Shared). return_step before.thread s' u) (ap (shared_of between.shared) (leaves between.shared (with_tasks (within t) rest) (holds t rest)))
@@ -191,6 +193,7 @@ module _ (refused : Bool) (before between : Scene) (statics : Statics) (variable
     left_in (outcome.Sets x v) leaves a = set (outcome.Sets x v) leaves (left_with None a.task a.rest a.outer)
     left_in (outcome.SetsNull to) leaves a = set (outcome.SetsNull to) leaves (left_with None a.task a.rest a.outer)
     left_in (outcome.Gives to g) leaves a = set (outcome.Gives to g) leaves (left_with None a.task a.rest a.outer)
+    left_in (outcome.Lends to b) leaves a = set (outcome.Lends to b) leaves (left_with None a.task a.rest a.outer)
     left_in (outcome.Tests line zero b other) leaves a =
         let choice : TaskInMemory = branch_task line (term.Done (value.Truth zero)) b other in
         left_alone Quiet (task_view choice ∷ rest) leaves (left_with (Some choice) a.task a.rest a.outer)
@@ -227,6 +230,7 @@ module _ (begun new : Work) (after : TaskInMemory) (known : IsInRange begun) (kn
   range_after (outcome.Sets x v) h a = built None begun.rest begun.outer.items a.task a.rest a.outer tt known.rest known.outer
   range_after (outcome.SetsNull to) h a = built None begun.rest begun.outer.items a.task a.rest a.outer tt known.rest known.outer
   range_after (outcome.Gives to g) h a = built None begun.rest begun.outer.items a.task a.rest a.outer tt known.rest known.outer
+  range_after (outcome.Lends to b) h a = built None begun.rest begun.outer.items a.task a.rest a.outer tt known.rest known.outer
   range_after (outcome.Tests line zero b other) h a = built (Some (branch_task line (term.Done (value.Truth zero)) b other)) begun.rest begun.outer.items a.task a.rest a.outer (tt, h.0, h.1) known.rest known.outer
   range_after (outcome.SetsElement x i z) h a = built None begun.rest begun.outer.items a.task a.rest a.outer tt known.rest known.outer
   range_after (outcome.Makes T x n) h a = built None begun.rest begun.outer.items a.task a.rest a.outer tt known.rest known.outer

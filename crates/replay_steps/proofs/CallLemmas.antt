@@ -4,28 +4,31 @@ use Rattle.std.specs.Prelude.{ℤ, pos, negsuc, drop, nat_le, nat_lt, if◌then�
 use Rattle.std.specs.Option.{option_to_list}
 use Rattle.base.specs.Bytes.{Identifier, lookup}
 use Rattle.base.specs.Element.{ElementType}
-use Rattle.class_rules.specs.BuiltIns.{array_index_out_of_bounds, no_class_def_found_error, no_such_field_error, number_array}
+use Rattle.class_rules.specs.BuiltIns.{array_index_out_of_bounds, no_class_def_found_error, no_such_field_error, number_array, string_index_out_of_bounds}
 use Rattle.class_rules.specs.Class.{Classes}
 use Rattle.class_rules.specs.Fields.{FieldId}
-use Rattle.jni.specs.Access.{ArrayView}
-use Rattle.jni.specs.JniFunction.{is_built_function, JniFunction, FindClass, NewGlobalRef, DeleteLocalRef, DeleteGlobalRef, EnsureLocalCapacity, PushLocalFrame, GetFieldID, GetStaticFieldID, prototype, NewArray, NewObjectArray, GetObjectArrayElement, SetObjectArrayElement, GetBuffer}
+use Rattle.jni.specs.Access.{Access, ElementsCopy, ArrayView, CharsCopy, CharsView}
+use Rattle.jni.specs.JniFunction.{is_built_function, JniFunction, FindClass, NewGlobalRef, DeleteLocalRef, DeleteGlobalRef, EnsureLocalCapacity, PushLocalFrame, GetFieldID, GetStaticFieldID, prototype, NewArray, NewObjectArray, GetObjectArrayElement, SetObjectArrayElement, GetArrayRegion, SetArrayRegion, GetStringRegion, GetBuffer, ReleaseBuffer}
 use Rattle.jni.specs.Prototype.{ResultKind, NewLocal}
-use Rattle.semantics.specs.Arguments.{Actual, number_given, object_given, reference_given, variable_given}
-use Rattle.semantics.specs.CallEffects.{CallResult, NoResult, ReferenceResult, CallEffect, Leaves, Throws, at_index, delete_global_effect, delete_local_effect, ensure_effect, found_class_effect, found_field_effect, level_of, new_array_effect, out_of_memory, push_effect, refuses_frames, store_effect, with_capacity, without_local}
+use Rattle.semantics.specs.Arguments.{Actual, ReleaseMode, CopyBackAndFree, CopyBack, FreeUncopied, mode_given, number_given, object_given, reference_given, variable_given}
+use Rattle.semantics.specs.CallEffects.{CallResult, NoResult, ReferenceResult, BufferResult, CallEffect, copy_effect, freed, release_effect, view_effect, Leaves, Throws, at_index, at_region, delete_global_effect, delete_local_effect, ensure_effect, found_class_effect, found_field_effect, get_region_effect, level_of, local_array, new_array_effect, out_of_memory, push_effect, refuses_frames, set_region_effect, store_effect, with_capacity, without_local}
+use Rattle.semantics.specs.CallEffects as call_effects
 use Rattle.semantics.specs.CallStep.{after_call, after_refusal, call_step, checked, completed, failure, is_zero, makes_objects, put, received, target_element, tell_copy}
 use Rattle.semantics.specs.CallTable.{call_effect, go_together}
 use Rattle.semantics.specs.Checks.{call_trap}
 use Rattle.semantics.specs.Effect.{tasks_after}
-use Rattle.semantics.specs.Heap.{Heap, next_name, reference_in, value_at, values_of}
+use Rattle.semantics.specs.Heap.{Heap, next_name, numbers_of, reference_in, value_at, values_of}
 use Rattle.semantics.specs.Object.{Number, Object, Reference, Refers}
 use Rattle.semantics.specs.World.{fresh_object}
 use Rattle.semantics.specs.Task.{Task}
 use Rattle.semantics.specs.Thread.{Frame, Thread, Shared, BuffersInUse, Trapped, Advance, Advances, capacities}
 use Rattle.semantics.specs.ThreadStep.{with_tasks}
-use Rattle.semantics.specs.Value.{Trap}
-use Rattle.semantics.specs.Variable.{Variable, Variables}
+use Rattle.semantics.specs.Value.{Trap, OutOfRange}
+use Rattle.semantics.specs.Variable.{Variable, Variables, Buffer, NoBuffer, Copy, View, change}
 use Rattle.replay_terms.specs.declared.given.Given.{Given}
 use Rattle.replay_terms.specs.declared.given.Given.TheVariants as given
+use Rattle.replay_terms.specs.declared.given.Lent.{Lent}
+use Rattle.replay_terms.specs.declared.given.Lent.TheVariants as lent
 use Rattle.replay_tasks.specs.declared.outcome.Outcome.{Outcome}
 use Rattle.replay_tasks.specs.declared.outcome.Outcome.TheVariants as outcome
 use Rattle.replay_tasks.specs.declared.outcome.Purpose.{Purpose as PurposeInMemory}
@@ -33,32 +36,35 @@ use Rattle.replay_tasks.specs.declared.outcome.Purpose.TheVariants as purposes
 use Rattle.replay_tasks.specs.declared.outcome.Target.TheVariants as target
 use Rattle.replay_tasks.specs.declared.task.Task.{Task as TaskInMemory}
 use Rattle.replay_terms.specs.declared.trap.Trap.{Trap as TrapInMemory}
-use Rattle.replay_calls.specs.Answers.{Answer, Gives, Writes, Makes, Raises, ThrowsNew, Ensures, Pushes, RefusesFrames, Pops, DeletesLocal, MakesGlobal, DeletesGlobal, Pends, Halts, answer_or_trap, effect_as, frames_after, frames_with, given_after, makes_object, pending_after, shared_after, trap_in, without_global, zero_result}
-use Rattle.replay_terms.specs.Views.{given_view, Contents, trap_view, variables_view}
-use Rattle.replay_steps.specs.Calls.{MakesCall}
+use Rattle.replay_calls.specs.Answers.{Answer, Gives, Writes, Makes, Raises, ThrowsNew, Ensures, Pushes, RefusesFrames, Pops, DeletesLocal, MakesGlobal, DeletesGlobal, Pends, Region, GetsRegion, SetsRegion, Lends, CopiesBack, Frees, Halts, answer_or_trap, effect_as, frames_after, frames_with, given_after, lent_in, makes_object, pending_after, shared_after, trap_in, variables_after, variables_freed, variables_with, without_global, zero_result}
+use Rattle.replay_terms.specs.Views.{given_view, lent_view, Contents, trap_view, variables_view}
+use Rattle.replay_steps.specs.Calls.{MakesCall, lent_outcome, wanted_element}
 use Rattle.replay_calls.specs.Checked.{fit_together, trap_found}
 use Rattle.replay_objects.specs.Frames.{new_frame}
 use Rattle.replay_objects.specs.New.{array_class, object_of, thrown}
 use Rattle.replay_tasks.specs.Outcomes.{outcome_for, purpose_view}
 use Rattle.replay_steps.specs.Steps.{Scene, Sees, left_by, scene_with}
 use Rattle.replay_tasks.specs.Tasks.{task_view}
-use Rattle.replay_calls.specs.WorkedOut.{element_given, element_set, ensured, fits_element, found_class, found_field, global_deleted, index_within, local_deleted, made_global, new_array, new_object_array, pushed, worked_out}
+use Rattle.replay_calls.specs.WorkedOut.{element_given, element_set, ensured, fits_element, found_class, found_field, global_deleted, index_within, local_deleted, made_global, new_array, new_object_array, pushed, lent_by, region_got, region_set, region_within, released, worked_out}
 use Rattle.replay_steps.proofs.TaskLemmas.{same_thread}
 
 -- ---- checks
 
-module _ (classes : Classes) (heap : Heap) (buffer : ElementType) (args : List Actual) where
-  -- the arguments go together
-  together : (f : JniFunction) → is_built_function f ≡ true → go_together classes heap buffer args f ≡ fit_together classes heap args f
-  unfolding go_together
-  together (GetBuffer ArrayView) built = absurd (cc)
-  together f built = refl
+-- the arguments go together
+together : (classes : Classes) (heap : Heap) (buffer : ElementType) (args : List Actual) (f : JniFunction) → go_together classes heap buffer args f ≡ fit_together classes heap args buffer f
+unfolding go_together
+together classes heap buffer args (GetBuffer ArrayView) = refl
+together classes heap buffer args f = refl
 
 -- the trap of a call is the one that was found
-trap_is : (classes : Classes) (heap : Heap) (buffer : ElementType) (args : List Actual) (f : JniFunction) (t : Thread) → is_built_function f ≡ true
-    → call_trap classes heap t buffer f args ≡ trap_found classes heap t.frames (is_some t.pending) f args
+trap_is : (classes : Classes) (heap : Heap) (buffer : ElementType) (args : List Actual) (f : JniFunction) (t : Thread) → call_trap classes heap t buffer f args ≡ trap_found classes heap t.frames (is_some t.pending) buffer f args
 unfolding call_trap
-trap_is classes heap buffer args f t built = rw (together classes heap buffer args f built) refl
+trap_is classes heap buffer args f t = rw (together classes heap buffer args f) refl
+
+-- in whatever line the call is
+any_line : (vs : Contents) (line : ℕ) (p : PurposeInMemory) → target_element (variables_view vs) (purpose_view line p) ≡ wanted_element vs p
+any_line vs line (purposes.Put to) = refl
+any_line vs line (purposes.Test b other) = refl
 
 -- ---- effects
 
@@ -130,8 +136,63 @@ module _ (classes : Classes) (in_use : BuffersInUse) (k : ℕ) (s : Shared) (t :
   sets : (fits : Bool) (r : Reference) (z : ℤ) → at_index array_index_out_of_bounds count z (store_effect s t fits array r) ≡ effect_as classes s t (element_set fits array r (index_within count z))
   sets fits r = at_place (store_effect s t fits array r) (element_set fits array r) (stores fits array r) refl count
 
+  -- what is done with a region that is inside, and else
+  at_place_of : (go : ℕ → ℕ → CallEffect) (a : Option Region → Answer) (exception n : ℕ) (x : Identifier)
+      → ((start m : ℕ) → go start m ≡ effect_as classes s t (a (Some (record { object = n; start = start; count = m; array = x })))) → Throws exception ≡ effect_as classes s t (a None)
+      → (length : ℕ) (start count : ℤ) → at_region exception length start count go ≡ effect_as classes s t (a (region_within n length x start count))
+  at_place_of go a exception n x there past length (pos start) (pos m) = by_test (nat_le (start + m) length)
+    where
+      by_test : (b : Bool) → (if b then go start m else Throws exception) ≡ effect_as classes s t (a (if b then Some (record { object = n; start = start; count = m; array = x }) else None))
+      by_test true = there start m
+      by_test false = past
+  at_place_of go a exception n x there past length (pos start) (negsuc m) = past
+  at_place_of go a exception n x there past length (negsuc start) z = past
+
+  -- where the local array is too short the run stops
+  if_room : (b : Bool) (a : Answer) → (if b then effect_as classes s t a else call_effects.Halts OutOfRange) ≡ effect_as classes s t (if b then a else Halts OutOfRange)
+  if_room true a = refl
+  if_room false a = refl
+
+  gets_region : (exception n : ℕ) (x : Identifier) (length : ℕ) (start count : ℤ) → at_region exception length start count (get_region_effect s t n x) ≡ effect_as classes s t (region_got exception t.variables (region_within n length x start count))
+  gets_region exception n x =
+      at_place_of (get_region_effect s t n x) (region_got exception t.variables) exception n x
+      (λ start m. if_room (nat_le m (length (local_array (lookup x t.variables)))) (GetsRegion (record { object = n; start = start; count = m; array = x }))) refl
+
+  sets_region : (n : ℕ) (x : Identifier) (length : ℕ) (start count : ℤ) → at_region array_index_out_of_bounds length start count (set_region_effect s t n x) ≡ effect_as classes s t (region_set t.variables (region_within n length x start count))
+  sets_region n x =
+      at_place_of (set_region_effect s t n x) (region_set t.variables) array_index_out_of_bounds n x
+      (λ start m. if_room (nat_le m (length (local_array (lookup x t.variables)))) (SetsRegion (record { object = n; start = start; count = m; array = x }))) refl
+
+  -- a buffer is given
+  copies : (n : ℕ) (b : Bool) → Leaves [] s t (BufferResult (if b then Copy n (numbers_of s.heap n) else NoBuffer)) ≡ effect_as classes s t (Lends (if b then lent.Copy n else lent.Nothing))
+  copies n true = refl
+  copies n false = refl
+
+  views : (n : ℕ) (b : Bool) → Leaves [] s t (BufferResult (if b then View n else NoBuffer)) ≡ effect_as classes s t (Lends (if b then lent.View n else lent.Nothing))
+  views n true = refl
+  views n false = refl
+
+  -- what a call with this access does
+  abbrev lent_effect : Access → (object : ℕ) → CallEffect
+  lent_effect (ElementsCopy T) n = copy_effect in_use s t n (numbers_of s.heap n)
+  lent_effect ArrayView n = view_effect in_use s t n
+  lent_effect CharsCopy n = copy_effect in_use s t n (numbers_of s.heap n)
+  lent_effect CharsView n = view_effect in_use s t n
+
+  lends : (access : Access) (n : ℕ) → lent_effect access n ≡ effect_as classes s t (Lends (lent_by access in_use s.heap n))
+  lends (ElementsCopy T) n = copies n (nat_le (in_use.copied + length (numbers_of s.heap n)) 65536)
+  lends ArrayView n = views n (nat_lt in_use.views 64)
+  lends CharsCopy n = copies n (nat_le (in_use.copied + length (numbers_of s.heap n)) 65536)
+  lends CharsView n = views n (nat_lt in_use.views 64)
+
+  -- a copy is taken back
+  releases : (n : ℕ) (p : Identifier) (m : ReleaseMode) → release_effect s t n p m ≡ effect_as classes s t (released n p m)
+  releases n p CopyBackAndFree = refl
+  releases n p CopyBack = refl
+  releases n p FreeUncopied = refl
+
   -- what is worked out is the effect
-  effects : (f : JniFunction) → is_built_function f ≡ true → call_effect classes in_use k s t args f ≡ effect_as classes s t (worked_out classes s.heap t.variables t.frames t.pending args f)
+  effects : (f : JniFunction) → is_built_function f ≡ true → call_effect classes in_use k s t args f ≡ effect_as classes s t (worked_out classes in_use s.heap t.variables t.frames t.pending args f)
   unfolding call_effect
   effects FindClass built = class_found _
   effects NewGlobalRef built = makes_global _
@@ -145,9 +206,25 @@ module _ (classes : Classes) (in_use : BuffersInUse) (k : ℕ) (s : Shared) (t :
   effects NewObjectArray built = new_object_arrays (object_given args 1) (reference_given args 2) (number_given args 0)
   effects GetObjectArrayElement built = gets (number_given args 1)
   effects SetObjectArrayElement built = sets (fits_element classes s.heap args) (reference_given args 2) (number_given args 1)
+  effects (GetArrayRegion T) built = gets_region array_index_out_of_bounds array (variable_given args 3) count (number_given args 1) (number_given args 2)
+  effects (SetArrayRegion T) built = sets_region array (variable_given args 3) count (number_given args 1) (number_given args 2)
+  effects GetStringRegion built = gets_region string_index_out_of_bounds array (variable_given args 3) count (number_given args 1) (number_given args 2)
+  effects (GetBuffer (ElementsCopy T)) built = lends (ElementsCopy T) (object_given args 0)
+  effects (GetBuffer ArrayView) built = lends ArrayView (object_given args 0)
+  effects (GetBuffer CharsCopy) built = lends CharsCopy (object_given args 0)
+  effects (GetBuffer CharsView) built = lends CharsView (object_given args 0)
+  effects (ReleaseBuffer (ElementsCopy T)) built = releases (object_given args 0) (variable_given args 1) (mode_given args 2)
+  effects (ReleaseBuffer ArrayView) built = refl
+  effects (ReleaseBuffer CharsCopy) built = refl
+  effects (ReleaseBuffer CharsView) built = refl
   effects f built = cc
 
 -- ---- what a call leaves
+
+-- a buffer goes into no frame
+received_buffer : (kind : ResultKind) (b : Buffer) (t : Thread) → received kind (BufferResult b) t ≡ t
+received_buffer NewLocal b t = refl
+received_buffer kind b t = refl
 
 -- none of these gives a buffer
 not_told : (x : Identifier) (g : Given) (vs : Variables) → tell_copy x (given_view g) vs ≡ vs
@@ -159,31 +236,27 @@ not_told (b ∷ x) (given.Flag c) vs = refl
 not_told (b ∷ x) (given.Reference r) vs = refl
 not_told (b ∷ x) (given.Field f) vs = refl
 
--- a thread with these frames and this pending exception
-abbrev in_frames : Thread → List Frame → Reference → Thread
-in_frames t frames pending = record t { frames = frames; pending = pending }
+-- a thread with these variables, these frames and this pending exception
+abbrev in_locals : Thread → Variables → List Frame → Reference → Thread
+in_locals t vs frames pending = record t { variables = vs; frames = frames; pending = pending }
 
 -- the thread before a call
-as_it_is : (t : Thread) (frames : List Frame) (pending : Reference) → t.frames ≡ frames → t.pending ≡ pending → t ≡ in_frames t frames pending
-as_it_is t frames pending framed is =
-    ap (λ (fs : List Frame). let u : Thread = record t { frames = fs } in u) framed
-    ∙ ap (λ (r : Reference). let u : Thread = record t { frames = frames; pending = r } in u) is
-
--- its variables are as they were
-in_variables : (k : ℕ) (s : Shared) (t : Thread) (vs : Contents) (frames : List Frame) (pending : Reference) (rest : List Task) (took : Outcome) (new : TaskInMemory) → t.variables ≡ variables_view vs
-    → left_by k s (in_frames t frames pending) rest took new ≡ left_by k s (record t { variables = variables_view vs; frames = frames; pending = pending }) rest took new
-in_variables k s t vs frames pending rest took new same = ap (λ (us : Variables). let u : Thread = record t { variables = us; frames = frames; pending = pending } in left_by k s u rest took new) same
+as_it_is : (t : Thread) (vs : Variables) (frames : List Frame) (pending : Reference) → t.variables ≡ vs → t.frames ≡ frames → t.pending ≡ pending → t ≡ in_locals t vs frames pending
+as_it_is t vs frames pending held framed is =
+    ap (λ (us : Variables). let u : Thread = record t { variables = us } in u) held
+    ∙ ap (λ (fs : List Frame). let u : Thread = record t { variables = vs; frames = fs } in u) framed
+    ∙ ap (λ (r : Reference). let u : Thread = record t { variables = vs; frames = frames; pending = r } in u) is
 
 -- the result goes into the current frame
-in_received : (kind : ResultKind) (g : Given) (t : Thread) (frames : List Frame) (pending : Reference) → received kind (given_view g) (in_frames t frames pending) ≡ in_frames t (frames_with kind (given_view g) frames) pending
-in_received NewLocal given.Nothing t frames pending = refl
-in_received NewLocal given.Null t frames pending = refl
-in_received NewLocal (given.Number z) t frames pending = refl
-in_received NewLocal (given.Flag b) t frames pending = refl
-in_received NewLocal (given.Reference None) t frames pending = refl
-in_received NewLocal (given.Reference (Some n)) t frames pending = refl
-in_received NewLocal (given.Field f) t frames pending = refl
-in_received kind g t frames pending = refl
+in_received : (kind : ResultKind) (g : Given) (t : Thread) (vs : Variables) (frames : List Frame) (pending : Reference) → received kind (given_view g) (in_locals t vs frames pending) ≡ in_locals t vs (frames_with kind (given_view g) frames) pending
+in_received NewLocal given.Nothing t vs frames pending = refl
+in_received NewLocal given.Null t vs frames pending = refl
+in_received NewLocal (given.Number z) t vs frames pending = refl
+in_received NewLocal (given.Flag b) t vs frames pending = refl
+in_received NewLocal (given.Reference None) t vs frames pending = refl
+in_received NewLocal (given.Reference (Some n)) t vs frames pending = refl
+in_received NewLocal (given.Field f) t vs frames pending = refl
+in_received kind g t vs frames pending = refl
 
 -- a failure leaves the frames alone
 failed_frames : (kind : ResultKind) (frames : List Frame) → frames_with kind (failure kind) frames ≡ frames
@@ -205,6 +278,11 @@ makes_alike classes s t (DeletesLocal l n) = refl
 makes_alike classes s t (MakesGlobal n) = refl
 makes_alike classes s t (DeletesGlobal x n) = refl
 makes_alike classes s t (Pends r g) = refl
+makes_alike classes s t (GetsRegion r) = refl
+makes_alike classes s t (SetsRegion r) = refl
+makes_alike classes s t (Lends b) = refl
+makes_alike classes s t (CopiesBack n p frees) = refl
+makes_alike classes s t (Frees p) = refl
 makes_alike classes s t (Halts trap) = refl
 
 -- an answer with a trap is the one that stops the run
@@ -222,69 +300,119 @@ halts_with (DeletesLocal l n) trap is = absurd (cc)
 halts_with (MakesGlobal n) trap is = absurd (cc)
 halts_with (DeletesGlobal x n) trap is = absurd (cc)
 halts_with (Pends r g) trap is = absurd (cc)
+halts_with (GetsRegion r) trap is = absurd (cc)
+halts_with (SetsRegion r) trap is = absurd (cc)
+halts_with (Lends b) trap is = absurd (cc)
+halts_with (CopiesBack n p frees) trap is = absurd (cc)
+halts_with (Frees p) trap is = absurd (cc)
 halts_with (Halts found) trap is = let same : found ≡ trap = cc in ap Halts same
 
-module _ (classes : Classes) (in_use : BuffersInUse) (k : ℕ) (s : Shared) (t : Thread) (line : ℕ) (purpose : PurposeInMemory) (f : JniFunction) (args : List Actual) (rest : List Task) (frames : List Frame) (pending : Reference) where
+-- an answer with a buffer is the one that gives it
+lends_it : (a : Answer) (b : Lent) → lent_in a ≡ Some b → a ≡ Lends b
+lends_it (Gives g) b is = absurd (cc)
+lends_it (Writes n i v) b is = absurd (cc)
+lends_it (Makes n) b is = absurd (cc)
+lends_it (Raises c) b is = absurd (cc)
+lends_it (ThrowsNew c text) b is = absurd (cc)
+lends_it (Ensures n) b is = absurd (cc)
+lends_it (Pushes n) b is = absurd (cc)
+lends_it RefusesFrames b is = absurd (cc)
+lends_it (Pops r) b is = absurd (cc)
+lends_it (DeletesLocal l n) b is = absurd (cc)
+lends_it (MakesGlobal n) b is = absurd (cc)
+lends_it (DeletesGlobal x n) b is = absurd (cc)
+lends_it (Pends r g) b is = absurd (cc)
+lends_it (GetsRegion r) b is = absurd (cc)
+lends_it (SetsRegion r) b is = absurd (cc)
+lends_it (Lends found) b is = let same : found ≡ b = cc in ap Lends same
+lends_it (CopiesBack n p frees) b is = absurd (cc)
+lends_it (Frees p) b is = absurd (cc)
+lends_it (Halts trap) b is = absurd (cc)
+
+module _ (classes : Classes) (in_use : BuffersInUse) (k : ℕ) (s : Shared) (t : Thread) (line : ℕ) (purpose : PurposeInMemory) (f : JniFunction) (args : List Actual) (rest : List Task) (vs : Variables) (frames : List Frame) (pending : Reference) where
   abbrev kind : ResultKind
   kind = (prototype f).result
 
   -- the thread before the call
   abbrev caller : Thread
-  caller = in_frames t frames pending
+  caller = in_locals t vs frames pending
 
   -- what goes where it belongs
   abbrev completes : List Object → Shared → Thread → CallResult → Advance
   completes made s' u c = completed classes in_use k s caller line (purpose_view line purpose) f args rest made s' u c
 
-  by_purpose : (p : PurposeInMemory) (s' : Shared) (fs : List Frame) (r : Reference) (g : Given) (new : TaskInMemory)
-      → put (purpose_view line p) (given_view g) s' (with_tasks (in_frames t fs r) (tasks_after line (purpose_view line p) (is_zero (given_view g)) ++ rest)) ≡ left_by k s' (in_frames t fs r) rest (outcome_for line p g) new
-  by_purpose (purposes.Put (target.Declared t x)) s' fs r g new = refl
-  by_purpose (purposes.Put (target.Assigned x)) s' fs r g new = refl
-  by_purpose (purposes.Put target.Dropped) s' fs r g new = refl
-  by_purpose (purposes.Test b other) s' fs r g new = refl
+  by_purpose : (p : PurposeInMemory) (s' : Shared) (us : Variables) (fs : List Frame) (r : Reference) (g : Given) (new : TaskInMemory)
+      → put (purpose_view line p) (given_view g) s' (with_tasks (in_locals t us fs r) (tasks_after line (purpose_view line p) (is_zero (given_view g)) ++ rest)) ≡ left_by k s' (in_locals t us fs r) rest (outcome_for line p g) new
+  by_purpose (purposes.Put (target.Declared t x)) s' us fs r g new = refl
+  by_purpose (purposes.Put (target.Assigned x)) s' us fs r g new = refl
+  by_purpose (purposes.Put target.Dropped) s' us fs r g new = refl
+  by_purpose (purposes.Test b other) s' us fs r g new = refl
 
-  finished : (made : List Object) (s' : Shared) (fs : List Frame) (r : Reference) (c : CallResult) (g : Given) (new : TaskInMemory) → given_view g ≡ c
-      → completes made s' (in_frames t fs r) c ≡ left_by k (record s' { heap = s'.heap ++ made }) (in_frames t (frames_with kind (given_view g) fs) r) rest (outcome_for line purpose g) new
-  finished made s' fs r c g new same =
+  finished : (made : List Object) (s' : Shared) (us : Variables) (fs : List Frame) (r : Reference) (c : CallResult) (g : Given) (new : TaskInMemory) → given_view g ≡ c
+      → completes made s' (in_locals t us fs r) c ≡ left_by k (record s' { heap = s'.heap ++ made }) (in_locals t us (frames_with kind (given_view g) fs) r) rest (outcome_for line purpose g) new
+  finished made s' us fs r c g new same =
       let after : Shared = record s' { heap = s'.heap ++ made } in
       let todo : List Task = tasks_after line (purpose_view line purpose) (is_zero (given_view g)) ++ rest in
-      ap (completes made s' (in_frames t fs r)) (sym same)
-      ∙ ap (λ (w : Thread). let u : Thread = record w { tasks = Some todo; variables = tell_copy (variable_given args 1) (given_view g) t.variables } in put (purpose_view line purpose) (given_view g) after u) (in_received kind g t fs r)
-      ∙ ap (λ (vs : Variables). let u : Thread = record (in_frames t (frames_with kind (given_view g) fs) r) { tasks = Some todo; variables = vs } in put (purpose_view line purpose) (given_view g) after u) (not_told (variable_given args 1) g t.variables)
-      ∙ by_purpose purpose after (frames_with kind (given_view g) fs) r g new
+      ap (completes made s' (in_locals t us fs r)) (sym same)
+      ∙ ap (λ (w : Thread). let u : Thread = record w { tasks = Some todo; variables = tell_copy (variable_given args 1) (given_view g) us } in put (purpose_view line purpose) (given_view g) after u) (in_received kind g t us fs r)
+      ∙ ap (λ (ws : Variables). let u : Thread = record (in_locals t us (frames_with kind (given_view g) fs) r) { tasks = Some todo; variables = ws } in put (purpose_view line purpose) (given_view g) after u) (not_told (variable_given args 1) g us)
+      ∙ by_purpose purpose after us (frames_with kind (given_view g) fs) r g new
 
   -- the same where no object is made
-  plain : (s' : Shared) (fs : List Frame) (r : Reference) (c : CallResult) (g : Given) (new : TaskInMemory) → given_view g ≡ c
-      → completes [] s' (in_frames t fs r) c ≡ left_by k s' (in_frames t (frames_with kind (given_view g) fs) r) rest (outcome_for line purpose g) new
-  plain s' fs r c g new same =
-      finished [] s' fs r c g new same
-      ∙ ap (λ (heap : Heap). let after : Shared = record s' { heap = heap } in left_by k after (in_frames t (frames_with kind (given_view g) fs) r) rest (outcome_for line purpose g) new) (append-nil s'.heap)
+  plain : (s' : Shared) (us : Variables) (fs : List Frame) (r : Reference) (c : CallResult) (g : Given) (new : TaskInMemory) → given_view g ≡ c
+      → completes [] s' (in_locals t us fs r) c ≡ left_by k s' (in_locals t us (frames_with kind (given_view g) fs) r) rest (outcome_for line purpose g) new
+  plain s' us fs r c g new same =
+      finished [] s' us fs r c g new same
+      ∙ ap (λ (heap : Heap). let after : Shared = record s' { heap = heap } in left_by k after (in_locals t us (frames_with kind (given_view g) fs) r) rest (outcome_for line purpose g) new) (append-nil s'.heap)
 
-  -- so it is after each answer that lets the run go on
-  answered : (a : Answer) (g : Given) (new : TaskInMemory) → trap_in a ≡ None → given_view g ≡ given_after s.heap kind a
+  lent_by_purpose : (p : PurposeInMemory) (us : Variables) (b : Lent) (new : TaskInMemory)
+      → put (purpose_view line p) (BufferResult (lent_view s.heap b)) s (with_tasks (in_locals t us frames pending) (tasks_after line (purpose_view line p) false ++ rest)) ≡ left_by k s (in_locals t us frames pending) rest (lent_outcome line p b) new
+  lent_by_purpose (purposes.Put (target.Declared u x)) us b new = refl
+  lent_by_purpose (purposes.Put (target.Assigned x)) us b new = refl
+  lent_by_purpose (purposes.Put target.Dropped) us b new = refl
+  lent_by_purpose (purposes.Test d other) us b new = refl
+
+  -- a buffer is given, and told
+  lent_is : (b : Lent) (new : TaskInMemory)
+      → after_call classes in_use k s caller line (purpose_view line purpose) f args rest (effect_as classes s caller (Lends b)) ≡ left_by k s (in_locals t (tell_copy (variable_given args 1) (BufferResult (lent_view s.heap b)) vs) frames pending) rest (lent_outcome line purpose b) new
+  lent_is b new =
+      let given = BufferResult (lent_view s.heap b) in
+      let us : Variables = tell_copy (variable_given args 1) given vs in
+      let todo : List Task = tasks_after line (purpose_view line purpose) false ++ rest in
+      ap (λ (w : Thread). let u : Thread = record w { tasks = Some todo; variables = us } in let after : Shared = record s { heap = s.heap ++ [] } in put (purpose_view line purpose) given after u) (received_buffer kind (lent_view s.heap b) caller)
+      ∙ ap (λ (heap : Heap). let after : Shared = record s { heap = heap } in put (purpose_view line purpose) given after (with_tasks (in_locals t us frames pending) todo)) (append-nil s.heap)
+      ∙ lent_by_purpose purpose us b new
+
+  -- so it is after each other answer that lets the run go on
+  answered : (a : Answer) (g : Given) (new : TaskInMemory) → trap_in a ≡ None → lent_in a ≡ None → given_view g ≡ given_after s.heap kind a
       → after_call classes in_use k s caller line (purpose_view line purpose) f args rest (effect_as classes s caller a)
-      ≡ left_by k (shared_after classes s a) (in_frames t (frames_with kind (given_view g) (frames_after frames a)) (pending_after classes s.heap pending a)) rest (outcome_for line purpose g) new
-  answered (Gives c) g new goes same = plain s frames pending c g new same
-  answered (Writes n i v) g new goes same = plain (shared_after classes s (Writes n i v)) frames pending NoResult g new same
-  answered (Makes n) g new goes same = finished (object_of classes n ∷ []) s frames pending (ReferenceResult (Some (next_name s.heap))) g new same
-  answered (Raises c) g new goes same = finished (fresh_object classes c ∷ []) s frames (Some (next_name s.heap)) (failure kind) g new same
-  answered (ThrowsNew c text) g new goes same = finished (thrown classes s.heap c text) s frames (Some (next_name s.heap + 1)) zero_result g new same
-  answered (Ensures n) g new goes same = plain s (with_capacity n frames) pending zero_result g new same
-  answered (Pushes n) g new goes same = plain s (new_frame n ∷ frames) pending zero_result g new same
-  answered RefusesFrames g new goes same = plain s frames (Some (out_of_memory classes)) (given_after s.heap kind RefusesFrames) g new same
-  answered (Pops r) g new goes same = plain s (drop 1 frames) pending (ReferenceResult r) g new same
-  answered (DeletesLocal l n) g new goes same = plain s (without_local l n frames) pending NoResult g new same
-  answered (MakesGlobal n) g new goes same = plain (shared_after classes s (MakesGlobal n)) frames pending (ReferenceResult (Some n)) g new same
-  answered (DeletesGlobal x n) g new goes same = plain (without_global x n s) frames pending NoResult g new same
-  answered (Pends r c) g new goes same = plain s frames r c g new same
-  answered (Halts trap) g new goes same = absurd (cc)
+      ≡ left_by k (shared_after classes s vs a) (in_locals t (variables_after s.heap vs a) (frames_with kind (given_view g) (frames_after frames a)) (pending_after classes s.heap pending a)) rest (outcome_for line purpose g) new
+  answered (Gives c) g new goes unlent same = plain s vs frames pending c g new same
+  answered (Writes n i v) g new goes unlent same = plain (shared_after classes s vs (Writes n i v)) vs frames pending NoResult g new same
+  answered (Makes n) g new goes unlent same = finished (object_of classes n ∷ []) s vs frames pending (ReferenceResult (Some (next_name s.heap))) g new same
+  answered (Raises c) g new goes unlent same = finished (fresh_object classes c ∷ []) s vs frames (Some (next_name s.heap)) (failure kind) g new same
+  answered (ThrowsNew c text) g new goes unlent same = finished (thrown classes s.heap c text) s vs frames (Some (next_name s.heap + 1)) zero_result g new same
+  answered (Ensures n) g new goes unlent same = plain s vs (with_capacity n frames) pending zero_result g new same
+  answered (Pushes n) g new goes unlent same = plain s vs (new_frame n ∷ frames) pending zero_result g new same
+  answered RefusesFrames g new goes unlent same = plain s vs frames (Some (out_of_memory classes)) (given_after s.heap kind RefusesFrames) g new same
+  answered (Pops r) g new goes unlent same = plain s vs (drop 1 frames) pending (ReferenceResult r) g new same
+  answered (DeletesLocal l n) g new goes unlent same = plain s vs (without_local l n frames) pending NoResult g new same
+  answered (MakesGlobal n) g new goes unlent same = plain (shared_after classes s vs (MakesGlobal n)) vs frames pending (ReferenceResult (Some n)) g new same
+  answered (DeletesGlobal x n) g new goes unlent same = plain (without_global x n s) vs frames pending NoResult g new same
+  answered (Pends r c) g new goes unlent same = plain s vs frames r c g new same
+  answered (GetsRegion r) g new goes unlent same = plain s (variables_with s.heap r vs) frames pending NoResult g new same
+  answered (SetsRegion r) g new goes unlent same = plain (shared_after classes s vs (SetsRegion r)) vs frames pending NoResult g new same
+  answered (Lends b) g new goes unlent same = absurd (cc)
+  answered (CopiesBack n p frees) g new goes unlent same = plain (shared_after classes s vs (CopiesBack n p frees)) (variables_freed frees p vs) frames pending NoResult g new same
+  answered (Frees p) g new goes unlent same = plain s (change p freed vs) frames pending NoResult g new same
+  answered (Halts trap) g new goes unlent same = absurd (cc)
 
   -- and where its object is refused
   refused_is : (g : Given) (new : TaskInMemory) → given_view g ≡ failure kind
-      → after_refusal classes in_use k s caller line (purpose_view line purpose) f args rest true ≡ left_by k s (in_frames t frames (Some (out_of_memory classes))) rest (outcome_for line purpose g) new
+      → after_refusal classes in_use k s caller line (purpose_view line purpose) f args rest true ≡ left_by k s (in_locals t vs frames (Some (out_of_memory classes))) rest (outcome_for line purpose g) new
   refused_is g new same =
-      plain s frames (Some (out_of_memory classes)) (failure kind) g new same
-      ∙ ap (λ (fs : List Frame). left_by k s (in_frames t fs (Some (out_of_memory classes))) rest (outcome_for line purpose g) new) (ap (λ (c : CallResult). frames_with kind c frames) same ∙ failed_frames kind frames)
+      plain s vs frames (Some (out_of_memory classes)) (failure kind) g new same
+      ∙ ap (λ (fs : List Frame). left_by k s (in_locals t vs fs (Some (out_of_memory classes))) rest (outcome_for line purpose g) new) (ap (λ (c : CallResult). frames_with kind c frames) same ∙ failed_frames kind frames)
 
 -- ---- the call of a function that is implemented
 
@@ -293,17 +421,17 @@ module _ (classes : Classes) (in_use : BuffersInUse) (k : ℕ) (s : Shared) (vs 
   scene = scene_with classes in_use k s vs frames pending
 
   abbrev trap : Option Trap
-  trap = trap_found classes s.heap frames (is_some pending) f args
+  trap = trap_found classes s.heap frames (is_some pending) (wanted_element vs purpose) f args
 
   abbrev untrapped : Variables → Answer
-  untrapped us = worked_out classes s.heap us frames pending args f
+  untrapped us = worked_out classes in_use s.heap us frames pending args f
 
   abbrev told : Answer
   told = answer_or_trap trap (untrapped (variables_view vs))
 
   module _ (t : Thread) (rest : List Task) (sees : Sees scene t) where
     abbrev calls : Thread
-    calls = in_frames t frames pending
+    calls = in_locals t (variables_view vs) frames pending
 
     abbrev by_effect : Bool → CallEffect → Advance
     by_effect false effect = after_call classes in_use k s calls line (purpose_view line purpose) f args rest effect
@@ -312,20 +440,21 @@ module _ (classes : Classes) (in_use : BuffersInUse) (k : ℕ) (s : Shared) (vs 
     abbrev checks : Option Trap → CallEffect
     checks o = checked o (call_effect classes in_use k s calls args f)
 
-    steps : (refused : Bool) → call_step classes in_use k s calls line (purpose_view line purpose) f args rest refused ≡ by_effect refused (checks (call_trap classes s.heap calls (target_element t.variables (purpose_view line purpose)) f args))
+    steps : (refused : Bool) → call_step classes in_use k s calls line (purpose_view line purpose) f args rest refused
+        ≡ by_effect refused (checks (call_trap classes s.heap calls (target_element (variables_view vs) (purpose_view line purpose)) f args))
     steps false = refl
     steps true = refl
 
     checks_alike : (o : Option Trap) → checks o ≡ effect_as classes s calls (answer_or_trap o (untrapped (variables_view vs)))
-    checks_alike None = effects classes in_use k s calls args f built ∙ ap (λ (us : Variables). effect_as classes s calls (untrapped us)) sees.variables
+    checks_alike None = effects classes in_use k s calls args f built
     checks_alike (Some found) = refl
 
     -- the step goes by an answer that is told
     by_told : (refused : Bool) (a : Answer) → a ≡ told → call_step classes in_use k s t line (purpose_view line purpose) f args rest refused ≡ by_effect refused (effect_as classes s calls a)
     by_told refused a same =
-        ap (λ (u : Thread). call_step classes in_use k s u line (purpose_view line purpose) f args rest refused) (as_it_is t frames pending sees.frames sees.pending)
+        ap (λ (u : Thread). call_step classes in_use k s u line (purpose_view line purpose) f args rest refused) (as_it_is t (variables_view vs) frames pending sees.variables sees.frames sees.pending)
         ∙ steps refused
-        ∙ ap (by_effect refused) (ap checks (trap_is classes s.heap (target_element t.variables (purpose_view line purpose)) args f calls built) ∙ checks_alike trap)
+        ∙ ap (by_effect refused) (ap checks (trap_is classes s.heap (target_element (variables_view vs) (purpose_view line purpose)) args f calls ∙ ap (λ (T : ElementType). trap_found classes s.heap frames (is_some pending) T f args) (any_line vs line purpose)) ∙ checks_alike trap)
         ∙ ap (λ (b : Answer). by_effect refused (effect_as classes s calls b)) (sym same)
 
   -- the run stops; no object can be refused
@@ -333,24 +462,35 @@ module _ (classes : Classes) (in_use : BuffersInUse) (k : ℕ) (s : Shared) (vs 
       → MakesCall refused scene line purpose f args (if refused then outcome.Impossible else outcome.Trapped found line) scene
   call_stopped false a found same stops = λ t rest new sees has.
       by_told t rest sees false (Halts (trap_view found)) (sym (halts_with a (trap_view found) stops) ∙ same)
-      ∙ ap (λ (u : Thread). Advances s u (Trapped (trap_view found) line)) (same_thread (in_frames t frames pending) (task_view new ∷ rest) has)
-      ∙ in_variables k s t vs frames pending rest (outcome.Trapped found line) new sees.variables
+      ∙ ap (λ (u : Thread). Advances s u (Trapped (trap_view found) line)) (same_thread (in_locals t (variables_view vs) frames pending) (task_view new ∷ rest) has)
   call_stopped true a found same stops = λ t rest new sees has. by_told t rest sees true (Halts (trap_view found)) (sym (halts_with a (trap_view found) stops) ∙ same)
 
   -- the call is made
-  pub call_made : (a : Answer) (g : Given) → a ≡ told → trap_in a ≡ None → given_view g ≡ given_after s.heap (prototype f).result a
+  pub call_made : (a : Answer) (g : Given) (vs' : Contents) → a ≡ told → trap_in a ≡ None → lent_in a ≡ None → given_view g ≡ given_after s.heap (prototype f).result a → variables_view vs' ≡ variables_after s.heap (variables_view vs) a
       → MakesCall false scene line purpose f args (outcome_for line purpose g)
-      (scene_with classes in_use k (shared_after classes s a) vs (frames_with (prototype f).result (given_view g) (frames_after frames a)) (pending_after classes s.heap pending a))
-  call_made a g same goes given = λ t rest new sees has.
+      (scene_with classes in_use k (shared_after classes s (variables_view vs) a) vs' (frames_with (prototype f).result (given_view g) (frames_after frames a)) (pending_after classes s.heap pending a))
+  call_made a g vs' same goes unlent given varied = λ t rest new sees has.
+      let s' = shared_after classes s (variables_view vs) a in
       by_told t rest sees false a same
-      ∙ answered classes in_use k s t line purpose f args rest frames pending a g new goes given
-      ∙ in_variables k (shared_after classes s a) t vs (frames_with (prototype f).result (given_view g) (frames_after frames a)) (pending_after classes s.heap pending a) rest (outcome_for line purpose g) new sees.variables
+      ∙ answered classes in_use k s t line purpose f args rest (variables_view vs) frames pending a g new goes unlent given
+      ∙ ap (λ (us : Variables). left_by k s' (in_locals t us (frames_with (prototype f).result (given_view g) (frames_after frames a)) (pending_after classes s.heap pending a)) rest (outcome_for line purpose g) new) (sym varied)
+
+  -- a buffer is given
+  pub buffer_lent : (a : Answer) (b : Lent) (vs' : Contents) (frames' : List Frame) (took : Outcome) → a ≡ told → lent_in a ≡ Some b
+      → variables_view vs' ≡ tell_copy (variable_given args 1) (BufferResult (lent_view s.heap b)) (variables_view vs) → frames' ≡ frames → took ≡ lent_outcome line purpose b
+      → MakesCall false scene line purpose f args took (scene_with classes in_use k s vs' frames' pending)
+  buffer_lent a b vs' frames' took same is varied framed is_for = λ t rest new sees has.
+      by_told t rest sees false (Lends b) (sym (lends_it a b is) ∙ same)
+      ∙ lent_is classes in_use k s t line purpose f args rest (variables_view vs) frames pending b new
+      ∙ ap (λ (us : Variables). left_by k s (in_locals t us frames pending) rest (lent_outcome line purpose b) new) (sym varied)
+      ∙ ap (λ (fs : List Frame). left_by k s (in_locals t (variables_view vs') fs pending) rest (lent_outcome line purpose b) new) (sym framed)
+      ∙ ap (λ (o : Outcome). left_by k s (in_locals t (variables_view vs') frames' pending) rest o new) (sym is_for)
 
   by_makes : (a : Answer) (b : Bool) → makes_object a ≡ b → a ≡ told → (t : Thread) (rest : List Task) → Sees scene t
-      → call_step classes in_use k s t line (purpose_view line purpose) f args rest true ≡ after_refusal classes in_use k s (in_frames t frames pending) line (purpose_view line purpose) f args rest b
+      → call_step classes in_use k s t line (purpose_view line purpose) f args rest true ≡ after_refusal classes in_use k s (in_locals t (variables_view vs) frames pending) line (purpose_view line purpose) f args rest b
   by_makes a b makes same = λ t rest sees.
       by_told t rest sees true a same
-      ∙ ap (after_refusal classes in_use k s (in_frames t frames pending) line (purpose_view line purpose) f args rest) (makes_alike classes s (in_frames t frames pending) a ∙ makes)
+      ∙ ap (after_refusal classes in_use k s (in_locals t (variables_view vs) frames pending) line (purpose_view line purpose) f args rest) (makes_alike classes s (in_locals t (variables_view vs) frames pending) a ∙ makes)
 
   -- it makes no object that can be refused
   pub none_refused : (a : Answer) → a ≡ told → makes_object a ≡ false → MakesCall true scene line purpose f args outcome.Impossible scene
@@ -361,15 +501,15 @@ module _ (classes : Classes) (in_use : BuffersInUse) (k : ℕ) (s : Shared) (vs 
       → MakesCall true scene line purpose f args (outcome_for line purpose g) (scene_with classes in_use k s vs frames (Some (out_of_memory classes)))
   object_refused a g same makes failed = λ t rest new sees has.
       by_makes a true makes same t rest sees
-      ∙ refused_is classes in_use k s t line purpose f args rest frames pending g new failed
-      ∙ in_variables k s t vs frames (Some (out_of_memory classes)) rest (outcome_for line purpose g) new sees.variables
+      ∙ refused_is classes in_use k s t line purpose f args rest (variables_view vs) frames pending g new failed
 
   -- the same, by what it leaves
-  pub call_made_so : (refused : Bool) (a : Answer) (g : Given) (kind : ResultKind) (s' : Shared) (between frames' : List Frame) (pending' : Reference) (took : Outcome) → refused ≡ false → a ≡ told → trap_in a ≡ None → kind ≡ (prototype f).result
-      → given_view g ≡ given_after s.heap kind a → s' ≡ shared_after classes s a → between ≡ frames_after frames a → frames' ≡ frames_with kind (given_view g) between → pending' ≡ pending_after classes s.heap pending a → took ≡ outcome_for line purpose g
-      → MakesCall refused scene line purpose f args took (scene_with classes in_use k s' vs frames' pending')
-  call_made_so refused a g kind s' between frames' pending' took possible same goes is given left changed framed pended is_for =
-      rw (possible, left, framed, changed, pended, is, is_for) (call_made a g same goes (given ∙ ap (λ (k : ResultKind). given_after s.heap k a) is))
+  pub call_made_so : (refused : Bool) (a : Answer) (g : Given) (kind : ResultKind) (s' : Shared) (vs' : Contents) (between frames' : List Frame) (pending' : Reference) (took : Outcome) → refused ≡ false → a ≡ told → trap_in a ≡ None → lent_in a ≡ None → kind ≡ (prototype f).result
+      → given_view g ≡ given_after s.heap kind a → s' ≡ shared_after classes s (variables_view vs) a → variables_view vs' ≡ variables_after s.heap (variables_view vs) a
+      → between ≡ frames_after frames a → frames' ≡ frames_with kind (given_view g) between → pending' ≡ pending_after classes s.heap pending a → took ≡ outcome_for line purpose g
+      → MakesCall refused scene line purpose f args took (scene_with classes in_use k s' vs' frames' pending')
+  call_made_so refused a g kind s' vs' between frames' pending' took possible same goes unlent is given left varied changed framed pended is_for =
+      rw (possible, left, framed, changed, pended, is, is_for) (call_made a g vs' same goes unlent (given ∙ ap (λ (k : ResultKind). given_after s.heap k a) is) varied)
 
   pub object_refused_so : (refused : Bool) (a : Answer) (g : Given) (kind : ResultKind) (pending' : Reference) (took : Outcome) → refused ≡ true → a ≡ told → makes_object a ≡ true → kind ≡ (prototype f).result
       → given_view g ≡ failure kind → pending' ≡ Some (out_of_memory classes) → took ≡ outcome_for line purpose g → MakesCall refused scene line purpose f args took (scene_with classes in_use k s vs frames pending')

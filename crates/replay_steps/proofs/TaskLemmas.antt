@@ -64,6 +64,7 @@ module _ (scene : Scene) (old new : TaskInMemory) where
   does (outcome.Sets x v) h = by_effect (outcome.Sets x v) h (λ t rest has. refl)
   does (outcome.SetsNull to) h = by_effect (outcome.SetsNull to) h (λ t rest has. refl)
   does (outcome.Gives to g) h = absurd h
+  does (outcome.Lends to b) h = absurd h
   does (outcome.Tests line zero b other) h = absurd h
   does (outcome.SetsElement x i z) h = by_effect (outcome.SetsElement x i z) h (λ t rest has. refl)
   does (outcome.Makes T x n) h = by_effect (outcome.Makes T x n) h (λ t rest has. refl)
@@ -89,6 +90,7 @@ module _ (scene : Scene) (old new : TaskInMemory) where
   does_without (outcome.Sets x v) h = by_refusal (outcome.Sets x v) h (λ t rest. refl)
   does_without (outcome.SetsNull to) h = by_refusal (outcome.SetsNull to) h (λ t rest. refl)
   does_without (outcome.Gives to g) h = absurd h
+  does_without (outcome.Lends to b) h = absurd h
   does_without (outcome.Tests line zero b other) h = absurd h
   does_without (outcome.SetsElement x i z) h = by_refusal (outcome.SetsElement x i z) h (λ t rest. refl)
   does_without (outcome.Makes T x n) h = by_refusal (outcome.Makes T x n) h (λ t rest. refl)

@@ -6,6 +6,7 @@ use Rattle.syntax.specs.declared.stmt.Stmt.{Stmt as StmtInMemory}
 use Rattle.syntax.specs.Tree.{SourceUnit}
 use Rattle.syntax.specs.Views.{expr_tree, block_tree, stmt_tree}
 use Rattle.semantics.specs.Activation.{return_step}
+use Rattle.semantics.specs.Heap.{Heap}
 use Rattle.semantics.specs.Task.{Task, Loop, task_of}
 use Rattle.semantics.specs.Term.{term_of}
 use Rattle.semantics.specs.Thread.{Thread, Shared, Quiet, PrintedNumber, Trapped, Advance, NoAdvance}
@@ -131,13 +132,16 @@ pub record StepsTask (refused : Bool) (before : Scene) (old : Work) (took : Outc
   pub does : Does refused before task took after left
   pub range : TaskInRange left
 
--- what a step did was done to the variables and the statics, and to the work
-pub record IsDone (ss : Statics) (old : Activation) (took : Outcome) (ss' : Statics) (new : Activation) : Type 0 where
-  pub leaves : LeavesVariables (length old.locals.frames) ss old.locals.variables (variable_step took) ss' new.locals.variables
+-- what a step did was done to the variables, the statics and the objects, and to the work
+pub record IsDone (ss : Statics) (heap : Heap) (old : Activation) (took : Outcome) (ss' : Statics) (heap' : Heap) (new : Activation) : Type 0 where
+  pub leaves : LeavesVariables (length old.locals.frames) ss heap old.locals.variables (variable_step took) ss' heap' new.locals.variables
   pub frames : new.locals.frames ≡ old.locals.frames
   pub set : AreSet old.work took new.work
 
 -- the same if it is possible
-abbrev pub IsApplied : Statics → Activation → Outcome → (possible : Bool) → Statics → Activation → Type 0
-IsApplied ss old took true ss' new = IsDone ss old took ss' new
-IsApplied ss old took false ss' new = LeavesIf (length old.locals.frames) ss old.locals.variables (variable_step took) false ss' new.locals.variables × (new.locals.frames ≡ old.locals.frames) × (new.work ≡ old.work)
+abbrev pub IsApplied : Statics → Heap → Activation → Outcome → (possible : Bool) → Statics → Heap → Activation → Type 0
+IsApplied ss heap old took true ss' heap' new = IsDone ss heap old took ss' heap' new
+IsApplied ss heap old took false ss' heap' new =
+    LeavesIf (length old.locals.frames) ss heap old.locals.variables (variable_step took) false ss' heap' new.locals.variables
+    × (new.locals.frames ≡ old.locals.frames)
+    × (new.work ≡ old.work)

@@ -3,14 +3,18 @@ use Rattle.std.specs.Prelude.{◌≡◌, ℕ, Bool, true, false, List, ◌∷◌
 use Rattle.jni.specs.JniFunction.{JniFunction, is_built_function}
 use Rattle.jni.specs.Table.{function_value}
 use Rattle.semantics.specs.Arguments.{Actual, actuals}
-use Rattle.semantics.specs.CallStep.{call_step}
+use Rattle.base.specs.Element.{ElementType}
+use Rattle.semantics.specs.CallStep.{call_step, target_element}
 use Rattle.semantics.specs.Effect.{is_given, is_ready, reduce_first}
 use Rattle.semantics.specs.Sight.{Sight}
 use Rattle.semantics.specs.Task.{Task}
 use Rattle.semantics.specs.Thread.{Thread}
 use Rattle.semantics.specs.Value.{Gives, Traps, Stuck}
 use Rattle.replay_tasks.specs.declared.outcome.Outcome.{Outcome}
+use Rattle.replay_tasks.specs.declared.outcome.Outcome.TheVariants as outcome
 use Rattle.replay_tasks.specs.declared.outcome.Purpose.{Purpose as PurposeInMemory}
+use Rattle.replay_tasks.specs.declared.outcome.Purpose.TheVariants as purpose
+use Rattle.replay_terms.specs.declared.given.Lent.{Lent}
 use Rattle.replay_tasks.specs.declared.task.Invocation.{Invocation}
 use Rattle.replay_terms.specs.declared.operand.Operand.{Operand}
 use Rattle.replay_tasks.specs.declared.task.Task.{Task as TaskInMemory}
@@ -21,7 +25,7 @@ use Rattle.replay_calls.specs.Answers.{Answer, answer_or_trap}
 use Rattle.replay_calls.specs.Checked.{trap_found}
 use Rattle.replay_calls.specs.WorkedOut.{worked_out}
 use Rattle.replay_steps.specs.Steps.{Scene, Sees, in_scene, left_by}
-use Rattle.replay_terms.specs.Views.{operand_view, trap_view, variables_view}
+use Rattle.replay_terms.specs.Views.{Contents, operand_view, trap_view, variables_view}
 use Rattle.replay_calls.specs.Shares.{sight_in}
 use Rattle.replay_tasks.specs.Tasks.{task_view}
 
@@ -50,8 +54,19 @@ abbrev pub MakesInvocation : (refused : Bool) → Scene → Invocation → Outco
 MakesInvocation refused before i took after =
     MakesCall refused before i.line i.purpose (function_value i.function) (actuals (sight_in before.shared before.variables) (function_value i.function) (map operand_view i.operands.items)) took after
 
--- This is the answer to a call of this function, with these arguments, in this scene.
-abbrev pub HasAnswer : Scene → JniFunction → List Actual → Answer → Type 0
-HasAnswer scene f args a =
+-- what a call does with the buffer that it gives
+abbrev pub lent_outcome : ℕ → PurposeInMemory → Lent → Outcome
+lent_outcome line (purpose.Put to) b = outcome.Lends to b
+lent_outcome line (purpose.Test b other) lent = outcome.Tests line false b other
+
+-- the element type of the buffer that a call is to fill
+abbrev pub wanted_element : Contents → PurposeInMemory → ElementType
+wanted_element vs p = target_element (variables_view vs) (purpose_view 0 p)
+
+-- This is the answer to a call of this function for this purpose, with these arguments, in this scene.
+abbrev pub HasAnswer : Scene → PurposeInMemory → JniFunction → List Actual → Answer → Type 0
+HasAnswer scene p f args a =
     (is_built_function f ≡ true)
-    × (a ≡ answer_or_trap (trap_found scene.classes scene.shared.heap scene.frames (is_some scene.pending) f args) (worked_out scene.classes scene.shared.heap (variables_view scene.variables) scene.frames scene.pending args f))
+    × (a ≡ answer_or_trap
+    (trap_found scene.classes scene.shared.heap scene.frames (is_some scene.pending) (wanted_element scene.variables p) f args)
+    (worked_out scene.classes scene.in_use scene.shared.heap (variables_view scene.variables) scene.frames scene.pending args f))

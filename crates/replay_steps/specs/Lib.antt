@@ -1,4 +1,3 @@
-pub mod Turns
 pub mod Steps
 pub mod Calls
 pub mod Activations

@@ -12,7 +12,7 @@ use Rattle.semantics.specs.Thread.{Frame, Thread, Shared, BuffersInUse, Quiet, P
 use Rattle.semantics.specs.ThreadStep.{step_within, with_tasks}
 use Rattle.replay_steps.specs.declared.activation.Locals.{Locals}
 use Rattle.replay_steps.specs.declared.turn.Turn.{Turn}
-use Rattle.replay_steps.specs.Turns.{in_use_view}
+use Rattle.replay_terms.specs.Views.{in_use_view}
 use Rattle.replay_tasks.specs.declared.outcome.Outcome.{Outcome}
 use Rattle.replay_tasks.specs.declared.outcome.Outcome.TheVariants as outcome
 use Rattle.replay_tasks.specs.declared.task.Task.{Task as TaskInMemory}

@@ -15,7 +15,7 @@ ghost use Rattle.replay_terms.specs.declared.value.Value.TheVariants as value;
 use crate::step::step;
 use crate::turn::Turn;
 use replay_calls::Shared;
-use replay_objects::Frames;
+use replay_objects::{Frames, Store};
 use replay_tasks::{Choice, End, Outcome, Statements, Task, loop_task, set_variables, task_of};
 use replay_terms::{Statics, Term, Value, Variables};
 use std::alloc::{AllocError, Global};
@@ -221,7 +221,7 @@ fn set_tasks<'a>(work: &mut Work<'a>, outcome: Outcome<'a>) -> Result<(), AllocE
         Outcome::Printed(_) | Outcome::Sets(_, _) | Outcome::SetsNull(_) => {
             put_task(&mut work.task, None);
         }
-        Outcome::Gives(_, _) | Outcome::SetsElement(_, _, _) => {
+        Outcome::Gives(_, _) | Outcome::Lends(_, _) | Outcome::SetsElement(_, _, _) => {
             put_task(&mut work.task, None);
         }
         Outcome::Tests(line, zero, block, otherwise) => {
@@ -232,19 +232,21 @@ fn set_tasks<'a>(work: &mut Work<'a>, outcome: Outcome<'a>) -> Result<(), AllocE
     Ok(())
 }
 
-/// Does what a step did to the variables, the statics and the tasks; false where it isn't possible.
+/// Does what a step did to the objects, the variables, the statics and the tasks; false where it isn't possible.
 #[inline]
 fn apply<'a>(
     alloc: Global,
+    store: &mut Store,
     statics: &mut Statics<'a>,
     activation: &mut Activation<'a>,
     outcome: Outcome<'a>,
 ) -> Result<bool, AllocError>
-    ensures { IfOk result (λ possible. IsApplied statics.old activation.old outcome.entry possible statics.new activation.new) }
+    ensures { IfOk result (λ possible. IsApplied statics.old store.old activation.old outcome.entry possible statics.new store.new activation.new) }
 {
     let locals = &mut activation.locals;
     let frames = locals.frames.len();
-    if !set_variables(alloc, statics, frames, &mut locals.variables, outcome)? {
+    let variables = &mut locals.variables;
+    if !set_variables(alloc, store, statics, frames, variables, outcome)? {
         return Ok(false);
     }
     set_tasks(&mut activation.work, outcome)?;
@@ -286,7 +288,8 @@ fn go_on<'a>(
     ensures range { IfOk result (λ _. IsInRange activation.new.work) }
 {
     let outcome = step_task(turn, shared, pending, activation)?;
-    if !apply(turn.alloc, &mut shared.statics, activation, outcome)? {
+    let Shared { store, statics, .. } = shared;
+    if !apply(turn.alloc, store, statics, activation, outcome)? {
         return Ok(Outcome::Impossible);
     }
     Ok(outcome)

@@ -6,25 +6,31 @@ ghost use Rattle.jni.specs.JniFunction.{is_built_function};
 ghost use Rattle.jni.specs.Table.{function_value};
 ghost use Rattle.replay_tasks.specs.declared.outcome.Outcome.TheVariants as outcome;
 ghost use Rattle.replay_tasks.specs.declared.task.Task.TheVariants as task;
-ghost use Rattle.semantics.specs.Arguments.{Actual as ActualOfCall};
+ghost use Rattle.semantics.specs.Arguments.{Actual as ActualOfCall, variable_given};
 ghost use Rattle.semantics.specs.Thread.{Shared as SharedOfThreads};
 ghost use Rattle.replay_calls.specs.Actuals.{actual_view};
-ghost use Rattle.replay_calls.specs.Answers.{FitsFrames, answer_view, trap_in};
-ghost use Rattle.replay_steps.specs.Calls.{HasAnswer, MakesCall, MakesInvocation, ReducesFirst, ReducesOne};
+ghost use Rattle.replay_calls.specs.Answers.{FitsArrays, FitsFrames, answer_view, trap_in};
+ghost use Rattle.replay_steps.specs.Calls.{HasAnswer, MakesCall, MakesInvocation, ReducesFirst, ReducesOne, lent_outcome, wanted_element};
 ghost use Rattle.replay_tasks.specs.Outcomes.{outcome_for};
 ghost use Rattle.replay_steps.specs.declared.activation.Locals.{Locals as LocalsInMemory};
 ghost use Rattle.replay_steps.specs.Steps.{Does, scene_of};
 ghost use Rattle.replay_calls.specs.Shares.{shared_view, sight_in};
 ghost use Rattle.replay_tasks.specs.Tasks.{OperandInRange, OperandsInRange, OutcomeInRange, PurposeInRange};
+ghost use Rattle.replay_terms.specs.Views.{lent_view, variables_view};
+ghost use Rattle.semantics.specs.CallEffects.{BufferResult};
+ghost use Rattle.semantics.specs.CallStep.{tell_copy};
+ghost use Rattle.semantics.specs.Heap.{Heap};
+ghost use Rattle.syntax.specs.Views.{element_tree};
 
 use crate::activation::Locals;
 use crate::turn::Turn;
-use replay_calls::actual::{Actual, actuals};
+use replay_calls::actual::{Actual, actuals, variable_given};
 use replay_calls::carry_out::{carry_out, makes_object, put_local, refuse};
-use replay_calls::{Answer, Shared, answer_or_trap, trap_in};
-use replay_tasks::{Invocation, Outcome, Purpose, reduced};
-use replay_terms::{Given, Operand, Reduction, Term, Variables, is_zero, reduce};
+use replay_calls::{Answer, Lending, Shared, answer_or_trap, lent_in, tell_copy, trap_in};
+use replay_tasks::{Invocation, Outcome, Purpose, Target, VariableKind, reduced};
+use replay_terms::{Given, Lent, Operand, Reduction, Term, Variables, is_zero, reduce};
 use std::alloc::AllocError;
+use syntax::ElementType;
 
 /// The step of a call: the first of its numbers that isn't worked out takes a step, or else the call is made. With its object
 /// refused it is possible only where it makes one.
@@ -174,12 +180,17 @@ fn call<'a>(
         (scene_of turn.entry (shared_view shared.new) locals.new pending.new)) }
     ensures range { IfOk result OutcomeInRange }
 {
+    let lending = Lending {
+        in_use: turn.in_use,
+        element: wanted_element(&locals.variables, i.purpose),
+    };
     let answer = answer_or_trap(
         turn.classes,
         &shared.store,
         &locals.variables,
         &locals.frames,
         *pending,
+        lending,
         i.function,
         actuals,
     );
@@ -189,7 +200,18 @@ fn call<'a>(
     if turn.refused {
         return Ok(refuse_object(turn, pending, i, answer));
     }
-    complete(turn, shared, pending, locals, i, answer)
+    complete(turn, shared, pending, locals, i, actuals, answer)
+}
+
+/// The element type of the buffer that a call is to fill; `jint` where there is none.
+fn wanted_element(variables: &Variables<'_>, purpose: Purpose<'_>) -> ElementType
+    ensures { element_tree result ≡ wanted_element variables.now purpose.entry }
+{
+    match purpose {
+        Purpose::Put(Target::Declared(VariableKind::Buffer(kind), _)) => kind,
+        Purpose::Put(Target::Assigned(name)) => variables.element_type(name.as_bytes()),
+        _ => ElementType::Jint,
+    }
 }
 
 /// What a call does whose object is refused: it fails if its answer makes one, and else isn't possible.
@@ -202,7 +224,7 @@ fn refuse_object<'a>(
 ) -> Outcome<'a>
     requires { PurposeInRange i.now.purpose }
     ensures step { (s : SharedOfThreads) (locals : LocalsInMemory) (args : List ActualOfCall)
-        → HasAnswer (scene_of turn.entry s locals pending.old) (function_value i.now.function) args (answer_view answer.entry)
+        → HasAnswer (scene_of turn.entry s locals pending.old) i.now.purpose (function_value i.now.function) args (answer_view answer.entry)
         → MakesCall true (scene_of turn.entry s locals pending.old) i.now.line i.now.purpose (function_value i.now.function) args result (scene_of turn.entry s locals pending.new) }
     ensures range { OutcomeInRange result }
 {
@@ -221,28 +243,61 @@ fn complete<'a>(
     pending: &mut Option<usize>,
     locals: &mut Locals<'a>,
     i: &Invocation<'a>,
+    actuals: &[Actual<'a>],
     answer: Answer<'a>,
 ) -> Result<Outcome<'a>, AllocError>
     requires ways { PurposeInRange i.now.purpose }
     requires goes { trap_in (answer_view answer) ≡ None }
     requires fits { FitsFrames locals.old.frames (answer_view answer) }
-    ensures step { (args : List ActualOfCall)
-        → HasAnswer (scene_of turn.entry (shared_view shared.old) locals.old pending.old) (function_value i.now.function) args (answer_view answer.entry)
-        → IfOk result (λ o. MakesCall false (scene_of turn.entry (shared_view shared.old) locals.old pending.old) i.now.line i.now.purpose (function_value i.now.function) args o
+    requires arrays { FitsArrays shared.old.store (variables_view locals.old.variables) (answer_view answer) }
+    ensures step { HasAnswer (scene_of turn.entry (shared_view shared.old) locals.old pending.old) i.now.purpose (function_value i.now.function) (map actual_view actuals.entry.now) (answer_view answer.entry)
+        → IfOk result (λ o. MakesCall false (scene_of turn.entry (shared_view shared.old) locals.old pending.old) i.now.line i.now.purpose (function_value i.now.function) (map actual_view actuals.entry.now) o
         (scene_of turn.entry (shared_view shared.new) locals.new pending.new)) }
     ensures range { IfOk result OutcomeInRange }
 {
+    if let Some(buffer) = lent_in(answer) {
+        return lend(locals, i, actuals, buffer);
+    }
     let kind = i.function.prototype().result;
-    let frames = &mut locals.frames;
     let given = carry_out(
         turn.alloc,
         turn.classes,
         shared,
-        frames,
+        &mut locals.variables,
+        &mut locals.frames,
         pending,
         kind,
         answer,
     )?;
-    put_local(frames, kind, given)?;
+    put_local(&mut locals.frames, kind, given)?;
     Ok(outcome_for(i.line, i.purpose, given))
+}
+
+/// What a call does that gives a buffer.
+fn lend<'a>(
+    locals: &mut Locals<'a>,
+    i: &Invocation<'a>,
+    actuals: &[Actual<'a>],
+    buffer: Lent,
+) -> Result<Outcome<'a>, AllocError>
+    requires { PurposeInRange i.now.purpose }
+    ensures variables { IfOk result (λ _. (heap : Heap) → variables_view locals.new.variables ≡ tell_copy (variable_given (map actual_view actuals.entry.now) 1) (BufferResult (lent_view heap buffer)) (variables_view locals.old.variables)) }
+    ensures frames { locals.new.frames ≡ locals.old.frames }
+    ensures outcome { IfOk result (λ o. o ≡ lent_outcome i.now.line i.now.purpose buffer) }
+    ensures range { IfOk result OutcomeInRange }
+{
+    tell_copy(&mut locals.variables, variable_given(actuals, 1), buffer)?;
+    Ok(lent_outcome(i.line, i.purpose, buffer))
+}
+
+/// What a call does with the buffer that it gives, in a statement of this line.
+fn lent_outcome<'a>(line: usize, purpose: Purpose<'a>, buffer: Lent) -> Outcome<'a>
+    requires { PurposeInRange purpose }
+    ensures step { result ≡ lent_outcome line purpose.entry buffer }
+    ensures range { OutcomeInRange result }
+{
+    match purpose {
+        Purpose::Put(target) => Outcome::Lends(target, buffer),
+        Purpose::Test(block, otherwise) => Outcome::Tests(line, false, block, otherwise),
+    }
 }

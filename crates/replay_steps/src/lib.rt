@@ -7,4 +7,4 @@ mod step;
 mod turn;
 
 pub use activation::{Activation, Locals, Outer, Work, advance, work_of};
-pub use turn::{BuffersInUse, Turn};
+pub use turn::Turn;

@@ -1,16 +1,8 @@
 //! Turns: what a step is given.
 
 use classes::table::ClassTable;
+use replay_terms::BuffersInUse;
 use std::alloc::Global;
-
-/// What buffers take of what there is for them.
-#[derive(Clone, Copy)]
-pub struct BuffersInUse {
-    /// The lengths of all copied lists together.
-    pub copied: usize,
-    /// How many views there are.
-    pub views: usize,
-}
 
 /// What a step is given: where its memory comes from, the classes, whose step it is, and what there is of buffers before it.
 #[derive(Clone, Copy)]

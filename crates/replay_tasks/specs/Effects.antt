@@ -26,6 +26,7 @@ effect_by (outcome.Printed z) new = Prints z
 effect_by (outcome.Sets x v) new = Sets x.now (value_view v)
 effect_by (outcome.SetsNull to) new = SetsNull (target_view to)
 effect_by (outcome.Gives to g) new = NoEffect
+effect_by (outcome.Lends to b) new = NoEffect
 effect_by (outcome.Tests line zero b other) new = NoEffect
 effect_by (outcome.SetsElement x i z) new = SetsElement x.now i z
 effect_by (outcome.Makes T x n) new = MakesArray (element_tree T) x.now n
@@ -56,6 +57,7 @@ IsEvaluation t = ⊥
 -- where this can be seen, what a step in memory did is the effect of the task, which is no call
 abbrev pub HasEffect : Sight → TaskInMemory → Outcome → TaskInMemory → Type 0
 HasEffect sight old (outcome.Gives to g) new = ⊥
+HasEffect sight old (outcome.Lends to b) new = ⊥
 HasEffect sight old (outcome.Tests line zero b other) new = ⊥
 HasEffect sight old (outcome.Trapped trap line) new = (effect_of sight (task_view old) ≡ TrapsAt (trap_view trap) line) × (task_view new ≡ task_view old)
 HasEffect sight old took new = effect_of sight (task_view old) ≡ effect_by took new

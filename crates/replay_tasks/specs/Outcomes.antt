@@ -5,12 +5,14 @@ use Rattle.base.specs.Bytes.{lookup}
 use Rattle.syntax.specs.declared.stmt.Block.{Block as BlockInMemory}
 use Rattle.syntax.specs.Tree.{Block, End}
 use Rattle.syntax.specs.Views.{block_tree, element_tree}
-use Rattle.semantics.specs.CallEffects.{NullResult}
+use Rattle.base.specs.Element.{ElementType}
+use Rattle.semantics.specs.CallEffects.{BufferResult, NullResult}
 use Rattle.semantics.specs.CallStep.{put, is_zero}
+use Rattle.semantics.specs.Heap.{Heap}
 use Rattle.semantics.specs.Task.{VariableKind, ScalarKind, ReferenceKind, FieldKind, BufferKind, Target, Declared, Assigned, Tested, Dropped}
 use Rattle.semantics.specs.Thread.{Thread, Shared, Quiet, Advance, Advances, NoAdvance}
 use Rattle.semantics.specs.ThreadStep.{set_variable, set_element}
-use Rattle.semantics.specs.Variable.{Scalar, LocalArray, Statics}
+use Rattle.semantics.specs.Variable.{Variable, Scalar, Elements, LocalArray, Statics}
 use Rattle.replay_tasks.specs.declared.outcome.Outcome.{Outcome}
 use Rattle.replay_tasks.specs.declared.outcome.Outcome.TheVariants as outcome
 use Rattle.replay_tasks.specs.declared.outcome.Target.{Target as TargetInMemory}
@@ -20,7 +22,7 @@ use Rattle.replay_tasks.specs.declared.outcome.Purpose.{Purpose as PurposeInMemo
 use Rattle.replay_tasks.specs.declared.outcome.Purpose.TheVariants as purpose
 use Rattle.replay_tasks.specs.declared.outcome.VariableKind.{VariableKind as KindInMemory}
 use Rattle.replay_tasks.specs.declared.outcome.VariableKind.TheVariants as kind
-use Rattle.replay_terms.specs.Views.{given_view, Contents, value_view, variables_view}
+use Rattle.replay_terms.specs.Views.{given_view, lent_view, Contents, value_view, variables_view}
 
 abbrev pub kind_view : KindInMemory → VariableKind
 kind_view kind.Number = ScalarKind
@@ -53,22 +55,30 @@ abbrev pub variable_step : Outcome → Shared → Thread → Advance
 variable_step (outcome.Sets x v) s t = set_variable s t x.now (Scalar (value_view v))
 variable_step (outcome.SetsNull to) s t = put (target_view to) NullResult s t
 variable_step (outcome.Gives to g) s t = put (target_view to) (given_view g) s t
+variable_step (outcome.Lends to b) s t = put (target_view to) (BufferResult (lent_view s.heap b)) s t
 variable_step (outcome.SetsElement x i z) s t = set_element s t x.now i z (lookup x.now t.variables)
 variable_step (outcome.Makes T x n) s t = set_variable s t x.now (LocalArray (element_tree T) (replicate n (pos 0)))
 variable_step took s t = Advances s t Quiet
 
--- a thread with this number of frames has these variables, and these are the statics
-pub record Holds (count : ℕ) (ss : Statics) (vs : Contents) (s : Shared) (t : Thread) : Type 0 where
+-- it is a buffer of this element type
+abbrev pub IsBuffer : ElementType → Variable → Type 0
+IsBuffer T (Elements U b) = U ≡ T
+IsBuffer T v = ⊥
+
+-- a thread with this number of frames has these variables, and these are the statics and the objects
+pub record Holds (count : ℕ) (ss : Statics) (objects : Heap) (vs : Contents) (s : Shared) (t : Thread) : Type 0 where
   pub variables : t.variables ≡ variables_view vs
   pub frames : length t.frames ≡ count
   pub statics : s.statics ≡ ss
+  pub heap : s.heap ≡ objects
 
--- a step leaves each such thread with the new variables, and these statics
-abbrev pub LeavesVariables : ℕ → Statics → Contents → (Shared → Thread → Advance) → Statics → Contents → Type 0
-LeavesVariables frames ss old step ss' new =
-    (s : Shared) (t : Thread) → Holds frames ss old s t → step s t ≡ Advances (record s { statics = ss' }) (record t { variables = variables_view new }) Quiet
+-- a step leaves each such thread with the new variables, and these statics and objects
+abbrev pub LeavesVariables : ℕ → Statics → Heap → Contents → (Shared → Thread → Advance) → Statics → Heap → Contents → Type 0
+LeavesVariables frames ss heap old step ss' heap' new =
+    (s : Shared) (t : Thread) → Holds frames ss heap old s t
+    → step s t ≡ Advances (record s { statics = ss'; heap = heap' }) (record t { variables = variables_view new }) Quiet
 
 -- the same if it is possible
-abbrev pub LeavesIf : ℕ → Statics → Contents → (Shared → Thread → Advance) → (possible : Bool) → Statics → Contents → Type 0
-LeavesIf frames ss old step true ss' new = LeavesVariables frames ss old step ss' new
-LeavesIf frames ss old step false ss' new = (s : Shared) (t : Thread) → Holds frames ss old s t → step s t ≡ NoAdvance
+abbrev pub LeavesIf : ℕ → Statics → Heap → Contents → (Shared → Thread → Advance) → (possible : Bool) → Statics → Heap → Contents → Type 0
+LeavesIf frames ss heap old step true ss' heap' new = LeavesVariables frames ss heap old step ss' heap' new
+LeavesIf frames ss heap old step false ss' heap' new = (s : Shared) (t : Thread) → Holds frames ss heap old s t → step s t ≡ NoAdvance

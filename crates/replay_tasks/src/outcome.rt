@@ -5,7 +5,7 @@ ghost use Rattle.syntax.specs.Views.{variable_type_tree};
 ghost use Rattle.semantics.specs.Task.{kind_of};
 ghost use Rattle.replay_tasks.specs.Outcomes.{kind_view};
 
-use replay_terms::{Given, Trap, Value};
+use replay_terms::{Given, Lent, Trap, Value};
 use syntax::{Block, ElementType, Expr, Name, VariableType};
 
 /// What a declaration makes.
@@ -58,6 +58,8 @@ pub enum Outcome<'a> {
     SetsNull(Target<'a>),
     /// It is over, and what a call gave goes there.
     Gives(Target<'a>, Given<'a>),
+    /// It is over, and the buffer that a call gave goes there.
+    Lends(Target<'a>, Lent),
     /// It is over, and the `if` of this line has its test, whether a call gave 0, and its two ways.
     Tests(usize, bool, &'a Block, Option<&'a Block>),
     /// It is over, and the element has this number, converted to its type.

@@ -1,14 +1,21 @@
 //! What tasks do to variables and statics.
 
-ghost use Rattle.std.specs.Prelude.{◌≡◌, IfNone, IfOk, IfSome, pos, replicate};
+ghost use Rattle.std.specs.Prelude.{◌≡◌, ℕ, IfNone, IfOk, IfSome, pos, replicate};
 ghost use Rattle.syntax.specs.Views.{element_tree};
+ghost use Rattle.semantics.specs.CallEffects.{BufferResult};
 ghost use Rattle.semantics.specs.CallStep.{blank, filled, put};
-ghost use Rattle.semantics.specs.Variable.{LocalArray, assign};
-ghost use Rattle.replay_terms.specs.Views.{given_view, content_view, variables_view};
-ghost use Rattle.replay_tasks.specs.Outcomes.{kind_view, target_view, variable_step, LeavesVariables, LeavesIf};
+ghost use Rattle.semantics.specs.Heap.{Heap};
+ghost use Rattle.semantics.specs.Variable.{Buffer, Elements, LocalArray, Statics as StaticsOfUnit, assign};
+ghost use Rattle.replay_tasks.specs.declared.outcome.Outcome.TheVariants as outcome;
+ghost use Rattle.replay_terms.specs.Views.{given_view, content_view, lent_view, variables_view};
+ghost use Rattle.replay_tasks.specs.Outcomes.{kind_view, target_view, variable_step, IsBuffer, LeavesVariables, LeavesIf};
 
 use crate::outcome::{Outcome, Target, VariableKind};
-use replay_terms::{Content, Given, Statics, Value, Variables, static_result, zeros};
+use replay_objects::Store;
+use replay_terms::{
+    Content, Given, Lent, StaticReference, Statics, Value, Variables, Written, static_result, zeros,
+};
+use semantics::ObjectValue;
 use std::alloc::{AllocError, Global};
 use syntax::{ElementType, Name};
 
@@ -46,6 +53,10 @@ fn filled<'a>(content: &Content<'a>, given: Given<'a>) -> Option<Content<'a>>
             Given::Field(found) => Some(Content::Field(found)),
             _ => None,
         },
+        Content::Copy(kind, _, _) | Content::View(kind, _) => match given {
+            Given::Null => Some(Content::Buffer(*kind)),
+            _ => None,
+        },
         Content::Buffer(_) | Content::Array(_, _) => None,
     }
 }
@@ -76,7 +87,7 @@ fn put<'a>(
     target: Target<'a>,
     given: Given<'a>,
 ) -> Result<(), AllocError>
-    ensures { IfOk result (λ _. LeavesVariables frames statics.old variables.old (put (target_view target.entry) (given_view given.entry)) statics.new variables.new) }
+    ensures { IfOk result (λ _. (heap : Heap) → LeavesVariables frames statics.old heap variables.old (put (target_view target.entry) (given_view given.entry)) statics.new heap variables.new) }
 {
     match target {
         Target::Declared(kind, name) => declare(frames, variables, kind, name, given),
@@ -88,6 +99,110 @@ fn put<'a>(
             None => statics.set(name.as_bytes(), static_result(given)),
         },
         Target::Dropped => Ok(()),
+    }
+}
+
+/// What a buffer of an element type holds that is lent.
+fn lent<'a>(
+    alloc: Global,
+    store: &Store,
+    kind: ElementType,
+    lent: Lent,
+) -> Result<Content<'a>, AllocError>
+    ensures { IfOk result (λ c. content_view c ≡ Elements (element_tree kind) (lent_view store.now lent)) }
+{
+    match lent {
+        Lent::Nothing => Ok(Content::Buffer(kind)),
+        Lent::Copy(object) => {
+            let numbers = store.numbers_of(alloc, object)?;
+            Ok(Content::Copy(kind, object, numbers))
+        }
+        Lent::View(object) => Ok(Content::View(kind, object)),
+    }
+}
+
+/// The element type of a buffer.
+fn buffer_type(content: &Content<'_>) -> Option<ElementType>
+    ensures some { IfSome result (λ kind. IsBuffer (element_tree kind) (content_view content.now)) }
+    ensures none { IfNone result ((b : Buffer) → filled (content_view content.now) (BufferResult b) ≡ content_view content.now) }
+{
+    match content {
+        Content::Buffer(kind) | Content::Copy(kind, _, _) | Content::View(kind, _) => Some(*kind),
+        Content::Number(_) | Content::Reference(_, _) => None,
+        Content::Field(_) | Content::Array(_, _) => None,
+    }
+}
+
+/// Declares a variable with a buffer that is lent.
+fn declare_lent<'a>(
+    alloc: Global,
+    store: &Store,
+    frames: usize,
+    variables: &mut Variables<'a>,
+    declared: VariableKind,
+    name: &'a Name,
+    buffer: Lent,
+) -> Result<(), AllocError>
+    ensures { IfOk result (λ _. variables_view variables.new ≡ assign name.entry.now (filled (blank (kind_view declared) frames) (BufferResult (lent_view store.now buffer))) (variables_view variables.old)) }
+{
+    match declared {
+        VariableKind::Buffer(kind) => {
+            let content = lent(alloc, store, kind, buffer)?;
+            variables.set(name, content)
+        }
+        VariableKind::Number | VariableKind::Reference | VariableKind::Field => {
+            variables.set(name, blank(declared, frames))
+        }
+    }
+}
+
+/// Puts a buffer that is lent where it belongs.
+fn lend<'a>(
+    alloc: Global,
+    store: &Store,
+    statics: &mut Statics<'a>,
+    frames: usize,
+    variables: &mut Variables<'a>,
+    target: Target<'a>,
+    buffer: Lent,
+) -> Result<(), AllocError>
+    ensures { IfOk result (λ _. LeavesVariables frames statics.old store.now variables.old (put (target_view target.entry) (BufferResult (lent_view store.now buffer))) statics.new store.now variables.new) }
+{
+    match target {
+        Target::Declared(kind, name) => {
+            declare_lent(alloc, store, frames, variables, kind, name, buffer)
+        }
+        Target::Assigned(name) => match variables.content_of(name) {
+            Some(content) => match buffer_type(content) {
+                Some(kind) => {
+                    let content = lent(alloc, store, kind, buffer)?;
+                    variables.set(name, content)
+                }
+                None => Ok(()),
+            },
+            None => statics.set(name.as_bytes(), StaticReference::Empty),
+        },
+        Target::Dropped => Ok(()),
+    }
+}
+
+/// Writes an element of the array or the buffer of this name; false where it is none.
+fn write<'a>(
+    store: &mut Store,
+    variables: &mut Variables<'a>,
+    name: &'a Name,
+    index: usize,
+    number: i32,
+) -> bool
+    ensures { (statics : StaticsOfUnit) (frames : ℕ) → LeavesIf frames statics store.old variables.old (variable_step (outcome.SetsElement name.entry index number)) result statics store.new variables.new }
+{
+    match variables.write(name, index, number) {
+        Written::Done => true,
+        Written::Object(object, number) => {
+            store.set(object, index, ObjectValue::Number(number));
+            true
+        }
+        Written::Nothing => false,
     }
 }
 
@@ -105,25 +220,29 @@ fn make_array<'a>(
     variables.set(name, Content::Array(kind, numbers))
 }
 
-/// Does what an outcome does to the variables and the statics, where there are this many frames; false where it is not
+/// Does what an outcome does to the objects, the variables and the statics, where there are this many frames; false where it is not
 /// possible.
 #[tactic(auto, using(crate::proofs::PutLemmas::variable_rules))]
 pub fn set_variables<'a>(
     alloc: Global,
+    store: &mut Store,
     statics: &mut Statics<'a>,
     frames: usize,
     variables: &mut Variables<'a>,
     outcome: Outcome<'a>,
 ) -> Result<bool, AllocError>
-    ensures { IfOk result (λ done. LeavesIf frames statics.old variables.old (variable_step outcome.entry) done statics.new variables.new) }
+    ensures { IfOk result (λ done. LeavesIf frames statics.old store.old variables.old (variable_step outcome.entry) done statics.new store.new variables.new) }
 {
     match outcome {
         Outcome::Sets(name, value) => variables.set(name, Content::Number(value))?,
         Outcome::SetsNull(target) => put(statics, frames, variables, target, Given::Null)?,
         Outcome::Gives(target, given) => put(statics, frames, variables, target, given)?,
+        Outcome::Lends(target, buffer) => {
+            lend(alloc, store, statics, frames, variables, target, buffer)?;
+        }
         Outcome::Makes(kind, name, size) => make_array(alloc, variables, kind, name, size)?,
         Outcome::SetsElement(name, index, number) => {
-            return Ok(variables.write(name, index, number));
+            return Ok(write(store, variables, name, index, number));
         }
         Outcome::Stays | Outcome::Printed(_) | Outcome::Enters(_, _) | Outcome::Ends => {}
         Outcome::Tests(_, _, _, _) => {}

@@ -2,3 +2,4 @@ mod TermLemmas
 pub mod ByNameLemmas
 pub mod VariableLemmas
 pub mod SightLemmas
+pub mod BufferLemmas

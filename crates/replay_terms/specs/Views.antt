@@ -1,5 +1,5 @@
 -- Values, terms and variables that lie in memory, as those of the language.
-use Rattle.std.specs.Prelude.{◌≡◌, ◌<◌, ℕ, ℤ, Bool, true, false, not, List, [], ◌∷◌, map, slice_get, slice_set, Option, Some, None}
+use Rattle.std.specs.Prelude.{◌≡◌, ◌<◌, ◌≤◌, ◌+◌, ℕ, ℤ, Bool, not, length, List, [], ◌∷◌, map, slice_get, slice_set, Option, Some, None}
 use Rattle.std.specs.Option.{option_map}
 use Rattle.std.specs.Borrow.{Bor}
 use Rattle.base.specs.Bytes.{Identifier, ByName, lookup}
@@ -9,14 +9,21 @@ use Rattle.syntax.specs.Views.{argument_tree, constant_tree, element_tree, prefi
 use Rattle.syntax.specs.Limits.{number_limit}
 use Rattle.classes.specs.FieldViews.{field_id_view}
 use Rattle.semantics.specs.CallEffects.{CallResult, NoResult, NullResult, ScalarResult, ReferenceResult, FieldResult}
+use Rattle.semantics.specs.Heap.{Heap, number_in, numbers_of}
 use Rattle.semantics.specs.Sight.{Sight, in_range}
 use Rattle.semantics.specs.Task.{Operand, NumberOperand}
 use Rattle.semantics.specs.Task as task
 use Rattle.semantics.specs.Term.{Term, Done, Number, Named, Read, Element, IsNull, Prefix, And, Or, Binary, Reduction, binary_term, done, reduce}
 use Rattle.semantics.specs.Value.{Value, Word, Int, Flag, Truth, Trap, DivisionByZero, ShiftTooFar, OutOfRange, NullReference, ExceptionPending, WrongObject, DeletedReference, NoCapacity, Fatal, Outcome, Gives, Traps, Stuck, outcome_then, outcome_map, convert}
-use Rattle.semantics.specs.Variable.{Variable, Scalar, LocalRef, FieldHandle, Elements, LocalArray, NoBuffer, Copy, View, StaticReference, Empty, Live, Deleted, Variables, Statics, assign}
+use Rattle.semantics.specs.Variable.{Variable, Scalar, LocalRef, FieldHandle, Elements, LocalArray, Buffer, NoBuffer, Copy, View, StaticReference, Empty, Live, Deleted, Variables, Statics, assign, copied_length, viewed}
+use Rattle.semantics.specs.Thread.{BuffersInUse}
+use Rattle.semantics.specs.Views.{object_value_view}
+use Rattle.semantics.specs.declared.object_value.ObjectValue.{ObjectValue as ObjectValueInMemory}
+use Rattle.replay_terms.specs.declared.buffers.BuffersInUse.{BuffersInUse as InUseInMemory}
 use Rattle.replay_terms.specs.declared.given.Given.{Given}
 use Rattle.replay_terms.specs.declared.given.Given.TheVariants as given
+use Rattle.replay_terms.specs.declared.given.Lent.{Lent}
+use Rattle.replay_terms.specs.declared.given.Lent.TheVariants as lent
 use Rattle.replay_terms.specs.declared.operand.Operand.{Operand as OperandInMemory}
 use Rattle.replay_terms.specs.declared.operand.Operand.TheVariants as operand
 use Rattle.replay_terms.specs.declared.reduction.Reduction.{Reduction as ReductionInMemory}
@@ -35,6 +42,10 @@ use Rattle.replay_terms.specs.declared.term.Term.{Term as TermInMemory}
 use Rattle.replay_terms.specs.declared.term.Term.TheVariants as term
 use Rattle.replay_terms.specs.declared.variable.Content.{Content}
 use Rattle.replay_terms.specs.declared.variable.Content.TheVariants as content
+use Rattle.replay_terms.specs.declared.variable.Written.{Written as WrittenInMemory}
+use Rattle.replay_terms.specs.declared.variable.Written.TheVariants as outcome
+use Rattle.replay_terms.specs.declared.sight.Shown.{Shown}
+use Rattle.replay_terms.specs.declared.sight.Shown.TheVariants as shown
 
 abbrev pub trap_view : TrapInMemory → Trap
 trap_view trap.DivisionByZero = DivisionByZero
@@ -70,6 +81,8 @@ content_view (content.Number v) = Scalar (value_view v)
 content_view (content.Reference level r) = LocalRef level r
 content_view (content.Field f) = FieldHandle (option_map field_id_view f)
 content_view (content.Buffer T) = Elements (element_tree T) NoBuffer
+content_view (content.Copy T n numbers) = Elements (element_tree T) (Copy n numbers.items)
+content_view (content.View T n) = Elements (element_tree T) (View n)
 content_view (content.Array T numbers) = LocalArray (element_tree T) numbers.items
 
 -- the entries of a hash map, by name
@@ -103,6 +116,11 @@ abbrev pub assign_all : {A : Type 0} → ByName A → ByName A → ByName A
 assign_all [] values = values
 assign_all ((x, v) ∷ more) values = assign_all more (assign x v values)
 
+-- the numbers that are shown
+abbrev pub shown_numbers : Heap → Shown → List ℤ
+shown_numbers heap (shown.Numbers numbers) = numbers.now
+shown_numbers heap (shown.Object n) = numbers_of heap n
+
 -- what is there, or nothing fits
 abbrev pub if_there : {A : Type 0} → Option A → Outcome A
 if_there (Some a) = Gives a
@@ -112,17 +130,15 @@ if_there None = Stuck
 abbrev pub place_in : Outcome (List ℤ) → Outcome ℕ → Outcome ℕ
 place_in numbers i = outcome_then (λ n. outcome_map (λ (z : ℤ). n) (outcome_then (λ (zs : List ℤ). in_range (slice_get zs n)) numbers)) i
 
--- an array with a number, converted to its type, at an index; no other variable has elements today
+-- the number of a value in memory, and 0 of a reference
+abbrev pub held_number : ObjectValueInMemory → ℤ
+held_number v = number_in (object_value_view v)
+
+-- an array or a copy with a number, converted to its type, at an index
 abbrev pub written : ℕ → ℤ → Variable → Option Variable
 written i z (LocalArray T zs) = Some (LocalArray T (slice_set zs i (convert T z)))
+written i z (Elements T (Copy n zs)) = Some (Elements T (Copy n (slice_set zs i (convert T z))))
 written i z v = None
-
--- the array of a name has this number, converted to its type, at this index
-pub record IsWritten (old : Variables) (x : Identifier) (i : ℕ) (z : ℤ) (new : Variables) : Type 0 where
-  pub kind : ElementType
-  pub numbers : List ℤ
-  pub there : lookup x old ≡ Some (LocalArray kind numbers)
-  pub set : new ≡ assign x (LocalArray kind (slice_set numbers i (convert kind z))) old
 
 -- it is no variable whose elements can be written
 abbrev pub HasNoElements : Option Variable → Type 0
@@ -131,10 +147,68 @@ HasNoElements (Some (Elements kind (Copy n numbers))) = ⊥
 HasNoElements (Some (Elements kind (View n))) = ⊥
 HasNoElements v = Unit {0}
 
--- an element was written, or the variable has none
-abbrev pub WritesElement : Variables → Identifier → ℕ → ℤ → (done : Bool) → Variables → Type 0
-WritesElement old x i z true new = IsWritten old x i z new
-WritesElement old x i z false new = HasNoElements (lookup x old)
+-- this number, converted to its type, goes into an object that is shown
+pub record IsShown (v : Variable) (z : ℤ) (n : ℕ) (y : ℤ) : Type 0 where
+  pub kind : ElementType
+  pub shows : v ≡ Elements kind (View n)
+  pub converted : y ≡ convert kind z
+
+-- an element was written, is to be written into an object, or there is none
+abbrev pub WritesContent : Variable → ℕ → ℤ → WrittenInMemory → Variable → Type 0
+WritesContent old i z outcome.Done new = written i z old ≡ Some new
+WritesContent old i z (outcome.Object n y) new = IsShown old z n y × (new ≡ old)
+WritesContent old i z outcome.Nothing new = HasNoElements (Some old) × (new ≡ old)
+
+-- what a name has was written
+pub record IsWritten (old : Variables) (x : Identifier) (i : ℕ) (z : ℤ) (new : Variables) : Type 0 where
+  pub before : Variable
+  pub after : Variable
+  pub there : lookup x old ≡ Some before
+  pub is : written i z before ≡ Some after
+  pub set : new ≡ assign x after old
+
+-- what a name has shows an object into which this number goes
+pub record IsToWrite (old : Variables) (x : Identifier) (z : ℤ) (n : ℕ) (y : ℤ) (new : Variables) : Type 0 where
+  pub variable : Variable
+  pub there : lookup x old ≡ Some variable
+  pub shown : IsShown variable z n y
+  pub same : new ≡ old
+
+-- the same of what has a name
+abbrev pub WritesElement : Variables → Identifier → ℕ → ℤ → WrittenInMemory → Variables → Type 0
+WritesElement old x i z outcome.Done new = IsWritten old x i z new
+WritesElement old x i z (outcome.Object n y) new = IsToWrite old x z n y new
+WritesElement old x i z outcome.Nothing new = HasNoElements (lookup x old) × (new ≡ old)
+
+-- ---- what buffers take
+
+-- what all variables have of something
+abbrev pub total : (Variable → ℕ) → Variables → ℕ
+total g [] = 0
+total g ((x, v) ∷ vs) = g v + total g vs
+
+-- what a variable has of it, if it is there
+abbrev pub had : (Variable → ℕ) → Option Variable → ℕ
+had g None = 0
+had g (Some v) = g v
+
+-- how many objects it shows
+abbrev pub count_viewed : Variable → ℕ
+count_viewed v = length (viewed v)
+
+-- the object that a variable in memory shows
+abbrev pub viewed_by : Content → List ℕ
+viewed_by c = viewed (content_view c)
+
+abbrev pub in_use_view : InUseInMemory → BuffersInUse
+in_use_view u = record { copied = u.copied; views = u.views }
+
+-- variables have copies of this length together, and this many views, within the limits
+pub record Takes (vs : Contents) (u : InUseInMemory) : Type 0 where
+  pub copied : u.copied ≡ total copied_length (variables_view vs)
+  pub views : u.views ≡ total count_viewed (variables_view vs)
+  pub within : u.copied ≤ 65536
+  pub few : u.views ≤ 64
 
 -- ---- terms
 
@@ -234,3 +308,9 @@ given_view (given.Number z) = ScalarResult (Int z)
 given_view (given.Flag b) = ScalarResult (Flag b)
 given_view (given.Reference r) = ReferenceResult r
 given_view (given.Field f) = FieldResult (option_map field_id_view f)
+
+-- the buffer that a call gives, of an object of this heap
+abbrev pub lent_view : Heap → Lent → Buffer
+lent_view heap lent.Nothing = NoBuffer
+lent_view heap (lent.Copy n) = Copy n (numbers_of heap n)
+lent_view heap (lent.View n) = View n

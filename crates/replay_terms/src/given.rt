@@ -19,6 +19,17 @@ pub enum Given<'a> {
     Field(Option<FieldId<'a>>),
 }
 
+/// The buffer that a call gives.
+#[derive(Clone, Copy)]
+pub enum Lent {
+    /// NULL.
+    Nothing,
+    /// A copy of the numbers of the object of this name.
+    Copy(usize),
+    /// A view of the object of this name.
+    View(usize),
+}
+
 /// Whether it is 0.
 pub fn is_zero(given: Given<'_>) -> bool
     ensures { result ≡ is_zero (given_view given.entry) }

@@ -1,6 +1,7 @@
 //! The values, the variables and the terms of the source in memory, how a term is reduced, and what goes into a call and comes out of it.
 #![tactic(auto)]
 
+mod buffers;
 mod given;
 mod operand;
 mod reduction;
@@ -11,7 +12,8 @@ mod trap;
 mod value;
 mod variable;
 
-pub use given::{Given, is_zero, static_result};
+pub use buffers::{BuffersInUse, MOST_COPIED, MOST_VIEWS};
+pub use given::{Given, Lent, is_zero, static_result};
 pub use operand::Operand;
 pub use reduction::{Reduction, reduce};
 pub use sight::{Indexed, number_in, place_in};
@@ -19,4 +21,4 @@ pub use statics::{StaticReference, Statics, null_statics};
 pub use term::{Term, put_term, term_of};
 pub use trap::{Trap, trap_number};
 pub use value::{Evaluated, Value, constant, convert};
-pub use variable::{Content, Variables, zeros};
+pub use variable::{Content, Variables, Written, held_number, zeros};

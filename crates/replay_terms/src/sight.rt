@@ -1,19 +1,20 @@
 //! What can be seen in the variables and the statics.
 
-ghost use Rattle.std.specs.Prelude.{◌≡◌, slice_get};
+ghost use Rattle.std.specs.Prelude.{◌≡◌, [], IsTrue, false, length, slice_get};
 ghost use Rattle.std.specs.Option.{option_map};
 ghost use Rattle.base.specs.Bytes.{lookup};
-ghost use Rattle.semantics.specs.Heap.{Heap};
+ghost use Rattle.semantics.specs.Heap.{Heap, numbers_of};
 ghost use Rattle.semantics.specs.Sight.{scalar, seen, elements_of, in_range, variable_is_null, holds_null};
 ghost use Rattle.semantics.specs.Term.{IsNull, done, index_of, element_value, reduce};
 ghost use Rattle.semantics.specs.Value.{outcome_map, outcome_then, Int, Truth};
 ghost use Rattle.semantics.specs.Variable.{Statics};
-ghost use Rattle.replay_terms.specs.Views.{value_view, evaluated_view, indexed_view, content_view, variables_view, if_there, negated, place_in};
+ghost use Rattle.semantics.specs.Views.{IsWithin};
+ghost use Rattle.replay_terms.specs.Views.{value_view, evaluated_view, indexed_view, content_view, variables_view, if_there, negated, place_in, shown_numbers};
 
 use crate::statics::{Statics, is_empty};
 use crate::trap::Trap;
 use crate::value::{Evaluated, Value, truth};
-use crate::variable::{Content, Variables};
+use crate::variable::{Content, Variables, held_number};
 use semantics::Objects;
 use syntax::Name;
 
@@ -28,6 +29,8 @@ pub fn number_in(variables: &Variables<'_>, name: &Name) -> Evaluated
             Content::Reference(_, _)
             | Content::Field(_)
             | Content::Buffer(_)
+            | Content::Copy(_, _, _)
+            | Content::View(_, _)
             | Content::Array(_, _) => Evaluated::Stuck,
         },
     }
@@ -41,6 +44,7 @@ fn is_null(content: &Content<'_>) -> Evaluated
         Content::Reference(_, object) => truth(object.is_none()),
         Content::Field(field) => truth(field.is_none()),
         Content::Buffer(_) => truth(true),
+        Content::Copy(_, _, _) | Content::View(_, _) => truth(false),
         Content::Number(_) | Content::Array(_, _) => Evaluated::Stuck,
     }
 }
@@ -109,21 +113,67 @@ fn index_of(v: Value) -> Indexed
     }
 }
 
-/// The numbers of the array of this name. No variable shows those of an object today.
-fn numbers_in<'v, O: Objects>(
-    _objects: &O,
-    variables: &'v Variables<'_>,
-    name: &Name,
-) -> Option<&'v [i32]>
-    ensures { if_there (option_map (λ n. n.now) result) ≡ elements_of (O.heap _objects.now) (lookup name.now (variables_view variables.now)) }
+/// What shows elements: numbers, or an object by its name.
+#[derive(Clone, Copy)]
+enum Shown<'v> {
+    Numbers(&'v [i32]),
+    Object(usize),
+}
+
+/// What the array or the buffer of this name shows.
+fn shown_in<'v>(variables: &'v Variables<'_>, name: &Name) -> Option<Shown<'v>>
+    ensures { (heap : Heap) → if_there (option_map (shown_numbers heap) result) ≡ elements_of heap (lookup name.now (variables_view variables.now)) }
 {
     match variables.content_of(name) {
         None => None,
         Some(content) => match content {
-            Content::Array(_, numbers) => Some(numbers.as_slice()),
+            Content::Array(_, numbers) | Content::Copy(_, _, numbers) => {
+                Some(Shown::Numbers(numbers.as_slice()))
+            }
+            Content::View(_, object) => Some(Shown::Object(*object)),
             Content::Number(_) | Content::Reference(_, _) => None,
             Content::Field(_) | Content::Buffer(_) => None,
         },
+    }
+}
+
+/// Whether there is an object of this name.
+fn is_there<O: Objects>(objects: &O, name: usize) -> bool
+    ensures there { IsTrue result → IsWithin (length (O.heap objects.now)) name }
+    ensures none { (result ≡ false) → numbers_of (O.heap objects.now) name ≡ [] }
+{
+    name > 0 && name <= objects.len()
+}
+
+/// How many elements are shown.
+fn count<O: Objects>(objects: &O, shown: Shown<'_>) -> usize
+    ensures { result ≡ length (shown_numbers (O.heap objects.now) shown.entry) }
+{
+    match shown {
+        Shown::Numbers(numbers) => numbers.len(),
+        Shown::Object(name) => {
+            if is_there(objects, name) {
+                objects.count(name)
+            } else {
+                0
+            }
+        }
+    }
+}
+
+/// An element that is shown, if it is there.
+fn number_at<O: Objects>(objects: &O, shown: Shown<'_>, i: usize) -> Option<i32>
+    ensures { result ≡ slice_get (shown_numbers (O.heap objects.now) shown.entry) i }
+{
+    match shown {
+        Shown::Numbers(numbers) => numbers.get(i).copied(),
+        Shown::Object(name) => {
+            if is_there(objects, name) && i < objects.count(name) {
+                Some(held_number(objects.value(name, i)))
+            } else {
+                None
+            }
+        }
     }
 }
 
@@ -138,10 +188,10 @@ pub fn place_in<O: Objects>(
     ensures { indexed_view result ≡ place_in (elements_of (O.heap objects.now) (lookup name.now (variables_view variables.now))) (index_of (value_view v)) }
 {
     match index_of(v) {
-        Indexed::At(i) => match numbers_in(objects, variables, name) {
+        Indexed::At(i) => match shown_in(variables, name) {
             None => Indexed::Stuck,
-            Some(numbers) => {
-                if i < numbers.len() {
+            Some(shown) => {
+                if i < count(objects, shown) {
                     Indexed::At(i)
                 } else {
                     Indexed::Traps(Trap::OutOfRange)
@@ -162,10 +212,10 @@ fn element_at<O: Objects>(
 ) -> Evaluated
     ensures { evaluated_view result ≡ outcome_map Int (outcome_then (λ zs. in_range (slice_get zs i)) (elements_of (O.heap objects.now) (lookup name.now (variables_view variables.now)))) }
 {
-    match numbers_in(objects, variables, name) {
+    match shown_in(variables, name) {
         None => Evaluated::Stuck,
-        Some(numbers) => match numbers.get(i) {
-            Some(number) => Evaluated::Gives(Value::Int(*number)),
+        Some(shown) => match number_at(objects, shown, i) {
+            Some(number) => Evaluated::Gives(Value::Int(number)),
             None => Evaluated::Traps(Trap::OutOfRange),
         },
     }

@@ -1,16 +1,23 @@
 //! The variables of a call in progress.
 
-ghost use Rattle.std.specs.Prelude.{◌≡◌, [], IfOk, Some, None, pos, replicate, slice_set, if◌then◌else◌};
+ghost use Rattle.std.specs.Prelude.{◌≡◌, ◌≤◌, ◌++◌, [], IfOk, Some, drop, flat_map, length, map, pos, replicate, slice_set};
 ghost use Rattle.std.specs.Option.{option_map};
 ghost use Rattle.base.specs.Bytes.{lookup};
+ghost use Rattle.indexmap.specs.IndexMap.{values};
 ghost use Rattle.syntax.specs.Views.{element_tree};
+ghost use Rattle.semantics.specs.CallEffects.{begun_with, copied_elements, freed, local_array};
+ghost use Rattle.semantics.specs.CallStep.{element_type};
+ghost use Rattle.semantics.specs.Heap.{number_in};
 ghost use Rattle.semantics.specs.Value.{convert};
-ghost use Rattle.semantics.specs.Variable.{assign};
-ghost use Rattle.replay_terms.specs.Views.{content_view, variables_view, written, WritesElement};
+ghost use Rattle.semantics.specs.Variable.{assign, change, copied_length, viewed};
+ghost use Rattle.semantics.specs.Views.{object_value_view};
+ghost use Rattle.replay_terms.specs.Views.{Takes, WritesContent, WritesElement, content_view, count_viewed, had, held_number, variables_view, viewed_by};
 
+use crate::buffers::{BuffersInUse, NOTHING, exchanged, taken};
 use crate::value::{Value, convert};
 use classes::fields::FieldId;
 use indexmap::IndexMap;
+use semantics::ObjectValue;
 use std::alloc::{AllocError, Global};
 use std::marker::Model;
 use syntax::{ElementType, Name};
@@ -23,8 +30,12 @@ pub enum Content<'a> {
     Reference(usize, Option<usize>),
     /// A field ID: NULL, or a field or static.
     Field(Option<FieldId<'a>>),
-    /// A buffer, which is NULL: no function gives another today.
+    /// A buffer that is NULL.
     Buffer(ElementType),
+    /// A buffer with a copy of the numbers of an array or a string, and its name.
+    Copy(ElementType, usize, Vec<i32>),
+    /// A buffer that shows an array or a string itself, by its name.
+    View(ElementType, usize),
     /// A local array.
     Array(ElementType, Vec<i32>),
 }
@@ -33,22 +44,29 @@ pub enum Content<'a> {
 /// name is found in constant time.
 pub struct Variables<'a> {
     contents: IndexMap<&'a [u8], Content<'a>>,
+    /// What its buffers take.
+    in_use: BuffersInUse,
 }
 
 // Written out, and not derived, so that a crate above drops them by a call and doesn't prove it anew.
 impl Drop for Variables<'_> {
     fn drop(self) {
-        let Variables { contents } = self;
+        let Variables {
+            contents,
+            in_use: _,
+        } = self;
         drop(contents);
     }
 }
 
 impl<'a> Model for Variables<'a> {
-    ghost use Rattle.replay_terms.specs.Views.{Contents, by_name};
+    ghost use Rattle.replay_terms.specs.Views.{Contents, Takes, by_name};
 
     ghost Value = { Contents };
 
     ghost view = { λ v. by_name v.contents.entries };
+
+    ghost invariant = { λ v. Takes (by_name v.contents.entries) v.in_use };
 }
 
 impl<'a> Variables<'a> {
@@ -58,7 +76,15 @@ impl<'a> Variables<'a> {
     {
         Variables {
             contents: IndexMap::new(alloc),
+            in_use: NOTHING,
         }
+    }
+
+    /// What its buffers take.
+    pub fn in_use(&self) -> BuffersInUse
+        ensures { Takes self.now result }
+    {
+        self.in_use
     }
 
     /// What the variable of this name holds.
@@ -75,25 +101,190 @@ impl<'a> Variables<'a> {
         self.contents.get(name)
     }
 
-    /// Sets the variable of this name. Where there is none, it is new and comes last.
+    /// Sets the variable of this name. Where there is none, it is new and comes last. There is no memory for buffers that take more
+    /// than there is, as in no accepted program.
     pub fn set(&mut self, name: &'a Name, content: Content<'a>) -> Result<(), AllocError>
         ensures { IfOk result (λ _. variables_view self.new ≡ assign name.now (content_view content.entry) (variables_view self.old)) }
     {
-        if self.contents.insert(name.as_bytes(), content).is_err() {
+        self.set_named(name.as_bytes(), content)
+    }
+
+    /// The same, by a name that may be none of the unit's.
+    pub fn set_named(&mut self, name: &'a [u8], content: Content<'a>) -> Result<(), AllocError>
+        ensures { IfOk result (λ _. variables_view self.new ≡ assign name.now (content_view content.entry) (variables_view self.old)) }
+    {
+        let old = self.taken_by(name);
+        let Some(in_use) = exchanged(self.in_use, old, taken(&content)) else {
+            return Err(AllocError);
+        };
+        if self.contents.insert(name, content).is_err() {
             return Err(AllocError);
         }
+        self.in_use = in_use;
         Ok(())
     }
 
-    /// Writes an element of the array of this name, if it is one.
-    pub fn write(&mut self, name: &Name, index: usize, number: i32) -> bool
+    /// What the variable of this name takes, if there is one.
+    fn taken_by(&self, name: &[u8]) -> BuffersInUse
+        ensures copied { result.copied ≡ had copied_length (lookup name.now (variables_view self.now)) }
+        ensures views { result.views ≡ had count_viewed (lookup name.now (variables_view self.now)) }
+    {
+        match self.content_named(name) {
+            Some(content) => taken(content),
+            None => NOTHING,
+        }
+    }
+
+    /// Writes an element of what has this name: of its numbers, if it is an array or a copy.
+    pub fn write(&mut self, name: &Name, index: usize, number: i32) -> Written
         ensures { WritesElement (variables_view self.old) name.now index number result (variables_view self.new) }
     {
         match self.contents.get_index_of(name.as_bytes()) {
             Some(place) => write_content(&mut self.contents[place], index, number),
-            None => false,
+            None => Written::Nothing,
         }
     }
+
+    /// Gives up the buffer of this name, if it is one.
+    pub fn free(&mut self, name: &[u8])
+        ensures { variables_view self.new ≡ change name.now freed (variables_view self.old) }
+    {
+        if let Some(place) = self.contents.get_index_of(name) {
+            let old = free_content(&mut self.contents[place]);
+            self.in_use.copied -= old.copied;
+            self.in_use.views -= old.views;
+        }
+    }
+
+    /// The elements of the copy of this name; none where there is no such buffer.
+    pub fn copy_named(&self, name: &[u8]) -> &[i32]
+        ensures { result.now ≡ copied_elements (lookup name.now (variables_view self.now)) }
+    {
+        match self.content_named(name) {
+            Some(content) => copy_of(content),
+            None => &[],
+        }
+    }
+
+    /// The element type of the buffer of this name; `jint` where there is none.
+    pub fn element_type(&self, name: &[u8]) -> ElementType
+        ensures { element_tree result ≡ element_type (lookup name.now (variables_view self.now)) }
+    {
+        match self.content_named(name) {
+            Some(Content::Buffer(kind) | Content::Copy(kind, _, _) | Content::View(kind, _)) => {
+                *kind
+            }
+            _ => ElementType::Jint,
+        }
+    }
+
+    /// Adds the names of the objects that buffers show to others, in the order of the variables. The cost goes by the variables.
+    pub fn add_viewed(&self, names: &mut Vec<usize>) -> Result<(), AllocError>
+        ensures { IfOk result (λ _. names.new.items ≡ names.old.items ++ flat_map (λ v. viewed v.1) (variables_view self.now)) }
+    {
+        add_viewed(&self.contents, names)
+    }
+
+    /// The numbers of the local array of this name; none where there is no such array.
+    pub fn array_named(&self, name: &[u8]) -> &[i32]
+        ensures { result.now ≡ local_array (lookup name.now (variables_view self.now)) }
+    {
+        match self.content_named(name) {
+            Some(content) => array_of(content),
+            None => &[],
+        }
+    }
+
+    /// Lets the local array of this name, if there is one, begin with the numbers of these values. The cost goes by the values.
+    pub fn begin_array(&mut self, name: &[u8], values: &[ObjectValue])
+        requires { length values.now ≤ length (local_array (lookup name.now (variables_view self.old))) }
+        ensures { variables_view self.new ≡ change name.now (begun_with (map held_number values.now)) (variables_view self.old) }
+    {
+        if let Some(place) = self.contents.get_index_of(name) {
+            begin_content(&mut self.contents[place], values);
+        }
+    }
+}
+
+/// The number of a value; 0 for a reference.
+pub fn held_number(value: ObjectValue) -> i32
+    ensures { result ≡ number_in (object_value_view value) }
+{
+    match value {
+        ObjectValue::Number(number) => number,
+        ObjectValue::Reference(_) => 0,
+    }
+}
+
+/// The numbers of a local array; none where it is something else.
+fn array_of<'c>(content: &'c Content<'_>) -> &'c [i32]
+    ensures { result.now ≡ local_array (Some (content_view content.now)) }
+{
+    match content {
+        Content::Array(_, numbers) => numbers.as_slice(),
+        Content::Number(_) | Content::Reference(_, _) | Content::Field(_) => &[],
+        Content::Buffer(_) | Content::Copy(_, _, _) | Content::View(_, _) => &[],
+    }
+}
+
+/// The elements of a copy; none where it is something else.
+fn copy_of<'c>(content: &'c Content<'_>) -> &'c [i32]
+    ensures { result.now ≡ copied_elements (Some (content_view content.now)) }
+{
+    match content {
+        Content::Copy(_, _, numbers) => numbers.as_slice(),
+        Content::Number(_) | Content::Reference(_, _) | Content::Field(_) => &[],
+        Content::Buffer(_) | Content::View(_, _) | Content::Array(_, _) => &[],
+    }
+}
+
+/// Lets an array begin with the numbers of these values.
+fn begin(numbers: &mut [i32], values: &[ObjectValue])
+    requires { length values.now ≤ length numbers.old }
+    ensures { numbers.new ≡ map held_number values.now ++ drop (length values.now) numbers.old }
+{
+    for (place, value) in values.iter().enumerate() {
+        numbers[place] = held_number(*value);
+    }
+}
+
+/// Lets what a variable holds, if it is a local array, begin with the numbers of these values.
+fn begin_content(content: &mut Content<'_>, values: &[ObjectValue])
+    requires { length values.now ≤ length (local_array (Some (content_view content.old))) }
+    ensures { content_view content.new ≡ begun_with (map held_number values.now) (content_view content.old) }
+{
+    match content {
+        Content::Array(_, numbers) => begin(numbers, values),
+        Content::Number(_) | Content::Reference(_, _) | Content::Field(_) => {}
+        Content::Buffer(_) | Content::Copy(_, _, _) | Content::View(_, _) => {}
+    }
+}
+
+/// Adds the name of the object that a buffer shows.
+fn push_viewed(names: &mut Vec<usize>, content: &Content<'_>) -> Result<(), AllocError>
+    ensures { IfOk result (λ _. names.new.items ≡ names.old.items ++ viewed (content_view content.now)) }
+{
+    match content {
+        Content::View(_, object) => {
+            names.push(*object)?;
+            Ok(())
+        }
+        Content::Number(_) | Content::Reference(_, _) | Content::Field(_) => Ok(()),
+        Content::Buffer(_) | Content::Copy(_, _, _) | Content::Array(_, _) => Ok(()),
+    }
+}
+
+/// Adds the names of the objects that variables show.
+fn add_viewed(
+    contents: &IndexMap<&[u8], Content<'_>>,
+    names: &mut Vec<usize>,
+) -> Result<(), AllocError>
+    ensures { IfOk result (λ _. names.new.items ≡ names.old.items ++ flat_map viewed_by (values contents.now)) }
+{
+    for place in 0..contents.len() {
+        push_viewed(names, &contents[place])?;
+    }
+    Ok(())
 }
 
 /// `size` zeros.
@@ -114,16 +305,47 @@ fn write(kind: ElementType, numbers: &mut [i32], index: usize, number: i32)
     }
 }
 
-/// Writes an element of what a variable holds; false where it is no array.
-fn write_content(content: &mut Content<'_>, index: usize, number: i32) -> bool
-    ensures { written index number (content_view content.old) ≡ if result then Some (content_view content.new) else None }
+/// What became of an element that was to be written.
+#[derive(Clone, Copy)]
+pub enum Written {
+    /// It was written.
+    Done,
+    /// This number, converted to its type, is to be written into the object of this name.
+    Object(usize, i32),
+    /// There are no elements.
+    Nothing,
+}
+
+/// Writes an element of what a variable holds.
+fn write_content(content: &mut Content<'_>, index: usize, number: i32) -> Written
+    ensures { WritesContent (content_view content.old) index number result (content_view content.new) }
 {
     match content {
         Content::Array(kind, numbers) => {
             write(*kind, numbers, index, number);
-            true
+            Written::Done
         }
-        Content::Number(_) | Content::Reference(_, _) => false,
-        Content::Field(_) | Content::Buffer(_) => false,
+        Content::Copy(kind, _, numbers) => {
+            write(*kind, numbers, index, number);
+            Written::Done
+        }
+        Content::View(kind, object) => Written::Object(*object, convert(*kind, number)),
+        Content::Number(_) | Content::Reference(_, _) => Written::Nothing,
+        Content::Field(_) | Content::Buffer(_) => Written::Nothing,
     }
+}
+
+/// Gives up a buffer, if it is one, and tells what it took.
+fn free_content(content: &mut Content<'_>) -> BuffersInUse
+    ensures view { content_view content.new ≡ freed (content_view content.old) }
+    ensures copied { result.copied ≡ copied_length (content_view content.old) }
+    ensures views { result.views ≡ count_viewed (content_view content.old) }
+{
+    let old = taken(content);
+    match content {
+        Content::Copy(kind, _, _) | Content::View(kind, _) => *content = Content::Buffer(*kind),
+        Content::Number(_) | Content::Reference(_, _) | Content::Field(_) => {}
+        Content::Buffer(_) | Content::Array(_, _) => {}
+    }
+    old
 }

@@ -1,67 +1,48 @@
--- No variable in memory is a copy or a view.
-use Rattle.std.proofs.Common.{◌≡◌, ℕ, ◌+◌, List, [], ◌∷◌, ◌++◌, length, Option, Some, None, refl, sym, ap, ◌∙◌, arith}
+-- What the buffers of threads take together.
+use Rattle.std.proofs.Common.{◌≡◌, ℕ, ◌+◌, ◌<◌, List, [], ◌∷◌, length, drop, get_or, refl, sym, ap, ◌∙◌}
 use Rattle.std.specs.Prelude.{sum_by, flat_map}
+use Rattle.std.proofs.lemmas.List.{drop_more, length-append}
 use Rattle.std.proofs.lemmas.List.Concat.{flat_map-cons}
 use Rattle.std.proofs.lemmas.List.Sums.{sum_by-cons}
 use Rattle.base.specs.Bytes.{Identifier}
 use Rattle.semantics.specs.Thread.{BuffersInUse}
-use Rattle.semantics.specs.Variable.{Variable, copied_length, viewed}
-use Rattle.replay_steps.specs.declared.activation.Activation.{Activation}
-use Rattle.replay_terms.specs.declared.variable.Content.{Content}
-use Rattle.replay_terms.specs.declared.variable.Content.TheVariants as content
-use Rattle.replay_terms.specs.Views.{Contents, content_view, variable_view, variables_view}
+use Rattle.semantics.specs.Variable.{Variable, Variables, copied_length, viewed}
+use Rattle.replay_terms.specs.Views.{count_viewed, total}
 use Rattle.replay_threads.specs.declared.thread.Thread.{Thread}
-use Rattle.replay_threads.specs.States.{variables_of, copied_in, viewed_in, in_use_by}
+use Rattle.replay_threads.specs.States.{copied_in, in_use_by, viewed_in}
 
-content_copiless : (c : Content) → copied_length (content_view c) ≡ 0
-content_copiless (content.Number v) = refl
-content_copiless (content.Reference level r) = refl
-content_copiless (content.Field f) = refl
-content_copiless (content.Buffer T) = refl
-content_copiless (content.Array T numbers) = refl
+-- what variables have together, as the definitions sum it
+pub total_copied : (vs : Variables) → total copied_length vs ≡ sum_by (λ (v : Identifier × Variable). copied_length v.1) vs
+total_copied [] = refl
+total_copied ((x, v) ∷ vs) = ap (λ n. copied_length v + n) (total_copied vs) ∙ sym (sum_by-cons (λ (w : Identifier × Variable). copied_length w.1) (x, v) vs)
 
-content_viewless : (c : Content) → viewed (content_view c) ≡ []
-content_viewless (content.Number v) = refl
-content_viewless (content.Reference level r) = refl
-content_viewless (content.Field f) = refl
-content_viewless (content.Buffer T) = refl
-content_viewless (content.Array T numbers) = refl
+pub total_viewed : (vs : Variables) → total count_viewed vs ≡ length (flat_map (λ (v : Identifier × Variable). viewed v.1) vs)
+total_viewed [] = refl
+total_viewed ((x, v) ∷ vs) =
+    let others = flat_map (λ (w : Identifier × Variable). viewed w.1) vs in
+    ap (λ n. count_viewed v + n) (total_viewed vs)
+    ∙ sym (length-append (viewed v) others)
+    ∙ ap (λ (l : List ℕ). length l) (sym (flat_map-cons (λ (w : Identifier × Variable). viewed w.1) (x, v) vs))
 
-none_more : (n : ℕ) → n ≡ 0 → 0 + n ≡ 0
-none_more n h = omega (arith, h)
+module _ (ts : List Thread) where
+  -- what the threads from a place on take
+  abbrev pub copied_from : ℕ → ℕ
+  copied_from i = sum_by copied_in (drop i ts)
 
-copies_none : (vs : Contents) → sum_by (λ (v : Identifier × Variable). copied_length v.1) (variables_view vs) ≡ 0
-copies_none [] = refl
-copies_none (v ∷ vs) =
-    sum_by-cons (λ (x : Identifier × Variable). copied_length x.1) (variable_view v) (variables_view vs)
-    ∙ ap (λ n. n + sum_by (λ (x : Identifier × Variable). copied_length x.1) (variables_view vs)) (content_copiless v.1)
-    ∙ none_more (sum_by (λ (x : Identifier × Variable). copied_length x.1) (variables_view vs)) (copies_none vs)
+  abbrev pub viewed_from : ℕ → ℕ
+  viewed_from i = length (flat_map viewed_in (drop i ts))
 
-views_none : (vs : Contents) → flat_map (λ (v : Identifier × Variable). viewed v.1) (variables_view vs) ≡ []
-views_none [] = refl
-views_none (v ∷ vs) =
-    flat_map-cons (λ (x : Identifier × Variable). viewed x.1) (variable_view v) (variables_view vs)
-    ∙ ap (λ (l : List ℕ). l ++ flat_map (λ (x : Identifier × Variable). viewed x.1) (variables_view vs)) (content_viewless v.1)
-    ∙ views_none vs
+  pub copied_next : (i : ℕ) (t : Thread) → i < length ts → copied_from i ≡ copied_in (get_or ts i t) + copied_from (i + 1)
+  copied_next i t low = ap (sum_by copied_in) (drop_more ts i t low) ∙ sum_by-cons copied_in (get_or ts i t) (drop (i + 1) ts)
 
-copied_none : (o : Option Activation) → sum_by (λ (v : Identifier × Variable). copied_length v.1) (variables_of o) ≡ 0
-copied_none None = refl
-copied_none (Some a) = copies_none a.locals.variables
+  pub viewed_next : (i : ℕ) (t : Thread) → i < length ts → viewed_from i ≡ length (viewed_in (get_or ts i t)) + viewed_from (i + 1)
+  viewed_next i t low =
+      ap (λ (us : List Thread). length (flat_map viewed_in us)) (drop_more ts i t low)
+      ∙ ap (λ (l : List ℕ). length l) (flat_map-cons viewed_in (get_or ts i t) (drop (i + 1) ts))
+      ∙ length-append (viewed_in (get_or ts i t)) (flat_map viewed_in (drop (i + 1) ts))
 
-viewed_none : (o : Option Activation) → flat_map (λ (v : Identifier × Variable). viewed v.1) (variables_of o) ≡ []
-viewed_none None = refl
-viewed_none (Some a) = views_none a.locals.variables
-
-all_copied_none : (ts : List Thread) → sum_by copied_in ts ≡ 0
-all_copied_none [] = refl
-all_copied_none (t ∷ ts) = sum_by-cons copied_in t ts ∙ ap (λ n. n + sum_by copied_in ts) (copied_none t.activation) ∙ none_more (sum_by copied_in ts) (all_copied_none ts)
-
-all_viewed_none : (ts : List Thread) → flat_map viewed_in ts ≡ []
-all_viewed_none [] = refl
-all_viewed_none (t ∷ ts) = flat_map-cons viewed_in t ts ∙ ap (λ (l : List ℕ). l ++ flat_map viewed_in ts) (viewed_none t.activation) ∙ all_viewed_none ts
-
--- so the buffers of all threads take nothing
-pub none_in_use : (ts : List Thread) → record { copied = 0; views = 0 } ≡ in_use_by ts
-none_in_use ts =
-    ap (λ n. let u : BuffersInUse = record { copied = n; views = 0 } in u) (sym (all_copied_none ts))
-    ∙ ap (λ (l : List ℕ). let u : BuffersInUse = record { copied = sum_by copied_in ts; views = length l } in u) (sym (all_viewed_none ts))
+-- all of them together
+pub in_use_so : (ts : List Thread) (copied views : ℕ) → copied ≡ sum_by copied_in ts → views ≡ length (flat_map viewed_in ts) → record { copied = copied; views = views } ≡ in_use_by ts
+in_use_so ts copied views c v =
+    ap (λ n. let u : BuffersInUse = record { copied = n; views = views } in u) c
+    ∙ ap (λ n. let u : BuffersInUse = record { copied = sum_by copied_in ts; views = n } in u) v

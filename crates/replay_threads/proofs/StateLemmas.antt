@@ -1,6 +1,7 @@
 -- What an entry does to the state that a state in memory stands for.
 use Rattle.std.proofs.Common.{◌≡◌, ℕ, zero, suc, ◌+◌, ◌<◌, ◌≤◌, Bool, true, false, cond, List, [], ◌∷◌, ◌++◌, length, map, Option, Some, None, refl, sym, ap, ◌∙◌, subst, arith}
 use Rattle.std.specs.Prelude.{slice_get, slice_set, sum_by, flat_map, ◌&&◌, not, is_none, ◌==◌}
+use Rattle.std.proofs.lemmas.List.{length-set}
 use Rattle.std.proofs.lemmas.List.Concat.{flat_map-cons}
 use Rattle.std.proofs.lemmas.List.Sums.{sum_by-cons}
 use Rattle.base.specs.Bytes.{Identifier}
@@ -32,7 +33,7 @@ use Rattle.replay_threads.specs.declared.thread.Step.{Step}
 use Rattle.replay_threads.specs.declared.thread.Step.TheVariants as step
 use Rattle.replay_threads.specs.declared.state.Stop.{Stop as StopInMemory}
 use Rattle.replay_terms.specs.Views.{trap_view}
-use Rattle.replay_threads.specs.States.{ThreadsStand, AreInRange, Stands, variables_of, copied_in, viewed_in, in_use_by, stop_view, printed_after, stop_after, is_possible, Leads, standing_in, standings_in}
+use Rattle.replay_threads.specs.States.{ThreadsStand, AreInRange, EachInRange, Stands, variables_of, copied_in, viewed_in, in_use_by, stop_view, printed_after, stop_after, is_possible, Leads, standing_in, standings_in}
 use Rattle.replay_threads.specs.Threads.{ThreadStands, WorkInRange, WorkStands, ending_view, StepIs, TakesStep}
 use Rattle.replay_threads.proofs.PlainTasks.{waits_none}
 
@@ -52,7 +53,7 @@ module _ (unit : SourceUnit) (classes : Classes) where
   found (x ∷ ts) (s ∷ ss) (suc i) t h e = let f = found ts ss i t h.1 e in record { source = f.source; is = f.is; stands = f.stands }
 
   -- a thread of the language has one in memory
-  pub stood_for : (ts : List ThreadInMemory) (ss : List Thread) (i : ℕ) (s : Thread) → ThreadsStand unit classes ts ss → AreInRange ts → slice_get ss i ≡ Some s → (t : ThreadInMemory) × ThreadStands unit classes t s × WorkInRange t.activation
+  pub stood_for : (ts : List ThreadInMemory) (ss : List Thread) (i : ℕ) (s : Thread) → ThreadsStand unit classes ts ss → EachInRange ts → slice_get ss i ≡ Some s → (t : ThreadInMemory) × ThreadStands unit classes t s × WorkInRange t.activation
   stood_for [] [] i s h r e = absurd (cc)
   stood_for [] (x ∷ ss) i s h r e = absurd h
   stood_for (t ∷ ts) [] i s h r e = absurd h
@@ -89,7 +90,7 @@ module _ (unit : SourceUnit) (classes : Classes) where
       ∙ ap (λ n. copied_by s + n) (copied_same ts ss h.1)
       ∙ sym (sum_by-cons copied_by s ss)
 
-  viewed_same : (ts : List ThreadInMemory) (ss : List Thread) → ThreadsStand unit classes ts ss → flat_map viewed_in ts ≡ flat_map viewed_by ss
+  pub viewed_same : (ts : List ThreadInMemory) (ss : List Thread) → ThreadsStand unit classes ts ss → flat_map viewed_in ts ≡ flat_map viewed_by ss
   viewed_same [] [] h = refl
   viewed_same [] (s ∷ ss) h = absurd h
   viewed_same (t ∷ ts) [] h = absurd h
@@ -106,15 +107,21 @@ in_use_same unit w m s h =
     ∙ ap (λ (l : List ℕ). let u : BuffersInUse = record { copied = copied s; views = length l } in u) (viewed_same unit w.classes m.threads.items s.threads h.threads)
 
 -- the work of one thread is in range
+each_at : (ts : List ThreadInMemory) (i : ℕ) (t : ThreadInMemory) → EachInRange ts → slice_get ts i ≡ Some t → WorkInRange t.activation
+each_at [] i t h e = absurd (cc)
+each_at (x ∷ ts) zero t h e = let same : x ≡ t = cc in subst (λ (y : ThreadInMemory). WorkInRange y.activation) same h.0
+each_at (x ∷ ts) (suc i) t h e = each_at ts i t h.1 e
+
+each_set : (ts : List ThreadInMemory) (i : ℕ) (t : ThreadInMemory) → EachInRange ts → WorkInRange t.activation → EachInRange (slice_set ts i t)
+each_set [] i t h a = tt
+each_set (x ∷ ts) zero t h a = (a, h.1)
+each_set (x ∷ ts) (suc i) t h a = (h.0, each_set ts i t h.1 a)
+
 pub range_at : (ts : List ThreadInMemory) (i : ℕ) (t : ThreadInMemory) → AreInRange ts → slice_get ts i ≡ Some t → WorkInRange t.activation
-range_at [] i t h e = absurd (cc)
-range_at (x ∷ ts) zero t h e = let same : x ≡ t = cc in subst (λ (y : ThreadInMemory). WorkInRange y.activation) same h.0
-range_at (x ∷ ts) (suc i) t h e = range_at ts i t h.1 e
+range_at ts i t range at = each_at ts i t range.each at
 
 pub range_set : (ts : List ThreadInMemory) (i : ℕ) (t : ThreadInMemory) → AreInRange ts → WorkInRange t.activation → AreInRange (slice_set ts i t)
-range_set [] i t h a = tt
-range_set (x ∷ ts) zero t h a = (a, h.1)
-range_set (x ∷ ts) (suc i) t h a = (h.0, range_set ts i t h.1 a)
+range_set ts i t range work = record { few = omega (arith, range.few, length-set ts i t); each = each_set ts i t range.each work }
 
 -- ---- entries
 
@@ -180,7 +187,7 @@ module _ (unit : SourceUnit) (w : World) (m : StateInMemory) (s : State) (h : St
   waiting_none k None there = refl
   waiting_none zero (Some x) there = absurd (cc)
   waiting_none (suc i) (Some x) there =
-      let t = stood_for unit w.classes m.threads.items s.threads i x h.threads range there in
+      let t = stood_for unit w.classes m.threads.items s.threads i x h.threads range.each there in
       waits_none unit w.classes s.shared (suc i) t.0 x t.1 t.2
 
   blocked_none : (k : ℕ) → is_blocked w.classes s k ≡ false

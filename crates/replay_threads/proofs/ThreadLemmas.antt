@@ -102,6 +102,7 @@ module _ (unit : SourceUnit) (classes : Classes) (in_use : BuffersInUse) (k : â„
     goes (outcome.Sets x v) other does = on Quiet (advances_so (outcome.Sets x v) does)
     goes (outcome.SetsNull to) other does = on Quiet (advances_so (outcome.SetsNull to) does)
     goes (outcome.Gives to g) other does = on Quiet (advances_so (outcome.Gives to g) does)
+    goes (outcome.Lends to b) other does = on Quiet (advances_so (outcome.Lends to b) does)
     goes (outcome.Tests line zero b d) other does = on Quiet (advances_so (outcome.Tests line zero b d) does)
     goes (outcome.SetsElement x i z) other does = on Quiet (advances_so (outcome.SetsElement x i z) does)
     goes (outcome.Makes T x n) other does = on Quiet (advances_so (outcome.Makes T x n) does)

@@ -1,3 +1,3 @@
-pub mod Rows
 pub mod Threads
 pub mod States
+pub mod Rows

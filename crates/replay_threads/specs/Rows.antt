@@ -1,9 +1,10 @@
 -- What the threads of a replay refer to.
-use Rattle.std.specs.Prelude.{ℕ, List, [], ◌++◌, Option, None, Some}
+use Rattle.std.specs.Prelude.{ℕ, List, [], ◌++◌, flat_map, Option, None, Some}
 use Rattle.std.specs.Option.{option_to_list}
 use Rattle.replay_steps.specs.declared.activation.Activation.{Activation}
 use Rattle.replay_objects.specs.Frames.{references_in}
 use Rattle.replay_threads.specs.declared.thread.Thread.{Thread}
+use Rattle.replay_threads.specs.States.{viewed_in}
 
 abbrev pub pending_names : Option ℕ → List ℕ
 pending_names pending = option_to_list pending
@@ -16,3 +17,7 @@ activation_names (Some a) = references_in a.locals.frames
 -- the same, and that of the pending exception
 abbrev pub thread_names : Thread → List ℕ
 thread_names t = activation_names t.activation ++ pending_names t.pending
+
+-- the names of global references, of those that threads refer to, and of the objects of their views
+abbrev pub root_names : (globals : List ℕ) → List Thread → List ℕ
+root_names globals ts = globals ++ flat_map thread_names ts ++ flat_map viewed_in ts

@@ -1,5 +1,5 @@
 -- States that lie in memory, as those of the language, and what an entry does to one.
-use Rattle.std.specs.Prelude.{◌≡◌, ℕ, ◌+◌, ◌<◌, length, slice_get, sum_by, flat_map, is_some, Bool, true, false, List, [], ◌∷◌, ◌++◌, map, Option, Some, None}
+use Rattle.std.specs.Prelude.{◌≡◌, ℕ, ◌+◌, ◌<◌, ◌≤◌, length, slice_get, sum_by, flat_map, is_some, Bool, true, false, List, [], ◌∷◌, ◌++◌, map, Option, Some, None}
 use Rattle.std.specs.List.{enumerate_from}
 use Rattle.std.specs.Option.{option_map}
 use Rattle.syntax.specs.Tree.{SourceUnit}
@@ -32,9 +32,14 @@ ThreadsStand unit classes (t ∷ ts) (s ∷ ss) = ThreadStands unit classes t s 
 ThreadsStand unit classes ts ss = ⊥
 
 -- what is known of the calls in progress, as they stand in an accepted program
-abbrev pub AreInRange : List ThreadInMemory → Type 0
-AreInRange [] = Unit {0}
-AreInRange (t ∷ ts) = WorkInRange t.activation × AreInRange ts
+abbrev pub EachInRange : List ThreadInMemory → Type 0
+EachInRange [] = Unit {0}
+EachInRange (t ∷ ts) = WorkInRange t.activation × EachInRange ts
+
+-- the same of few threads
+pub record AreInRange (ts : List ThreadInMemory) : Type 0 where
+  pub few : length ts ≤ 8
+  pub each : EachInRange ts
 
 abbrev pub stop_view : StopInMemory → Stop
 stop_view stop = record { thread = stop.thread; trap = trap_view stop.trap; line = stop.line }

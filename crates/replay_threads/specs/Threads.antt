@@ -25,7 +25,7 @@ use Rattle.replay_threads.specs.declared.thread.Step.{Step}
 use Rattle.replay_threads.specs.declared.thread.Step.TheVariants as step
 use Rattle.replay_steps.specs.Activations.{tasks_left, IsAtStatement}
 use Rattle.replay_steps.specs.declared.turn.Turn.{Turn}
-use Rattle.replay_steps.specs.Turns.{in_use_view}
+use Rattle.replay_terms.specs.Views.{in_use_view}
 use Rattle.replay_terms.specs.Views.{assign_all, variables_view, trap_view}
 use Rattle.semantics.specs.declared.object_value.ObjectValue.{ObjectValue as ObjectValueInMemory}
 use Rattle.world_values.specs.Views.{object_value_view}

@@ -1,25 +1,47 @@
 //! What threads refer to, for a report.
 
 ghost use Rattle.std.specs.Prelude.{◌≡◌, ◌++◌, IfOk, flat_map};
-ghost use Rattle.replay_threads.specs.Rows.{activation_names, pending_names, thread_names};
+ghost use Rattle.replay_threads.specs.Rows.{activation_names, pending_names, root_names, thread_names};
+ghost use Rattle.replay_threads.specs.States.{viewed_in};
 
 use crate::thread::Thread;
 use replay_objects::Names;
 use replay_steps::Activation;
 use std::alloc::{AllocError, Global};
 
-/// The names of the objects that global references and threads refer to, in the order of the definitions.
+/// The names of the objects that global references and threads refer to, and that views show, in the order of the definitions.
 pub fn root_names(
     alloc: Global,
     globals: &Names,
     threads: &[Thread<'_>],
 ) -> Result<Vec<usize>, AllocError>
-    ensures { IfOk result (λ names. names.items ≡ globals.now ++ flat_map thread_names threads.now) }
+    ensures { IfOk result (λ names. names.items ≡ root_names globals.now threads.now) }
 {
     let mut names = Vec::new(alloc);
     globals.add_to(&mut names)?;
     add_threads(&mut names, threads)?;
+    add_views(&mut names, threads)?;
     Ok(names)
+}
+
+/// Adds the names of the objects that the views of threads show.
+fn add_views(names: &mut Vec<usize>, threads: &[Thread<'_>]) -> Result<(), AllocError>
+    ensures { IfOk result (λ _. names.new.items ≡ names.old.items ++ flat_map viewed_in threads.now) }
+{
+    for thread in threads {
+        push_views(names, thread)?;
+    }
+    Ok(())
+}
+
+/// Adds the names of the objects that the views of a thread show.
+fn push_views(names: &mut Vec<usize>, thread: &Thread<'_>) -> Result<(), AllocError>
+    ensures { IfOk result (λ _. names.new.items ≡ names.old.items ++ viewed_in thread.now) }
+{
+    match &thread.activation {
+        None => Ok(()),
+        Some(activation) => activation.locals.variables.add_viewed(names),
+    }
 }
 
 /// Adds the names of the objects in the frames of threads, and of their pending exceptions.

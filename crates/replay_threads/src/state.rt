@@ -1,14 +1,14 @@
 //! The state of a replay, and what an entry does to it.
 
-ghost use Rattle.std.specs.Prelude.{◌≡◌, [], IfOk, IfSome, IfNone, IsTrue, false, map};
+ghost use Rattle.std.specs.Prelude.{◌≡◌, ◌≤◌, length, [], IfOk, IfSome, IfNone, IsTrue, false, map};
 ghost use Rattle.std.specs.List.{enumerate_from};
 ghost use Rattle.syntax.specs.Limits.{IsTree};
 ghost use Rattle.syntax.specs.Views.{unit_tree};
 ghost use Rattle.type_rules.specs.BuiltCalls.{calls_are_built};
 ghost use Rattle.type_rules.specs.SortRules.{IsSorted};
 ghost use Rattle.semantics.specs.declared.journal.Entry.TheVariants as journal;
-ghost use Rattle.replay_threads.specs.States.{AreInRange, IsLiveAt, TakesEntry, TakesNone, IsNoted, in_use_by, is_possible, standing_in, standings_in};
-ghost use Rattle.replay_steps.specs.Turns.{in_use_view};
+ghost use Rattle.replay_threads.specs.States.{AreInRange, IsLiveAt, TakesEntry, TakesNone, IsNoted, copied_in, viewed_in, in_use_by, is_possible, standing_in, standings_in};
+ghost use Rattle.replay_terms.specs.Views.{in_use_view};
 ghost use Rattle.replay_threads.specs.Threads.{ending_view};
 ghost use Rattle.report.specs.ThreadStatus.{standing_view};
 ghost use Rattle.semantics.specs.ReportOf.{standing_by_ending};
@@ -17,8 +17,8 @@ use crate::thread::{Ending, Step, Thread, is_unfinished, take_step};
 use classes::table::ClassTable;
 use functions::Functions;
 use replay_calls::Shared;
-use replay_steps::{BuffersInUse, Turn};
-use replay_terms::{Trap, trap_number};
+use replay_steps::Turn;
+use replay_terms::{BuffersInUse, Trap, trap_number};
 use report::ThreadStatus;
 use semantics::{Entry, Printed};
 use std::alloc::{AllocError, Global};
@@ -105,14 +105,35 @@ fn place_of(state: &State<'_>, k: u8) -> Option<usize>
     }
 }
 
-/// What the buffers of all threads take together. No variable of theirs has a copy or a view today.
-fn buffers_in_use(_threads: &[Thread<'_>]) -> BuffersInUse
-    ensures { in_use_view result ≡ in_use_by _threads.now }
+/// What the buffers of a thread take.
+fn taken_by(thread: &Thread<'_>) -> BuffersInUse
+    ensures copied { result.copied ≡ copied_in thread.now }
+    ensures views { result.views ≡ length (viewed_in thread.now) }
+    ensures within { result.copied ≤ 65536 }
+    ensures few { result.views ≤ 64 }
 {
-    BuffersInUse {
-        copied: 0,
-        views: 0,
+    match &thread.activation {
+        Some(activation) => activation.locals.variables.in_use(),
+        None => BuffersInUse {
+            copied: 0,
+            views: 0,
+        },
     }
+}
+
+/// What the buffers of all threads take together.
+fn buffers_in_use(threads: &[Thread<'_>]) -> BuffersInUse
+    requires { length threads.now ≤ 8 }
+    ensures { in_use_view result ≡ in_use_by threads.now }
+{
+    let mut copied = 0;
+    let mut views = 0;
+    for thread in threads {
+        let taken = taken_by(thread);
+        copied += taken.copied;
+        views += taken.views;
+    }
+    BuffersInUse { copied, views }
 }
 
 /// Takes the step of thread `k`, which is at this place and can step, its allocation refused or not; false where the step isn't

@@ -265,7 +265,8 @@ fn step_of(outcome: Outcome<'_>) -> Step
 {
     match outcome {
         Outcome::Stays | Outcome::Sets(_, _) | Outcome::SetsNull(_) => Step::Quiet,
-        Outcome::Gives(_, _) | Outcome::SetsElement(_, _, _) => Step::Quiet,
+        Outcome::Gives(_, _) | Outcome::Lends(_, _) => Step::Quiet,
+        Outcome::SetsElement(_, _, _) => Step::Quiet,
         Outcome::Tests(_, _, _, _) | Outcome::Makes(_, _, _) => Step::Quiet,
         Outcome::Enters(_, _) => Step::Quiet,
         Outcome::Ends | Outcome::Returned => Step::Quiet,

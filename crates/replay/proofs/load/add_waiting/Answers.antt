@@ -1,4 +1,4 @@
-use Rattle.std.proofs.Common.{◌≤◌, ◌++◌, ℕ, List, [], drop, length, refl, subst}
+use Rattle.std.proofs.Common.{◌≤◌, ◌++◌, ℕ, List, [], drop, length, refl, subst, arith}
 use Rattle.std.specs.Global.{Vec}
 use Rattle.std.proofs.lemmas.List.{append-nil}
 use Rattle.std.proofs.lemmas.Option.{slice_get_read}
@@ -6,7 +6,7 @@ use Rattle.std.proofs.Math.ListN.{drop_of_length-le}
 use Rattle.semantics.specs.World.{Invocation}
 use Rattle.replay_threads.specs.declared.thread.Thread.{Thread}
 use Rattle.replay.specs.Loading.{AddsWaiting, AreWaiting}
-use Rattle.replay.proofs.LoadLemmas.{calls_of, more_waiting}
+use Rattle.replay.proofs.LoadLemmas.{as_many_waiting, calls_of, more_waiting}
 use Rattle.replay.proofs.load.add_waiting.Goals as goal
 
 -- all threads are made
@@ -24,7 +24,13 @@ loop-calls-preserved c =
     let adds = subst (λ (cs : List Invocation). AddsWaiting c.loop-calls.threads.items cs c.push_waiting.new.threads.items) c.deref.ensures.value c.in_ok-push_waiting.ensures in
     more_waiting items c.loop-calls.calls-index c.calls-item.result c.loop-calls.threads.items c.push_waiting.new.threads.items at adds c.loop-calls.invariant
 
-pub returns : goal.returns
-returns c =
+pub returns-clause-waiting : goal.returns-clause-waiting
+returns-clause-waiting c =
     subst (AreWaiting c.loop-calls.threads.items) c.threads-calls-items.ensures.calls
     (all c.threads-calls-items.result.now c.loop-calls.calls-index c.loop-calls.threads.items c.loop-calls-test.false c.loop-calls.invariant)
+
+pub returns-clause-few : goal.returns-clause-few
+returns-clause-few c =
+    let made = as_many_waiting c.loop-calls.threads.items c.args.world.now.threads (returns-clause-waiting c) in
+    let few : length c.args.world.now.threads ≤ 8 = c.threads-calls-items.ensures.sound.few_threads in
+    omega (arith, made, few)

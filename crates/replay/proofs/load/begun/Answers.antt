@@ -13,10 +13,10 @@ returns-clause-stands c =
     record {
       world = refl;
       shared = sym (c.in_ok-shared.ensures ∙ ap (λ (items : List Item). (start (unit_tree items) w).shared) c.items.ensures);
-      threads = stand_waiting unit w.classes c.in_ok-threads.threads.items c.args.world.now.threads c.in_ok-threads.ensures none;
+      threads = stand_waiting unit w.classes c.in_ok-threads.threads.items c.args.world.now.threads c.in_ok-threads.ensures.waiting none;
       printed = sym c.new.ensures.items;
       stop = refl;
     }
 
 pub returns-clause-range : goal.returns-clause-range
-returns-clause-range c = waiting_range c.in_ok-threads.threads.items c.args.world.now.threads c.in_ok-threads.ensures
+returns-clause-range c = waiting_range c.in_ok-threads.threads.items c.args.world.now.threads c.in_ok-threads.ensures.waiting c.in_ok-threads.ensures.few

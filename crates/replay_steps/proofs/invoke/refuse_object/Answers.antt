@@ -1,7 +1,7 @@
 use Rattle.std.proofs.Common.{true, refl, sym, ap, ◌∙◌}
 use Rattle.jni.specs.Table.{Facts, function_value, result_value}
 use Rattle.replay_calls.specs.Answers.{answer_view}
-use Rattle.replay_steps.specs.Turns.{in_use_view}
+use Rattle.replay_terms.specs.Views.{in_use_view}
 use Rattle.replay_steps.proofs.CallLemmas.{none_refused, object_refused_so}
 use Rattle.replay_steps.proofs.invoke.refuse_object.Goals as goal
 

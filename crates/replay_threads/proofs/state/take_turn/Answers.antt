@@ -6,7 +6,7 @@ use Rattle.replay_calls.specs.declared.shared.Shared.{Shared}
 use Rattle.replay_calls.specs.Shares.{shared_view}
 use Rattle.semantics.specs.Thread.{BuffersInUse}
 use Rattle.semantics.specs.World.{World}
-use Rattle.replay_steps.specs.Turns.{in_use_view}
+use Rattle.replay_terms.specs.Views.{in_use_view}
 use Rattle.replay_threads.specs.declared.thread.Thread.{Thread}
 use Rattle.std.proofs.lemmas.Option.{slice_get_read}
 use Rattle.std.proofs.lemmas.Result.{IfOk-weaker}

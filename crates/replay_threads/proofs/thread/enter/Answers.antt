@@ -1,7 +1,7 @@
 use Rattle.std.proofs.Common.{true, false, sym, subst, ◌∙◌, rules}
 use Rattle.class_rules.specs.Class.{Classes}
 use Rattle.syntax.specs.Views.{unit_tree}
-use Rattle.replay_steps.specs.Turns.{in_use_view}
+use Rattle.replay_terms.specs.Views.{in_use_view}
 use Rattle.replay_threads.specs.Threads.{BeginsNext, WorkInRange}
 use Rattle.replay_threads.proofs.ThreadLemmas.{enters, no_next}
 use Rattle.replay_threads.proofs.thread.enter.Goals as goal

@@ -1,7 +1,7 @@
 use Rattle.std.proofs.Common.{refl}
 use Rattle.syntax.specs.Views.{unit_tree}
 use Rattle.replay_calls.specs.Shares.{shared_view}
-use Rattle.replay_steps.specs.Turns.{in_use_view}
+use Rattle.replay_terms.specs.Views.{in_use_view}
 use Rattle.replay_threads.proofs.ThreadLemmas.{ended_range, ended_step}
 use Rattle.replay_threads.proofs.thread.take_step.Goals as goal
 

@@ -23,4 +23,4 @@ pub returns-clause-view : goal.returns-clause-view
 returns-clause-view c = there c.self.inside.objects.items c.args.name c.index.result.now c.if-name-eq0.false (read c) ∙ ap (λ (heap : Heap). object_at heap c.args.name) c.self.view_is
 
 pub returns-clause-short : goal.returns-clause-short
-returns-clause-short c = c.self.invariant (c.args.name - 1) c.index.result.now (read c)
+returns-clause-short c = c.self.invariant.0 (c.args.name - 1) c.index.result.now (read c)

@@ -1,0 +1,127 @@
+//! What functions of element buffers do, as data.
+
+ghost use Rattle.std.specs.Prelude.{◌≡◌, List, IfOk, length, map};
+ghost use Rattle.class_rules.specs.Class.{Classes};
+ghost use Rattle.jni.specs.Table.{access_value, function_value};
+ghost use Rattle.semantics.specs.CallEffects.{BufferResult};
+ghost use Rattle.semantics.specs.CallStep.{tell_copy};
+ghost use Rattle.semantics.specs.Heap.{Heap, numbers_of};
+ghost use Rattle.semantics.specs.Object.{Reference};
+ghost use Rattle.semantics.specs.Thread.{Frame};
+ghost use Rattle.semantics.specs.Variable.{Variables as VariablesOfCall};
+ghost use Rattle.replay_calls.specs.Actuals.{actual_view, mode_view};
+ghost use Rattle.replay_calls.specs.Answers.{answer_view, heap_copied, variables_freed};
+ghost use Rattle.replay_calls.specs.WorkedOut.{copy_lent, lent_by, released, subject_of, view_lent, worked_out};
+ghost use Rattle.replay_calls.specs.declared.answer.Subject.TheVariants as subject;
+ghost use Rattle.replay_terms.specs.Views.{in_use_view, lent_view, variables_view};
+
+use crate::actual::{Actual, ReleaseMode, mode_given, object_given, variable_given};
+use crate::answer::Answer;
+use jni::{Access, JniFunction};
+use replay_objects::Store;
+use replay_terms::{BuffersInUse, Content, Lent, MOST_COPIED, MOST_VIEWS, Value, Variables};
+use std::alloc::AllocError;
+
+/// What a function does that gives a buffer or takes it back.
+#[inline]
+pub(crate) fn buffer_answer<'a>(
+    store: &Store,
+    in_use: BuffersInUse,
+    function: JniFunction,
+    actuals: &[Actual<'a>],
+) -> Answer<'a>
+    requires { subject_of (function_value function) ≡ subject.Buffers }
+    ensures { (classes : Classes) (variables : VariablesOfCall) (frames : List Frame) (pending : Reference) → answer_view result ≡ worked_out classes (in_use_view in_use) store.now variables frames pending (map actual_view actuals.now) (function_value function) }
+{
+    match function {
+        JniFunction::GetBuffer(access) => {
+            Answer::Lends(lent(store, in_use, access, object_given(actuals, 0)))
+        }
+        JniFunction::ReleaseBuffer(Access::ElementsCopy(_)) => {
+            let object = object_given(actuals, 0);
+            released(object, variable_given(actuals, 1), mode_given(actuals, 2))
+        }
+        JniFunction::ReleaseBuffer(_) => Answer::Frees(variable_given(actuals, 1)),
+        _ => unreachable!(),
+    }
+}
+
+/// The buffer with which an object is accessed so.
+fn lent(store: &Store, in_use: BuffersInUse, access: Access, object: usize) -> Lent
+    ensures { result ≡ lent_by (access_value access) (in_use_view in_use) store.now object }
+{
+    match access {
+        Access::ElementsCopy(_) | Access::CharsCopy => copy_lent(store, in_use, object),
+        Access::ArrayView | Access::CharsView => view_lent(in_use, object),
+    }
+}
+
+/// A copy of an object, or NULL where all copies together would be too long.
+fn copy_lent(store: &Store, in_use: BuffersInUse, object: usize) -> Lent
+    ensures { result ≡ copy_lent (in_use_view in_use) (length (numbers_of store.now object)) object }
+{
+    let count = store.values_of(object).len();
+    if in_use.copied <= MOST_COPIED && count <= MOST_COPIED - in_use.copied {
+        Lent::Copy(object)
+    } else {
+        Lent::Nothing
+    }
+}
+
+/// A view of an object, or NULL where there are as many as there may be.
+fn view_lent(in_use: BuffersInUse, object: usize) -> Lent
+    ensures { result ≡ view_lent (in_use_view in_use) object }
+{
+    if in_use.views < MOST_VIEWS {
+        Lent::View(object)
+    } else {
+        Lent::Nothing
+    }
+}
+
+/// What a release of a copy in this mode does.
+fn released<'a>(object: usize, buffer: &'a [u8], mode: ReleaseMode) -> Answer<'a>
+    ensures { answer_view result ≡ released object buffer.entry.now (mode_view mode) }
+{
+    match mode {
+        ReleaseMode::CopyBackAndFree => Answer::CopiesBack(object, buffer, true),
+        ReleaseMode::CopyBack => Answer::CopiesBack(object, buffer, false),
+        ReleaseMode::FreeUncopied => Answer::Frees(buffer),
+    }
+}
+
+/// Lets an object have the numbers of the copy of this name, which is given up or not.
+pub(crate) fn copy_back(
+    store: &mut Store,
+    variables: &mut Variables<'_>,
+    object: usize,
+    buffer: &[u8],
+    frees: bool,
+) -> Result<(), AllocError>
+    ensures heap { IfOk result (λ _. store.new ≡ heap_copied object buffer.now (variables_view variables.old) store.old) }
+    ensures variables { IfOk result (λ _. variables_view variables.new ≡ variables_freed frees buffer.now (variables_view variables.old)) }
+{
+    store.put_numbers(object, variables.copy_named(buffer))?;
+    if frees {
+        variables.free(buffer);
+    }
+    Ok(())
+}
+
+/// `isCopy`, the variable of this name, unless it is NULL, tells a copy from a view.
+pub fn tell_copy<'a>(
+    variables: &mut Variables<'a>,
+    name: &'a [u8],
+    lent: Lent,
+) -> Result<(), AllocError>
+    ensures { IfOk result (λ _. (heap : Heap) → variables_view variables.new ≡ tell_copy name.entry.now (BufferResult (lent_view heap lent)) (variables_view variables.old)) }
+{
+    if name.is_empty() {
+        return Ok(());
+    }
+    match lent {
+        Lent::Copy(_) => variables.set_named(name, Content::Number(Value::Flag(true))),
+        Lent::View(_) => variables.set_named(name, Content::Number(Value::Flag(false))),
+        Lent::Nothing => Ok(()),
+    }
+}

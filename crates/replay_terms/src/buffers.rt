@@ -1,0 +1,74 @@
+//! What buffers take.
+
+ghost use Rattle.std.specs.Prelude.{◌≡◌, ◌≤◌, ◌<◌, ◌^◌, ◌+◌, IfSome, length};
+ghost use Rattle.semantics.specs.Variable.{copied_length, viewed};
+ghost use Rattle.replay_terms.specs.Views.{content_view, count_viewed};
+
+use crate::variable::Content;
+
+/// What buffers take of what there is for them.
+#[derive(Clone, Copy)]
+pub struct BuffersInUse {
+    /// The lengths of all copied lists together.
+    pub copied: usize,
+    /// How many views there are.
+    pub views: usize,
+}
+
+/// All copies together have at most this many elements.
+pub const MOST_COPIED: usize = 65_536;
+
+/// There are at most this many views.
+pub const MOST_VIEWS: usize = 64;
+
+/// What a variable takes.
+pub(crate) fn taken(content: &Content<'_>) -> BuffersInUse
+    ensures copied { result.copied ≡ copied_length (content_view content.now) }
+    ensures views { result.views ≡ count_viewed (content_view content.now) }
+    ensures few { result.views ≤ 1 }
+    ensures short { result.copied < 2 ^ 63 }
+{
+    match content {
+        Content::Copy(_, _, numbers) => BuffersInUse {
+            copied: numbers.len(),
+            views: 0,
+        },
+        Content::View(_, _) => BuffersInUse {
+            copied: 0,
+            views: 1,
+        },
+        Content::Number(_) | Content::Reference(_, _) => NOTHING,
+        Content::Field(_) | Content::Buffer(_) | Content::Array(_, _) => NOTHING,
+    }
+}
+
+/// What takes nothing.
+pub(crate) const NOTHING: BuffersInUse = BuffersInUse {
+    copied: 0,
+    views: 0,
+};
+
+/// What is in use with a part given up and another taken; none where that is more than there is.
+pub(crate) fn exchanged(
+    all: BuffersInUse,
+    old: BuffersInUse,
+    new: BuffersInUse,
+) -> Option<BuffersInUse>
+    requires copied { old.copied ≤ all.copied }
+    requires views { old.views ≤ all.views }
+    requires within { all.copied ≤ 65536 }
+    requires few { all.views ≤ 64 }
+    requires short { new.copied < 2 ^ 63 }
+    requires one { new.views ≤ 1 }
+    ensures copied { IfSome result (λ u. u.copied + old.copied ≡ all.copied + new.copied) }
+    ensures views { IfSome result (λ u. u.views + old.views ≡ all.views + new.views) }
+    ensures within { IfSome result (λ u. u.copied ≤ 65536) }
+    ensures few { IfSome result (λ u. u.views ≤ 64) }
+{
+    let copied = all.copied - old.copied + new.copied;
+    let views = all.views - old.views + new.views;
+    if copied > MOST_COPIED || views > MOST_VIEWS {
+        return None;
+    }
+    Some(BuffersInUse { copied, views })
+}
