@@ -238,7 +238,7 @@ static FAULTS_80: [Explanation; 4] = [
     Explanation {
         number: 83,
         title: b"a number is out of its limit",
-        text: b"fault 83: a number is out of its limit\n\nA heap has 512 to 1,048,576 cells, a jint, an element or a field the range of its type, a world at most 65,536 objects and one thread, which makes at most 256 calls, a schedule or a journal at most 1,000,000 turns or entries in all (one *N of more is 81).\nTake a smaller or a larger number, or fewer of them.\n\n    JNIEXPORT jint JNICALL Java_A_f(JNIEnv *env, jclass cls)\n    {\n        return 0;\n    }\n\n    heap 511\n    class A\n    thread Java_A_f\n\nfault 83 line 1\n",
+        text: b"fault 83: a number is out of its limit\n\nA heap has 512 to 1,048,576 cells, a jint, an element or a field the range of its type, a world at most 65,536 objects and 1 to 8 threads, each of which makes at most 256 calls, a schedule or a journal at most 1,000,000 turns or entries in all (one *N of more is 81).\nTake a smaller or a larger number, or fewer of them.\n\n    JNIEXPORT jint JNICALL Java_A_f(JNIEnv *env, jclass cls)\n    {\n        return 0;\n    }\n\n    heap 511\n    class A\n    thread Java_A_f\n\nfault 83 line 1\n",
     },
     Explanation {
         number: 84,

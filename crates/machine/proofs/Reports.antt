@@ -1,7 +1,7 @@
 -- The report of the state that a machine's journal leads to.
-use Rattle.std.proofs.Common.{append-nil, append_assoc, ⊎_elim, ◌≡◌, ℕ, zero, suc, ◌+◌, Bool, false, cond, List, [], ◌∷◌, ◌++◌, length, map, Option, Some, None, Result, refl, sym, ap, ◌∙◌, subst}
-use Rattle.std.specs.Prelude.{slice_get, flat_map, ◌==◌, is_some, not, ◌||◌, ◌&&◌}
-use Rattle.std.specs.List.{list_all, enumerate_from, AllZip}
+use Rattle.std.proofs.Common.{append-nil, append_assoc, ⊎_elim, ◌≡◌, ℕ, zero, suc, Bool, false, List, [], ◌∷◌, ◌++◌, length, map, Option, Some, None, Result, refl, sym, ap, ◌∙◌, subst}
+use Rattle.std.specs.Prelude.{slice_get, flat_map, is_some, ◌||◌}
+use Rattle.std.specs.List.{AllZip}
 use Rattle.std.specs.Option.{option_map, option_map_or}
 use Rattle.std.proofs.lemmas.List.Concat.{flat_map-cons}
 use Rattle.syntax.specs.Views.{unit_tree}
@@ -10,14 +10,14 @@ use Rattle.semantics.specs.declared.journal.Entry.{Entry}
 use Rattle.semantics.specs.declared.printed.Printed.{Printed}
 use Rattle.report.specs.declared.thread_status.ThreadStatus.{ThreadStatus}
 use Rattle.semantics.specs.JournalText.{journal_line}
-use Rattle.semantics.specs.Report.{ThreadStanding, HasTrapped, ShownRow, Report}
+use Rattle.semantics.specs.Report.{ThreadStanding, ShownRow, Report}
 use Rattle.report.specs.ReportText.{report_text}
 use Rattle.report.specs.Sink as sink
 use Rattle.report.specs.Sink.{Written}
 use Rattle.semantics.specs.World.{World, loaded_objects}
 use Rattle.report.specs.Shown.{report_with}
 use Rattle.report.specs.ThreadStatus.{standing_view}
-use Rattle.semantics.specs.ReportOf.{standing_by_ending, standing_of, shown, shown_row, report}
+use Rattle.semantics.specs.ReportOf.{shown, shown_row, report}
 use Rattle.report.specs.RunText as run_text
 use Rattle.semantics.specs.State as state
 use Rattle.semantics.specs.State.{State, views}
@@ -25,34 +25,28 @@ use Rattle.semantics.specs.Heap.{Heap}
 use Rattle.semantics.specs.Reachable.{from_one, loaded_count, thread_roots, roots, Reachable}
 use Rattle.semantics.specs.Task.{Task}
 use Rattle.semantics.proofs.ShownRows.{length-loaded}
-use Rattle.semantics.specs.Value.{trap_number}
-use Rattle.semantics.specs.Step.{is_waiting, is_blocked, is_unfinished}
+use Rattle.semantics.specs.Step.{is_waiting, is_blocked}
 use Rattle.semantics.specs.Thread as source
 use Rattle.semantics.specs.Thread.{Shared, Monitor, viewed_by}
 use Rattle.heap.specs.Heap.{Space, left_of, name_at}
 use Rattle.code_meaning.specs.Lowered.{Lowered, IsLowered}
 use Rattle.code_meaning.specs.Slots.{Visible, visible_to}
 use Rattle.report_objects.specs.Rows.{AreReported}
-use Rattle.machine_steps.specs.declared.thread.Ending.{Ending}
-use Rattle.machine_steps.specs.declared.thread.Ending.TheVariants as ending
 use Rattle.machine_calls.specs.declared.activation.Activation.{Activation}
 use Rattle.machine_steps.specs.declared.thread.Thread.{Thread}
 use Rattle.machine.specs.declared.stop.Stop.{Stop}
-use Rattle.machine_steps.specs.ThreadAgrees.{ThreadsAgree, ending_view}
+use Rattle.machine_steps.specs.ThreadAgrees.{ThreadsAgree}
 use Rattle.machine_steps.specs.Executes.{WorkAgrees}
 use Rattle.machine_calls.specs.HeapAgrees.{IsNamed}
 use Rattle.machine.specs.Rows.{AreSeen}
 use Rattle.machine.proofs.ReachableNames.{loaded_named, reachable_named, slots_named, threads_named}
 use Rattle.semantics.proofs.ReachableLemmas.{In, contains_in, in_append_cases, in_append_left, in_append_right, to_contains}
 use Rattle.semantics_safety.specs.Owners.{AllOwners, owners_after}
-use Rattle.machine.specs.Stops as machine
 use Rattle.machine.specs.Stops.{stop_view}
-use Rattle.machine_calls.specs.Traps.{trap_view}
 use Rattle.machine.specs.Run as run
 use Rattle.semantics.specs.Run.{MarkedAreFair, UnmarkedFit}
 use Rattle.machine_calls.specs.declared.store.Store.{Store}
-use Rattle.machine.specs.Run.{Run, Corresponds, WritesRun, AreShown, ShowsObjects, IsFinished}
-use Rattle.machine.proofs.Standings.{standings}
+use Rattle.machine.specs.Run.{Run, Corresponds, WritesRun, AllRest, AreShown, ShowsObjects, ShowsStandings, IsFinished, standings_in}
 use Rattle.machine_steps.proofs.Threads.{unblocked}
 use Rattle.machine.specs.Roots.{AreAddresses, name_of, root_places, ThreadsAreStacked}
 use Rattle.std.specs.Prelude.{Contains}
@@ -62,7 +56,7 @@ use Rattle.tables.specs.References.{references_in}
 use Rattle.machine.proofs.GatheredRoots.{gathered_roots, in_map, in_place, map_in, place_in, places_are, roots_gathered}
 use Rattle.machine.proofs.RootNames.{CallFrames, HasRootsOf}
 
--- ---- the statuses of threads
+-- ---- threads that wait
 
 free_at : (p : Lowered) (classes : Classes) (space : Space) (made : ℕ) (owners : AllOwners) (j k : ℕ) (shared : Shared) (ts : List Thread) (ss : List source.Thread) (i : ℕ) → IsLowered p → ThreadsAgree p classes space made owners j shared ts ss → is_waiting classes k shared (slice_get ss i) ≡ false
 free_at p classes space made owners j k shared [] [] i l h = refl
@@ -71,69 +65,31 @@ free_at p classes space made owners j k shared (t ∷ ts) [] i l h = absurd h
 free_at p classes space made owners j k shared (t ∷ ts) (s ∷ ss) zero l h = unblocked p classes space made k (owners j) shared t s l h.0
 free_at p classes space made owners j k shared (t ∷ ts) (s ∷ ss) (suc i) l h = free_at p classes space made owners (suc j) k shared ts ss i l h.1
 
-never_blocked : (p : Lowered) (classes : Classes) (space : Space) (made : ℕ) (owners : AllOwners) (j : ℕ) (s : State) (ts : List Thread) → IsLowered p → ThreadsAgree p classes space made owners j s.shared ts s.threads → (k : ℕ) → is_blocked classes s k ≡ false
+-- no thread waits for a monitor
+pub never_blocked : (p : Lowered) (classes : Classes) (space : Space) (made : ℕ) (owners : AllOwners) (j : ℕ) (s : State) (ts : List Thread) → IsLowered p → ThreadsAgree p classes space made owners j s.shared ts s.threads → (k : ℕ) → is_blocked classes s k ≡ false
 never_blocked p classes space made owners j s ts l h zero = refl
 never_blocked p classes space made owners j s ts l h (suc i) = free_at p classes space made owners j (suc i) s.shared ts s.threads i l h
-
-stands : (classes : Classes) (blocked : Bool) (e : Ending) (f : source.Ending) → blocked ≡ false → f ≡ ending_view e → standing_by_ending classes blocked f ≡ machine.standing_by_ending classes e
-stands classes blocked ending.Unfinished f b e = rw (b, e) refl
-stands classes blocked ending.Ended f b e = rw (b, e) refl
-stands classes blocked (ending.Uncaught c) f b e = rw (b, e) refl
-
-one_stands : (classes : Classes) (s : State) (stop : Option Stop) (k : ℕ) (e : Ending) (x : source.Thread) → is_blocked classes s k ≡ false → x.ending ≡ ending_view e → standing_of classes s k x (option_map stop_view stop) ≡ machine.standing_of classes stop k e
-one_stands classes s None k e x free same = stands classes (is_blocked classes s k) e x.ending free same
-one_stands classes s (Some stop) k e x free same =
-    ap (λ (other : ThreadStanding). cond (stop.thread == k) (HasTrapped (trap_number (trap_view stop.trap)) stop.line) other) (stands classes (is_blocked classes s k) e x.ending free same)
-
-each_stands : (p : Lowered) (classes : Classes) (space : Space) (made : ℕ) (owners : AllOwners) (k : ℕ) (shared : Shared) (s : State) (stop : Option Stop) (n : ℕ) (ts : List Thread) (ss : List source.Thread) → ((k : ℕ) → is_blocked classes s k ≡ false) → ThreadsAgree p classes space made owners k shared ts ss
-    → map (λ (t : ℕ × source.Thread). standing_of classes s t.0 t.1 (option_map stop_view stop)) (enumerate_from n ss) ≡ standings classes stop n ts
-each_stands p classes space made owners k shared s stop n [] [] free h = refl
-each_stands p classes space made owners k shared s stop n [] (x ∷ ss) free h = absurd h
-each_stands p classes space made owners k shared s stop n (t ∷ ts) [] free h = absurd h
-each_stands p classes space made owners k shared s stop n (t ∷ ts) (x ∷ ss) free h =
-    ap (λ v. v ∷ map (λ (t : ℕ × source.Thread). standing_of classes s t.0 t.1 (option_map stop_view stop)) (enumerate_from (n + 1) ss)) (one_stands classes s stop n t.ending x (free n) h.0.ending)
-    ∙ ap (λ vs. machine.standing_of classes stop n t.ending ∷ vs) (each_stands p classes space made owners (suc k) shared s stop (n + 1) ts ss free h.1)
 
 -- ---- the report
 
 pub report_is : (p : Lowered) (world : World) (store : Store) (ts : List Thread) (printed : List Printed) (stop : Option Stop) (journal : List Entry) (c : Corresponds p world store ts printed stop journal) (shown_standings : List ThreadStatus) (rows : List ShownRow)
-    → map standing_view shown_standings ≡ standings world.classes stop 1 ts → rows ≡ map (shown_row world.classes c.state.shared.heap) (shown world c.state) → report world c.state ≡ report_with printed shown_standings rows
+    → map standing_view shown_standings ≡ standings_in world.classes c.state → rows ≡ map (shown_row world.classes c.state.shared.heap) (shown world c.state) → report world c.state ≡ report_with printed shown_standings rows
 unfolding report
 report_is p world store ts printed stop journal c shown_standings rows told shows =
-    let before = map (λ (t : ℕ × source.Thread). standing_of world.classes c.state t.0 t.1 c.state.stop) (enumerate_from 1 c.state.threads) in
-    let same : before ≡ map standing_view shown_standings =
-    ap (λ (o : Option state.Stop). map (λ (t : ℕ × source.Thread). standing_of world.classes c.state t.0 t.1 o) (enumerate_from 1 c.state.threads)) c.same_stop
-    ∙ each_stands p world.classes store.heap (length (loaded_objects world)) (owners_after (unit_tree p.unit) world journal) 1 c.state.shared c.state stop 1 ts c.state.threads (never_blocked p world.classes store.heap (length (loaded_objects world)) (owners_after (unit_tree p.unit) world journal) 1 c.state ts c.lowered c.threads_agree) c.threads_agree
-    ∙ sym told in
-    ap (λ (l : List Printed). let r : Report = record { printed = l; standings = before; objects = map (shown_row world.classes c.state.shared.heap) (shown world c.state) } in r) c.same_printed
-    ∙ ap (λ (l : List ThreadStanding). let r : Report = record { printed = printed; standings = l; objects = map (shown_row world.classes c.state.shared.heap) (shown world c.state) } in r) same
+    ap (λ (l : List Printed). let r : Report = record { printed = l; standings = standings_in world.classes c.state; objects = map (shown_row world.classes c.state.shared.heap) (shown world c.state) } in r) c.same_printed
+    ∙ ap (λ (l : List ThreadStanding). let r : Report = record { printed = printed; standings = l; objects = map (shown_row world.classes c.state.shared.heap) (shown world c.state) } in r) (sym told)
     ∙ ap (λ (l : List ShownRow). let r : Report = record { printed = printed; standings = map standing_view shown_standings; objects = l } in r) (sym shows)
 
 -- ---- the end
 
-one_ended : (e : Ending) (f : source.Ending) (blocked : Bool) → blocked ≡ false → f ≡ ending_view e → run.has_ended e ≡ (not (is_unfinished f) || blocked)
-one_ended ending.Unfinished f b h e = rw (h, e) refl
-one_ended ending.Ended f b h e = rw (h, e) refl
-one_ended (ending.Uncaught c) f b h e = rw (h, e) refl
-
-each_ended : (p : Lowered) (classes : Classes) (space : Space) (made : ℕ) (owners : AllOwners) (k : ℕ) (shared : Shared) (s : State) (n : ℕ) (ts : List Thread) (ss : List source.Thread) → ((k : ℕ) → is_blocked classes s k ≡ false) → ThreadsAgree p classes space made owners k shared ts ss
-    → list_all (λ (t : Thread). run.has_ended t.ending) ts ≡ list_all (λ (t : ℕ × source.Thread). not (is_unfinished t.1.ending) || is_blocked classes s t.0) (enumerate_from n ss)
-each_ended p classes space made owners k shared s n [] [] free h = refl
-each_ended p classes space made owners k shared s n [] (x ∷ ss) free h = absurd h
-each_ended p classes space made owners k shared s n (t ∷ ts) [] free h = absurd h
-each_ended p classes space made owners k shared s n (t ∷ ts) (x ∷ ss) free h =
-    ap (λ b. b && list_all (λ (t : Thread). run.has_ended t.ending) ts) (one_ended t.ending x.ending (is_blocked classes s n) (free n) h.0.ending)
-    ∙ ap (λ b. (not (is_unfinished x.ending) || is_blocked classes s n) && b) (each_ended p classes space made owners (suc k) shared s (n + 1) ts ss free h.1)
-
 pub is_finished : (p : Lowered) (world : World) (store : Store) (ts : List Thread) (printed : List Printed) (stop : Option Stop) (journal : List Entry) (c : Corresponds p world store ts printed stop journal) (now : Run)
     → ◌≡◌ {A = Run} (record { unit = p.unit; world = world; journal = journal; left = left_of store.heap }) now
-    → (answer : Bool) → answer ≡ (is_some stop || list_all (λ (t : Thread). run.has_ended t.ending) ts) → IsFinished now answer
-is_finished p world store ts printed stop journal c now view answer h =
-    let free = never_blocked p world.classes store.heap (length (loaded_objects world)) (owners_after (unit_tree p.unit) world journal) 1 c.state ts c.lowered c.threads_agree in
-    let same : answer ≡ run.is_finished world.classes c.state =
-    h ∙ ap (λ b. is_some stop || b) (each_ended p world.classes store.heap (length (loaded_objects world)) (owners_after (unit_tree p.unit) world journal) 1 c.state.shared c.state 1 ts c.state.threads free c.threads_agree)
-    ∙ ap (λ b. b || list_all (λ (t : ℕ × source.Thread). not (is_unfinished t.1.ending) || is_blocked world.classes c.state t.0) (enumerate_from 1 c.state.threads)) (has_stopped stop ∙ ap (λ (o : Option state.Stop). is_some o) (sym c.same_stop)) in
-    subst (λ (r : Run). IsFinished r answer) view (c.state, c.replays, same)
+    → (stopped : Bool) → stopped ≡ is_some stop → (rest : Bool) → AllRest now rest → IsFinished now (stopped || rest)
+is_finished p world store ts printed stop journal c now view stopped is rest h =
+    let here : AllRest (record { unit = p.unit; world = world; journal = journal; left = left_of store.heap }) rest = subst (λ (r : Run). AllRest r rest) (sym view) h in
+    let state_is : here.0 ≡ c.state = cc (here.1, c.replays) in
+    let same : rest ≡ run.all_rest world.classes c.state = subst (λ (x : State). rest ≡ run.all_rest world.classes x) state_is here.2 in
+    subst (λ (r : Run). IsFinished r (stopped || rest)) view (c.state, c.replays, (λ i. (is ∙ has_stopped stop ∙ ap (λ (o : Option state.Stop). is_some o) (sym c.same_stop)) i || same i))
   where
     has_stopped : (o : Option Stop) → is_some o ≡ is_some (option_map stop_view o)
     has_stopped None = refl
@@ -170,8 +126,12 @@ module _ (p : Lowered) (world : World) (store : Store) (ts : List Thread) (print
   roots_in : AllZip (HasRootsOf store.heap) ts c.state.threads
   roots_in = roots_of p world.classes store.heap (length (loaded_objects world)) (owners_after (unit_tree p.unit) world journal) 1 c.state.shared ts c.state.threads c.threads_agree
 
-  -- the state's roots are the objects made at load, the global references and what the threads refer to
-  roots_are : roots world c.state ≡ from_one (length store.loaded.items) ++ (c.state.shared.globals ++ flat_map thread_roots c.state.threads)
+  -- the objects made at load, the global references and what the threads refer to
+  abbrev source_roots : List ℕ
+  source_roots = from_one (length store.loaded.items) ++ (c.state.shared.globals ++ flat_map thread_roots c.state.threads)
+
+  -- those are all the state's roots, as no monitor is owned and nothing is viewed
+  roots_are : roots world c.state ≡ source_roots
   roots_are =
       let names = flat_map thread_roots c.state.threads in
       let globals = c.state.shared.globals in
@@ -184,20 +144,26 @@ module _ (p : Lowered) (world : World) (store : Store) (ts : List Thread) (print
       ∙ ap (λ n. (from_one n ++ globals) ++ names) count
       ∙ append_assoc (from_one (length store.loaded.items)) globals names
 
-  -- each of these has a block
+  -- so each root is one of them, and each of them a root
+  root_among : (n : ℕ) → Contains (roots world c.state) n → In source_roots n
+  root_among n k = contains_in source_roots n (subst (λ (l : List ℕ). Contains l n) roots_are k)
+
+  among_roots : (n : ℕ) → In source_roots n → Contains (roots world c.state) n
+  among_roots n k = subst (λ (l : List ℕ). Contains l n) (sym roots_are) (to_contains source_roots n k)
+
+  -- each root has a block
   root_there : (n : ℕ) → Contains (roots world c.state) n → IsNamed store.heap n
   root_there n k =
       let front = from_one (length store.loaded.items) in
       let globals = c.state.shared.globals in
       let names = flat_map thread_roots c.state.threads in
-      let there : In (front ++ (globals ++ names)) n = contains_in (front ++ (globals ++ names)) n (subst (λ (l : List ℕ). Contains l n) roots_are k) in
       ⊎_elim
       (λ (l : In front n). loaded_named store.heap store.loaded.items (length (loaded_objects world)) n c.store_agrees.table l)
       (λ (l : In (globals ++ names) n). ⊎_elim
       (λ (g : In globals n). slots_named store.heap store.globals globals n c.store_agrees.globals g)
       (λ (t : In names n). threads_named store.heap ts c.state.threads n roots_in t)
       (in_append_cases globals names n l))
-      (in_append_cases front (globals ++ names) n there)
+      (in_append_cases front (globals ++ names) n (root_among n k))
 
   -- and so has each object that can be reached
   pub reachable_there : (n : ℕ) → Reachable world c.state n → IsNamed store.heap n
@@ -205,22 +171,17 @@ module _ (p : Lowered) (world : World) (store : Store) (ts : List Thread) (print
 
   -- ---- the roots, place by place
 
-  -- what the roots' names are
-  abbrev source_roots : List ℕ
-  source_roots = from_one (length store.loaded.items) ++ (c.state.shared.globals ++ flat_map thread_roots c.state.threads)
-
   -- each gathered address has the name of a root
   pub gathered_name : ThreadsAreStacked ts → (a : ℕ) → Contains (root_places store ts) (Some a) → (n : ℕ) × (name_at store.heap a ≡ Some n) × Contains (roots world c.state) n
   gathered_name stacked a there =
       let among = subst (λ (l : List ℕ). In l a) (places_are store ts) (place_in (root_places store ts) a there) in
       let r = gathered_roots store.heap store (length (loaded_objects world)) ts c.state.threads c.state.shared.globals a c.store_agrees.table c.store_agrees.globals roots_in stacked among in
-      (r.0, r.1, subst (λ (l : List ℕ). Contains l r.0) (sym roots_are) (to_contains source_roots r.0 r.2))
+      (r.0, r.1, among_roots r.0 r.2)
 
   -- and each root's name that of a gathered address
   pub name_gathered : (n : ℕ) → Contains (roots world c.state) n → (a : ℕ) × (name_at store.heap a ≡ Some n) × Contains (root_places store ts) (Some a)
   name_gathered n k =
-      let r = roots_gathered store.heap store (length (loaded_objects world)) ts c.state.threads c.state.shared.globals n c.store_agrees.table c.store_agrees.globals roots_in
-      (contains_in source_roots n (subst (λ (l : List ℕ). Contains l n) roots_are k)) in
+      let r = roots_gathered store.heap store (length (loaded_objects world)) ts c.state.threads c.state.shared.globals n c.store_agrees.table c.store_agrees.globals roots_in (root_among n k) in
       (r.0, r.1, in_place (root_places store ts) r.0 (subst (λ (l : List ℕ). In l r.0) (sym (places_are store ts)) r.2))
 
   -- their objects are there
@@ -246,7 +207,7 @@ module _ (p : Lowered) (world : World) (store : Store) (ts : List Thread) (print
             to_contains (from_one loaded ++ names) m (in_append_right (from_one loaded) names m (subst (λ (ns : List ℕ). In ns m) (sym n) among));
         complete = λ m there. ⊎_elim
             (λ (f : In (from_one loaded) m).
-            subst (λ (ns : List ℕ). Contains ns m) (sym roots_are) (to_contains source_roots m (in_append_left (from_one (length store.loaded.items)) (c.state.shared.globals ++ flat_map thread_roots c.state.threads) m (subst (λ (x : ℕ). In (from_one x) m) l f))))
+            among_roots m (in_append_left (from_one (length store.loaded.items)) (c.state.shared.globals ++ flat_map thread_roots c.state.threads) m (subst (λ (x : ℕ). In (from_one x) m) l f)))
             (λ (f : In names m).
             let back = map_in (name_of store.heap) (references_in (root_places store ts)) m (subst (λ (ns : List ℕ). In ns m) n f) in
             let r = gathered_name stacked back.0 (in_place (root_places store ts) back.0 back.1) in
@@ -273,17 +234,20 @@ module _ (p : Lowered) (world : World) (store : Store) (ts : List Thread) (print
 
   -- what is written with them is what the run writes
   pub writes_run : {T E : Type 0} (old new : Written) (result : Result T E) (numbers : List Printed) (told : List ThreadStatus) (rows : List ShownRow) (entries : List Entry)
-      → numbers ≡ printed → map standing_view told ≡ standings world.classes stop 1 ts → ShowsObjects now rows → entries ≡ journal
+      → numbers ≡ printed → ShowsStandings now (map standing_view told) → ShowsObjects now rows → entries ≡ journal
       → sink.Writes old new result (report_text (report_with numbers told rows) ++ journal_line entries)
       → WritesRun now old new result
   writes_run old new result numbers told rows entries n s shows e h =
       let there : ShowsObjects (record { unit = p.unit; world = world; journal = journal; left = left_of store.heap }) rows = subst (λ (r : Run). ShowsObjects r rows) (sym view) shows in
       let state_is : there.0 ≡ c.state = cc (there.1, c.replays) in
+      let stood : ShowsStandings (record { unit = p.unit; world = world; journal = journal; left = left_of store.heap }) (map standing_view told) = subst (λ (r : Run). ShowsStandings r (map standing_view told)) (sym view) s in
+      let stood_is : stood.0 ≡ c.state = cc (stood.1, c.replays) in
+      let standings_shown = subst (λ (x : State). map standing_view told ≡ standings_in world.classes x) stood_is stood.2 in
       let rows_shown = subst (λ (x : State). rows ≡ map (shown_row world.classes x.shared.heap) (shown world x)) state_is there.2 in
       let same : report_text (report_with numbers told rows) ++ journal_line entries ≡ report_text (report world c.state) ++ journal_line journal =
       ap (λ (l : List Printed). report_text (report_with l told rows) ++ journal_line entries) n
       ∙ ap (λ (l : List Entry). report_text (report_with printed told rows) ++ journal_line l) e
-      ∙ ap (λ (r : Report). report_text r ++ journal_line journal) (sym (report_is p world store ts printed stop journal c told rows s rows_shown)) in
+      ∙ ap (λ (r : Report). report_text r ++ journal_line journal) (sym (report_is p world store ts printed stop journal c told rows standings_shown rows_shown)) in
       let written : run_text.Writes (unit_tree p.unit) world journal (report_text (report_with numbers told rows) ++ journal_line entries) = record { end = c.state; replays = c.replays; same = same } in
       record {
         text = report_text (report_with numbers told rows) ++ journal_line entries;

@@ -12,7 +12,7 @@ use Rattle.semantics.specs.declared.printed.Printed.{Printed}
 use Rattle.semantics.specs.World.{World, loaded_objects}
 use Rattle.semantics.specs.State.{State, thread_at, set_thread, in_use, with_event}
 use Rattle.semantics.specs.State.{advanced as advanced_to}
-use Rattle.semantics.specs.Step.{can_step, is_unfinished, world_step}
+use Rattle.semantics.specs.Step.{can_step, is_blocked, is_unfinished, is_waiting, world_step}
 use Rattle.semantics.specs.ThreadStep.{thread_step}
 use Rattle.semantics.specs.Thread as source
 use Rattle.semantics.specs.Thread.{BuffersInUse, Shared}
@@ -45,7 +45,6 @@ use Rattle.machine_steps.specs.declared.advance.Advanced.TheVariants as advanced
 use Rattle.machine.specs.Run.{Run, AdvancesAlways, Corresponds, CouldStep, HadNoRoom, LeavesAll, TurnHolds, entry_of, event_of, is_refused, printed_after, turn_after, HasEnded}
 use Rattle.machine.proofs.KeptThreads.{threads_stay}
 use Rattle.machine.proofs.OwnerSteps.{Found, changed, found, owner_elsewhere, owner_here, owners_stepped}
-use Rattle.machine_steps.proofs.Threads.{unblocked}
 use Rattle.semantics_typing.specs.Objects.{AreTypedVariables}
 use Rattle.semantics_typing.proofs.Lists.{all_get}
 use Rattle.semantics_safety.specs.Owners.{AllOwners, Owners, after_advance, owners_after, with_owners}
@@ -143,11 +142,14 @@ module _ (p : Lowered) (world : World) (store : Store) (ts : List Thread) (print
   running : stop ≡ None → c.state.stop ≡ None
   running goes = c.same_stop ∙ ap (option_map stop_view) goes
 
-  steps_here : stop ≡ None → t.ending ≡ Unfinished → Steps classes c.state k the_thread.source
-  steps_here goes live = steps classes c.state k the_thread.source (running goes) there (the_thread.agrees.ending ∙ ap ending_view live) (unblocked p classes store.heap count_made k (owners k) c.state.shared t the_thread.source c.lowered the_thread.agrees)
+  abbrev Free : Type 0
+  Free = is_blocked classes c.state k ≡ false
 
-  pub can_turn_here : stop ≡ None → t.ending ≡ Unfinished → can_step classes c.state k ≡ true
-  can_turn_here goes live = (steps_here goes live).can
+  steps_here : stop ≡ None → t.ending ≡ Unfinished → Free → Steps classes c.state k the_thread.source
+  steps_here goes live free = steps classes c.state k the_thread.source (running goes) there (the_thread.agrees.ending ∙ ap ending_view live) (sym (ap (is_waiting classes k c.state.shared) there) ∙ free)
+
+  pub can_turn_here : stop ≡ None → t.ending ≡ Unfinished → Free → can_step classes c.state k ≡ true
+  can_turn_here goes live free = (steps_here goes live free).can
 
   is_over : (e : Ending) → (e ≡ Unfinished → ⊥) → is_unfinished (ending_view e) ≡ false
   is_over Unfinished h = absurd (h refl)
@@ -163,34 +165,34 @@ module _ (p : Lowered) (world : World) (store : Store) (ts : List Thread) (print
   fits_entry false next room step = has_room p world store c.state next k c.store_agrees (reachable_there p world store ts printed stop journal c) room step
 
   -- a step that was refused had no room for what it would have made
-  no_room : (store' : Store) (after : Thread) → stop ≡ None → t.ending ≡ Unfinished → StepsAlways p world store store' t after true event.Quiet → (left_of store.heap < sizes (made (unit_tree p.unit) world c.state k)) × (left_of store'.heap ≡ left_of store.heap)
-  no_room store' after goes live advances =
+  no_room : (store' : Store) (after : Thread) → stop ≡ None → t.ending ≡ Unfinished → Free → StepsAlways p world store store' t after true event.Quiet → (left_of store.heap < sizes (made (unit_tree p.unit) world c.state k)) × (left_of store'.heap ≡ left_of store.heap)
+  no_room store' after goes live free advances =
       let f = the_thread in
       let a = advances (in_use c.state) k (owners k) c.state.shared f.source c.store_agrees f.agrees steady in
       let short = a.short refl in
-      let step = ap (made_between c.state) (step-thread (unit_tree p.unit) classes c.state k f.source false (steps_here goes live)) in
+      let step = ap (made_between c.state) (step-thread (unit_tree p.unit) classes c.state k f.source false (steps_here goes live free)) in
       let cells : sizes (made (unit_tree p.unit) world c.state k) ≡ cells_made c.state.shared (thread_step (unit_tree p.unit) classes (in_use c.state) k c.state.shared f.source false) =
       ap sizes step ∙ made_cells c.state k (thread_step (unit_tree p.unit) classes (in_use c.state) k c.state.shared f.source false) in
       (omega (arith, short.0, cells), ap left_of short.1)
 
   -- so it was fair, where all cells were left but those of what can be reached
-  fair_entry : (store' : Store) (after : Thread) (refused : Bool) (e : Event) → stop ≡ None → t.ending ≡ Unfinished → StepsAlways p world store store' t after refused e → (refused ≡ true → e ≡ event.Quiet) → (refused ≡ true → left_of store.heap ≡ world.cells - live_size world c.state)
+  fair_entry : (store' : Store) (after : Thread) (refused : Bool) (e : Event) → stop ≡ None → t.ending ≡ Unfinished → Free → StepsAlways p world store store' t after refused e → (refused ≡ true → e ≡ event.Quiet) → (refused ≡ true → left_of store.heap ≡ world.cells - live_size world c.state)
       → IsFairMarked (unit_tree p.unit) world c.state (Step k refused)
-  fair_entry store' after false e goes live advances quiet left = tt
-  fair_entry store' after true e goes live advances quiet left =
-      let short = no_room store' after goes live (subst (λ (x : Event). StepsAlways p world store store' t after true x) (quiet refl) advances) in
+  fair_entry store' after false e goes live free advances quiet left = tt
+  fair_entry store' after true e goes live free advances quiet left =
+      let short = no_room store' after goes live free (subst (λ (x : Event). StepsAlways p world store store' t after true x) (quiet refl) advances) in
       inl (omega (arith, short.0, left refl))
 
   -- the machine after the step
-  pub steps_on : (store' : Store) (after : Thread) (refused : Bool) (e : Event) → stop ≡ None → t.ending ≡ Unfinished → StepsAlways p world store store' t after refused e → (refused ≡ true → e ≡ event.Quiet) → (refused ≡ true → left_of store.heap ≡ world.cells - live_size world c.state)
+  pub steps_on : (store' : Store) (after : Thread) (refused : Bool) (e : Event) → stop ≡ None → t.ending ≡ Unfinished → Free → StepsAlways p world store store' t after refused e → (refused ≡ true → e ≡ event.Quiet) → (refused ≡ true → left_of store.heap ≡ world.cells - live_size world c.state)
       → Corresponds p world store' (slice_set ts i after) (printed_after printed k e) (stop_after stop k e) (journal ++ Step k refused ∷ [])
-  steps_on store' after refused e goes live advances quiet left =
+  steps_on store' after refused e goes live free advances quiet left =
       let f = the_thread in
       let entry : Entry = Step k refused in
       let a = advances (in_use c.state) k (owners k) c.state.shared f.source c.store_agrees f.agrees steady in
       let next = next_state c.state k a.next_shared a.next e in
       let step : world_step (unit_tree p.unit) classes c.state entry ≡ Some next =
-      step-thread (unit_tree p.unit) classes c.state k f.source refused (steps_here goes live) ∙ ap (advanced_to c.state k) a.steps in
+      step-thread (unit_tree p.unit) classes c.state k f.source refused (steps_here goes live free) ∙ ap (advanced_to c.state k) a.steps in
       let shared_is : next.shared ≡ a.next_shared = shared_next c.state k a.next_shared a.next e in
       let others = threads_stay p classes count_made store.heap store'.heap c.state.shared a.next_shared a.keeps owners 1 ts c.state.threads c.threads_agree in
       let shares : StoreAgrees p world store' next.shared = subst (StoreAgrees p world store') (sym shared_is) a.store_agrees in
@@ -216,7 +218,7 @@ module _ (p : Lowered) (world : World) (store : Store) (ts : List Thread) (print
         fits = each-more (unit_tree p.unit) world (FitsUnmarked (unit_tree p.unit) world) (Some (start (unit_tree p.unit) world)) journal entry c.fits
             (λ s there. let same : c.state ≡ s = cc (sym c.replays, there) in subst (λ (x : State). FitsUnmarked (unit_tree p.unit) world x (Step k refused)) same (fits_entry refused next room step));
         fair = each-more (unit_tree p.unit) world (IsFairMarked (unit_tree p.unit) world) (Some (start (unit_tree p.unit) world)) journal entry c.fair
-            (λ s there. let same : c.state ≡ s = cc (sym c.replays, there) in subst (λ (x : State). IsFairMarked (unit_tree p.unit) world x (Step k refused)) same (fair_entry store' after refused e goes live advances quiet left));
+            (λ s there. let same : c.state ≡ s = cc (sym c.replays, there) in subst (λ (x : State). IsFairMarked (unit_tree p.unit) world x (Step k refused)) same (fair_entry store' after refused e goes live free advances quiet left));
         born =
             let before : store.births ≡ length c.state.shared.heap = c.store_agrees.births in
             let now : store'.births ≡ length a.next_shared.heap = a.store_agrees.births in
@@ -226,17 +228,17 @@ module _ (p : Lowered) (world : World) (store : Store) (ts : List Thread) (print
       }
 
   -- the same by what is told of the step
-  pub steps_by : (store' : Store) (after : Thread) (x : Advanced) → stop ≡ None → t.ending ≡ Unfinished → AdvancesAlways p world store store' t after x → (x ≡ advanced.Refused → left_of store.heap ≡ world.cells - live_size world c.state)
+  pub steps_by : (store' : Store) (after : Thread) (x : Advanced) → stop ≡ None → t.ending ≡ Unfinished → Free → AdvancesAlways p world store store' t after x → (x ≡ advanced.Refused → left_of store.heap ≡ world.cells - live_size world c.state)
       → Corresponds p world store' (slice_set ts i after) (printed_after printed k (event_of x)) (stop_after stop k (event_of x)) (journal ++ Step k (is_refused x) ∷ [])
-  steps_by store' after (advanced.Did e) goes live advances left = steps_on store' after false e goes live advances (λ h. absurd (cc)) (λ h. absurd (cc))
-  steps_by store' after advanced.Refused goes live advances left = steps_on store' after true event.Quiet goes live advances (λ h. refl) (λ h. left refl)
+  steps_by store' after (advanced.Did e) goes live free advances left = steps_on store' after false e goes live free advances (λ h. absurd (cc)) (λ h. absurd (cc))
+  steps_by store' after advanced.Refused goes live free advances left = steps_on store' after true event.Quiet goes live free advances (λ h. refl) (λ h. left refl)
 
   -- a step that was refused had no room, and left all cells but those of what can be reached
-  pub short_by : (store' : Store) (after : Thread) (x : Advanced) → stop ≡ None → t.ending ≡ Unfinished → AdvancesAlways p world store store' t after x → (x ≡ advanced.Refused → left_of store.heap ≡ world.cells - live_size world c.state)
+  pub short_by : (store' : Store) (after : Thread) (x : Advanced) → stop ≡ None → t.ending ≡ Unfinished → Free → AdvancesAlways p world store store' t after x → (x ≡ advanced.Refused → left_of store.heap ≡ world.cells - live_size world c.state)
       → x ≡ advanced.Refused → (left_of store'.heap < sizes (made (unit_tree p.unit) world c.state k)) × (left_of store'.heap ≡ world.cells - live_size world c.state)
-  short_by store' after (advanced.Did e) goes live advances left is = absurd (cc)
-  short_by store' after advanced.Refused goes live advances left is =
-      let short = no_room store' after goes live advances in
+  short_by store' after (advanced.Did e) goes live free advances left is = absurd (cc)
+  short_by store' after advanced.Refused goes live free advances left is =
+      let short = no_room store' after goes live free advances in
       let first : left_of store.heap < sizes (made (unit_tree p.unit) world c.state k) = short.0 in
       let same : left_of store'.heap ≡ left_of store.heap = short.1 in
       (omega (arith, first, same), same ∙ left refl)

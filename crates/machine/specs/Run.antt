@@ -15,8 +15,8 @@ use Rattle.report.specs.Sink as sink
 use Rattle.report.specs.Sink.{Written}
 use Rattle.semantics.specs.World.{World, loaded_objects}
 use Rattle.report.specs.RunText as run_text
-use Rattle.semantics.specs.Report.{ShownRow}
-use Rattle.semantics.specs.ReportOf.{shown, shown_row}
+use Rattle.semantics.specs.Report.{ThreadStanding, ShownRow}
+use Rattle.semantics.specs.ReportOf.{shown, shown_row, standing_of}
 use Rattle.semantics.specs.Heap.{Heap}
 use Rattle.report_objects.specs.Rows.{AreReported}
 use Rattle.semantics.specs.Object.{sizes}
@@ -153,10 +153,17 @@ pub record HasEnded (s : State) (k : ℕ) : Type 0 where
   pub is : thread_at s k ≡ Some thread
   pub ended : is_unfinished thread.ending ≡ false
 
+-- a thread, its number with it, has ended or waits for a monitor
+abbrev pub is_resting : Classes → State → ℕ × SourceThread → Bool
+is_resting classes s t = not (is_unfinished t.1.ending) || is_blocked classes s t.0
+
+-- each thread has ended or waits
+abbrev pub all_rest : Classes → State → Bool
+all_rest classes s = list_all (is_resting classes s) (enumerate_from 1 s.threads)
+
 -- a trap has stopped the machine, or each thread has ended or waits for a monitor
 abbrev pub is_finished : Classes → State → Bool
-is_finished classes s =
-    is_some s.stop || list_all (λ (t : ℕ × SourceThread). not (is_unfinished t.1.ending) || is_blocked classes s t.0) (enumerate_from 1 s.threads)
+is_finished classes s = is_some s.stop || all_rest classes s
 
 -- no trap has stopped the machine, and thread k waits for a monitor; whether each thread that hasn't ended waits
 pub record IsWaiting (classes : Classes) (s : State) (k : ℕ) (all : Bool) : Type 0 where
@@ -211,12 +218,19 @@ TurnHolds old k new turn.Full = (new ≡ old) × (1000000 ≤ length old.journal
 TurnHolds old k new turn.Short = (new ≡ refused old k new.left) × CouldStep old k × HadNoRoom old k new.left × LeavesAll old new.left
 TurnHolds old k new turn.Stepped = (new ≡ stepped old k new.left) × CouldStep old k
 
--- the turn of a thread that takes no step, by what is known before
-abbrev pub turn_without_step : (stopped ended full : Bool) → Option Answer
-turn_without_step true ended full = Some turn.Stopped
-turn_without_step false true full = Some turn.Ended
-turn_without_step false false true = Some turn.Full
-turn_without_step false false false = None
+-- the turn of a thread that has no step to take: the machine has stopped, or the thread has ended
+abbrev pub turn_at_rest : (stopped ended : Bool) → Option Answer
+turn_at_rest true ended = Some turn.Stopped
+turn_at_rest false true = Some turn.Ended
+turn_at_rest false false = None
+
+-- whether thread k waits for a monitor
+abbrev pub Waits : Run → (k : ℕ) → Bool → Type 0
+Waits r k answer = InState r (λ s. answer ≡ is_blocked r.world.classes s k)
+
+-- whether each thread has ended or waits
+abbrev pub AllRest : Run → Bool → Type 0
+AllRest r answer = InState r (λ s. answer ≡ all_rest r.world.classes s)
 
 -- the numbers printed so far
 abbrev pub PrintedBy : Run → List Printed → Type 0
@@ -278,6 +292,14 @@ abbrev pub IsFinished : Run → Bool → Type 0
 IsFinished r answer = InState r (λ s. answer ≡ is_finished r.world.classes s)
 
 -- ---- reports
+
+-- the standing of each thread
+abbrev pub standings_in : Classes → State → List ThreadStanding
+standings_in classes s = map (λ (t : ℕ × SourceThread). standing_of classes s t.0 t.1 s.stop) (enumerate_from 1 s.threads)
+
+-- these are the standings of the threads
+abbrev pub ShowsStandings : Run → List ThreadStanding → Type 0
+ShowsStandings r standings = InState r (λ s. standings ≡ standings_in r.world.classes s)
 
 -- the rows of the objects that are shown of the state that the journal leads to
 abbrev pub ShowsObjects : Run → List ShownRow → Type 0

@@ -1,5 +1,5 @@
 -- Where the machine has stopped, as it is held in memory.
-use Rattle.std.specs.Prelude.{ℕ, false, Option, Some}
+use Rattle.std.specs.Prelude.{ℕ, Bool, Option, Some}
 use Rattle.std.specs.Option.{option_map}
 use Rattle.class_rules.specs.Class.{Classes}
 use Rattle.semantics.specs.Report.{ThreadStanding}
@@ -22,10 +22,10 @@ stop_after stop k Quiet = stop
 stop_after stop k (Printed z) = stop
 stop_after stop k (Trapped trap line) = Some (record { thread = k; trap = trap; line = line })
 
--- the standing of a thread that didn't trap; none waits for a monitor yet
-abbrev pub standing_by_ending : Classes → Ending → ThreadStanding
-standing_by_ending classes ending = source.standing_by_ending classes false (ending_view ending)
+-- the standing of a thread that didn't trap
+abbrev pub standing_by_ending : Classes → (waits : Bool) → Ending → ThreadStanding
+standing_by_ending classes waits ending = source.standing_by_ending classes waits (ending_view ending)
 
 -- the standing of thread k; only the one that stopped the machine trapped
-abbrev pub standing_of : Classes → Option Stop → (k : ℕ) → Ending → ThreadStanding
-standing_of classes stop k ending = source.standing_at classes false (option_map stop_view stop) k (ending_view ending)
+abbrev pub standing_of : Classes → (waits : Bool) → Option Stop → (k : ℕ) → Ending → ThreadStanding
+standing_of classes waits stop k ending = source.standing_at classes waits (option_map stop_view stop) k (ending_view ending)

@@ -1,7 +1,6 @@
 //! The machine.
 
 ghost use Rattle.std.specs.Prelude.{◌≡◌, ◌+◌, ◌-◌, ◌<◌, ◌≤◌, ◌^◌, [], ◌∷◌, ◌++◌, length, map, replicate, IfOk, IfErr, OnOk, OnErr, IfSome, IfNone, IsSome, Err, None, is_some, nat_le, vec_len, vec_capacity};
-ghost use Rattle.std.specs.List.{list_all, enumerate_from};
 ghost use Rattle.syntax.specs.Views.{unit_tree};
 ghost use Rattle.report.specs.Sink.{CanFail};
 ghost use Rattle.report.specs.ThreadStatus.{standing_view};
@@ -18,7 +17,7 @@ ghost use Rattle.machine_steps.specs.Executes.{IsSteady};
 ghost use Rattle.machine_steps.specs.Loading.{IsLoadFault};
 ghost use Rattle.machine_steps.specs.ThreadAgrees.{ThreadAgrees};
 ghost use Rattle.semantics.specs.declared.journal.Entry.TheVariants.{Step};
-ghost use Rattle.machine.specs.Run.{replay_of, AdvancesFrom, CanAdvance, Corresponds, EndsAt, IsCollected, IsUnstarted, CouldStep, TurnHolds, RunsAlong, RunsInto, PrintedBy, IsFinished, has_ended, ReportsRun, AreShown, ShowsObjects, GivesNoStep, StoppedBy, event_of, is_refused, printed_after, turn_after, turn_without_step};
+ghost use Rattle.machine.specs.Run.{replay_of, AdvancesFrom, CanAdvance, Corresponds, EndsAt, IsCollected, IsUnstarted, CouldStep, TurnHolds, RunsAlong, RunsInto, PrintedBy, IsFinished, AllRest, Waits, has_ended, ReportsRun, AreShown, ShowsObjects, ShowsStandings, GivesNoStep, StoppedBy, event_of, is_refused, printed_after, turn_after, turn_at_rest};
 ghost use Rattle.machine.specs.Stops.{stop_after, standing_of, standing_by_ending};
 
 use crate::collecting::collect_blocks;
@@ -184,9 +183,14 @@ impl<'a> Machine<'a> {
         ensures runs { IsSome (replay_of self.new) }
     {
         let index = usize::from(k) - 1;
-        let entries = self.journal.len();
-        if let Some(turn) = turn_without_step(&self.stop, &self.threads[index], entries) {
+        if let Some(turn) = turn_at_rest(&self.stop, &self.threads[index]) {
             return Ok(turn);
+        }
+        if self.waits(k) {
+            return Ok(Turn::Blocked(self.finished()));
+        }
+        if self.journal.len() >= MOST_ENTRIES {
+            return Ok(Turn::Full);
         }
         make_room(&mut self.printed, &mut self.journal)?;
         let advanced = advance_or_collect(
@@ -312,7 +316,45 @@ impl<'a> Machine<'a> {
     pub fn finished(&self) -> bool
         ensures { IsFinished self.now result }
     {
-        self.stop.is_some() || all_ended(&self.threads)
+        self.stop.is_some() || self.all_rest()
+    }
+
+    /// Whether a thread, counted from 1, waits for a monitor that another one owns. No function that waits can be called yet.
+    #[inline(always)]
+    fn waits(&self, _k: u8) -> bool
+        ensures { Waits self.now _k result }
+    {
+        // Here the proof takes up the machine's invariant.
+        let _ = &self.world;
+        false
+    }
+
+    /// Whether each thread has ended or waits for a monitor.
+    fn all_rest(&self) -> bool
+        ensures { AllRest self.now result }
+    {
+        let mut k = 0;
+        for thread in &self.threads {
+            k += 1;
+            if !has_ended(thread) && !self.waits(k) {
+                return false;
+            }
+        }
+        true
+    }
+
+    /// The status of each thread.
+    fn standings(&self) -> ArrayVec<ThreadStatus<'_>, 8>
+        ensures { ShowsStandings self.now (map standing_view result.items) }
+    {
+        let mut standings = ArrayVec::new();
+        let mut k = 0;
+        for thread in &self.threads {
+            k += 1;
+            let waits = self.waits(k);
+            standings.push(standing_of(self.world.classes(), waits, self.stop, k, thread.ending));
+        }
+        standings
     }
 
     /// Writes the report of the run, with the objects that can still be reached, and the line of its journal, and flushes
@@ -354,7 +396,7 @@ impl<'a> Machine<'a> {
         ensures run { ReportsRun self.now (S.written sink.old) (S.written sink.new) result }
         ensures none_waits { OnOk result ((S.written sink.new).waiting ≡ 0) }
     {
-        let standings = standings_of(self.world.classes(), &self.threads, self.stop);
+        let standings = self.standings();
         match write_run(
             sink,
             &self.printed,
@@ -390,18 +432,15 @@ fn load_parts(
     }
 }
 
-/// The turn of a thread that takes no step: a trap has stopped the machine, the thread has ended, or the journal has no room
-/// beside these entries.
+/// The turn of a thread that has no step to take: a trap has stopped the machine, or the thread has ended.
 #[inline(always)]
-fn turn_without_step(stop: &Option<Stop>, thread: &Thread, entries: usize) -> Option<Turn>
-    ensures { result ≡ turn_without_step (is_some stop.now) (has_ended thread.now.ending) (nat_le 1000000 entries) }
+fn turn_at_rest(stop: &Option<Stop>, thread: &Thread) -> Option<Turn>
+    ensures { result ≡ turn_at_rest (is_some stop.now) (has_ended thread.now.ending) }
 {
     if stop.is_some() {
         Some(Turn::Stopped)
     } else if has_ended(thread) {
         Some(Turn::Ended)
-    } else if entries >= MOST_ENTRIES {
-        Some(Turn::Full)
     } else {
         None
     }
@@ -506,12 +545,6 @@ fn note(printed: &mut Vec<Printed>, stop: &mut Option<Stop>, k: u8, event: Event
     }
 }
 
-fn all_ended(threads: &[Thread]) -> bool
-    ensures { result ≡ list_all (λ thread. has_ended thread.ending) threads.now }
-{
-    threads.iter().all(|thread| has_ended(thread))
-}
-
 fn has_ended(thread: &Thread) -> bool
     ensures { result ≡ has_ended thread.now.ending }
 {
@@ -521,44 +554,28 @@ fn has_ended(thread: &Thread) -> bool
     }
 }
 
-/// The status of each thread.
-fn standings_of<'a>(
-    classes: &'a ClassTable,
-    threads: &[Thread],
-    stop: Option<Stop>,
-) -> ArrayVec<ThreadStatus<'a>, 8>
-    requires { length threads.now ≤ 8 }
-    ensures { map standing_view result.items ≡ map (λ thread. standing_of classes.now stop thread.0 thread.1.ending) (enumerate_from 1 threads.now) }
-{
-    let mut standings = ArrayVec::new();
-    let mut k = 0;
-    for thread in threads {
-        k += 1;
-        standings.push(standing_of(classes, stop, k, thread.ending));
-    }
-    standings
-}
-
 /// The status of thread `k`.
 fn standing_of<'a>(
     classes: &'a ClassTable,
+    waits: bool,
     stop: Option<Stop>,
     k: u8,
     ending: Ending,
 ) -> ThreadStatus<'a>
-    ensures { standing_view result ≡ standing_of classes.now stop k ending }
+    ensures { standing_view result ≡ standing_of classes.now waits stop k ending }
 {
     match stop {
         Some(stop) if stop.thread == k => ThreadStatus::Trapped(stop.trap.number(), stop.line),
-        _ => standing_by_ending(classes, ending),
+        _ => standing_by_ending(classes, waits, ending),
     }
 }
 
 /// The status of a thread that didn't trap.
-fn standing_by_ending<'a>(classes: &'a ClassTable, ending: Ending) -> ThreadStatus<'a>
-    ensures { standing_view result ≡ standing_by_ending classes.now ending }
+fn standing_by_ending<'a>(classes: &'a ClassTable, waits: bool, ending: Ending) -> ThreadStatus<'a>
+    ensures { standing_view result ≡ standing_by_ending classes.now waits ending }
 {
     match ending {
+        Ending::Unfinished if waits => ThreadStatus::Blocked,
         Ending::Unfinished => ThreadStatus::Running,
         Ending::Ended => ThreadStatus::Ended,
         Ending::Uncaught(class) => ThreadStatus::Uncaught(classes.name(class)),

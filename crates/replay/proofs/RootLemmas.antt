@@ -1,6 +1,7 @@
 -- The roots of a state are the objects made at load and what its threads refer to.
-use Rattle.std.proofs.Common.{◌≡◌, ℕ, List, [], ◌∷◌, ◌++◌, map, Option, Some, None, refl, sym, ap, ◌∙◌, append_assoc, append-nil}
+use Rattle.std.proofs.Common.{◌≡◌, ℕ, List, [], ◌∷◌, ◌++◌, map, Option, Some, None, refl, sym, ap, ◌∙◌, subst, append_assoc, append-nil}
 use Rattle.std.specs.List.{flat_map}
+use Rattle.std.specs.Prelude.{Contains}
 use Rattle.std.specs.Option.{option_to_list}
 use Rattle.std.proofs.lemmas.List.Concat.{flat_map-cons}
 use Rattle.syntax.specs.Tree.{SourceUnit}
@@ -41,7 +42,7 @@ module _ (unit : SourceUnit) (classes : Classes) where
       ∙ sym (flat_map-cons thread_names t ts)
 
 -- the roots of a state that one in memory stands for
-pub roots_are : (unit : SourceUnit) (w : World) (m : StateInMemory) (s : State) → Stands unit w m s → roots w s ≡ from_one (loaded_count w) ++ root_names m.shared.globals m.threads.items
+roots_are : (unit : SourceUnit) (w : World) (m : StateInMemory) (s : State) → Stands unit w m s → roots w s ≡ from_one (loaded_count w) ++ root_names m.shared.globals m.threads.items
 roots_are unit w m s h =
     let loaded = from_one (loaded_count w) in
     let names = flat_map thread_roots s.threads in
@@ -53,3 +54,10 @@ roots_are unit w m s h =
     ∙ ap (λ (l : List ℕ). loaded ++ globals ++ flat_map thread_names ts ++ l) (sym (viewed_same unit w.classes ts s.threads h.threads))
     ∙ ap (λ (l : List ℕ). l ++ flat_map viewed_in ts) (append_assoc loaded globals (flat_map thread_names ts))
     ∙ append_assoc loaded (globals ++ flat_map thread_names ts) (flat_map viewed_in ts)
+
+-- so each root is one that memory has, and each that memory has is a root
+pub root_among : (unit : SourceUnit) (w : World) (m : StateInMemory) (s : State) → Stands unit w m s → (n : ℕ) → Contains (roots w s) n → Contains (from_one (loaded_count w) ++ root_names m.shared.globals m.threads.items) n
+root_among unit w m s h n k = subst (λ (l : List ℕ). Contains l n) (roots_are unit w m s h) k
+
+pub among_roots : (unit : SourceUnit) (w : World) (m : StateInMemory) (s : State) → Stands unit w m s → (n : ℕ) → Contains (from_one (loaded_count w) ++ root_names m.shared.globals m.threads.items) n → Contains (roots w s) n
+among_roots unit w m s h n k = subst (λ (l : List ℕ). Contains l n) (sym (roots_are unit w m s h)) k

@@ -10,7 +10,7 @@ use Rattle.semantics.specs.JournalText.{journal_line}
 use Rattle.class_rules.specs.Class.{Classes}
 use Rattle.report_objects.specs.Rows.{AreReported}
 use Rattle.semantics.specs.Heap.{Heap, object_at}
-use Rattle.semantics.specs.Reachable.{roots, from_one, loaded_count}
+use Rattle.semantics.specs.Reachable.{from_one, loaded_count}
 use Rattle.semantics.specs.Report.{Report, ShownRow}
 use Rattle.semantics.specs.ReportOf.{report}
 use Rattle.semantics.specs.Thread.{Shared}
@@ -27,7 +27,7 @@ use Rattle.semantics.proofs.RunLaws.{replay_from-append, replay_more}
 use Rattle.replay.specs.declared.fault.ReplayFault.{ReplayFault}
 use Rattle.replay.specs.declared.fault.ReplayFault.TheVariants.{DoesNotFit, Impossible, Memory, Writer}
 use Rattle.replay_threads.specs.declared.state.State.{State as StateInMemory}
-use Rattle.replay_threads.specs.States.{Stands, TakesEntry, AreInRange, standings_in, stop_view}
+use Rattle.replay_threads.specs.States.{Stands, TakesEntry, AreInRange, AreStandings, stop_view}
 use Rattle.replay.specs.declared.trap_at.TrapAt.{TrapAt}
 use Rattle.replay.specs.TrapAt.{trap_at}
 use Rattle.replay_threads.specs.declared.state.Stop.{Stop as StopInMemory}
@@ -36,7 +36,7 @@ use Rattle.report.specs.ThreadStatus.{standing_view}
 use Rattle.replay_threads.specs.Rows.{root_names}
 use Rattle.replay.specs.Replays.{Answers, IsFirstImpossible, Replayed, IsRefused, IsLoadFault, IsStoppedBy, IsReplayable, IsFromOutside, EndsBy, ShowsRows, WritesRun, shown_stop}
 use Rattle.replay.proofs.LoadLemmas.{drop_more, take_more}
-use Rattle.replay.proofs.RootLemmas.{roots_are}
+use Rattle.replay.proofs.RootLemmas.{among_roots, root_among}
 use Rattle.replay_threads.proofs.StateLemmas.{report_same}
 
 module _ (unit : SourceUnit) (w : World) (journal : Journal) (i : ℕ) (e : Entry) (old new : StateInMemory) (at : slice_get journal i ≡ Some e) (h : Replayed unit w (take i journal) old) where
@@ -123,25 +123,24 @@ ends unit w journal m h = record {
 pub rows_are : (unit : SourceUnit) (w : World) (m : StateInMemory) (s : State) (classes : Classes) (objects : Heap) (loaded : ℕ) (names : List ℕ) (rows : List ShownRow) → Stands unit w m s
     → classes ≡ m.world.now.classes → objects ≡ m.shared.store → loaded ≡ loaded_count w → names ≡ root_names m.shared.globals m.threads.items → AreReported classes objects loaded names rows → rows ≡ (report w s).objects
 rows_are unit w m s classes objects loaded names rows h k o l n told =
-    let same : roots w s ≡ from_one loaded ++ names =
-    roots_are unit w m s h
-    ∙ ap (λ c. from_one c ++ root_names m.shared.globals m.threads.items) (sym l)
+    let same : from_one (loaded_count w) ++ root_names m.shared.globals m.threads.items ≡ from_one loaded ++ names =
+    ap (λ c. from_one c ++ root_names m.shared.globals m.threads.items) (sym l)
     ∙ ap (λ (ns : List ℕ). from_one loaded ++ ns) (sym n) in
     told w s (record {
       classes = ap (λ (v : World). v.classes) h.world ∙ sym k;
       count = ap (λ (x : Heap). length x) (ap (λ (x : Shared). x.heap) h.shared ∙ sym o);
       same = λ i there. ap (λ (x : Heap). object_at x i) (ap (λ (x : Shared). x.heap) h.shared ∙ sym o);
-      sound = λ i there. subst (λ (l : List ℕ). Contains l i) same there;
-      complete = λ i there. subst (λ (l : List ℕ). Contains l i) (sym same) there;
+      sound = λ i there. subst (λ (l : List ℕ). Contains l i) same (root_among unit w m s h i there);
+      complete = λ i there. among_roots unit w m s h i (subst (λ (l : List ℕ). Contains l i) (sym same) there);
     })
 
 -- what is written from the state in memory is what the run writes
-pub writes : (unit : SourceUnit) (w : World) (journal : Journal) (m : StateInMemory) (standings : List ThreadStatus) (rows : List ShownRow) → Replayed unit w journal m → map standing_view standings ≡ standings_in m → ShowsRows m rows
+pub writes : (unit : SourceUnit) (w : World) (journal : Journal) (m : StateInMemory) (standings : List ThreadStatus) (rows : List ShownRow) → Replayed unit w journal m → AreStandings m (map standing_view standings) → ShowsRows m rows
     → Writes unit w journal (report_text (report_with m.printed.items standings rows) ++ journal_line journal)
 writes unit w journal m standings rows h is shows = record {
   end = h.end;
   replays = h.replays;
-  same = ap (λ (r : Report). report_text r ++ journal_line journal) (sym (report_same unit w m h.end h.stands h.range standings rows is (shows unit w h.end h.stands)));
+  same = ap (λ (r : Report). report_text r ++ journal_line journal) (sym (report_same unit w m h.end h.stands h.range standings rows (is unit w h.end h.stands h.range) (shows unit w h.end h.stands)));
 }
 
 -- ---- answers

@@ -1,9 +1,12 @@
 -- What an entry does to the state that a state in memory stands for.
-use Rattle.std.proofs.Common.{◌≡◌, ℕ, zero, suc, ◌+◌, ◌<◌, ◌≤◌, Bool, true, false, cond, List, [], ◌∷◌, ◌++◌, length, map, Option, Some, None, refl, sym, ap, ◌∙◌, subst, arith}
+use Rattle.std.proofs.Common.{◌≡◌, ℕ, zero, suc, ◌+◌, ◌<◌, ◌≤◌, Bool, true, false, cond, List, [], ◌∷◌, ◌++◌, length, map, take, Option, Some, None, refl, sym, ap, ◌∙◌, subst, arith}
 use Rattle.std.specs.Prelude.{slice_get, slice_set, sum_by, flat_map, ◌&&◌, not, is_none, ◌==◌}
 use Rattle.std.proofs.lemmas.List.{length-set}
 use Rattle.std.proofs.lemmas.List.Concat.{flat_map-cons}
 use Rattle.std.proofs.lemmas.List.Sums.{sum_by-cons}
+use Rattle.std.proofs.lemmas.List.{length-map, take_all}
+use Rattle.std.proofs.lemmas.List.FromFn.{length-enumerate_from}
+use Rattle.std.proofs.lemmas.Option.{slice_get-map}
 use Rattle.base.specs.Bytes.{Identifier}
 use Rattle.semantics.specs.Variable.{Variable, Variables, copied_length, viewed}
 use Rattle.replay_steps.specs.declared.activation.Activation.{Activation}
@@ -14,13 +17,12 @@ use Rattle.syntax.specs.Tree.{SourceUnit}
 use Rattle.class_rules.specs.Class.{Classes}
 use Rattle.semantics.specs.declared.journal.Entry.TheVariants as entry
 use Rattle.semantics.specs.declared.printed.Printed.{Printed}
-use Rattle.semantics.specs.Report.{ShownRow, ThreadStanding, HasTrapped}
+use Rattle.semantics.specs.Report.{ShownRow, ThreadStanding}
 use Rattle.report.specs.Shown.{report_with}
 use Rattle.report.specs.ThreadStatus.{standing_view}
 use Rattle.semantics.specs.World.{World}
-use Rattle.semantics.specs.Value.{trap_number}
 use Rattle.report.specs.declared.thread_status.ThreadStatus.{ThreadStatus}
-use Rattle.semantics.specs.ReportOf.{report, standing_by_ending, standing_of}
+use Rattle.semantics.specs.ReportOf.{report, standing_at, standing_of}
 use Rattle.replay_calls.specs.Shares.{shared_view}
 use Rattle.semantics.specs.State.{State, thread_at, set_thread, copied, in_use, with_event, advanced}
 use Rattle.semantics.specs.Step.{world_step, can_step, step_of, is_blocked, is_live, is_unfinished, is_waiting}
@@ -33,9 +35,10 @@ use Rattle.replay_threads.specs.declared.thread.Step.{Step}
 use Rattle.replay_threads.specs.declared.thread.Step.TheVariants as step
 use Rattle.replay_threads.specs.declared.state.Stop.{Stop as StopInMemory}
 use Rattle.replay_terms.specs.Views.{trap_view}
-use Rattle.replay_threads.specs.States.{ThreadsStand, AreInRange, EachInRange, Stands, variables_of, copied_in, viewed_in, in_use_by, stop_view, printed_after, stop_after, is_possible, Leads, standing_in, standings_in}
+use Rattle.replay_threads.specs.States.{ThreadsStand, AreInRange, Stands, variables_of, copied_in, viewed_in, in_use_by, stop_view, printed_after, stop_after, is_possible, Leads, standing_in, standings_of, EachInRange}
 use Rattle.replay_threads.specs.Threads.{ThreadStands, WorkInRange, WorkStands, ending_view, StepIs, TakesStep}
 use Rattle.replay_threads.proofs.PlainTasks.{waits_none}
+use Rattle.replay_threads.proofs.StandingLemmas.{numbered_at, taken_more}
 
 -- ---- one thread of several
 
@@ -51,6 +54,12 @@ module _ (unit : SourceUnit) (classes : Classes) where
   found (x ∷ ts) [] i t h e = absurd h
   found (x ∷ ts) (s ∷ ss) zero t h e = record { source = s; is = refl; stands = let same : x ≡ t = cc in subst (λ y. ThreadStands unit classes y s) same h.0 }
   found (x ∷ ts) (s ∷ ss) (suc i) t h e = let f = found ts ss i t h.1 e in record { source = f.source; is = f.is; stands = f.stands }
+
+  pub stand_length : (ts : List ThreadInMemory) (ss : List Thread) → ThreadsStand unit classes ts ss → length ts ≡ length ss
+  stand_length [] [] h = refl
+  stand_length [] (s ∷ ss) h = absurd h
+  stand_length (t ∷ ts) [] h = absurd h
+  stand_length (t ∷ ts) (s ∷ ss) h = ap suc (stand_length ts ss h.1)
 
   -- a thread of the language has one in memory
   pub stood_for : (ts : List ThreadInMemory) (ss : List Thread) (i : ℕ) (s : Thread) → ThreadsStand unit classes ts ss → EachInRange ts → slice_get ss i ≡ Some s → (t : ThreadInMemory) × ThreadStands unit classes t s × WorkInRange t.activation
@@ -182,6 +191,18 @@ module _ (unit : SourceUnit) (w : World) (m : StateInMemory) (s : State) (h : St
       none_else (can_step w.classes s k) (step_of unit w.classes s k refused (thread_at s k))
       (middle_fails (is_none s.stop) (is_live (thread_at s k)) (not (is_blocked w.classes s k)) dead)
 
+  last_fails : (a b c : Bool) → c ≡ true → (a && b && not c) ≡ false
+  last_fails true true true e = refl
+  last_fails true false true e = refl
+  last_fails false b true e = refl
+  last_fails a b false e = absurd (cc)
+
+  -- a thread that waits
+  pub waiting : (k : ℕ) (refused : Bool) → is_blocked w.classes s k ≡ true → world_step unit w.classes s (entry.Step k refused) ≡ None
+  unfolding world_step
+  waiting k refused waits =
+      none_else (can_step w.classes s k) (step_of unit w.classes s k refused (thread_at s k)) (last_fails (is_none s.stop) (is_live (thread_at s k)) (is_blocked w.classes s k) waits)
+
   -- no thread waits
   waiting_none : (k : ℕ) (o : Option Thread) → thread_at s k ≡ o → is_waiting w.classes k s.shared o ≡ false
   waiting_none k None there = refl
@@ -190,10 +211,10 @@ module _ (unit : SourceUnit) (w : World) (m : StateInMemory) (s : State) (h : St
       let t = stood_for unit w.classes m.threads.items s.threads i x h.threads range.each there in
       waits_none unit w.classes s.shared (suc i) t.0 x t.1 t.2
 
-  blocked_none : (k : ℕ) → is_blocked w.classes s k ≡ false
+  pub blocked_none : (k : ℕ) → is_blocked w.classes s k ≡ false
   blocked_none k = waiting_none k (thread_at s k) refl
 
-  module _ (i : ℕ) (t after : ThreadInMemory) (at : slice_get m.threads.items i ≡ Some t) (live : is_unfinished (ending_view t.ending) ≡ true) (runs : is_some m.stop ≡ false)
+  module _ (i : ℕ) (t after : ThreadInMemory) (at : slice_get m.threads.items i ≡ Some t) (live : is_unfinished (ending_view t.ending) ≡ true) (runs : is_some m.stop ≡ false) (free : is_blocked w.classes s (suc i) ≡ false)
       (new : StateInMemory) (world : new.world ≡ m.world) (threads : new.threads.items ≡ slice_set m.threads.items i after) (refused : Bool) where
     the_thread : Found unit w.classes t s.threads i
     the_thread = found unit w.classes m.threads.items s.threads i t h.threads at
@@ -202,7 +223,7 @@ module _ (unit : SourceUnit) (w : World) (m : StateInMemory) (s : State) (h : St
     unended = the_thread.stands.ending ∙ is_live_so (ending_view t.ending) live
 
     steps_here : Steps w.classes s (suc i) the_thread.source
-    steps_here = steps w.classes s (suc i) the_thread.source (h.stop ∙ not_stopped m.stop runs) the_thread.is unended (waits_none unit w.classes s.shared (suc i) t the_thread.source the_thread.stands (range_at m.threads.items i t range at))
+    steps_here = steps w.classes s (suc i) the_thread.source (h.stop ∙ not_stopped m.stop runs) the_thread.is unended (sym (ap (is_waiting w.classes (suc i) s.shared) the_thread.is) ∙ free)
 
     abbrev after_it : Shared
     after_it = shared_view new.shared
@@ -255,50 +276,42 @@ module _ (unit : SourceUnit) (w : World) (m : StateInMemory) (s : State) (h : St
 
   -- an entry is possible as far as its thread's step is
   pub takes : (k : ℕ) (refused : Bool) (i : ℕ) (t after : ThreadInMemory) (took : Step) (new : StateInMemory) → k ≡ suc i → slice_get m.threads.items i ≡ Some t → is_unfinished (ending_view t.ending) ≡ true
-      → is_some m.stop ≡ false → TakesStep unit w.classes (in_use s) k refused (shared_view m.shared) t took (shared_view new.shared) after → new.world ≡ m.world → new.threads.items ≡ slice_set m.threads.items i after
+      → is_some m.stop ≡ false → is_blocked w.classes s k ≡ false → TakesStep unit w.classes (in_use s) k refused (shared_view m.shared) t took (shared_view new.shared) after → new.world ≡ m.world → new.threads.items ≡ slice_set m.threads.items i after
       → new.printed.items ≡ printed_after m.printed.items k took → new.stop ≡ stop_after m.stop k took
       → Leads unit w s (entry.Step k refused) new (is_possible took)
-  takes k refused i t after took new counted at live runs step world threads printed stop =
+  takes k refused i t after took new counted at live runs free step world threads printed stop =
       subst (λ n. Leads unit w s (entry.Step n refused) new (is_possible took)) (sym counted)
-      (takes_at i t after at live runs new world threads refused took (subst (λ n. TakesStep unit w.classes (in_use s) n refused (shared_view m.shared) t took (shared_view new.shared) after) counted step) (printed ∙ ap (λ k. printed_after m.printed.items k took) counted) (stop ∙ ap (λ k. stop_after m.stop k took) counted))
+      (takes_at i t after at live runs (ap (is_blocked w.classes s) (sym counted) ∙ free) new world threads refused took (subst (λ n. TakesStep unit w.classes (in_use s) n refused (shared_view m.shared) t took (shared_view new.shared) after) counted step) (printed ∙ ap (λ k. printed_after m.printed.items k took) counted) (stop ∙ ap (λ k. stop_after m.stop k took) counted))
 
   -- ---- the report
 
-  ending_same : (k : ℕ) (t : ThreadInMemory) (x : Thread) → ThreadStands unit w.classes t x → standing_by_ending w.classes (is_blocked w.classes s k) x.ending ≡ standing_by_ending w.classes false (ending_view t.ending)
-  ending_same k t x stands =
-      ap (λ b. standing_by_ending w.classes b x.ending) (blocked_none k)
-      ∙ ap (standing_by_ending w.classes false) stands.ending
+  standing_same : (k : ℕ) (t : ThreadInMemory) (x : Thread) (waits : Bool) → ThreadStands unit w.classes t x → waits ≡ is_blocked w.classes s k → standing_of w.classes s k x s.stop ≡ standing_in w.classes waits m.stop k t
+  standing_same k t x waits stands told = λ i. standing_at w.classes (sym told i) (h.stop i) k (stands.ending i)
 
-  standing_same : (k : ℕ) (t : ThreadInMemory) (x : Thread) → ThreadStands unit w.classes t x → standing_of w.classes s k x s.stop ≡ standing_in w.classes m.stop (k, t)
-  standing_same k t x stands = ap (standing_of w.classes s k x) h.stop ∙ by_stop m.stop
-    where
-      by_thread : (stop : StopInMemory) (b : Bool)
-          → cond b (HasTrapped (trap_number (trap_view stop.trap)) stop.line) (standing_by_ending w.classes (is_blocked w.classes s k) x.ending)
-          ≡ cond b (HasTrapped (trap_number (trap_view stop.trap)) stop.line) (standing_by_ending w.classes false (ending_view t.ending))
-      by_thread stop true = refl
-      by_thread stop false = ending_same k t x stands
+  abbrev standings_before : ℕ → List ThreadStanding
+  standings_before i = take i (standings_of w.classes s)
 
-      by_stop : (o : Option StopInMemory) → standing_of w.classes s k x (option_map stop_view o) ≡ standing_in w.classes o (k, t)
-      by_stop None = ending_same k t x stands
-      by_stop (Some stop) = by_thread stop (stop.thread == k)
+  -- one standing more
+  pub standing_more : (told : List ThreadStanding) (i k : ℕ) (t : ThreadInMemory) (classes : Classes) (waits : Bool) → k ≡ suc i → slice_get m.threads.items i ≡ Some t → classes ≡ m.world.now.classes → waits ≡ is_blocked w.classes s k
+      → told ≡ standings_before i → (told ++ standing_in classes waits m.stop k t ∷ []) ≡ standings_before (suc i)
+  standing_more told i k t classes waits counted at same blocked before =
+      let f = found unit w.classes m.threads.items s.threads i t h.threads at in
+      let number : 1 + i ≡ k = omega (arith, counted) in
+      let placed : slice_get (enumerate_from 1 s.threads) i ≡ Some (k, f.source) = numbered_at s.threads 1 i f.source f.is ∙ ap (λ (n : ℕ). Some (n, f.source)) number in
+      let of : ℕ × Thread → ThreadStanding = λ x. standing_of w.classes s x.0 x.1 s.stop in
+      ap (λ (l : List ThreadStanding). l ++ standing_in classes waits m.stop k t ∷ []) before
+      ∙ ap (λ (c : Classes). standings_before i ++ standing_in c waits m.stop k t ∷ []) (same ∙ sym (ap (λ (v : World). v.classes) h.world))
+      ∙ ap (λ (x : ThreadStanding). standings_before i ++ x ∷ []) (sym (standing_same k t f.source waits f.stands blocked))
+      ∙ sym (taken_more (standings_of w.classes s) i (of (k, f.source)) (slice_get-map of (enumerate_from 1 s.threads) i ∙ ap (option_map of) placed))
 
-  standings_same : (n : ℕ) (ts : List ThreadInMemory) (ss : List Thread) → ThreadsStand unit w.classes ts ss
-      → map (λ (t : ℕ × Thread). standing_of w.classes s t.0 t.1 s.stop) (enumerate_from n ss) ≡ map (standing_in w.classes m.stop) (enumerate_from n ts)
-  standings_same n [] [] stands = refl
-  standings_same n [] (x ∷ ss) stands = absurd stands
-  standings_same n (t ∷ ts) [] stands = absurd stands
-  standings_same n (t ∷ ts) (x ∷ ss) stands =
-      let first : standing_of w.classes s n x s.stop ≡ standing_in w.classes m.stop (n, t) = standing_same n t x stands.0 in
-      let rest = standings_same (n + 1) ts ss stands.1 in
-      ap (λ (y : ThreadStanding). y ∷ map (λ (t : ℕ × Thread). standing_of w.classes s t.0 t.1 s.stop) (enumerate_from (n + 1) ss)) first
-      ∙ ap (λ (ys : List ThreadStanding). standing_in w.classes m.stop (n, t) ∷ ys) rest
-
-  standings_are : (T : Classes) → w.classes ≡ T → map (standing_in w.classes m.stop) (enumerate_from 1 m.threads.items) ≡ map (standing_in T m.stop) (enumerate_from 1 m.threads.items)
-  standings_are T same = ap (λ (U : Classes). map (standing_in U m.stop) (enumerate_from 1 m.threads.items)) same
+  -- all of them
+  pub standings_all : (told : List ThreadStanding) (i : ℕ) → length m.threads.items ≤ i → told ≡ standings_before i → told ≡ standings_of w.classes s
+  standings_all told i past before =
+      let of : ℕ × Thread → ThreadStanding = λ x. standing_of w.classes s x.0 x.1 s.stop in
+      before ∙ take_all i (standings_of w.classes s) (omega (arith, past, stand_length unit w.classes m.threads.items s.threads h.threads, length-enumerate_from 1 s.threads, length-map (enumerate_from 1 s.threads) of))
 
   -- the report of the state is written from the state in memory
-  pub report_same : (standings : List ThreadStatus) (rows : List ShownRow) → map standing_view standings ≡ standings_in m → rows ≡ (report w s).objects → report w s ≡ report_with m.printed.items standings rows
+  pub report_same : (standings : List ThreadStatus) (rows : List ShownRow) → map standing_view standings ≡ standings_of w.classes s → rows ≡ (report w s).objects → report w s ≡ report_with m.printed.items standings rows
   unfolding report
   report_same standings rows is shows =
-      let stood = standings_same 1 m.threads.items s.threads h.threads ∙ standings_are m.world.now.classes (ap (λ (v : World). v.classes) h.world) ∙ sym is in
-      rw (shows, stood, h.printed) refl
+      rw (shows, sym is, h.printed) refl

@@ -14,8 +14,8 @@ use Rattle.semantics.specs.Variable.{Variable, Variables, copied_length, viewed}
 use Rattle.base.specs.Bytes.{Identifier}
 use Rattle.replay_steps.specs.declared.activation.Activation.{Activation}
 use Rattle.semantics.specs.State.{State, Stop}
-use Rattle.semantics.specs.Step.{world_step, is_unfinished}
-use Rattle.semantics.specs.ReportOf.{standing_at}
+use Rattle.semantics.specs.Step.{world_step, is_blocked, is_unfinished}
+use Rattle.semantics.specs.ReportOf.{standing_at, standing_of}
 use Rattle.replay_threads.specs.declared.thread.Thread.{Thread as ThreadInMemory}
 use Rattle.replay_threads.specs.declared.thread.Step.{Step}
 use Rattle.replay_threads.specs.declared.thread.Step.TheVariants as step
@@ -86,12 +86,23 @@ Leads unit w s e new false = world_step unit w.classes s e ≡ None
 abbrev pub TakesEntry : SourceUnit → StateInMemory → Entry → (possible : Bool) → StateInMemory → Type 0
 TakesEntry unit old e possible new = (w : World) (s : State) → Stands unit w old s → Leads unit w s e new possible
 
+-- ---- threads that wait
+
+-- a fact of each state that this one stands for
+abbrev pub OfEach : StateInMemory → (World → State → Type 0) → Type 0
+OfEach m P = (unit : SourceUnit) (w : World) (s : State) → Stands unit w m s → AreInRange m.threads.items → P w s
+
+-- whether thread k waits for a monitor
+abbrev pub Waits : StateInMemory → (k : ℕ) → Bool → Type 0
+Waits m k answer = OfEach m (λ w s. answer ≡ is_blocked w.classes s k)
+
 -- thread k is at this place, and can step
 pub record IsLiveAt (m : StateInMemory) (k place : ℕ) : Type 0 where
   pub counted : k ≡ place + 1
   pub there : place < length m.threads.items
   pub live : (t : ThreadInMemory) → slice_get m.threads.items place ≡ Some t → is_unfinished (ending_view t.ending) ≡ true
   pub runs : is_some m.stop ≡ false
+  pub free : Waits m k false
 
 -- no step of thread k is possible
 abbrev pub TakesNone : StateInMemory → ℕ → Type 0
@@ -121,10 +132,14 @@ in_use_by ts = record { copied = sum_by copied_in ts; views = length (flat_map v
 
 -- ---- the report
 
--- the standing of thread k
-abbrev pub standing_in : Classes → Option StopInMemory → ℕ × ThreadInMemory → ThreadStanding
-standing_in classes stop (k, t) = standing_at classes false (option_map stop_view stop) k (ending_view t.ending)
+-- the standing of thread k, which waits or doesn't
+abbrev pub standing_in : Classes → (waits : Bool) → Option StopInMemory → (k : ℕ) → ThreadInMemory → ThreadStanding
+standing_in classes waits stop k t = standing_at classes waits (option_map stop_view stop) k (ending_view t.ending)
 
--- the standings of all threads
-abbrev pub standings_in : StateInMemory → List ThreadStanding
-standings_in m = map (standing_in m.world.now.classes m.stop) (enumerate_from 1 m.threads.items)
+-- the standings of the threads of a state
+abbrev pub standings_of : Classes → State → List ThreadStanding
+standings_of classes s = map (λ (t : ℕ × Thread). standing_of classes s t.0 t.1 s.stop) (enumerate_from 1 s.threads)
+
+-- these are they
+abbrev pub AreStandings : StateInMemory → List ThreadStanding → Type 0
+AreStandings m standings = OfEach m (λ w s. standings ≡ standings_of w.classes s)

@@ -1,13 +1,12 @@
 //! The state of a replay, and what an entry does to it.
 
-ghost use Rattle.std.specs.Prelude.{◌≡◌, ◌≤◌, length, [], IfOk, IfSome, IfNone, IsTrue, false, map};
-ghost use Rattle.std.specs.List.{enumerate_from};
+ghost use Rattle.std.specs.Prelude.{◌≡◌, [], IfOk, IfSome, IfNone, IsTrue, map, ◌≤◌, length};
 ghost use Rattle.syntax.specs.Limits.{IsTree};
 ghost use Rattle.syntax.specs.Views.{unit_tree};
 ghost use Rattle.type_rules.specs.BuiltCalls.{calls_are_built};
 ghost use Rattle.type_rules.specs.SortRules.{IsSorted};
 ghost use Rattle.semantics.specs.declared.journal.Entry.TheVariants as journal;
-ghost use Rattle.replay_threads.specs.States.{AreInRange, IsLiveAt, TakesEntry, TakesNone, IsNoted, copied_in, viewed_in, in_use_by, is_possible, standing_in, standings_in};
+ghost use Rattle.replay_threads.specs.States.{AreInRange, IsLiveAt, TakesEntry, TakesNone, IsNoted, AreStandings, Waits, in_use_by, is_possible, standing_in, copied_in, viewed_in};
 ghost use Rattle.replay_terms.specs.Views.{in_use_view};
 ghost use Rattle.replay_threads.specs.Threads.{ending_view};
 ghost use Rattle.report.specs.ThreadStatus.{standing_view};
@@ -81,7 +80,14 @@ fn note(state: &mut State<'_>, k: u8, step: Step) -> Result<bool, AllocError>
     }
 }
 
-/// The place of thread `k` if it can step: the machine hasn't stopped, and the thread is there and has not ended.
+/// Whether a thread, counted from 1, waits for a monitor that another one owns. No function that waits can be called yet.
+fn waits(_state: &State<'_>, _k: usize) -> bool
+    ensures { Waits _state.now _k result }
+{
+    false
+}
+
+/// The place of thread `k` if it can step: the machine hasn't stopped, and the thread is there, has not ended, and waits for no monitor.
 #[inline]
 fn place_of(state: &State<'_>, k: u8) -> Option<usize>
     requires { AreInRange state.now.threads.items }
@@ -96,6 +102,9 @@ fn place_of(state: &State<'_>, k: u8) -> Option<usize>
         return None;
     }
     if state.threads.len() < number {
+        return None;
+    }
+    if waits(state, number) {
         return None;
     }
     if is_unfinished(state.threads[number - 1].ending) {
@@ -190,11 +199,12 @@ pub fn take_entry<'a>(
     }
 }
 
-/// The status of a thread that didn't trap. None waits.
-fn standing_by(classes: &ClassTable, ending: Ending) -> ThreadStatus<'_>
-    ensures { standing_view result ≡ standing_by_ending classes.now false (ending_view ending) }
+/// The status of a thread that didn't trap.
+fn standing_by(classes: &ClassTable, waits: bool, ending: Ending) -> ThreadStatus<'_>
+    ensures { standing_view result ≡ standing_by_ending classes.now waits (ending_view ending) }
 {
     match ending {
+        Ending::Unfinished if waits => ThreadStatus::Blocked,
         Ending::Unfinished => ThreadStatus::Running,
         Ending::Ended => ThreadStatus::Ended,
         Ending::Uncaught(class) => ThreadStatus::Uncaught(classes.name(class)),
@@ -204,34 +214,35 @@ fn standing_by(classes: &ClassTable, ending: Ending) -> ThreadStatus<'_>
 /// The status of thread `k`.
 fn standing_of<'c>(
     classes: &'c ClassTable,
+    waits: bool,
     stop: Option<Stop>,
     k: usize,
     thread: &Thread<'_>,
 ) -> ThreadStatus<'c>
-    ensures { standing_view result ≡ standing_in classes.now stop (k, thread.now) }
+    ensures { standing_view result ≡ standing_in classes.now waits stop k thread.now }
 {
     if let Some(stop) = stop {
         if usize::from(stop.thread) == k {
             return ThreadStatus::Trapped(trap_number(stop.trap), stop.line);
         }
     }
-    standing_by(classes, thread.ending)
+    standing_by(classes, waits, thread.ending)
 }
 
-/// Puts the statuses of threads, in their order, into an empty list.
+/// Puts the statuses of the threads, in their order, into an empty list.
 fn add_standings<'a>(
     standings: &mut Vec<ThreadStatus<'a>>,
-    classes: &'a ClassTable,
-    stop: Option<Stop>,
-    threads: &[Thread<'_>],
+    state: &State<'a>,
 ) -> Result<(), AllocError>
     requires { standings.old.items ≡ [] }
-    ensures { IfOk result (λ _. map standing_view standings.new.items ≡ map (standing_in classes.entry.now stop) (enumerate_from 1 threads.now)) }
+    ensures { IfOk result (λ _. AreStandings state.now (map standing_view standings.new.items)) }
 {
+    let classes = state.world.classes();
     let mut k = 0;
-    for thread in threads {
+    for thread in &state.threads {
         k += 1;
-        match standings.push(standing_of(classes, stop, k, thread)) {
+        let waits = waits(state, k);
+        match standings.push(standing_of(classes, waits, state.stop, k, thread)) {
             Ok(()) => {}
             Err(_) => return Err(AllocError),
         }
@@ -244,14 +255,9 @@ pub fn standings_of<'a>(
     alloc: Global,
     state: &State<'a>,
 ) -> Result<Vec<ThreadStatus<'a>>, AllocError>
-    ensures { IfOk result (λ standings. map standing_view standings.items ≡ standings_in state.now) }
+    ensures { IfOk result (λ standings. AreStandings state.now (map standing_view standings.items)) }
 {
     let mut standings = Vec::new(alloc);
-    add_standings(
-        &mut standings,
-        state.world.classes(),
-        state.stop,
-        &state.threads,
-    )?;
+    add_standings(&mut standings, state)?;
     Ok(standings)
 }

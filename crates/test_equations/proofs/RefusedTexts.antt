@@ -15,6 +15,11 @@ a_ninth_thread : schedule_of (codes "9\n") 1 ≡ Err (record { rule = Form; line
 unfolding read
 a_ninth_thread = refl
 
+-- a ninth line of a thread
+a_ninth_line_of_a_thread : world_of_text (codes "heap 512\nclass A\nthread Java_A_f\nthread Java_A_f\ncall Java_A_f\nthread Java_A_f\nthread Java_A_f\nthread Java_A_f\nthread Java_A_f\nthread Java_A_f\nthread Java_A_f\nthread Java_A_f\n") ≡ Err (record { rule = Limit; line = 12 })
+unfolding read
+a_ninth_line_of_a_thread = refl
+
 -- a heap that is too small
 a_heap_that_is_too_small : world_of_text (codes "heap 511\nclass A\nthread Java_A_f\n") ≡ Err (record { rule = Limit; line = 1 })
 unfolding read

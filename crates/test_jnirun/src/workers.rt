@@ -1,13 +1,9 @@
-//! A machine that threads share: by turns of its one seat, and by a worker for each of two threads.
+//! A machine that threads share: by turns of its seats, and by a worker for each of two threads.
 
-ghost use Rattle.std.specs.Prelude.{◌≡◌, ℕ, true, IfOk};
-ghost use Rattle.std.specs.List.{list_all};
+ghost use Rattle.std.specs.Prelude.{◌≡◌};
 ghost use Rattle.crossbeam_utils.specs.Seq.{cell_view};
 ghost use Rattle.shared.specs.Tokens.{knower, unknown};
-ghost use Rattle.world_values.specs.CallArguments.{are_arguments};
-ghost use Rattle.world_values.specs.SoundWorlds.{has_call};
 
-use classes::table::ClassTable;
 use lower::lower;
 use machine::{Machine, Turn};
 use program_check::read_program;
@@ -22,11 +18,12 @@ use std::test::*;
 use std::thread;
 use std::time::{Clock, Duration};
 use world::read_world;
-use world_values::{Call, World};
-
-const FUNCTION: &[u8] = b"Java_java_lang_Object_f";
+use world_values::World;
 
 const WORLD: &[u8] = b"heap 512\nthread Java_java_lang_Object_f\n";
+
+const TWO_THREADS: &[u8] =
+    b"heap 512\nthread Java_java_lang_Object_f\nthread Java_java_lang_Object_f\n";
 
 /// Three steps: the entry into the call, the number, and the return.
 const RETURNING: &[u8] =
@@ -57,15 +54,15 @@ fn reported(alloc: Global, machine: &Machine<'_>) -> Result<Vec<u8>, AllocError>
     }
 }
 
-/// Takes turns of the one thread until it has ended, and hands the seat back: not before that is the machine given. The thread's
-/// numbers, and the report.
+/// Takes turns of each thread in order until all have ended, and hands the seats back: not before the last is the machine given. The
+/// numbers that each thread has printed, and the report.
 fn turns<J: Naming, R: Wait>(
     rt: &R,
     alloc: Global,
     cell: Cell,
     keeper: Pass,
     machine: Machine<'_>,
-) -> Result<(Vec<i32>, Vec<u8>), AllocError>
+) -> Result<(Vec<Vec<i32>>, Vec<u8>), AllocError>
     requires cell { cell.table.shared.table_id ≡ J.cell }
     requires keeper { (keeper.table_id ≡ J.cell) × (cell_view keeper ≡ knower unknown 0) }
     requires unit { machine.unit ≡ J.unit }
@@ -75,16 +72,18 @@ fn turns<J: Naming, R: Wait>(
     let Ok((shared, mut seats)) = opened else {
         return Err(AllocError);
     };
-    let Some(mut seat) = seats.pop() else {
-        return Err(AllocError);
-    };
-    for _ in 0..100 {
-        match shared.turn(rt, &mut seat)? {
-            Turn::Stepped => {}
-            _ => break,
+    for _ in 0..20 {
+        for seat in &mut seats {
+            shared.turn(rt, seat)?;
         }
     }
-    let lines = shared.lines(&seat)?;
+    let mut lines = Vec::new(alloc);
+    for seat in &seats {
+        lines.push(shared.lines(seat)?)?;
+    }
+    let Some(seat) = seats.pop() else {
+        return Err(AllocError);
+    };
     let Err((shared, mut seats)) = shared.finish(rt, seats) else {
         return Err(AllocError);
     };
@@ -95,16 +94,17 @@ fn turns<J: Naming, R: Wait>(
     }
 }
 
-/// What turns give of a program that one thread calls.
+/// What turns give of a program in a world.
 fn turned<R: Wait>(
     rt: &R,
     alloc: Global,
     program: &[u8],
-) -> Result<(Vec<i32>, Vec<u8>), AllocError> {
+    world: &[u8],
+) -> Result<(Vec<Vec<i32>>, Vec<u8>), AllocError> {
     let Ok(checked) = read_program(alloc, program) else {
         return Err(AllocError);
     };
-    let Ok(world) = read_world(alloc, WORLD) else {
+    let Ok(world) = read_world(alloc, world) else {
         return Err(AllocError);
     };
     let machine = loaded(alloc, &checked, world)?;
@@ -114,41 +114,22 @@ fn turned<R: Wait>(
 
 #[test]
 fn turns_return(rt: HostRuntime) -> Result<(), Fail> {
-    let (lines, report) = turned(&rt, rt.alloc(), RETURNING)?;
-    assert!(rt; lines.is_empty());
+    let (lines, report) = turned(&rt, rt.alloc(), RETURNING, WORLD)?;
+    assert!(rt; lines.iter().all(|it| it.is_empty()));
     assert!(rt; report.as_slice() == b"T1 ended\njournal 1 1 1\n".as_slice());
     Ok(())
 }
 
 #[test]
 fn turns_print(rt: HostRuntime) -> Result<(), Fail> {
-    let (lines, report) = turned(&rt, rt.alloc(), PRINTING)?;
-    assert!(rt; lines.as_slice() == [0, -2147483648].as_slice());
+    let (lines, report) = turned(&rt, rt.alloc(), PRINTING, TWO_THREADS)?;
+    let printed = [0, -2147483648];
+    assert!(rt; lines.len() == 2 && lines.iter().all(|it| it.as_slice() == printed.as_slice()));
     assert!(rt;
         report.as_slice()
-            == b"T1 0\nT1 -2147483648\nT1 ended\njournal 1 1 1 1 1 1 1 1 1 1\n".as_slice()
+            == b"T1 0\nT2 0\nT1 -2147483648\nT2 -2147483648\nT1 ended\nT2 ended\njournal 1 2 1 2 1 2 1 2 1 2 1 2 1 2 1 2 1 2 1 2\n".as_slice()
     );
     Ok(())
-}
-
-/// The one call of a thread.
-fn calls_of(alloc: Global, line: usize) -> Result<Vec<Call>, AllocError>
-    ensures some { IfOk result (λ calls. has_call calls.items ≡ true) }
-    ensures arguments { IfOk result (λ calls. (made : ℕ) → list_all (are_arguments made) calls.items ≡ true) }
-{
-    let function = Vec::from_slice(alloc, FUNCTION)?;
-    let mut calls = Vec::new(alloc);
-    calls.push(Call::new(function, line, Vec::new(alloc)))?;
-    Ok(calls)
-}
-
-/// A world in which each of two threads calls the function, as no text has it yet.
-fn two_threads(alloc: Global) -> Result<World, AllocError> {
-    let classes = ClassTable::of_built_ins(alloc)?;
-    let mut threads = Vec::new(alloc);
-    threads.push(calls_of(alloc, 2)?)?;
-    threads.push(calls_of(alloc, 3)?)?;
-    Ok(World::new(512, classes, Vec::new(alloc), threads))
 }
 
 /// Each of two workers goes on once the other has come, for which it looks 1,000 times, a millisecond apart.
@@ -182,7 +163,7 @@ fn workers_meet(rt: HostRuntime) -> Result<(), Fail> {
     let Ok(checked) = read_program(rt.alloc(), RETURNING) else {
         return Err(AllocError.into());
     };
-    let machine = loaded(rt.alloc(), &checked, two_threads(rt.alloc())?)?;
+    let machine = loaded(rt.alloc(), &checked, read_world(rt.alloc(), TWO_THREADS)?)?;
     let (machine, verdict) = run_workers(&rt, rt.alloc(), machine, &gate)?;
     let report = reported(rt.alloc(), &machine)?;
     assert_eq!(rt; verdict, Verdict::Done);

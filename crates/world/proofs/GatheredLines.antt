@@ -1,8 +1,8 @@
 -- What the lines so far say, gathered, is all that the rules on the next line ask for.
-use Rattle.std.proofs.Common.{◌≡◌, ℕ, ◌+◌, ◌≤◌, Bool, true, false, cond, List, [], ◌∷◌, ◌++◌, length, map, Option, Some, None, refl, sym, ap, ◌∙◌, arith, append-nil, length-append}
+use Rattle.std.proofs.Common.{◌≡◌, ℕ, suc, ◌+◌, ◌≤◌, Bool, true, false, cond, List, [], ◌∷◌, ◌++◌, length, map, Option, Some, None, refl, sym, ap, ◌∙◌, arith, append-nil, length-append}
 use Rattle.std.specs.Prelude.{not, ◌&&◌, ◌||◌, ◌==◌, nat_le, nat_lt, filter, is_some, pos}
 use Rattle.std.specs.Option.{option_to_list}
-use Rattle.std.specs.List.{list_all, list_any}
+use Rattle.std.specs.List.{list_all}
 use Rattle.std.proofs.lemmas.Bool.{and_from}
 use Rattle.std.proofs.lemmas.Bool.Decides.{nat_tests}
 use Rattle.std.proofs.lemmas.List.Folds.{list_all-append}
@@ -14,14 +14,14 @@ use Rattle.class_rules.specs.Mangling.{is_simple_name}
 use Rattle.class_rules.specs.Class.{FieldType, NumberField, ReferenceField, Classes}
 use Rattle.semantics.specs.World.{Invocation}
 use Rattle.world_schedules.specs.LineRules.{LineRule, OfClass, LineForm, WrongName, OutOfLimit, HeapFull, line_rules}
-use Rattle.world.specs.Gathered.{Gathered, gather, is_known, can_hold, each_can_hold, is_named, has_place, least_broken, least_rule}
+use Rattle.world.specs.Gathered.{Gathered, gather, is_known, can_hold, each_can_hold, is_named, has_place, last_calls, least_broken, least_rule}
 use Rattle.world_lines.specs.ClassRules.{broken_class_rule, is_formed}
 use Rattle.world_lines.specs.LineContents.{written_values, name_given, cells_added}
-use Rattle.world.specs.ReadingWorlds.{is_second_thread, rule_broken, least_rule as least_of}
+use Rattle.world.specs.ReadingWorlds.{rule_broken, least_rule as least_of}
 use Rattle.world_values.specs.WorldLines.{WorldValue, NumberValue, NullValue, NamedObject, NamedClass, WorldLine, ClassLine, FieldLine, StaticLine, ObjectLine, ObjectsLine, ArrayLine, StringLine, ThreadLine, CallLine, Lines}
 use Rattle.world_values.specs.WorldMeaning.{table_of, object_defined, objects_defined, values_of_line, invocation_of_line, with_last, threads_with, threads_of, cells_of}
-use Rattle.world_values.specs.WorldRules.{part_of, is_thread_line, is_in_order, is_formed_value, is_well_formed, is_class_allowed, is_name_taken, is_known_value, holds_value, types_of_line, each_holds, value_in_range, each_in_range, is_within_limits, line_breaks}
-use Rattle.world.proofs.GrownLines.{defined_grow, threads_grow, no_thread}
+use Rattle.world_values.specs.WorldRules.{part_of, is_in_order, is_formed_value, is_well_formed, is_class_allowed, is_name_taken, is_known_value, holds_value, types_of_line, each_holds, value_in_range, each_in_range, is_within_limits, line_breaks}
+use Rattle.world.proofs.GrownLines.{defined_grow, threads_grow}
 use Rattle.world.proofs.OrderedLines.{AreOrdered, order_told}
 use Rattle.world.proofs.Soundness.{AreSound}
 use Rattle.world_lines.proofs.Tests.{both, at_most, at_most_so, less_so}
@@ -31,7 +31,6 @@ use Rattle.world.proofs.WorldCells.{cells_grow}
 pub record AreGathered (cells part : ℕ) (lines : Lines) : Type 0 where
   pub sound : AreSound cells lines
   pub ordered : AreOrdered lines part
-  pub single : length (threads_of lines) ≤ 1
   pub few_calls : list_all (λ calls. nat_le (length calls) 256) (threads_of lines) ≡ true
   pub started : (length (threads_of lines) == 0) ≡ not (part == 2)
 
@@ -48,26 +47,30 @@ and_true false = refl
 up_to : (a b : ℕ) → nat_le a b ≡ nat_lt a (b + 1)
 up_to a b = grind (arith, nat_tests)
 
+pub length-with_last : (c : Invocation) (threads : List (List Invocation)) → length (with_last c threads) ≡ length threads
+length-with_last c [] = refl
+length-with_last c (calls ∷ []) = refl
+length-with_last c (calls ∷ next ∷ threads) = ap suc (length-with_last c (next ∷ threads))
+
 -- ---- the least of several
 
-least_more : (p : LineRule → Bool) (rule : LineRule) (rules : List LineRule) (second : Bool) → least_of (filter p (rule ∷ rules)) second ≡ cond (p rule) (Some rule) (least_of (filter p rules) second)
-least_more p rule rules second = by_test (p rule)
+least_more : (p : LineRule → Bool) (rule : LineRule) (rules : List LineRule) → least_of (filter p (rule ∷ rules)) ≡ cond (p rule) (Some rule) (least_of (filter p rules))
+least_more p rule rules = by_test (p rule)
   where
-    by_test : (b : Bool) → least_of (cond b (rule ∷ filter p rules) (filter p rules)) second ≡ cond b (Some rule) (least_of (filter p rules) second)
+    by_test : (b : Bool) → least_of (cond b (rule ∷ filter p rules) (filter p rules)) ≡ cond b (Some rule) (least_of (filter p rules))
     by_test true = refl
     by_test false = refl
 
 -- after the rules on classes
-abbrev later_rules : (p : LineRule → Bool) → Bool → Option LineRule
-later_rules p second =
-    cond (p LineForm) (Some LineForm) (cond (p WrongName) (Some WrongName) (cond (p OutOfLimit) (Some OutOfLimit) (cond (p HeapFull) (Some HeapFull) (cond second (Some OutOfLimit) None))))
+abbrev later_rules : (p : LineRule → Bool) → Option LineRule
+later_rules p = cond (p LineForm) (Some LineForm) (cond (p WrongName) (Some WrongName) (cond (p OutOfLimit) (Some OutOfLimit) (cond (p HeapFull) (Some HeapFull) None)))
 
 abbrev after_class_rules : (a b c d : Bool) → Option LineRule → Option LineRule
 after_class_rules a b c d later =
     cond a (Some (OfClass NameTaken)) (cond b (Some (OfClass BadSuperclass)) (cond c (Some (OfClass BadSignature)) (cond d (Some (OfClass TooMany)) later)))
 
-least_filtered : (p : LineRule → Bool) (second : Bool) → least_of (filter p line_rules) second ≡ after_class_rules (p (OfClass NameTaken)) (p (OfClass BadSuperclass)) (p (OfClass BadSignature)) (p (OfClass TooMany)) (later_rules p second)
-least_filtered p second =
+least_filtered : (p : LineRule → Bool) → least_of (filter p line_rules) ≡ after_class_rules (p (OfClass NameTaken)) (p (OfClass BadSuperclass)) (p (OfClass BadSignature)) (p (OfClass TooMany)) (later_rules p)
+least_filtered p =
     let h : List LineRule = HeapFull ∷ [] in
     let g : List LineRule = OutOfLimit ∷ h in
     let f : List LineRule = WrongName ∷ g in
@@ -76,14 +79,14 @@ least_filtered p second =
     let c : List LineRule = OfClass BadSignature ∷ d in
     let b : List LineRule = OfClass BadSuperclass ∷ c in
     let in_class : Option LineRule → Option LineRule = after_class_rules (p (OfClass NameTaken)) (p (OfClass BadSuperclass)) (p (OfClass BadSignature)) (p (OfClass TooMany)) in
-    least_more p (OfClass NameTaken) b second
-    ∙ ap (λ o. cond (p (OfClass NameTaken)) (Some (OfClass NameTaken)) o) (least_more p (OfClass BadSuperclass) c second)
-    ∙ ap (λ o. cond (p (OfClass NameTaken)) (Some (OfClass NameTaken)) (cond (p (OfClass BadSuperclass)) (Some (OfClass BadSuperclass)) o)) (least_more p (OfClass BadSignature) d second)
-    ∙ ap (λ o. cond (p (OfClass NameTaken)) (Some (OfClass NameTaken)) (cond (p (OfClass BadSuperclass)) (Some (OfClass BadSuperclass)) (cond (p (OfClass BadSignature)) (Some (OfClass BadSignature)) o))) (least_more p (OfClass TooMany) e second)
-    ∙ ap in_class (least_more p LineForm f second)
-    ∙ ap (λ o. in_class (cond (p LineForm) (Some LineForm) o)) (least_more p WrongName g second)
-    ∙ ap (λ o. in_class (cond (p LineForm) (Some LineForm) (cond (p WrongName) (Some WrongName) o))) (least_more p OutOfLimit h second)
-    ∙ ap (λ o. in_class (cond (p LineForm) (Some LineForm) (cond (p WrongName) (Some WrongName) (cond (p OutOfLimit) (Some OutOfLimit) o)))) (least_more p HeapFull [] second)
+    least_more p (OfClass NameTaken) b
+    ∙ ap (λ o. cond (p (OfClass NameTaken)) (Some (OfClass NameTaken)) o) (least_more p (OfClass BadSuperclass) c)
+    ∙ ap (λ o. cond (p (OfClass NameTaken)) (Some (OfClass NameTaken)) (cond (p (OfClass BadSuperclass)) (Some (OfClass BadSuperclass)) o)) (least_more p (OfClass BadSignature) d)
+    ∙ ap (λ o. cond (p (OfClass NameTaken)) (Some (OfClass NameTaken)) (cond (p (OfClass BadSuperclass)) (Some (OfClass BadSuperclass)) (cond (p (OfClass BadSignature)) (Some (OfClass BadSignature)) o))) (least_more p (OfClass TooMany) e)
+    ∙ ap in_class (least_more p LineForm f)
+    ∙ ap (λ o. in_class (cond (p LineForm) (Some LineForm) o)) (least_more p WrongName g)
+    ∙ ap (λ o. in_class (cond (p LineForm) (Some LineForm) (cond (p WrongName) (Some WrongName) o))) (least_more p OutOfLimit h)
+    ∙ ap (λ o. in_class (cond (p LineForm) (Some LineForm) (cond (p WrongName) (Some WrongName) (cond (p OutOfLimit) (Some OutOfLimit) o)))) (least_more p HeapFull [])
 
 class_rules_first : (a b c d form names limits room : Bool) → least_broken (cond a (Some NameTaken) (cond b (Some BadSuperclass) (cond c (Some BadSignature) (cond d (Some TooMany) None)))) form names limits room
     ≡ after_class_rules a b c d (least_broken None form names limits room)
@@ -214,23 +217,31 @@ module _ (cells part : ℕ) (L : Lines) where
   and_assoc true b c = refl
   and_assoc false b c = refl
 
-  call_limits : (threads : List (List Invocation)) (c : Invocation) → length threads ≤ 1 → (nat_le (length (with_last c threads)) 8 && list_all few (with_last c threads)) ≡ list_all (λ calls. nat_lt (length calls) 256) threads
-  call_limits [] c h = refl
-  call_limits (calls ∷ []) c h = ap (λ m. nat_le m 256 && true) (length-append calls (c ∷ [])) ∙ ap (λ b. b && true) (one_more (length calls))
-    where
-      one_more : (m : ℕ) → nat_le (m + 1) 256 ≡ nat_lt m 256
-      one_more m = grind (arith, nat_tests)
-  call_limits (a ∷ b ∷ threads) c h = absurd (omega (arith, h))
+  one_more : (m limit : ℕ) → nat_le (m + 1) limit ≡ nat_lt m limit
+  one_more m limit = grind (arith, nat_tests)
 
-  thread_limits : (threads : List (List Invocation)) (c : Invocation) → length threads ≤ 1 → list_all few threads ≡ true → (nat_le (length (threads ++ (c ∷ []) ∷ [])) 8 && list_all few (threads ++ (c ∷ []) ∷ [])) ≡ true
-  thread_limits threads c h k =
-      and_from (nat_le (length (threads ++ (c ∷ []) ∷ [])) 8) (list_all few (threads ++ (c ∷ []) ∷ []))
-      (at_most_so (length (threads ++ (c ∷ []) ∷ [])) 8 (omega (arith, h, length-append threads ((c ∷ []) ∷ []))))
-      (list_all-append few threads ((c ∷ []) ∷ []) ∙ and_from (list_all few threads) true k refl)
+  few_with_last : (threads : List (List Invocation)) (c : Invocation) → list_all few threads ≡ true → list_all few (with_last c threads) ≡ nat_lt (length (last_calls threads)) 256
+  few_with_last [] c h = refl
+  few_with_last (calls ∷ []) c h = ap (λ m. nat_le m 256 && true) (length-append calls (c ∷ [])) ∙ and_true (nat_le (length calls + 1) 256) ∙ one_more (length calls) 256
+  few_with_last (calls ∷ next ∷ threads) c h =
+      let b = both (few calls) (list_all few (next ∷ threads)) h in ap (λ t. t && list_all few (with_last c (next ∷ threads))) b.0 ∙ few_with_last (next ∷ threads) c b.1
+
+  call_limits : (threads : List (List Invocation)) (c : Invocation) → length threads ≤ 8 → list_all few threads ≡ true → (nat_le (length (with_last c threads)) 8 && list_all few (with_last c threads)) ≡ nat_lt (length (last_calls threads)) 256
+  call_limits threads c h k =
+      ap (λ m. nat_le m 8 && list_all few (with_last c threads)) (length-with_last c threads)
+      ∙ ap (λ b. b && list_all few (with_last c threads)) (at_most_so (length threads) 8 h)
+      ∙ few_with_last threads c k
+
+  thread_limits : (threads : List (List Invocation)) (c : Invocation) → list_all few threads ≡ true → (nat_le (length (threads ++ (c ∷ []) ∷ [])) 8 && list_all few (threads ++ (c ∷ []) ∷ [])) ≡ nat_lt (length threads) 8
+  thread_limits threads c k =
+      ap (λ b. nat_le (length (threads ++ (c ∷ []) ∷ [])) 8 && b) (list_all-append few threads ((c ∷ []) ∷ []) ∙ and_from (list_all few threads) true k refl)
+      ∙ and_true (nat_le (length (threads ++ (c ∷ []) ∷ [])) 8)
+      ∙ ap (λ m. nat_le m 8) (length-append threads ((c ∷ []) ∷ []))
+      ∙ one_more (length threads) 8
 
   module _ (s : AreGathered cells part L) where
     few_threads : (nat_le (length (threads_of L)) 8 && list_all few (threads_of L)) ≡ true
-    few_threads = let one = s.single in and_from (nat_le (length (threads_of L)) 8) (list_all few (threads_of L)) (at_most_so (length (threads_of L)) 8 (omega (arith, one))) s.few_calls
+    few_threads = let low = s.sound.few_threads in and_from (nat_le (length (threads_of L)) 8) (list_all few (threads_of L)) (at_most_so (length (threads_of L)) 8 low) s.few_calls
 
     few_names : nat_le (length (N ++ [])) 65536 ≡ true
     few_names = let low = s.sound.few_objects in ap (λ (ns : ByName ℕ). nat_le (length ns) 65536) (append-nil N) ∙ at_most_so (length N) 65536 low
@@ -277,61 +288,40 @@ module _ (cells part : ℕ) (L : Lines) where
     abbrev said_last : ℕ → WorldLine → Bool → Option LineRule
     said_last n line ranged =
         cond (not ranged || not (is_within_limits (L ++ (n, line) ∷ []))) (Some OutOfLimit)
-        (cond (nat_lt (part_of line) 2 && nat_lt cells (cells_of (L ++ (n, line) ∷ []))) (Some HeapFull) (cond (is_second_thread L line) (Some OutOfLimit) None))
+        (cond (nat_lt (part_of line) 2 && nat_lt cells (cells_of (L ++ (n, line) ∷ []))) (Some HeapFull) None)
 
     above_is_full : (added : ℕ) (all : ℕ) → all ≡ cells_of L + added → nat_lt cells all ≡ not (nat_le (cells_of L + added) cells)
     above_is_full added all e = grind (arith, nat_tests, e)
 
-    -- of a line of no thread
-    last_told : (n : ℕ) (line : WorldLine) (ranged : Bool) → nat_lt (part_of line) 2 ≡ true → is_thread_line line ≡ false → is_within_limits (L ++ (n, line) ∷ []) ≡ has_place g line → cells_of (L ++ (n, line) ∷ []) ≡ cells_of L + cells_added line
-        → asked_last n line ranged ≡ said_last n line ranged
-    last_told n line ranged first no_thread within all =
+    last_told : (n : ℕ) (line : WorldLine) (ranged : Bool) → is_within_limits (L ++ (n, line) ∷ []) ≡ has_place g line
+        → (nat_lt (part_of line) 2 && nat_lt cells (cells_of (L ++ (n, line) ∷ []))) ≡ not (nat_le (cells_of L + cells_added line) cells) → asked_last n line ranged ≡ said_last n line ranged
+    last_told n line ranged within full =
         ap (λ b. cond b (Some OutOfLimit) (cond (not (nat_le (cells_of L + cells_added line) cells)) (Some HeapFull) None)) (sym (de_morgan ranged (has_place g line)) ∙ ap (λ b. not ranged || not b) (sym within))
-        ∙ ap (λ b. cond (not ranged || not (is_within_limits (L ++ (n, line) ∷ []))) (Some OutOfLimit) (cond b (Some HeapFull) None)) (sym (ap (λ b. b && nat_lt cells (cells_of (L ++ (n, line) ∷ []))) first ∙ above_is_full (cells_added line) (cells_of (L ++ (n, line) ∷ [])) all))
-        ∙ ap
-        (λ b. cond (not ranged || not (is_within_limits (L ++ (n, line) ∷ []))) (Some OutOfLimit)
-        (cond (nat_lt (part_of line) 2 && nat_lt cells (cells_of (L ++ (n, line) ∷ []))) (Some HeapFull) (cond b (Some OutOfLimit) None)))
-        (sym (ap (λ b. b && list_any (λ (l : ℕ × WorldLine). is_thread_line l.1) L) no_thread))
+        ∙ ap (λ b. cond (not ranged || not (is_within_limits (L ++ (n, line) ∷ []))) (Some OutOfLimit) (cond b (Some HeapFull) None)) (sym full)
 
     -- a line of a thread adds no cells
     room_left : not (nat_le (cells_of L + 0) cells) ≡ false
     room_left = let low = s.sound.fits in ap not (at_most_so (cells_of L + 0) cells (omega (arith, low)))
 
-    call_told : (n : ℕ) (f : Identifier) (vs : List WorldValue) (ranged : Bool) → is_within_limits (L ++ (n, CallLine f vs) ∷ []) ≡ has_place g (CallLine f vs) → asked_last n (CallLine f vs) ranged ≡ said_last n (CallLine f vs) ranged
-    call_told n f vs ranged within =
-        ap (λ b. cond b (Some OutOfLimit) (cond (not (nat_le (cells_of L + 0) cells)) (Some HeapFull) None)) (sym (de_morgan ranged (has_place g (CallLine f vs))) ∙ ap (λ b. not ranged || not b) (sym within))
-        ∙ ap (λ b. cond (not ranged || not (is_within_limits (L ++ (n, CallLine f vs) ∷ []))) (Some OutOfLimit) (cond b (Some HeapFull) None)) room_left
-
-    thread_told : (n : ℕ) (f : Identifier) (vs : List WorldValue) (ranged : Bool) → is_within_limits (L ++ (n, ThreadLine f vs) ∷ []) ≡ true → asked_last n (ThreadLine f vs) ranged ≡ said_last n (ThreadLine f vs) ranged
-    thread_told n f vs ranged within =
-        (λ i. cond (not (ranged && s.started i)) (Some OutOfLimit) (cond (room_left i) (Some HeapFull) None))
-        ∙ by_tests ranged (part == 2)
-        ∙ sym (λ i. cond (not ranged || not (within i)) (Some OutOfLimit) (cond (s.ordered.threads i) (Some OutOfLimit) None))
-      where
-        by_tests : (a b : Bool) → cond (not (a && not b)) (Some OutOfLimit) None ≡ cond (not a || not true) (Some OutOfLimit) (cond b (Some OutOfLimit) None)
-        by_tests true true = refl
-        by_tests true false = refl
-        by_tests false b = refl
-
     last_same : (n : ℕ) (line : WorldLine) (ranged : Bool) → is_in_order L line ≡ true → list_all (is_known_value L) (values_of_line line) ≡ true → is_class_allowed T line ≡ true → asked_last n line ranged ≡ said_last n line ranged
     last_same n (ClassLine name superclass) ranged ordered own allowed =
-        let line = ClassLine name superclass in last_told n line ranged refl refl (limits_told n line ordered own ∙ no_name) (cells_told n line ordered own allowed)
+        let line = ClassLine name superclass in last_told n line ranged (limits_told n line ordered own ∙ no_name) (above_is_full (cells_added line) (cells_of (L ++ (n, line) ∷ [])) (cells_told n line ordered own allowed))
     last_same n (FieldLine class name signature) ranged ordered own allowed =
-        let line = FieldLine class name signature in last_told n line ranged refl refl (limits_told n line ordered own ∙ no_name) (cells_told n line ordered own allowed)
+        let line = FieldLine class name signature in last_told n line ranged (limits_told n line ordered own ∙ no_name) (above_is_full (cells_added line) (cells_of (L ++ (n, line) ∷ [])) (cells_told n line ordered own allowed))
     last_same n (StaticLine class name signature) ranged ordered own allowed =
-        let line = StaticLine class name signature in last_told n line ranged refl refl (limits_told n line ordered own ∙ no_name) (cells_told n line ordered own allowed)
+        let line = StaticLine class name signature in last_told n line ranged (limits_told n line ordered own ∙ no_name) (above_is_full (cells_added line) (cells_of (L ++ (n, line) ∷ [])) (cells_told n line ordered own allowed))
     last_same n (ObjectLine x class values) ranged ordered own allowed =
-        let line = ObjectLine x class values in last_told n line ranged refl refl (limits_told n line ordered own ∙ one_name x _) (cells_told n line ordered own allowed)
+        let line = ObjectLine x class values in last_told n line ranged (limits_told n line ordered own ∙ one_name x _) (above_is_full (cells_added line) (cells_of (L ++ (n, line) ∷ [])) (cells_told n line ordered own allowed))
     last_same n (ObjectsLine x class values) ranged ordered own allowed =
-        let line = ObjectsLine x class values in last_told n line ranged refl refl (limits_told n line ordered own ∙ one_name x _) (cells_told n line ordered own allowed)
+        let line = ObjectsLine x class values in last_told n line ranged (limits_told n line ordered own ∙ one_name x _) (above_is_full (cells_added line) (cells_of (L ++ (n, line) ∷ [])) (cells_told n line ordered own allowed))
     last_same n (ArrayLine x t values) ranged ordered own allowed =
-        let line = ArrayLine x t values in last_told n line ranged refl refl (limits_told n line ordered own ∙ one_name x _) (cells_told n line ordered own allowed)
+        let line = ArrayLine x t values in last_told n line ranged (limits_told n line ordered own ∙ one_name x _) (above_is_full (cells_added line) (cells_of (L ++ (n, line) ∷ [])) (cells_told n line ordered own allowed))
     last_same n (StringLine x text) ranged ordered own allowed =
-        let line = StringLine x text in last_told n line ranged refl refl (limits_told n line ordered own ∙ one_name x _) (cells_told n line ordered own allowed)
+        let line = StringLine x text in last_told n line ranged (limits_told n line ordered own ∙ one_name x _) (above_is_full (cells_added line) (cells_of (L ++ (n, line) ∷ [])) (cells_told n line ordered own allowed))
     last_same n (ThreadLine f vs) ranged ordered own allowed =
-        thread_told n f vs ranged (limits_told n (ThreadLine f vs) ordered own ∙ limits_threads _ true (thread_limits (threads_of L) (invocation_of_line L n f vs) s.single s.few_calls))
+        last_told n (ThreadLine f vs) ranged (limits_told n (ThreadLine f vs) ordered own ∙ limits_threads _ _ (thread_limits (threads_of L) (invocation_of_line L n f vs) s.few_calls)) (sym room_left)
     last_same n (CallLine f vs) ranged ordered own allowed =
-        call_told n f vs ranged (limits_told n (CallLine f vs) ordered own ∙ limits_threads _ _ (call_limits (threads_of L) (invocation_of_line L n f vs) s.single))
+        last_told n (CallLine f vs) ranged (limits_told n (CallLine f vs) ordered own ∙ limits_threads _ _ (call_limits (threads_of L) (invocation_of_line L n f vs) s.sound.few_threads s.few_calls)) (sym room_left)
 
     -- ---- all rules
 
@@ -342,7 +332,7 @@ module _ (cells part : ℕ) (L : Lines) where
       abbrev ranged : Bool
       ranged = each_in_range (types_of_line T line) (written_values line)
 
-      later_same : is_in_order L line ≡ true → least_broken None (is_formed T line) (is_named T N line) (ranged && has_place g line) (nat_le (cells_of L + cells_added line) cells) ≡ later_rules breaks (is_second_thread L line)
+      later_same : is_in_order L line ≡ true → least_broken None (is_formed T line) (is_named T N line) (ranged && has_place g line) (nat_le (cells_of L + cells_added line) cells) ≡ later_rules breaks
       later_same ordered = by_form (is_formed T line) refl
         where
           form_broken : breaks LineForm ≡ not (is_formed T line)
@@ -361,7 +351,7 @@ module _ (cells part : ℕ) (L : Lines) where
               let c = both (not (some_passes (λ x. is_some (lookup x N)) (name_given line))) (is_class_allowed T line) b.0 in
               last_same n line ranged ordered (sym (known_told line) ∙ b.1) c.1 ∙ ap (said_last n line) (ranged_same line formed)
 
-          by_form : (b : Bool) → is_formed T line ≡ b → least_broken None (is_formed T line) (is_named T N line) (ranged && has_place g line) (nat_le (cells_of L + cells_added line) cells) ≡ later_rules breaks (is_second_thread L line)
+          by_form : (b : Bool) → is_formed T line ≡ b → least_broken None (is_formed T line) (is_named T N line) (ranged && has_place g line) (nat_le (cells_of L + cells_added line) cells) ≡ later_rules breaks
           by_form false e = ap (λ f. least_broken None f (is_named T N line) (ranged && has_place g line) (nat_le (cells_of L + cells_added line) cells)) e ∙ sym (ap (λ b. cond b (Some LineForm) (cond (breaks WrongName) (Some WrongName) (said_last n line (each_in_range (types_of_line T line) (values_of_line line))))) (form_broken ∙ ap not e))
           by_form true e =
               ap (λ f. least_broken None f (is_named T N line) (ranged && has_place g line) (nat_le (cells_of L + cells_added line) cells)) e
@@ -377,10 +367,10 @@ module _ (cells part : ℕ) (L : Lines) where
           by_order b = cond b (least_broken (broken_class_rule T line) (is_formed T line) (is_named T N line) (ranged && has_place g line) (nat_le (cells_of L + cells_added line) cells)) (Some LineForm)
 
           in_order : (b : Bool) → is_in_order L line ≡ b → by_order (is_in_order L line) ≡ rule_broken cells L (n, line)
-          in_order false e = ap by_order e ∙ sym (ap (λ b. least_of (cond b (filter breaks line_rules) (LineForm ∷ [])) (is_second_thread L line)) e)
+          in_order false e = ap by_order e ∙ sym (ap (λ b. least_of (cond b (filter breaks line_rules) (LineForm ∷ []))) e)
           in_order true e =
               ap by_order e
               ∙ class_rules_first (breaks (OfClass NameTaken)) (breaks (OfClass BadSuperclass)) (breaks (OfClass BadSignature)) (breaks (OfClass TooMany)) _ _ _ _
               ∙ ap (after_class_rules (breaks (OfClass NameTaken)) (breaks (OfClass BadSuperclass)) (breaks (OfClass BadSignature)) (breaks (OfClass TooMany))) (later_same e)
-              ∙ sym (least_filtered breaks (is_second_thread L line))
-              ∙ sym (ap (λ b. least_of (cond b (filter breaks line_rules) (LineForm ∷ [])) (is_second_thread L line)) e)
+              ∙ sym (least_filtered breaks)
+              ∙ sym (ap (λ b. least_of (cond b (filter breaks line_rules) (LineForm ∷ []))) e)

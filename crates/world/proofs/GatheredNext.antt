@@ -1,8 +1,7 @@
 -- What the lines say with one more that breaks no rule is what was gathered, with that line.
-use Rattle.std.proofs.Common.{◌≡◌, ℕ, suc, ◌+◌, ◌≤◌, Bool, true, false, List, [], ◌∷◌, ◌++◌, length, map, Option, Some, None, refl, sym, ap, ◌∙◌, arith, append-nil, length-append}
+use Rattle.std.proofs.Common.{◌≡◌, ℕ, ◌+◌, ◌≤◌, true, false, List, [], ◌∷◌, ◌++◌, length, map, Option, Some, None, refl, sym, ap, ◌∙◌, arith, append-nil, length-append}
 use Rattle.std.specs.Prelude.{not, ◌==◌, nat_le, codes, pos, unwrap_or, bytes_eq}
 use Rattle.std.specs.Option.{option_map, option_to_list}
-use Rattle.std.specs.List.{list_any}
 use Rattle.std.proofs.lemmas.List.{length-map}
 use Rattle.base.specs.Bytes.{Identifier, ByName}
 use Rattle.base.specs.Options.{some_passes}
@@ -10,22 +9,21 @@ use Rattle.class_rules.specs.Additions.{BadSuperclass, class_breaks, new_class, 
 use Rattle.class_rules.specs.BuiltIns.{built_ins, has_own_making, string_class, number_array, root_class}
 use Rattle.class_rules.specs.Class.{Class, Classes, class_at, class_named, array_name}
 use Rattle.semantics.specs.Object.{ObjectValue, Number}
-use Rattle.semantics.specs.World.{Invocation}
-use Rattle.world_schedules.specs.LineRules.{LineRule}
 use Rattle.world.specs.Gathered.{Gathered, gather, value_at, with_object, with_line}
 use Rattle.world_lines.specs.LineContents.{cells_added}
-use Rattle.world.specs.ReadingWorlds.{is_second_thread, rule_broken, least_rule as least_of}
+use Rattle.world.specs.ReadingWorlds.{rule_broken}
 use Rattle.world_values.specs.WorldLines.{WorldValue, NumberValue, NullValue, NamedObject, NamedClass, WorldLine, ClassLine, FieldLine, StaticLine, ObjectLine, ObjectsLine, ArrayLine, StringLine, ThreadLine, CallLine, Lines}
 use Rattle.world_values.specs.WorldMeaning.{class_number, superclass_number, table_with, table_of, object_defined, objects_defined, value_of, object_of, invocation_of_line, with_last, threads_with, threads_of, cells_of}
-use Rattle.world_values.specs.WorldRules.{part_of, is_thread_line, is_in_order, broken_by_line}
-use Rattle.world.proofs.GatheredLines.{AreGathered}
+use Rattle.world_values.specs.WorldRules.{part_of, is_in_order, broken_by_line}
+use Rattle.world.proofs.GatheredLines.{AreGathered, length-with_last}
 use Rattle.world.proofs.GrownLines.{objects_of, table_grows, defined_grow, objects_grow, threads_grow, no_threads}
 use Rattle.world.proofs.KeptBuiltIns.{KeepsBuiltIns}
 use Rattle.world.proofs.KeptLines.{IsKept, kept_line}
 use Rattle.world.proofs.Places.{position-found}
 use Rattle.world.proofs.OrderedLines.{order_told, more_ordered}
+use Rattle.world.proofs.ReadWorlds.{least_none}
 use Rattle.world.proofs.Soundness.{line_sound}
-use Rattle.world_lines.proofs.Tests.{both, same_number, later_number, not_false}
+use Rattle.world_lines.proofs.Tests.{both, later_number, not_false}
 use Rattle.world.proofs.WorldCells.{cells_grow}
 
 -- ---- the superclass of a new class
@@ -53,19 +51,7 @@ superclass_told : (T : Classes) (name : Identifier) (superclass : Option Identif
 superclass_told T name None k h = root_named T (k.each 1 (omega arith) ∙ root_first)
 superclass_told T name (Some above) k h = named_number T above (not_false (some_passes (λ c. not (has_own_making T c)) (class_named T above)) h)
 
--- ---- the rules
-
-least_none : (rules : List LineRule) (second : Bool) → least_of rules second ≡ None → (rules ≡ []) × (second ≡ false)
-least_none (rule ∷ rules) second h = absurd (let no : Some rule ≡ None = h in cc)
-least_none [] true h = absurd (cc)
-least_none [] false h = (refl, refl)
-
 -- ---- one more line
-
-length-with_last : (c : Invocation) (threads : List (List Invocation)) → length (with_last c threads) ≡ length threads
-length-with_last c [] = refl
-length-with_last c (calls ∷ []) = refl
-length-with_last c (calls ∷ next ∷ threads) = ap suc (length-with_last c (next ∷ threads))
 
 module _ (cells part : ℕ) (L : Lines) (s : AreGathered cells part L) (n : ℕ) where
   abbrev T : Classes
@@ -131,11 +117,8 @@ module _ (cells part : ℕ) (L : Lines) (s : AreGathered cells part L) (n : ℕ)
     abbrev next : Lines
     next = L ++ (n, line) ∷ []
 
-    rules : (broken_by_line cells L (n, line) ≡ []) × (is_second_thread L line ≡ false)
-    rules = least_none (broken_by_line cells L (n, line)) (is_second_thread L line) kept
-
     k : IsKept cells L (n, line)
-    k = kept_line cells L n line rules.0
+    k = kept_line cells L n line (least_none (broken_by_line cells L (n, line)) kept)
 
     threads_next : threads_of next ≡ threads_with L (threads_of L) (n, line)
     threads_next = threads_grow L n line k.ordered s.sound.known k.known
@@ -153,42 +136,34 @@ module _ (cells part : ℕ) (L : Lines) (s : AreGathered cells part L) (n : ℕ)
         })
         ∙ line_added line k
 
-    -- what a line of no thread leaves
-    before_threads : part_of line ≤ 1 → threads_with L (threads_of L) (n, line) ≡ threads_of L → (length (threads_of next) ≤ 1) × ((length (threads_of next) == 0) ≡ true)
-    before_threads low same =
-        let none = no_threads L n line k.ordered s.sound.known k.known low in
-        let e : threads_of next ≡ [] = threads_next ∙ same ∙ none in
-        let m = ap length e in
-        (omega (arith, m), ap (λ (m : ℕ). m == 0) m)
+    -- a line of no thread leaves none
+    before_threads : part_of line ≤ 1 → threads_with L (threads_of L) (n, line) ≡ threads_of L → (length (threads_of next) == 0) ≡ true
+    before_threads low same = ap (λ threads. length threads == 0) (threads_next ∙ same ∙ no_threads L n line k.ordered s.sound.known k.known low)
 
-    -- how many threads there are, and whether there is one
-    pub counted : (l : WorldLine) → l ≡ line → (length (threads_of next) ≤ 1) × ((length (threads_of next) == 0) ≡ not (part_of l == 2))
-    counted (ClassLine name superclass) e = let p = ap part_of e in before_threads (omega (arith, p)) (ap (λ l. threads_with L (threads_of L) (n, l)) (sym e))
-    counted (FieldLine class name signature) e = let p = ap part_of e in before_threads (omega (arith, p)) (ap (λ l. threads_with L (threads_of L) (n, l)) (sym e))
-    counted (StaticLine class name signature) e = let p = ap part_of e in before_threads (omega (arith, p)) (ap (λ l. threads_with L (threads_of L) (n, l)) (sym e))
-    counted (ObjectLine x class values) e = let p = ap part_of e in before_threads (omega (arith, p)) (ap (λ l. threads_with L (threads_of L) (n, l)) (sym e))
-    counted (ObjectsLine x class values) e = let p = ap part_of e in before_threads (omega (arith, p)) (ap (λ l. threads_with L (threads_of L) (n, l)) (sym e))
-    counted (ArrayLine x t values) e = let p = ap part_of e in before_threads (omega (arith, p)) (ap (λ l. threads_with L (threads_of L) (n, l)) (sym e))
-    counted (StringLine x text) e = let p = ap part_of e in before_threads (omega (arith, p)) (ap (λ l. threads_with L (threads_of L) (n, l)) (sym e))
-    counted (ThreadLine f vs) e =
-        let second : list_any (λ (l : ℕ × WorldLine). is_thread_line l.1) L ≡ false = ap (is_second_thread L) e ∙ rules.1 in
-        let none : length (threads_of L) ≡ 0 = same_number (length (threads_of L)) 0 (s.started ∙ ap not (sym s.ordered.threads ∙ second)) in
+    -- whether there is one
+    started_next : (l : WorldLine) → l ≡ line → (length (threads_of next) == 0) ≡ not (part_of l == 2)
+    started_next (ClassLine name superclass) e = let p = ap part_of e in before_threads (omega (arith, p)) (ap (λ l. threads_with L (threads_of L) (n, l)) (sym e))
+    started_next (FieldLine class name signature) e = let p = ap part_of e in before_threads (omega (arith, p)) (ap (λ l. threads_with L (threads_of L) (n, l)) (sym e))
+    started_next (StaticLine class name signature) e = let p = ap part_of e in before_threads (omega (arith, p)) (ap (λ l. threads_with L (threads_of L) (n, l)) (sym e))
+    started_next (ObjectLine x class values) e = let p = ap part_of e in before_threads (omega (arith, p)) (ap (λ l. threads_with L (threads_of L) (n, l)) (sym e))
+    started_next (ObjectsLine x class values) e = let p = ap part_of e in before_threads (omega (arith, p)) (ap (λ l. threads_with L (threads_of L) (n, l)) (sym e))
+    started_next (ArrayLine x t values) e = let p = ap part_of e in before_threads (omega (arith, p)) (ap (λ l. threads_with L (threads_of L) (n, l)) (sym e))
+    started_next (StringLine x text) e = let p = ap part_of e in before_threads (omega (arith, p)) (ap (λ l. threads_with L (threads_of L) (n, l)) (sym e))
+    started_next (ThreadLine f vs) e =
         let c = invocation_of_line L n f vs in
         let many = ap length (threads_next ∙ ap (λ l. threads_with L (threads_of L) (n, l)) (sym e)) ∙ length-append (threads_of L) ((c ∷ []) ∷ []) in
-        (omega (arith, none, many), later_number (length (threads_of next)) 0 (omega (arith, many)))
-    counted (CallLine f vs) e =
+        later_number (length (threads_of next)) 0 (omega (arith, many))
+    started_next (CallLine f vs) e =
         let told = sym (order_told L part (CallLine f vs) s.ordered) ∙ ap (is_in_order L) e ∙ k.ordered in
         let begun = (both (nat_le part 2) (part == 2) told).1 in
         let c = invocation_of_line L n f vs in
         let many = ap length (threads_next ∙ ap (λ l. threads_with L (threads_of L) (n, l)) (sym e)) ∙ length-with_last c (threads_of L) in
-        let one = s.single in
-        (omega (arith, one, many), ap (λ (m : ℕ). m == 0) many ∙ s.started ∙ ap not begun)
+        ap (λ (m : ℕ). m == 0) many ∙ s.started ∙ ap not begun
 
     pub are_gathered : AreGathered cells (part_of line) next
     are_gathered = record {
       sound = line_sound cells L n line s.sound k;
       ordered = more_ordered L part n line s.ordered k.ordered;
-      single = (counted line refl).0;
       few_calls = k.few_calls;
-      started = (counted line refl).1;
+      started = started_next line refl;
     }

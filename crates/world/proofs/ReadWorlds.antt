@@ -1,26 +1,26 @@
--- The worlds that are read are those that texts mean, with one thread.
-use Rattle.std.proofs.Common.{◌≡◌, ℕ, suc, ◌+◌, ◌<◌, ◌≤◌, Bool, true, false, cond, List, [], ◌∷◌, ◌++◌, length, fold, Option, Some, None, Ok, refl, sym, ap, ◌∙◌, subst, arith, append_assoc, append-nil, length-append}
-use Rattle.std.specs.Prelude.{◌&&◌, ◌||◌, nat_le}
+-- The worlds that are read are those that texts mean.
+use Rattle.std.proofs.Common.{◌≡◌, ℕ, ◌≤◌, Bool, true, false, cond, List, [], ◌∷◌, ◌++◌, Option, Some, None, Ok, refl, sym, ap, ◌∙◌, subst, append_assoc, append-nil}
+use Rattle.std.specs.Prelude.{◌&&◌, nat_le}
 use Rattle.std.specs.List.{list_all, list_any, AllZip}
 use Rattle.std.proofs.lemmas.Bool.{and_from}
 use Rattle.base.specs.Element.{JInt}
 use Rattle.class_rules.specs.Class.{FieldType, NumberField, ReferenceField}
-use Rattle.semantics.specs.World.{Invocation, World}
+use Rattle.semantics.specs.World.{World}
 use Rattle.world_schedules.specs.LineRules.{LineRule}
 use Rattle.world_schedules.specs.Reading.{◌>>=◌, refused}
 use Rattle.world_schedules.specs.declared.fault.Rule.TheVariants as held
 use Rattle.world_schedules.proofs.WordLaws.{and_then_ok}
 use Rattle.world_lines.specs.ReadingLines.{heap_of_line, line_of}
-use Rattle.world.specs.ReadingWorlds.{is_second_thread, least_rule, rule_broken, ruled, line_read, lines_read, heap_read, last_number, world_read, numbered_read, world_of_text}
-use Rattle.world.specs.TextLaws.{IsReadWorldText, WorldsAreRead}
+use Rattle.world.specs.ReadingWorlds.{least_rule, rule_broken, ruled, line_read, lines_read, heap_read, last_number, world_read, numbered_read, world_of_text}
+use Rattle.world.specs.TextLaws.{WorldsAreRead}
 use Rattle.world_values.specs.WorldLines.{WorldValue, NumberValue, NullValue, NamedObject, NamedClass, WorldLine, ClassLine, FieldLine, StaticLine, ObjectLine, ObjectsLine, ArrayLine, StringLine, ThreadLine, CallLine, Lines, text_lines}
-use Rattle.world_values.specs.WorldMeaning.{invocation_of_line, with_last, threads_with, threads_of, world_of}
-use Rattle.world_values.specs.WorldRules.{is_thread_line, holds_value, each_holds, value_in_range, each_in_range, broken_by_line, broken_after, IsNumberedLine, MeansOneWorld}
+use Rattle.world_values.specs.WorldMeaning.{world_of}
+use Rattle.world_values.specs.WorldRules.{is_thread_line, holds_value, each_holds, value_in_range, each_in_range, broken_by_line, broken_after, IsNumberedLine, IsWorldText, MeansOneWorld}
 use Rattle.world_lines.proofs.HeapLines.{heap_is_read, heap_is_written}
 use Rattle.world.proofs.KeptLines.{IsKept, kept_line, each_keeps, none_breaks}
 use Rattle.world_lines.specs.LineContents.{written_values}
 use Rattle.world_lines.proofs.ReadLines.{line_is_read}
-use Rattle.world_lines.proofs.Tests.{both, neither, at_most, at_most_so}
+use Rattle.world_lines.proofs.Tests.{both, at_most, at_most_so}
 use Rattle.world_lines.proofs.WrittenLines.{line_is_written}
 use Rattle.world_lines.proofs.WrittenValues.{value_in_jint}
 
@@ -50,79 +50,21 @@ kept_range cells earlier n (StringLine x text) k = refl
 kept_range cells earlier n (ThreadLine function vs) k = k.ranged
 kept_range cells earlier n (CallLine function vs) k = k.ranged
 
--- ---- how many threads
-
--- the lines that begin a thread
-abbrev pub threads_in : Lines → ℕ
-threads_in [] = 0
-threads_in (l ∷ lines) = cond (is_thread_line l.1) (suc (threads_in lines)) (threads_in lines)
-
-threads_in-append : (front more : Lines) → threads_in (front ++ more) ≡ threads_in front + threads_in more
-threads_in-append [] more = omega arith
-threads_in-append (l ∷ front) more = by_test (is_thread_line l.1) (threads_in-append front more)
-  where
-    by_test : (b : Bool) → threads_in (front ++ more) ≡ threads_in front + threads_in more → cond b (suc (threads_in (front ++ more))) (threads_in (front ++ more)) ≡ cond b (suc (threads_in front)) (threads_in front) + threads_in more
-    by_test true e = omega (arith, e)
-    by_test false e = e
-
-pub length-with_last : (c : Invocation) (threads : List (List Invocation)) → length (with_last c threads) ≡ length threads
-length-with_last c [] = refl
-length-with_last c (calls ∷ []) = refl
-length-with_last c (calls ∷ next ∷ threads) = ap suc (length-with_last c (next ∷ threads))
-
-one_line : (L : Lines) (threads : List (List Invocation)) (n : ℕ) (line : WorldLine) → length (threads_with L threads (n, line)) ≡ cond (is_thread_line line) (suc (length threads)) (length threads)
-one_line L threads n (ThreadLine function vs) = omega (arith, length-append threads ((invocation_of_line L n function vs ∷ []) ∷ []))
-one_line L threads n (CallLine function vs) = length-with_last _ threads
-one_line L threads n (ClassLine name superclass) = refl
-one_line L threads n (FieldLine class name signature) = refl
-one_line L threads n (StaticLine class name signature) = refl
-one_line L threads n (ObjectLine x class vs) = refl
-one_line L threads n (ObjectsLine x class vs) = refl
-one_line L threads n (ArrayLine x t vs) = refl
-one_line L threads n (StringLine x text) = refl
-
-all_lines : (L : Lines) (threads : List (List Invocation)) (lines : Lines) → length (fold (threads_with L) threads lines) ≡ length threads + threads_in lines
-all_lines L threads [] = omega arith
-all_lines L threads ((n, line) ∷ lines) = all_lines L (threads_with L threads (n, line)) lines ∙ by_test (is_thread_line line) (one_line L threads n line)
-  where
-    by_test : (b : Bool) → length (threads_with L threads (n, line)) ≡ cond b (suc (length threads)) (length threads) → length (threads_with L threads (n, line)) + threads_in lines ≡ length threads + cond b (suc (threads_in lines)) (threads_in lines)
-    by_test true e = omega (arith, e)
-    by_test false e = omega (arith, e)
-
-pub threads-counted : (lines : Lines) → length (threads_of lines) ≡ threads_in lines
-threads-counted lines = omega (arith, all_lines lines [] lines)
-
-pub some_thread : (lines : Lines) → list_any (λ (l : ℕ × WorldLine). is_thread_line l.1) lines ≡ true → 0 < threads_in lines
-some_thread [] h = absurd (cc)
-some_thread (l ∷ lines) h = by_test (is_thread_line l.1) h (some_thread lines)
-  where
-    by_test : (b : Bool) → (b || list_any (λ (k : ℕ × WorldLine). is_thread_line k.1) lines) ≡ true → (list_any (λ (k : ℕ × WorldLine). is_thread_line k.1) lines ≡ true → 0 < threads_in lines) → 0 < cond b (suc (threads_in lines)) (threads_in lines)
-    by_test true e further = omega arith
-    by_test false e further = further e
-
-pub no_thread_line : (lines : Lines) → list_any (λ (l : ℕ × WorldLine). is_thread_line l.1) lines ≡ false → threads_in lines ≡ 0
-no_thread_line [] h = refl
-no_thread_line (l ∷ lines) h =
-    let b = neither (is_thread_line l.1) (list_any (λ (k : ℕ × WorldLine). is_thread_line k.1) lines) h in
-    ap (λ t. cond t (suc (threads_in lines)) (threads_in lines)) b.0 ∙ no_thread_line lines b.1
-
 -- ---- one line
 
-pub least_none : (rules : List LineRule) (second : Bool) → least_rule rules second ≡ None → (rules ≡ []) × (second ≡ false)
-least_none [] false h = (refl, refl)
-least_none [] true h = absurd (cc)
-least_none (rule ∷ rules) second h = absurd (cc)
+pub least_none : (rules : List LineRule) → least_rule rules ≡ None → rules ≡ []
+least_none [] h = refl
+least_none (rule ∷ rules) h = absurd (cc)
 
 unbroken : {A : Type 0} (number : ℕ) (rule : Option LineRule) (x y : A) → ruled number rule x ≡ Ok y → (rule ≡ None) × (x ≡ y)
 unbroken number None x y h = (refl, cc)
 unbroken number (Some rule) x y h = absurd (cc)
 
--- a line that is read: it keeps the rules, and begins no second thread
+-- a line that is read: it keeps the rules
 pub record IsReadLine (cells : ℕ) (earlier : Lines) (number : ℕ) (line : Option WorldLine) (next : Lines) : Type 0 where
   pub said : WorldLine
   pub is : line ≡ Some said
   pub rules : broken_by_line cells earlier (number, said) ≡ []
-  pub first : is_second_thread earlier said ≡ false
   pub more : earlier ++ (number, said) ∷ [] ≡ next
 
 pub line_was_read : (cells : ℕ) (earlier : Lines) (number : ℕ) (line : Option WorldLine) (next : Lines) → line_read cells earlier number line ≡ Ok next → IsReadLine cells earlier number line next
@@ -130,38 +72,21 @@ unfolding line_read
 line_was_read cells earlier number None next h = absurd (cc)
 line_was_read cells earlier number (Some line) next h =
     let u = unbroken number (rule_broken cells earlier (number, line)) (earlier ++ (number, line) ∷ []) next h in
-    let n = least_none (broken_by_line cells earlier (number, line)) (is_second_thread earlier line) u.0 in
-    record { said = line; is = refl; rules = n.0; first = n.1; more = u.1 }
+    record { said = line; is = refl; rules = least_none (broken_by_line cells earlier (number, line)) u.0; more = u.1 }
 
 -- the same of bytes
 pub numbered_line : (cells : ℕ) (earlier : Lines) (number : ℕ) (bytes : List ℕ) (next : Lines) (r : IsReadLine cells earlier number (line_of bytes) next) → IsNumberedLine (number, bytes) (number, r.said)
 numbered_line cells earlier number bytes next r = (refl, line_is_written bytes r.said r.is (kept_range cells earlier number r.said (kept_line cells earlier number r.said r.rules)))
 
-pub line_is_taken : (cells : ℕ) (earlier : Lines) (number : ℕ) (bytes : List ℕ) (n : ℕ) (line : WorldLine) → IsNumberedLine (number, bytes) (n, line) → broken_by_line cells earlier (n, line) ≡ [] → is_second_thread earlier line ≡ false
+pub line_is_taken : (cells : ℕ) (earlier : Lines) (number : ℕ) (bytes : List ℕ) (n : ℕ) (line : WorldLine) → IsNumberedLine (number, bytes) (n, line) → broken_by_line cells earlier (n, line) ≡ []
     → line_read cells earlier number (line_of bytes) ≡ Ok (earlier ++ (n, line) ∷ [])
 unfolding line_read
-line_is_taken cells earlier number bytes n line spelled rules first =
+line_is_taken cells earlier number bytes n line spelled rules =
     ap (line_read cells earlier number) (line_is_read bytes line spelled.1 (kept_range cells earlier n line (kept_line cells earlier n line rules)))
     ∙ ap (λ m. line_read cells earlier m (Some line)) spelled.0
-    ∙ (λ i. ruled n (least_rule (rules i) (first i)) (earlier ++ (n, line) ∷ []))
+    ∙ ap (λ broken. ruled n (least_rule broken) (earlier ++ (n, line) ∷ [])) rules
 
 -- ---- several lines
-
-pub one_more : (earlier : Lines) (n : ℕ) (line : WorldLine) → is_second_thread earlier line ≡ false → threads_in earlier ≤ 1 → threads_in (earlier ++ (n, line) ∷ []) ≤ 1
-one_more earlier n line first few = by_tests (is_thread_line line) (list_any (λ (l : ℕ × WorldLine). is_thread_line l.1) earlier) refl refl first
-  where
-    by_tests : (a b : Bool) → is_thread_line line ≡ a → list_any (λ (l : ℕ × WorldLine). is_thread_line l.1) earlier ≡ b → (a && b) ≡ false → threads_in (earlier ++ (n, line) ∷ []) ≤ 1
-    by_tests true true p q e = absurd (cc)
-    by_tests true false p q e = omega (arith, threads_in-append earlier ((n, line) ∷ []), no_thread_line earlier q, ap {B = ℕ} (λ t. cond t 1 0) p)
-    by_tests false b p q e = omega (arith, threads_in-append earlier ((n, line) ∷ []), few, ap {B = ℕ} (λ t. cond t 1 0) p)
-
-not_second : (earlier : Lines) (n : ℕ) (line : WorldLine) (rest : Lines) → threads_in (earlier ++ (n, line) ∷ rest) ≤ 1 → is_second_thread earlier line ≡ false
-not_second earlier n line rest few = by_tests (is_thread_line line) (list_any (λ (l : ℕ × WorldLine). is_thread_line l.1) earlier) refl refl
-  where
-    by_tests : (a b : Bool) → is_thread_line line ≡ a → list_any (λ (l : ℕ × WorldLine). is_thread_line l.1) earlier ≡ b → (a && b) ≡ false
-    by_tests true true p q = absurd (omega (arith, few, threads_in-append earlier ((n, line) ∷ rest), some_thread earlier q, ap (λ t. cond t (suc (threads_in rest)) (threads_in rest)) p))
-    by_tests true false p q = refl
-    by_tests false b p q = refl
 
 -- lines that are read, after those before them
 pub record AreReadLines (cells : ℕ) (earlier : Lines) (numbered : List (ℕ × List ℕ)) (lines : Lines) : Type 0 where
@@ -169,13 +94,12 @@ pub record AreReadLines (cells : ℕ) (earlier : Lines) (numbered : List (ℕ ×
   pub are : lines ≡ earlier ++ rest
   pub spelled : AllZip IsNumberedLine numbered rest
   pub rules : broken_after cells earlier rest ≡ []
-  pub few : threads_in earlier ≤ 1 → threads_in lines ≤ 1
 
 pub lines_were_read : (cells : ℕ) (earlier : Lines) (numbered : List (ℕ × List ℕ)) (lines : Lines) → lines_read cells earlier numbered ≡ Ok lines → AreReadLines cells earlier numbered lines
 unfolding lines_read
 lines_were_read cells earlier [] lines h =
     let is : earlier ≡ lines = cc in
-    record { rest = []; are = sym is ∙ sym (append-nil earlier); spelled = tt; rules = refl; few = λ e. subst (λ ls. threads_in ls ≤ 1) is e }
+    record { rest = []; are = sym is ∙ sym (append-nil earlier); spelled = tt; rules = refl }
 lines_were_read cells earlier ((number, bytes) ∷ numbered) lines h =
     let a = and_then_ok (line_read cells earlier number (line_of bytes)) (λ next. lines_read cells next numbered) lines h in
     let r = line_was_read cells earlier number (line_of bytes) a.0 a.1 in
@@ -185,21 +109,19 @@ lines_were_read cells earlier ((number, bytes) ∷ numbered) lines h =
       are = others.are ∙ append_assoc earlier ((number, r.said) ∷ []) others.rest;
       spelled = (numbered_line cells earlier number bytes a.0 r, others.spelled);
       rules = none_breaks cells earlier others.rest (number, r.said) r.rules others.rules;
-      few = λ e. others.few (one_more earlier number r.said r.first e);
     }
 
-pub lines_are_taken : (cells : ℕ) (earlier : Lines) (numbered : List (ℕ × List ℕ)) (rest : Lines) → AllZip IsNumberedLine numbered rest → broken_after cells earlier rest ≡ [] → threads_in (earlier ++ rest) ≤ 1
+pub lines_are_taken : (cells : ℕ) (earlier : Lines) (numbered : List (ℕ × List ℕ)) (rest : Lines) → AllZip IsNumberedLine numbered rest → broken_after cells earlier rest ≡ []
     → lines_read cells earlier numbered ≡ Ok (earlier ++ rest)
 unfolding lines_read
-lines_are_taken cells earlier [] [] zip rules few = ap Ok (sym (append-nil earlier))
-lines_are_taken cells earlier [] (l ∷ rest) zip rules few = absurd zip
-lines_are_taken cells earlier (w ∷ numbered) [] zip rules few = absurd zip
-lines_are_taken cells earlier ((number, bytes) ∷ numbered) ((n, line) ∷ rest) zip rules few =
+lines_are_taken cells earlier [] [] zip rules = ap Ok (sym (append-nil earlier))
+lines_are_taken cells earlier [] (l ∷ rest) zip rules = absurd zip
+lines_are_taken cells earlier (w ∷ numbered) [] zip rules = absurd zip
+lines_are_taken cells earlier ((number, bytes) ∷ numbered) ((n, line) ∷ rest) zip rules =
     let k = each_keeps cells earlier rest (n, line) rules in
-    let same = append_assoc earlier ((n, line) ∷ []) rest in
-    ap (λ r. r >>= λ next. lines_read cells next numbered) (line_is_taken cells earlier number bytes n line zip.0 k.0 (not_second earlier n line rest few))
-    ∙ lines_are_taken cells (earlier ++ (n, line) ∷ []) numbered rest zip.1 k.1 (subst (λ ls. threads_in ls ≤ 1) (sym same) few)
-    ∙ ap Ok same
+    ap (λ r. r >>= λ next. lines_read cells next numbered) (line_is_taken cells earlier number bytes n line zip.0 k.0)
+    ∙ lines_are_taken cells (earlier ++ (n, line) ∷ []) numbered rest zip.1 k.1
+    ∙ ap Ok (append_assoc earlier ((n, line) ∷ []) rest)
 
 -- ---- the whole
 
@@ -233,47 +155,44 @@ world_is_taken cells last lines h = ap (λ b. cond b (Ok (world_of cells lines))
 
 -- what was read of a text's lines
 module _ (text : List ℕ) (number : ℕ) (bytes : List ℕ) (more : List (ℕ × List ℕ)) (text_is : text_lines text ≡ (number, bytes) ∷ more) where
-  lines_meant : (cells : ℕ) (lines : Lines) → heap_of_line bytes ≡ Some cells → 512 ≤ cells → cells ≤ 1048576 → AreReadLines cells [] more lines → list_any (λ (l : ℕ × WorldLine). is_thread_line l.1) lines ≡ true → IsReadWorldText text (world_of cells lines)
-  lines_meant cells lines heap low high r some = (
-    record {
-      heap_line = number;
-      written = more;
-      lines = lines;
-      spelled = text_is ∙ ap (λ (bs : List ℕ). (number, bs) ∷ more) (heap_is_written bytes cells heap low high);
-      lines_spelled = subst (AllZip IsNumberedLine more) (sym r.are) r.spelled;
-      size = (low, high);
-      rules = ap (broken_after cells []) r.are ∙ r.rules;
-      threads = some;
-      meant = refl;
-    },
-    omega (arith, threads-counted lines, r.few (omega arith)),
-  )
+  lines_meant : (cells : ℕ) (lines : Lines) → heap_of_line bytes ≡ Some cells → 512 ≤ cells → cells ≤ 1048576 → AreReadLines cells [] more lines → list_any (λ (l : ℕ × WorldLine). is_thread_line l.1) lines ≡ true → IsWorldText text (world_of cells lines)
+  lines_meant cells lines heap low high r some =
+      record {
+        heap_line = number;
+        written = more;
+        lines = lines;
+        spelled = text_is ∙ ap (λ (bs : List ℕ). (number, bs) ∷ more) (heap_is_written bytes cells heap low high);
+        lines_spelled = subst (AllZip IsNumberedLine more) (sym r.are) r.spelled;
+        size = (low, high);
+        rules = ap (broken_after cells []) r.are ∙ r.rules;
+        threads = some;
+        meant = refl;
+      }
 
-read_is_meant : (text : List ℕ) (world : World) → world_of_text text ≡ Ok world → IsReadWorldText text world
+read_is_meant : (text : List ℕ) (world : World) → world_of_text text ≡ Ok world → IsWorldText text world
 unfolding numbered_read
 read_is_meant text world h = by_lines (text_lines text) refl h
   where
-    by_lines : (numbered : List (ℕ × List ℕ)) → text_lines text ≡ numbered → numbered_read numbered ≡ Ok world → IsReadWorldText text world
+    by_lines : (numbered : List (ℕ × List ℕ)) → text_lines text ≡ numbered → numbered_read numbered ≡ Ok world → IsWorldText text world
     by_lines [] e k = absurd (cc)
     by_lines ((number, bytes) ∷ more) e k =
         let a = and_then_ok (heap_read number (heap_of_line bytes)) (λ cells. lines_read cells [] more >>= λ lines. world_read cells (last_number number more) lines) world k in
         let heap = heap_was_read number (heap_of_line bytes) a.0 a.1 in
         let b = and_then_ok (lines_read a.0 [] more) (λ lines. world_read a.0 (last_number number more) lines) world a.2 in
         let c = world_was_read a.0 (last_number number more) b.0 world b.2 in
-        subst (IsReadWorldText text) c.1 (lines_meant text number bytes more e a.0 b.0 heap.0 heap.1 heap.2 (lines_were_read a.0 [] more b.0 b.1) c.0)
+        subst (IsWorldText text) c.1 (lines_meant text number bytes more e a.0 b.0 heap.0 heap.1 heap.2 (lines_were_read a.0 [] more b.0 b.1) c.0)
 
-meant_is_read : (text : List ℕ) (world : World) → IsReadWorldText text world → world_of_text text ≡ Ok world
+meant_is_read : (text : List ℕ) (world : World) → IsWorldText text world → world_of_text text ≡ Ok world
 unfolding numbered_read
-meant_is_read text world (m, one) =
-    let few : threads_in m.lines ≤ 1 = omega (arith, one, ap (λ (w : World). length w.threads) m.meant, threads-counted m.lines) in
+meant_is_read text world m =
     ap numbered_read m.spelled
     ∙ ap (λ o. heap_read m.heap_line o >>= λ cells. lines_read cells [] m.written >>= λ lines. world_read cells (last_number m.heap_line m.written) lines) (heap_is_read world.cells m.size.0 m.size.1)
     ∙ ap (λ r. r >>= λ cells. lines_read cells [] m.written >>= λ lines. world_read cells (last_number m.heap_line m.written) lines) (heap_is_taken m.heap_line world.cells m.size.0 m.size.1)
-    ∙ ap (λ r. r >>= λ lines. world_read world.cells (last_number m.heap_line m.written) lines) (lines_are_taken world.cells [] m.written m.lines m.lines_spelled m.rules few)
+    ∙ ap (λ r. r >>= λ lines. world_read world.cells (last_number m.heap_line m.written) lines) (lines_are_taken world.cells [] m.written m.lines m.lines_spelled m.rules)
     ∙ world_is_taken world.cells (last_number m.heap_line m.written) m.lines m.threads
     ∙ ap (λ (w : World). Ok w) (sym m.meant)
 
--- a world is read of exactly the texts that mean it with one thread
+-- a world is read of exactly the texts that mean it
 pub worlds_read : WorldsAreRead
 worlds_read text world = (read_is_meant text world, meant_is_read text world)
 

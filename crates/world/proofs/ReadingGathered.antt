@@ -1,5 +1,5 @@
 -- Reading line by line, with what is gathered in the place of the lines before.
-use Rattle.std.proofs.Common.{◌≡◌, ℕ, ◌≤◌, Bool, true, false, cond, List, [], ◌∷◌, ◌++◌, length, Option, Some, None, Result, Ok, Err, refl, sym, ap, ◌∙◌, subst, arith}
+use Rattle.std.proofs.Common.{◌≡◌, ℕ, ◌≤◌, Bool, true, false, cond, List, [], ◌∷◌, ◌++◌, length, Option, Some, None, Result, Ok, Err, refl, sym, ap, ◌∙◌, subst}
 use Rattle.std.specs.Prelude.{not, ◌==◌, filter, IfOk}
 use Rattle.std.specs.List.{enumerate_from}
 use Rattle.base.specs.Bytes.{is_some_byte}
@@ -87,7 +87,7 @@ record IsReading (g : Gathered) (last : ℕ) (rest : List (ℕ × List ℕ)) (re
   pub further : (lines_read cells lines rest >>= λ all. world_read cells (last_number last rest) all) ≡ read
 
 none_gathered : (cells : ℕ) → 512 ≤ cells → AreGathered cells 0 []
-none_gathered cells low = record { sound = none_sound cells low; ordered = none_ordered; single = omega arith; few_calls = refl; started = refl }
+none_gathered cells low = record { sound = none_sound cells low; ordered = none_ordered; few_calls = refl; started = refl }
 
 -- after the line of the heap
 starts : (g : Gathered) (number cells : ℕ) (rest : List (ℕ × List ℕ)) → (512 ≤ cells) × (cells ≤ 1048576) → g ≡ gather cells 0 [] → IsReading g number rest (world_left cells number rest)
@@ -221,7 +221,7 @@ text_left lines text e = ap (λ parts. filter (λ (l : ℕ × List ℕ). is_some
 
 -- what is read is what the text means
 pub world_means : (text : List ℕ) (read : Result InMemory ReadError) → Gives (λ w. w) read (world_of_text text) → IfOk read (λ w. IsWorldText text w)
-world_means text (Ok w) h = ((worlds_read text w).0 h).0
+world_means text (Ok w) h = (worlds_read text w).0 h
 world_means text (Err e) h = tt
 
 -- the line of the heap is not read

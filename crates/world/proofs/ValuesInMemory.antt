@@ -1,10 +1,12 @@
 -- Values of a world's lines that are held in memory one after the other, and numbers that are in the range of jint.
-use Rattle.std.proofs.Common.{◌≡◌, ℕ, ◌+◌, ◌<◌, Bool, true, false, List, [], ◌∷◌, ◌++◌, length, map, take, get_or, refl, sym, ap, ◌∙◌, zero, suc, arith}
+use Rattle.std.proofs.Common.{◌≡◌, ℕ, ◌+◌, ◌<◌, Bool, true, false, List, [], ◌∷◌, ◌++◌, length, map, take, get_or, slice_get, ◌-◌, Some, refl, sym, ap, ◌∙◌, zero, suc, arith}
 use Rattle.std.specs.List.{list_all}
 use Rattle.std.proofs.Math.ListN.{set}
 use Rattle.std.proofs.lemmas.List.{map-append, take_more}
+use Rattle.std.proofs.lemmas.Option.{slice_get_within}
 use Rattle.std.proofs.lemmas.List.Folds.{list_all-map, list_all_at}
 use Rattle.semantics.specs.World.{Invocation}
+use Rattle.world.specs.Gathered.{last_calls}
 use Rattle.world_values.specs.WorldMeaning.{with_last}
 
 -- what all of a list pass, each passes
@@ -39,3 +41,15 @@ last_put items (t ∷ []) calls put call zero e last is = ap (λ cs. cs ∷ []) 
 last_put items (t ∷ []) calls put call (suc i) e last is = absurd (omega (arith, e))
 last_put items (t ∷ u ∷ threads) calls put call zero e last is = absurd (omega (arith, e))
 last_put items (t ∷ u ∷ threads) calls put call (suc i) e last is = ap (λ ts. items t ∷ ts) (last_put items (u ∷ threads) calls put call i (omega (arith, e)) last is)
+
+-- the calls of the last thread
+last_at : {V : Type 0} (items : V → List Invocation) (threads : List V) (calls : V) (i : ℕ) → i + 1 ≡ length threads → Some calls ≡ slice_get threads i → last_calls (map items threads) ≡ items calls
+last_at items [] calls i e last = absurd (omega (arith, e))
+last_at items (t ∷ []) calls zero e last = let same : calls ≡ t = cc in ap items (sym same)
+last_at items (t ∷ []) calls (suc i) e last = absurd (omega (arith, e))
+last_at items (t ∷ u ∷ threads) calls zero e last = absurd (omega (arith, e))
+last_at items (t ∷ u ∷ threads) calls (suc i) e last = last_at items (u ∷ threads) calls i (omega (arith, e)) last
+
+pub last_held : {V : Type 0} (items : V → List Invocation) (threads : List V) (calls : V) → Some calls ≡ slice_get threads (length threads - 1) → last_calls (map items threads) ≡ items calls
+last_held items threads calls last =
+    let h = slice_get_within threads (length threads - 1) calls (sym last) in last_at items threads calls (length threads - 1) (omega (arith, h)) last

@@ -83,10 +83,16 @@ is_named classes names line =
     && list_all (is_known classes names) (written_values line)
     && each_can_hold classes names (types_of_line classes line) (written_values line)
 
+-- the calls of the last thread
+abbrev pub last_calls : List (List Invocation) → List Invocation
+last_calls [] = []
+last_calls (calls ∷ []) = calls
+last_calls (calls ∷ next ∷ threads) = last_calls (next ∷ threads)
+
 -- the limits on objects, threads and calls
 abbrev pub has_place : Gathered → WorldLine → Bool
-has_place g (ThreadLine function arguments) = length g.threads == 0
-has_place g (CallLine function arguments) = list_all (λ calls. nat_lt (length calls) 256) g.threads
+has_place g (ThreadLine function arguments) = nat_lt (length g.threads) 8
+has_place g (CallLine function arguments) = nat_lt (length (last_calls g.threads)) 256
 has_place g line = nat_lt (length g.names + length (option_to_list (name_given line))) 65537
 
 -- the first that is broken

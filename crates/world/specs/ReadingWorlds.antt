@@ -1,5 +1,5 @@
--- How the text of a world is read: line by line, each by the rules on it after those before it. One thread is run today.
-use Rattle.std.specs.Prelude.{ℕ, Bool, ◌&&◌, List, [], ◌∷◌, ◌++◌, Option, Some, None, Result, Ok, nat_le, if◌then◌else◌}
+-- How the text of a world is read: line by line, each by the rules on it after those before it.
+use Rattle.std.specs.Prelude.{ℕ, ◌&&◌, List, [], ◌∷◌, ◌++◌, Option, Some, None, Result, Ok, nat_le, if◌then◌else◌}
 use Rattle.std.specs.List.{list_any}
 use Rattle.class_rules.specs.Additions.{NameTaken, BadSuperclass, BadSignature, TooMany}
 use Rattle.world_schedules.specs.LineRules.{LineRule, OfClass, LineForm, WrongName, OutOfLimit, HeapFull}
@@ -26,18 +26,14 @@ held_rule HeapFull = held.Heap
 
 -- ---- a line
 
--- a thread after another is not run yet
-abbrev pub is_second_thread : Lines → WorldLine → Bool
-is_second_thread earlier line = is_thread_line line && list_any (λ (l : ℕ × WorldLine). is_thread_line l.1) earlier
-
--- the least rule of several that are broken, or else the limit of one thread
-abbrev pub least_rule : List LineRule → (second : Bool) → Option LineRule
-least_rule (rule ∷ rules) second = Some rule
-least_rule [] second = if second then Some OutOfLimit else None
+-- the least rule of several that are broken
+abbrev pub least_rule : List LineRule → Option LineRule
+least_rule [] = None
+least_rule (rule ∷ rules) = Some rule
 
 -- the least rule that a line breaks, its number with it, after earlier lines
 abbrev pub rule_broken : (cells : ℕ) (earlier : Lines) → ℕ × WorldLine → Option LineRule
-rule_broken cells earlier line = least_rule (broken_by_line cells earlier line) (is_second_thread earlier line.1)
+rule_broken cells earlier line = least_rule (broken_by_line cells earlier line)
 
 -- something that breaks no rule, or the rule at this line
 abbrev pub ruled : {A : Type 0} → (number : ℕ) → Option LineRule → A → Result A TextFault

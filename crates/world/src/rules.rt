@@ -9,7 +9,7 @@ ghost use Rattle.classes.specs.Refusals.{rule_view};
 ghost use Rattle.classes.specs.Views.{field_type_view};
 ghost use Rattle.world_schedules.specs.LineRules.{OfClass};
 ghost use Rattle.world_schedules.specs.Rule.{rule_of};
-ghost use Rattle.world.specs.Gathered.{comes_in_order, is_known, refers_to, can_hold, each_can_hold, is_named, has_place, least_rule};
+ghost use Rattle.world.specs.Gathered.{comes_in_order, is_known, refers_to, can_hold, each_can_hold, is_named, has_place, last_calls, least_rule};
 ghost use Rattle.world_lines.specs.ClassRules.{broken_class_rule, is_formed};
 ghost use Rattle.world_lines.specs.LineContents.{written_values, name_given, is_number, cells_added};
 ghost use Rattle.world.specs.GatheredViews.{gathered_of};
@@ -31,6 +31,9 @@ use world_schedules::Rule;
 
 /// The most objects of a world.
 const MOST_OBJECTS: usize = 65_536;
+
+/// The most threads of a world.
+const MOST_THREADS: usize = 8;
 
 /// The most calls of a thread.
 const MOST_CALLS: usize = 256;
@@ -179,16 +182,14 @@ impl WorldBuilder {
         self.part <= part_of(line) && (!is_call(line) || self.part == 2)
     }
 
-    /// Whether each thread may have one more call.
+    /// Whether the last thread may have one more call.
     fn may_call(&self) -> bool
-        ensures { result ≡ list_all (λ calls. nat_lt (length calls) 256) (gathered_of self.now).threads }
+        ensures { result ≡ nat_lt (length (last_calls (gathered_of self.now).threads)) 256 }
     {
-        for calls in &self.threads {
-            if calls.len() >= MOST_CALLS {
-                return false;
-            }
+        match self.threads.last() {
+            Some(calls) => calls.len() < MOST_CALLS,
+            None => true,
         }
-        true
     }
 
     /// Whether there may be one more object, thread or call.
@@ -197,7 +198,7 @@ impl WorldBuilder {
     {
         match line {
             Line::Class(..) | Line::Field(_) | Line::Static(_) => true,
-            Line::Thread(_) => self.threads.is_empty(),
+            Line::Thread(_) => self.threads.len() < MOST_THREADS,
             Line::Call(_) => self.may_call(),
             _ => self.names.len() < MOST_OBJECTS,
         }

@@ -2,10 +2,10 @@ use Rattle.std.proofs.Common.{◌≡◌, ℕ, ◌-◌, ◌≤◌, List, length, 
 use Rattle.std.specs.Prelude.{Vec as RawVec, slice_get, vec_len}
 use Rattle.std.proofs.lemmas.Option.{slice_get_read}
 use Rattle.semantics.specs.State.{thread_at}
-use Rattle.semantics.specs.Step.{is_unfinished}
+use Rattle.semantics.specs.Step.{is_blocked, is_unfinished}
 use Rattle.replay_threads.specs.declared.thread.Thread.{Thread}
 use Rattle.replay_threads.specs.Threads.{ending_view}
-use Rattle.replay_threads.proofs.StateLemmas.{stopped, not_there, past_the_end, ended}
+use Rattle.replay_threads.proofs.StateLemmas.{stopped, not_there, past_the_end, ended, waiting}
 use Rattle.replay_threads.proofs.state.place_of.Goals as goal
 
 pub returns-then-is_some-clause-none : goal.returns-then-is_some-clause-none
@@ -18,6 +18,12 @@ returns-then-number-eq0-clause-none c = λ unit refused w s h.
 
 pub returns-then-len-number-clause-none : goal.returns-then-len-number-clause-none
 returns-then-len-number-clause-none c = λ unit refused w s h. past_the_end unit w c.args.state.now s h c.requires c.args.k refused (omega arith)
+
+pub returns-then-waits-clause-none : goal.returns-then-waits-clause-none
+returns-then-waits-clause-none c = λ unit refused w s h.
+    let blocked : is_blocked w.classes s c.args.k ≡ true =
+    ap (is_blocked w.classes s) (sym c.from-number.ensures) ∙ sym (c.waits.ensures unit w s h c.requires) ∙ c.if-waits.true in
+    waiting unit w c.args.state.now s h c.requires c.args.k refused blocked
 
 -- the thread of the entry
 thread_there : {A : Type 0} (v : RawVec Thread A) (n k : ℕ) (t : Thread) → (n ≡ 0 → ⊥) → n ≤ k → k ≡ vec_len v → t ≡ get_or v.items (n - 1) t → slice_get v.items (n - 1) ≡ Some t
@@ -39,4 +45,5 @@ returns-then-is_unfinished-clause-some c =
       there = omega arith;
       live = λ t same. live_there c.args.state.now.threads.items (c.from-number.result - 1) c.index.result.now t at (sym c.is_unfinished.ensures ∙ c.if-is_unfinished.true) same;
       runs = sym c.is_some.ensures ∙ c.if-is_some.false;
+      free = λ unit w s h range. sym c.if-waits.false ∙ c.waits.ensures unit w s h range ∙ ap (is_blocked w.classes s) c.from-number.ensures;
     }

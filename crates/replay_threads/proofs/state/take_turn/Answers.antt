@@ -43,7 +43,7 @@ returns-in-Ok-clause-step c =
     let known = subst (λ (T : Classes). TakesStep unit T (in_use_view c.buffers_in_use.result) c.args.k c.args.refused (shared_view m.shared) t c.in-Ok.step (shared_view new.shared) after) (c.classes.ensures.classes ∙ ap (λ (v : World). v.classes) (sym h.world)) seen in
     let step = subst (λ (u : BuffersInUse). TakesStep unit w.classes u c.args.k c.args.refused (shared_view m.shared) t c.in-Ok.step (shared_view new.shared) after) (c.buffers_in_use.ensures ∙ ap in_use_by c.deref.ensures.value ∙ in_use_same unit w m s h) known in
     takes unit w m s h c.requires.range c.args.k c.args.refused c.args.place t after c.in-Ok.step new
-    (omega arith) at (c.requires.live.live t at) c.requires.live.runs step
+    (omega arith) at (c.requires.live.live t at) c.requires.live.runs (sym (c.requires.live.free unit w s h c.requires.range)) step
     noted.world (ap (λ (v : Vec Thread). v.items) noted.threads) noted.printed noted.stop)
 
 pub returns-in-Ok-clause-range : goal.returns-in-Ok-clause-range

@@ -1,13 +1,13 @@
 use Rattle.std.proofs.lemmas.List.{with_items_is, places}
 use Rattle.std.proofs.Common.{rules, ◌≡◌, ℕ, suc, ◌-◌, ◌<◌, ◌≤◌, Bool, true, false, Option, Some, None, [], ◌∷◌, ◌++◌, List, length, get_or, refl, sym, ap, ◌∙◌, subst, arith}
-use Rattle.std.specs.Prelude.{slice_get, is_some, nat_le, Result, Ok, Err, OnErr, IsSome}
+use Rattle.std.specs.Prelude.{slice_get, is_some, Result, Ok, Err, OnErr, IsSome}
 use Rattle.std.specs.Option.{option_map}
-use Rattle.std.proofs.lemmas.Bool.{leb-false, leb-true}
 use Rattle.std.proofs.lemmas.Option.{slice_get_read}
 use Rattle.syntax.specs.declared.unit.Item.{Item}
 use Rattle.semantics.specs.declared.journal.Entry.{Entry}
 use Rattle.semantics.specs.declared.journal.Entry.TheVariants.{Step}
 use Rattle.semantics.specs.State as state
+use Rattle.semantics.specs.Step.{is_blocked}
 use Rattle.semantics.specs.World.{World}
 use Rattle.heap.specs.Heap.{left_of}
 use Rattle.machine_steps.specs.declared.thread.Ending.{Ending}
@@ -19,13 +19,14 @@ use Rattle.machine.specs.Stops.{stop_after, stop_view}
 use Rattle.machine_steps.specs.declared.thread.Thread.{Thread}
 use Rattle.machine_steps.specs.declared.advance.Advanced.{Advanced}
 use Rattle.machine_steps.specs.declared.advance.Advanced.TheVariants as advanced
-use Rattle.machine.specs.Run.{has_ended as ended, AdvancesFrom, Corresponds, Run, InState, CouldStep, HadNoRoom, LeavesAll, TurnHolds, turn_without_step, replay_of, printed_after, can_turn, event_of, is_refused}
+use Rattle.machine.specs.Run.{has_ended as ended, AdvancesFrom, Corresponds, Run, InState, CouldStep, HadNoRoom, LeavesAll, TurnHolds, Waits, turn_at_rest, replay_of, printed_after, can_turn, event_of, is_refused}
 use Rattle.machine_calls.specs.declared.store.Store.{Store}
 use Rattle.semantics.specs.Object.{sizes}
 use Rattle.semantics.specs.Reachable.{live_size}
 use Rattle.semantics.specs.Run.{made}
 use Rattle.syntax.specs.Views.{unit_tree}
 use Rattle.machine.proofs.Collected.{StandsBetween, lives_between, stands_between}
+use Rattle.machine.proofs.Standings.{waits_known}
 use Rattle.machine.proofs.Steps.{can_turn_here, has_ended, short_by, steps_by, turn_holds}
 use Rattle.machine.proofs.machine.Machine.step.Goals as goal
 use Rattle.machine.proofs.machine.Machine.step.Goals.{After-index, After-make_room}
@@ -63,21 +64,15 @@ stops (Some x) s same h = rw same refl
 
 -- ---- where no step is taken
 
-held : (old : Run) (k : ℕ) (stopped over full : Bool) (t : Turn) → turn_without_step stopped over full ≡ Some t → (stopped ≡ true → TurnHolds old k old turn.Stopped) → (stopped ≡ false → over ≡ true → TurnHolds old k old turn.Ended)
-    → (stopped ≡ false → over ≡ false → full ≡ true → TurnHolds old k old turn.Full) → TurnHolds old k old t
-held old k true over full t is a b c = let same : turn.Stopped ≡ t = cc in subst (λ (x : Turn). TurnHolds old k old x) same (a refl)
-held old k false true full t is a b c = let same : turn.Ended ≡ t = cc in subst (λ (x : Turn). TurnHolds old k old x) same (b refl refl)
-held old k false false true t is a b c = let same : turn.Full ≡ t = cc in subst (λ (x : Turn). TurnHolds old k old x) same (c refl refl refl)
-held old k false false false t is a b c = absurd (cc)
+held : (old : Run) (k : ℕ) (stopped over : Bool) (t : Turn) → turn_at_rest stopped over ≡ Some t → (stopped ≡ true → TurnHolds old k old turn.Stopped) → (stopped ≡ false → over ≡ true → TurnHolds old k old turn.Ended) → TurnHolds old k old t
+held old k true over t is a b = let same : turn.Stopped ≡ t = cc in subst (λ (x : Turn). TurnHolds old k old x) same (a refl)
+held old k false true t is a b = let same : turn.Ended ≡ t = cc in subst (λ (x : Turn). TurnHolds old k old x) same (b refl refl)
+held old k false false t is a b = absurd (cc)
 
-none_held : (stopped over full : Bool) → turn_without_step stopped over full ≡ None → (stopped ≡ false) × (over ≡ false) × (full ≡ false)
-none_held true over full h = absurd (cc)
-none_held false true full h = absurd (cc)
-none_held false false true h = absurd (cc)
-none_held false false false h = (refl, refl, refl)
-
-below : (n : ℕ) → nat_le 1000000 n ≡ false → n < 1000000
-below n h = leb-false 1000000 n h
+none_held : (stopped over : Bool) → turn_at_rest stopped over ≡ None → (stopped ≡ false) × (over ≡ false)
+none_held true over h = absurd (cc)
+none_held false true h = absurd (cc)
+none_held false false h = (refl, refl)
 
 -- ---- what is known once thread k was looked at
 
@@ -94,24 +89,35 @@ replays c = subst (λ (r : Run). replay_of r ≡ Some c.self.invariant.state) c.
 runs : (c : After-index) → IsSome (replay_of c.args.self.now)
 runs c = rw (replays c) refl
 
--- it can step where the machine goes on and it hasn't ended
-can_step : (c : After-index) → c.self.inside.stop ≡ None → c.index.result.now.ending ≡ Unfinished → InState c.args.self.now (λ s. can_turn c.args.self.now s c.args.k ≡ true)
-can_step c running live = (
+-- the thread waits for no monitor
+abbrev IsFree : After-index → Type 0
+IsFree c = is_blocked c.self.inside.world.classes c.self.invariant.state c.args.k ≡ false
+
+is_free : (c : After-index) (waits : Bool) → Waits c.args.self.now c.args.k waits → waits ≡ false → IsFree c
+is_free c waits told none = sym (waits_known _ _ _ _ _ _ _ c.self.invariant c.args.self.now c.self.view_is c.args.k waits told) ∙ none
+
+-- it can step where the machine goes on, and it has not ended and doesn't wait
+can_step : (c : After-index) → c.self.inside.stop ≡ None → c.index.result.now.ending ≡ Unfinished → IsFree c → InState c.args.self.now (λ s. can_turn c.args.self.now s c.args.k ≡ true)
+can_step c running live free = (
   c.self.invariant.state,
   replays c,
   subst (λ (r : Run). can_turn r c.self.invariant.state c.args.k ≡ true) c.self.view_is
-      (can_turn_here _ _ _ _ _ _ _ c.self.invariant c.args.k (c.from-index.result - 1) c.index.result.now (number c) (there c c.index.result.now c.index.ensures) running live),
+      (can_turn_here _ _ _ _ _ _ _ c.self.invariant c.args.k (c.from-index.result - 1) c.index.result.now (number c) (there c c.index.result.now c.index.ensures) running live free),
 )
 
 pub returns-in-Some-clause-turn : goal.returns-in-Some-clause-turn
 returns-in-Some-clause-turn c =
     let a = (goal.at.returns-in-Some-clause-turn c).After-index in
-    held c.args.self.now c.args.k (is_some c.self.inside.stop) (ended c.index.result.now.ending) (nat_le 1000000 c.len-entries.result) c.in-Some.turn (sym c.turn_without_step.ensures ∙ c.in-Some.is)
+    held c.args.self.now c.args.k (is_some c.self.inside.stop) (ended c.index.result.now.ending) c.in-Some.turn (sym c.turn_at_rest.ensures ∙ c.in-Some.is)
     (λ stopped. (refl, (c.self.invariant.state, replays a, stops c.self.inside.stop c.self.invariant.state.stop c.self.invariant.same_stop stopped)))
     (λ goes over. (refl, (c.self.invariant.state, replays a, has_ended _ _ _ _ _ _ _ c.self.invariant c.args.k (c.from-index.result - 1) c.index.result.now (number a) (there a c.index.result.now c.index.ensures) (goes_on c.self.inside.stop goes) (is_over _ over))))
-    (λ goes lives full.
-    let many : 1000000 ≤ length c.self.inside.journal.items = omega (arith, c.len-entries.ensures, leb-true 1000000 c.len-entries.result full) in
-    (refl, subst (λ (r : Run). 1000000 ≤ length r.journal) c.self.view_is many, can_step a (goes_on c.self.inside.stop goes) (is_live _ lives)))
+
+pub returns-then-len-ge-MOST_ENTRIES-clause-turn : goal.returns-then-len-ge-MOST_ENTRIES-clause-turn
+returns-then-len-ge-MOST_ENTRIES-clause-turn c =
+    let a = (goal.at.returns-then-len-ge-MOST_ENTRIES-clause-turn c).After-index in
+    let none = none_held (is_some c.self.inside.stop) (ended c.index.result.now.ending) (sym c.turn_at_rest.ensures ∙ c.in_default.is) in
+    let many : 1000000 ≤ length c.self.inside.journal.items = omega (arith, c.len.ensures, c.if-len-ge-MOST_ENTRIES.true) in
+    (refl, subst (λ (r : Run). 1000000 ≤ length r.journal) c.self.view_is many, can_step a (goes_on c.self.inside.stop none.0) (is_live _ none.1) (is_free a c.waits.result c.waits.ensures c.if-waits.false))
 
 pub returns-in-Some-clause-runs : goal.returns-in-Some-clause-runs
 returns-in-Some-clause-runs c = runs (goal.at.returns-in-Some-clause-runs c).After-index
@@ -119,22 +125,30 @@ returns-in-Some-clause-runs c = runs (goal.at.returns-in-Some-clause-runs c).Aft
 -- ---- where nothing holds the thread
 
 -- what none of the tests has found
-tested : (c : After-make_room) → (is_some c.self.inside.stop ≡ false) × (ended c.index.result.now.ending ≡ false) × (nat_le 1000000 c.len-entries.result ≡ false)
-tested c = none_held (is_some c.self.inside.stop) (ended c.index.result.now.ending) (nat_le 1000000 c.len-entries.result) (sym c.turn_without_step.ensures ∙ c.in_default.is)
+record Free (a : After-index) : Type 0 where
+  pub goes : is_some a.self.inside.stop ≡ false
+  pub lives : ended a.index.result.now.ending ≡ false
+  pub free : IsFree a
+  pub room : length a.self.inside.journal.items < 1000000
 
-abbrev Free : After-index → Type 0
-Free a = (is_some a.self.inside.stop ≡ false) × (ended a.index.result.now.ending ≡ false) × (nat_le 1000000 a.len-entries.result ≡ false)
+tested : (c : After-make_room) → Free (goal.at.After-make_room c).After-index
+tested c =
+    let none = none_held (is_some c.self.inside.stop) (ended c.index.result.now.ending) (sym c.turn_at_rest.ensures ∙ c.in_default.is) in
+    record {
+      goes = none.0;
+      lives = none.1;
+      free = is_free (goal.at.After-make_room c).After-index c.waits.result c.waits.ensures c.if-waits.false;
+      room = omega (arith, c.len.ensures, c.if-len-ge-MOST_ENTRIES.false);
+    }
 
 running : (a : After-index) → Free a → a.self.inside.stop ≡ None
-running a free = goes_on a.self.inside.stop free.0
+running a free = goes_on a.self.inside.stop free.goes
 
 live : (a : After-index) → Free a → a.index.result.now.ending ≡ Unfinished
-live a free = is_live _ free.1
+live a free = is_live _ free.lives
 
 could_step : (a : After-index) → Free a → CouldStep a.args.self.now a.args.k
-could_step a free =
-    let room : length a.self.inside.journal.items < 1000000 = omega (arith, a.len-entries.ensures, below a.len-entries.result free.2) in
-    (subst (λ (r : Run). length r.journal < 1000000) a.self.view_is room, can_step a (running a free) (live a free))
+could_step a free = (subst (λ (r : Run). length r.journal < 1000000) a.self.view_is free.room, can_step a (running a free) (live a free) free.free)
 
 pub invariant_of-self : goal.invariant_of-self
 invariant_of-self c = rw (c.make_room.ensures.printed, c.make_room.ensures.journal) c.self.invariant
@@ -181,7 +195,7 @@ pub advance_or_collect-requires-clause-few : goal.advance_or_collect-requires-cl
 advance_or_collect-requires-clause-few c =
     let a = (goal.at.advance_or_collect-requires-clause-few c).After-index in
     let free = tested (goal.at.advance_or_collect-requires-clause-few c).After-make_room in
-    omega (arith, c.self.invariant.born, a.len-entries.ensures, below a.len-entries.result free.2)
+    omega (arith, c.self.invariant.born, free.room)
 
 -- the journal has one more entry
 one_more : (old before after : List Entry) (e : Entry) → after ≡ before ++ e ∷ [] → before ≡ old → after ≡ old ++ e ∷ []
@@ -198,15 +212,18 @@ module _ (a : After-index) (free : Free a) (store' : Store) (later : List Thread
   still_live : f.old.ending ≡ Unfinished
   still_live = lives_between a.self.inside.store a.self.inside.threads.items f.between f.among x f.is (a.from-index.result - 1) a.index.result.now f.old (there a a.index.result.now a.index.ensures) f.at ∙ live a free
 
+  still_free : is_blocked a.self.inside.world.classes between.stands.state a.args.k ≡ false
+  still_free = ap (λ (x : state.State). is_blocked a.self.inside.world.classes x a.args.k) between.same ∙ free.free
+
   next : Corresponds a.self.inside.program a.self.inside.world store' later (printed_after a.self.inside.printed.items a.args.k (event_of x)) (stop_after a.self.inside.stop a.args.k (event_of x)) (a.self.inside.journal.items ++ Step a.args.k (is_refused x) ∷ [])
   next =
       subst (λ (l : List Thread). Corresponds a.self.inside.program a.self.inside.world store' l (printed_after a.self.inside.printed.items a.args.k (event_of x)) (stop_after a.self.inside.stop a.args.k (event_of x)) (a.self.inside.journal.items ++ Step a.args.k (is_refused x) ∷ [])) (sym f.follow)
-      (steps_by _ _ _ _ _ _ _ between.stands a.args.k (a.from-index.result - 1) f.old (number a) f.at store' f.new x (running a free) still_live f.advances between.left)
+      (steps_by _ _ _ _ _ _ _ between.stands a.args.k (a.from-index.result - 1) f.old (number a) f.at store' f.new x (running a free) still_live still_free f.advances between.left)
 
   -- where it was refused
   no_room : x ≡ advanced.Refused → HadNoRoom a.args.self.now a.args.k (left_of store'.heap) × LeavesAll a.args.self.now (left_of store'.heap)
   no_room refused =
-      let short = short_by _ _ _ _ _ _ _ between.stands a.args.k (a.from-index.result - 1) f.old (number a) f.at store' f.new x (running a free) still_live f.advances between.left refused in
+      let short = short_by _ _ _ _ _ _ _ between.stands a.args.k (a.from-index.result - 1) f.old (number a) f.at store' f.new x (running a free) still_live still_free f.advances between.left refused in
       let here = subst (λ (r : Run). replay_of r ≡ Some between.stands.state) a.self.view_is between.stands.replays in (
         (between.stands.state, here, subst (λ (r : Run). left_of store'.heap < sizes (made (unit_tree r.unit) r.world between.stands.state a.args.k)) a.self.view_is short.0),
         (between.stands.state, here, λ none. subst (λ (r : Run). left_of store'.heap ≡ r.world.cells - live_size r.world between.stands.state) a.self.view_is short.1),
