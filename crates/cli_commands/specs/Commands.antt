@@ -1,7 +1,7 @@
 -- The files of a command, and the text of each.
 use Rattle.std.specs.Prelude.{ℕ, List}
 use Rattle.cli_commands.specs.declared.command.Command.{Command}
-use Rattle.cli_commands.specs.declared.command.Command.TheVariants.{Check, Run, Replay}
+use Rattle.cli_commands.specs.declared.command.Command.TheVariants.{Check, Run, Work, Replay}
 use Rattle.cli_commands.specs.declared.place.Place.{Place}
 use Rattle.cli_commands.specs.declared.place.Place.TheVariants.{Line, Entry}
 use Rattle.cli_commands.specs.declared.place.Text.{Text}
@@ -13,6 +13,8 @@ name_of (Check program) text = program.now
 name_of (Run program world schedule) which.Program = program.now
 name_of (Run program world schedule) which.World = world.now
 name_of (Run program world schedule) text = schedule.now
+name_of (Work program world) which.World = world.now
+name_of (Work program world) text = program.now
 name_of (Replay program world journal) which.Program = program.now
 name_of (Replay program world journal) which.World = world.now
 name_of (Replay program world journal) text = journal.now

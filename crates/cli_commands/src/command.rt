@@ -15,6 +15,11 @@ pub enum Command<'a> {
         world: &'a str,
         schedule: &'a str,
     },
+    /// A program runs in a world, with a worker for each thread.
+    Work {
+        program: &'a str,
+        world: &'a str,
+    },
     /// The steps of a journal are taken again.
     Replay {
         program: &'a str,
@@ -27,7 +32,7 @@ impl<'a> Command<'a> {
     ghost use Rattle.std.specs.Prelude.{◌≡◌};
     ghost use Rattle.cli_commands.specs.Commands.{name_of};
 
-    /// The name of the file of a text. A check has no file but its program.
+    /// The name of the file of a text. A check has no file but its program, and what workers do no order of the steps.
     pub fn name_of(self, text: Text) -> &'a str
         ensures { result.now ≡ name_of self.entry text }
     {
@@ -36,6 +41,8 @@ impl<'a> Command<'a> {
             (Command::Run { program, .. }, Text::Program) => program,
             (Command::Run { world, .. }, Text::World) => world,
             (Command::Run { schedule, .. }, _) => schedule,
+            (Command::Work { world, .. }, Text::World) => world,
+            (Command::Work { program, .. }, _) => program,
             (Command::Replay { program, .. }, Text::Program) => program,
             (Command::Replay { world, .. }, Text::World) => world,
             (Command::Replay { journal, .. }, _) => journal,

@@ -1,6 +1,6 @@
 //! The files that are read.
 
-ghost use Rattle.std.specs.Prelude.{◌≡◌, ◌≤◌, ℕ, List, Err, IfOk, vec_len};
+ghost use Rattle.std.specs.Prelude.{◌≡◌, ◌≤◌, ◌⊎◌, ℕ, List, Err, IfOk, vec_len};
 ghost use Rattle.cli_commands.specs.Files.{AreGiven, AreTexts, LacksAny, LacksOne};
 
 use crate::command::Command;
@@ -40,8 +40,8 @@ pub trait Files {
         ensures small { IfOk result (λ bytes. vec_len bytes ≤ MOST_BYTES) };
 }
 
-/// The texts of a command's files: the program, the world, and the order of the steps, a schedule or a journal. A check
-/// reads the program alone, and the others are empty.
+/// The texts of a command's files: the program, the world, and the order of the steps, a schedule or a journal. A text that a
+/// command has no file for is empty: a check reads the program alone, and workers have no order.
 #[derive(Drop)]
 pub struct Texts {
     pub program: Vec<u8>,
@@ -85,6 +85,25 @@ fn read_three<F: Files>(
     })
 }
 
+/// Reads two files, in this order.
+fn read_two<F: Files>(
+    alloc: Global,
+    files: &mut F,
+    program: &str,
+    world: &str,
+) -> Result<Texts, FileFault>
+    ensures given { IfOk result (λ texts. F.gives files.old program.now texts.program.items × F.gives files.old world.now texts.world.items) }
+    ensures lacking { result ≡ Err FileFault.File → F.lacks files.old program.now ⊎ F.lacks files.old world.now }
+{
+    let program = files.read(alloc, program)?;
+    let world = files.read(alloc, world)?;
+    Ok(Texts {
+        program,
+        world,
+        order: Vec::new(alloc),
+    })
+}
+
 /// Reads the files of a command.
 pub fn read_texts<F: Files>(
     alloc: Global,
@@ -105,6 +124,7 @@ pub fn read_texts<F: Files>(
             world,
             schedule,
         } => read_three(alloc, files, program, world, schedule),
+        Command::Work { program, world } => read_two(alloc, files, program, world),
         Command::Replay {
             program,
             world,
