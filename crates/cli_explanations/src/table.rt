@@ -253,11 +253,18 @@ fn faults_80() -> &'static [Explanation] {
 }
 
 /// The faults from 90 to 99, by rising numbers.
-static FAULTS_90: [Explanation; 1] = [Explanation {
-    number: 91,
-    title: b"an entry of a journal isn't possible",
-    text: b"fault 91: an entry of a journal isn't possible\n\nThe entry, counted from 1, is the first that no step goes with: the thread has ended, a trap has stopped the machine, or the step allocates nothing that could be refused. Replay a journal with the program and the world that it\ncame from. Here the thread ends with its third step.\n\n    JNIEXPORT jint JNICALL Java_A_f(JNIEnv *env, jclass cls)\n    {\n        return 0;\n    }\n\n    heap 512\n    class A\n    thread Java_A_f\n\n    1 1 1 1\n\nfault 91 entry 4\n",
-}];
+static FAULTS_90: [Explanation; 2] = [
+    Explanation {
+        number: 91,
+        title: b"an entry of a journal isn't possible",
+        text: b"fault 91: an entry of a journal isn't possible\n\nThe entry, counted from 1, is the first that no step goes with: the thread has ended, a trap has stopped the machine, or the step allocates nothing that could be refused. Replay a journal with the program and the world that it\ncame from. Here the thread ends with its third step.\n\n    JNIEXPORT jint JNICALL Java_A_f(JNIEnv *env, jclass cls)\n    {\n        return 0;\n    }\n\n    heap 512\n    class A\n    thread Java_A_f\n\n    1 1 1 1\n\nfault 91 entry 4\n",
+    },
+    Explanation {
+        number: 92,
+        title: b"the journal of a run by workers is full",
+        text: b"fault 92: the journal of a run by workers is full\n\nA journal has at most 1,000,000 entries. A run by workers (--workers) goes on until each thread has ended or waits, or a trap stops it; where it could take a step more than the journal has room for, nothing is written. The fault has no line.\nLet the threads end, or run the program by a schedule, which says how far it goes. By a schedule this text runs as far as you like.\n\n    JNIEXPORT void JNICALL Java_A_f(JNIEnv *env, jclass cls)\n    {\n        while (1u == 1u) {\n            put_jint(1);\n        }\n        return;\n    }\n\n    heap 512\n    class A\n    thread Java_A_f\n\nBy workers: fault 92 line 0\n",
+    },
+];
 
 /// These, as a slice.
 fn faults_90() -> &'static [Explanation] {
