@@ -12,11 +12,11 @@ use Rattle.clap.specs.declared.error.Error.{Error}
 use Rattle.clap.specs.declared.parser.matches.Found.{Found as Entries}
 use Rattle.clap.specs.Values.{kind_of}
 use Rattle.cli_commands.specs.declared.command.Command.{Command}
-use Rattle.cli_commands.specs.declared.command.Command.TheVariants.{Check, Run, Replay}
+use Rattle.cli_commands.specs.declared.command.Command.TheVariants.{Check, Run, Work, Replay}
 use Rattle.cli_words.specs.CommandLine.{command_line}
 use Rattle.cli_words.specs.Requests.{Found, Names, AreNamed, AsksFor, IsTold, IsRead, AreRead}
 use Rattle.cli_words.specs.declared.request.Request.{Request}
-use Rattle.cli_words.specs.declared.request.Request.TheVariants.{Serve, Explain, Show, Misuse, LacksSchedule, LacksMemory}
+use Rattle.cli_words.specs.declared.request.Request.TheVariants.{Serve, Explain, Show, Misuse, LacksOrder, LacksMemory}
 
 -- the value of a word, as it is read
 pub value_is : (f : Entries) (id name : List ℕ) (value : Option (Bor (List ℕ))) → option_map (λ s. s.now) value ≡ first_value f id → id ≡ name → option_map (λ s. s.now) value ≡ first_of name (rows_of f)
@@ -26,6 +26,7 @@ value_is f id name value h same = h ∙ first_value-rows f id ∙ ap (λ (n : Li
 no_command : (name : List ℕ) (rows : List Row) → first_of (codes "PROG") rows ≡ None → (command : Command) → Names name rows command → ⊥
 no_command name rows missing (Check p) h = absurd (cc (missing, h.1))
 no_command name rows missing (Run p w s) h = absurd (cc (missing, h.1))
+no_command name rows missing (Work p w) h = absurd (cc (missing, h.1))
 no_command name rows missing (Replay p w j) h = absurd (cc (missing, h.1))
 
 pub none_named : (name : List ℕ) (rows : List Row) (r : Option Command) → first_of (codes "PROG") rows ≡ None → r ≡ None → AreNamed name rows r
@@ -36,7 +37,7 @@ none_named name rows None missing none = no_command name rows missing
 pub read_told : (words : List (List ℕ)) (error : Error) (r : Request) → IsTold error r → HasKind (fault_of command_line words) error → AreRead words r
 read_told words error (Serve command) h kind = absurd h
 read_told words error (Explain explanation) h kind = absurd h
-read_told words error LacksSchedule h kind = absurd h
+read_told words error LacksOrder h kind = absurd h
 read_told words error LacksMemory h kind = tt
 read_told words error (Show text) (inl help) (inl memory) = absurd (cc (memory, help))
 read_told words error (Show text) (inr version) (inl memory) = absurd (cc (memory, version))
@@ -51,7 +52,7 @@ read_taken words r none asked = go (subcommand_of command_line words) r asked
     go : (found : Found) (r : Request) → AsksFor found r → IsRead (fault_of command_line words) found r
     go found (Serve command) h = (none, h)
     go found (Explain explanation) h = (none, h)
-    go found LacksSchedule h = (none, h)
+    go found LacksOrder h = (none, h)
     go found LacksMemory h = tt
     go (Some f) (Show text) h = absurd h
     go None (Show text) h = absurd h

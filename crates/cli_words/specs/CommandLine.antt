@@ -2,6 +2,7 @@
 use Rattle.std.specs.Prelude.{◌≡◌, true, false, ℕ, List, [], ◌∷◌, ◌++◌, Some, codes}
 use Rattle.clap.specs.declared.builder.command.Command.TheViews.{out-Command}
 use Rattle.clap.specs.Walk.{Rule}
+use Rattle.clap.specs.declared.builder.action.ArgAction.TheVariants.{SetTrue}
 use Rattle.clap.specs.Simple.{Shape, App, new_rule, new_shape, shape_of, with_subcommand}
 use Rattle.clap.specs.declared.builder.command.Command.{Command}
 
@@ -14,6 +15,10 @@ required name = record (new_rule name) { required = true }
 -- that may be left out
 abbrev pub optional : (name : List ℕ) → Rule
 optional name = new_rule name
+
+-- that stands for itself: its value is `true` where it is given, and else `false`
+abbrev pub flag : (option name : List ℕ) → Rule
+flag option name = record (new_rule name) { long = Some option; action = Some SetTrue }
 
 -- that may be given after an option
 abbrev pub after : (option name : List ℕ) → Rule
@@ -33,9 +38,9 @@ check_words = words_of (codes "check") (required (codes "PROG") ∷ [])
 abbrev pub files : List Rule
 files = required (codes "PROG") ∷ required (codes "WORLD") ∷ []
 
--- `run PROG WORLD --schedule FILE`
+-- `run PROG WORLD --schedule FILE`, or `run PROG WORLD --workers`
 abbrev pub run_words : Shape
-run_words = words_of (codes "run") (files ++ after (codes "schedule") (codes "FILE") ∷ [])
+run_words = words_of (codes "run") (files ++ after (codes "schedule") (codes "FILE") ∷ flag (codes "workers") (codes "WORKERS") ∷ [])
 
 -- `replay PROG WORLD JOURNAL`
 abbrev pub replay_words : Shape

@@ -10,10 +10,10 @@ use Rattle.clap.specs.declared.error.Error.{Error}
 use Rattle.clap.specs.declared.error.kind.ErrorKind.{ErrorKind}
 use Rattle.clap.specs.declared.error.kind.ErrorKind.TheVariants.{DisplayHelp, DisplayVersion, OutOfMemory}
 use Rattle.cli_commands.specs.declared.command.Command.{Command}
-use Rattle.cli_commands.specs.declared.command.Command.TheVariants.{Check, Run, Replay}
+use Rattle.cli_commands.specs.declared.command.Command.TheVariants.{Check, Run, Work, Replay}
 use Rattle.cli_words.specs.CommandLine.{command_line}
 use Rattle.cli_words.specs.declared.request.Request.{Request}
-use Rattle.cli_words.specs.declared.request.Request.TheVariants.{Serve, Explain, Show, Misuse, LacksSchedule, LacksMemory}
+use Rattle.cli_words.specs.declared.request.Request.TheVariants.{Serve, Explain, Show, Misuse, LacksOrder, LacksMemory}
 
 -- ---- words that `clap` takes
 
@@ -25,11 +25,19 @@ Found = Option (List ℕ × List Row)
 abbrev pub HasValue : List Row → (name : List ℕ) → List ℕ → Type 0
 HasValue rows name value = first_of name rows ≡ Some value
 
--- the command on files that the words name, each file by the word of its name
+-- a word of a command that stands for itself is given
+abbrev pub IsGiven : List Row → (name : List ℕ) → Type 0
+IsGiven rows name = HasValue rows name (codes "true")
+
+-- the command on files that the words name, each file by the word of its name; a run goes by a schedule or by workers, and not by both
 abbrev pub Names : (command : List ℕ) → List Row → Command → Type 0
 Names name rows (Check program) = (name ≡ codes "check") × HasValue rows (codes "PROG") program.now
 Names name rows (Run program world schedule) =
     (name ≡ codes "run") × HasValue rows (codes "PROG") program.now × HasValue rows (codes "WORLD") world.now × HasValue rows (codes "FILE") schedule.now
+    × (IsGiven rows (codes "WORKERS") → ⊥)
+Names name rows (Work program world) =
+    (name ≡ codes "run") × HasValue rows (codes "PROG") program.now × HasValue rows (codes "WORLD") world.now × (first_of (codes "FILE") rows ≡ None)
+    × IsGiven rows (codes "WORKERS")
 Names name rows (Replay program world journal) =
     (name ≡ codes "replay") × HasValue rows (codes "PROG") program.now × HasValue rows (codes "WORLD") world.now × HasValue rows (codes "JOURNAL") journal.now
 
@@ -48,12 +56,12 @@ HasNumber rows number =
     ((text : List ℕ) × HasValue rows (codes "N") text × (first_of (codes "NUMBER") rows ≡ None) × Spells text number)
     ⊎ ((text : List ℕ) × HasValue rows (codes "N") (codes "trap") × HasValue rows (codes "NUMBER") text × Spells text number)
 
--- what is asked for: something with the files that are named, an explanation, or something with files of which one is not named
+-- what is asked for: something with the files that are named, an explanation, or something of which a file isn't named, or that goes by no order or by two
 abbrev pub AsksFor : Found → Request → Type 0
 AsksFor (Some (name, rows)) (Serve command) = Names name rows command
 AsksFor (Some (name, rows)) (Explain explanation) = (name ≡ codes "explain") × IfSome explanation (λ e. HasNumber rows e.number)
-AsksFor (Some (name, rows)) LacksSchedule = (name ≢ codes "explain") × AreNamed name rows None
-AsksFor None LacksSchedule = Unit {0}
+AsksFor (Some (name, rows)) LacksOrder = (name ≢ codes "explain") × AreNamed name rows None
+AsksFor None LacksOrder = Unit {0}
 AsksFor found request = ⊥
 
 -- ---- words that `clap` doesn't take
@@ -69,7 +77,7 @@ IsTold error (Misuse text) = (IsHelp (kind_of error) → ⊥) × (kind_of error 
 IsTold error LacksMemory = Unit {0}
 IsTold error (Serve command) = ⊥
 IsTold error (Explain explanation) = ⊥
-IsTold error LacksSchedule = ⊥
+IsTold error LacksOrder = ⊥
 
 -- ---- all words
 

@@ -3,9 +3,9 @@
 ghost use Rattle.std.specs.Prelude.{◌≡◌, ℕ, List, [], IfOk, false, codes};
 ghost use Rattle.clap.specs.Simple.{Shape, app_of, with_subcommand};
 ghost use Rattle.clap.specs.Walk.{rule_of};
-ghost use Rattle.cli_words.specs.CommandLine.{required, optional, after, words_of, files, IsLeaf, check_words, run_words, replay_words, explain_words, line, command_line};
+ghost use Rattle.cli_words.specs.CommandLine.{required, optional, flag, after, words_of, files, IsLeaf, check_words, run_words, replay_words, explain_words, line, command_line};
 
-use clap::{Arg, Command};
+use clap::{Arg, ArgAction, Command};
 use std::alloc::{AllocError, Global};
 
 /// A word that must be given.
@@ -30,6 +30,17 @@ fn after<'a>(alloc: Global, option: &'a str, name: &'a str, help: &'a str) -> Ar
     ensures local { result.global ≡ false }
 {
     Arg::new(alloc, name).long(option).help(help)
+}
+
+/// A word that stands for itself, and begins with two dashes.
+fn flag<'a>(alloc: Global, option: &'a str, name: &'a str, help: &'a str) -> Arg<'a>
+    ensures rule { rule_of result ≡ flag option.entry.now name.entry.now }
+    ensures local { result.global ≡ false }
+{
+    Arg::new(alloc, name)
+        .long(option)
+        .action(ArgAction::SetTrue)
+        .help(help)
 }
 
 /// The file of the program.
@@ -65,6 +76,19 @@ fn schedule<'a>(alloc: Global) -> Arg<'a>
     )
 }
 
+/// That workers run the threads.
+fn workers<'a>(alloc: Global) -> Arg<'a>
+    ensures rule { rule_of result ≡ flag (codes "workers") (codes "WORKERS") }
+    ensures local { result.global ≡ false }
+{
+    flag(
+        alloc,
+        "workers",
+        "WORKERS",
+        "Runs each thread in a thread of the system, in place of a schedule",
+    )
+}
+
 /// The file of the journal.
 fn journal<'a>(alloc: Global) -> Arg<'a>
     ensures rule { rule_of result ≡ required (codes "JOURNAL") }
@@ -93,14 +117,16 @@ fn with_files<'a>(alloc: Global, command: Command<'a>) -> Result<Command<'a>, Al
     command.arg(program(alloc))?.arg(world(alloc))
 }
 
-/// `run PROG WORLD --schedule FILE`.
+/// `run PROG WORLD --schedule FILE`, or `run PROG WORLD --workers`.
 fn run_command<'a>(alloc: Global) -> Result<Command<'a>, AllocError>
     ensures { IfOk result (IsLeaf run_words) }
 {
     let command = Command::new(alloc, "run").about(
         "Runs a program in a world, and prints its report and its journal",
     );
-    with_files(alloc, command)?.arg(schedule(alloc))
+    with_files(alloc, command)?
+        .arg(schedule(alloc))?
+        .arg(workers(alloc))
 }
 
 /// `replay PROG WORLD JOURNAL`.

@@ -18,26 +18,46 @@ use cli_explanations::Explanation;
 use std::alloc::{AllocError, Global};
 use std::convert::AsStr;
 
+/// A run, which goes by a schedule or by workers, and not by both.
+fn run_of<'a>(
+    program: &'a str,
+    world: &'a str,
+    schedule: Option<&'a str>,
+    workers: Option<&'a str>,
+) -> Option<Command<'a>>
+    ensures { (rows : List Row) → HasValue rows (codes "PROG") program.entry.now → HasValue rows (codes "WORLD") world.entry.now
+        → option_map (λ w. w.now) schedule.entry ≡ first_of (codes "FILE") rows → option_map (λ w. w.now) workers.entry ≡ first_of (codes "WORKERS") rows
+        → AreNamed (codes "run") rows result }
+{
+    match (schedule, workers) {
+        (None, Some("true")) => Some(Command::Work { program, world }),
+        (Some(_), Some("true")) => None,
+        (Some(schedule), _) => Some(Command::Run {
+            program,
+            world,
+            schedule,
+        }),
+        (None, _) => None,
+    }
+}
+
 /// What is to be done with files, by the command's name and the words that are given.
 fn command_of<'a>(
     name: &str,
     program: &'a str,
     world: Option<&'a str>,
     schedule: Option<&'a str>,
+    workers: Option<&'a str>,
     journal: Option<&'a str>,
 ) -> Option<Command<'a>>
     ensures { (rows : List Row) → HasValue rows (codes "PROG") program.entry.now → option_map (λ w. w.now) world.entry ≡ first_of (codes "WORLD") rows
-        → option_map (λ w. w.now) schedule.entry ≡ first_of (codes "FILE") rows → option_map (λ w. w.now) journal.entry ≡ first_of (codes "JOURNAL") rows
-        → AreNamed name.now rows result }
+        → option_map (λ w. w.now) schedule.entry ≡ first_of (codes "FILE") rows → option_map (λ w. w.now) workers.entry ≡ first_of (codes "WORKERS") rows
+        → option_map (λ w. w.now) journal.entry ≡ first_of (codes "JOURNAL") rows → AreNamed name.now rows result }
 {
-    match (name, world, schedule, journal) {
-        ("check", _, _, _) => Some(Command::Check { program }),
-        ("run", Some(world), Some(schedule), _) => Some(Command::Run {
-            program,
-            world,
-            schedule,
-        }),
-        ("replay", Some(world), _, Some(journal)) => Some(Command::Replay {
+    match (name, world, journal) {
+        ("check", _, _) => Some(Command::Check { program }),
+        ("run", Some(world), _) => run_of(program, world, schedule, workers),
+        ("replay", Some(world), Some(journal)) => Some(Command::Replay {
             program,
             world,
             journal,
@@ -55,6 +75,7 @@ fn served<'a>(name: &str, given: &ArgMatches<'a>) -> Option<Command<'a>>
         given.get_str("PROG")?,
         given.get_str("WORLD"),
         given.get_str("FILE"),
+        given.get_str("WORKERS"),
         given.get_str("JOURNAL"),
     )
 }
@@ -86,9 +107,9 @@ fn asked_of<'a>(matches: &ArgMatches<'a>) -> Request<'a>
         Some(("explain", given)) => Request::Explain(explained(given)),
         Some((name, given)) => match served(name, given) {
             Some(command) => Request::Serve(command),
-            None => Request::LacksSchedule,
+            None => Request::LacksOrder,
         },
-        None => Request::LacksSchedule,
+        None => Request::LacksOrder,
     }
 }
 

@@ -14,8 +14,8 @@ pub enum Request<'a> {
     Show(String),
     /// They are no command line: why, and what there is.
     Misuse(String),
-    /// A run, but they don't say how to schedule.
-    LacksSchedule,
+    /// A run, but they name no order of its steps, a schedule or workers, or both.
+    LacksOrder,
     /// Memory was refused.
     LacksMemory,
 }

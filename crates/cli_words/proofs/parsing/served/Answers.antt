@@ -15,4 +15,5 @@ returns c =
     (sym (value_is (found_of c.args.given.now) _ (codes "PROG") c.get_str.result c.get_str.ensures (search rules)) ∙ (search rules))
     (value_is (found_of c.args.given.now) _ (codes "WORLD") c.get_str-2.result c.get_str-2.ensures (search rules))
     (value_is (found_of c.args.given.now) _ (codes "FILE") c.get_str-3.result c.get_str-3.ensures (search rules))
-    (value_is (found_of c.args.given.now) _ (codes "JOURNAL") c.get_str-4.result c.get_str-4.ensures (search rules))
+    (value_is (found_of c.args.given.now) _ (codes "WORKERS") c.get_str-4.result c.get_str-4.ensures (search rules))
+    (value_is (found_of c.args.given.now) _ (codes "JOURNAL") c.get_str-5.result c.get_str-5.ensures (search rules))
