@@ -1,4 +1,5 @@
 mod RunLemmas
+mod WorkLemmas
 mod ReplayLemmas
 mod ReplayLaws
 mod ServeLemmas

@@ -75,7 +75,7 @@ report_fails reporting.Memory = tt
 report_fails reporting.Sink = tt
 
 -- a trap that is held in memory, as it is told
-told : (stop : Option Stop) → option_map trap_at (option_map stop_view stop) ≡ option_map (λ s. trap_at (stop_view s)) stop
+pub told : (stop : Option Stop) → option_map trap_at (option_map stop_view stop) ≡ option_map (λ s. trap_at (stop_view s)) stop
 told None = refl
 told (Some stop) = refl
 

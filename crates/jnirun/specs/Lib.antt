@@ -2,6 +2,7 @@ pub mod Errors
 pub mod Texts
 pub mod Runs
 pub mod Running
+pub mod Works
 pub mod Replays
 pub mod ReplayLaws
 pub mod Serve

@@ -1,5 +1,5 @@
 -- Private to a run: what is known on its way.
-use Rattle.std.specs.Prelude.{◌≡◌, ℕ, List, length, None, Ok}
+use Rattle.std.specs.Prelude.{◌≡◌, ◌<◌, ℕ, false, List, length, None, Ok}
 use Rattle.syntax.specs.declared.unit.Item.{Item}
 use Rattle.syntax.specs.Tree.{SourceUnit}
 use Rattle.syntax.specs.Views.{unit_tree}
@@ -11,7 +11,7 @@ use Rattle.world.specs.ReadingWorlds.{world_of_text}
 use Rattle.semantics.specs.World.{World}
 use Rattle.semantics.specs.Schedule.{Schedule}
 use Rattle.semantics.specs.Load.{first_load_fault}
-use Rattle.machine.specs.Run.{Run, IsUnstarted}
+use Rattle.machine.specs.Run.{Run, IsUnstarted, InState, is_finished}
 use Rattle.program_check.specs.Programs.{IsProgram}
 
 -- the texts of a program and a world are not refused
@@ -20,6 +20,15 @@ pub record IsPassed (program text : List ℕ) (unit : SourceUnit) (world : World
   pub short : IsTooLong unit → ⊥
   pub of_world : world_of_text text ≡ Ok world
   pub means : IsWorldText text world
+
+-- the texts of a program and a world are loaded
+pub record IsUnderWay (program text : List ℕ) (items : List Item) (world : World) : Type 0 where
+  pub passed : IsPassed program text (unit_tree items) world
+  pub loads : first_load_fault (unit_tree items) world ≡ None
+
+-- a run that can take steps has room for one in its journal
+abbrev pub HasRoom : Run → Type 0
+HasRoom r = InState r (λ s. is_finished r.world.classes s ≡ false → length r.journal < 1000000)
 
 -- three texts are loaded, and no step is taken
 pub record IsLoaded (program text order : List ℕ) (begun : Run) (words : Schedule) : Type 0 where

@@ -2,7 +2,7 @@
 use Rattle.std.specs.Prelude.{◌≡◌, ℕ, List, Option, Some, None, codes}
 use Rattle.report.specs.Sink.{Written, StopsWithin}
 use Rattle.cli_commands.specs.declared.command.Command.{Command}
-use Rattle.cli_commands.specs.declared.command.Command.TheVariants.{Check, Run, Replay}
+use Rattle.cli_commands.specs.declared.command.Command.TheVariants.{Check, Run, Work, Replay}
 use Rattle.cli_commands.specs.declared.place.Place.{Place}
 use Rattle.cli_commands.specs.declared.place.Place.TheVariants.{Line}
 use Rattle.program_check.specs.Checks.{PassesCheck, FailsCheck}
@@ -15,6 +15,7 @@ use Rattle.jnirun.specs.Runs.{EndsRun, AppendsRun, StopsRun}
 use Rattle.cli_commands.specs.Saying.{SendsText, Tells, fault_line}
 use Rattle.cli_commands.specs.Telling.{told}
 use Rattle.jnirun.specs.Texts.{AreRefused}
+use Rattle.jnirun.specs.Works.{EndsWork, AreRefusedWork}
 
 -- ---- standard output
 
@@ -27,12 +28,14 @@ passed = codes "ok\n"
 abbrev pub TextsWrite : Command → (program world order : List ℕ) → Option TrapAt → (text : List ℕ) → Type 0
 TextsWrite (Check p) program world order trap text = PassesCheck program × (trap ≡ None) × (text ≡ passed)
 TextsWrite (Run p w s) program world order trap text = EndsRun program world order trap text
+TextsWrite (Work p w) program world order trap text = EndsWork program world trap text
 TextsWrite (Replay p w j) program world order trap text = EndsReplay program world order trap text
 
 -- the texts earn the number and the place of a fault
 abbrev pub TextsEarn : Command → (program world order : List ℕ) → (number : ℕ) → Place → Type 0
 TextsEarn (Check p) program world order number place = FailsCheck program number place
 TextsEarn (Run p w s) program world order number place = AreRefused program world order number place
+TextsEarn (Work p w) program world order number place = AreRefusedWork program world number place
 TextsEarn (Replay p w j) program world order number place = AreRefusedReplays program world order number place
 
 -- ---- standard error

@@ -1,10 +1,11 @@
-//! Native methods from their texts: a program is checked, run over a heap by a schedule, or replayed by a journal; and the same of
+//! Native methods from their texts: a program is checked, run over a heap by a schedule or by workers, or replayed by a journal; and the same of
 //! files, with what is said of them on standard output and standard error.
 #![tactic(auto)]
 
 mod replaying;
 mod run;
 mod serving;
+mod working;
 
 pub use cli_commands::{
     COMMAND_LINE, Command, DONE, FAILED, FileFault, FileSystem, Files, MOST_BYTES, Place, REFUSED,
@@ -15,3 +16,4 @@ pub use replay::TrapAt;
 pub use replaying::{replay_text, runs_are_replayed};
 pub use run::run_text;
 pub use serving::serve;
+pub use working::work_text;

@@ -6,7 +6,7 @@ ghost use Rattle.report.specs.Sink.{CanFail};
 ghost use Rattle.jnirun.specs.Errors.{of_replay};
 ghost use Rattle.program_check.specs.Programs.{IsProgram};
 ghost use Rattle.jnirun.specs.Runs.{RunsTexts};
-ghost use Rattle.jnirun.specs.ReplayLaws.{RunsAreReplayed};
+ghost use Rattle.jnirun.specs.ReplayLaws.{RunsAreReplayed, WorksAreReplayed};
 ghost use Rattle.jnirun.specs.Replays.{EndsReplay, AreRefusedReplays, IsPossible, IsReplayOrFails};
 ghost use Rattle.world_values.specs.WorldRules.{IsWorldText};
 ghost use Rattle.world.specs.ReadingWorlds.{world_of_text};
@@ -103,9 +103,11 @@ pub fn replay_text<W: Sink>(
     }
 }
 
-/// The journal that a run wrote can be replayed, and its replay writes what the run wrote: a law, which computes nothing.
+/// The journal that a run wrote, by a schedule or by workers, can be replayed, and its replay writes what the run wrote: a law,
+/// which computes nothing.
 pub fn runs_are_replayed()
-    ensures { RunsAreReplayed }
+    ensures runs { RunsAreReplayed }
+    ensures works { WorksAreReplayed }
 {
     one_unit();
 }

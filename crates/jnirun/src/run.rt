@@ -40,7 +40,7 @@ pub(crate) fn of_reading(text: Text, error: ReadError) -> RunError
     }
 }
 
-fn of_load(fault: LoadFault) -> RunError
+pub(crate) fn of_load(fault: LoadFault) -> RunError
     ensures { result ≡ of_load fault }
 {
     match fault {
@@ -49,7 +49,7 @@ fn of_load(fault: LoadFault) -> RunError
     }
 }
 
-fn of_report(fault: ReportFault) -> RunError
+pub(crate) fn of_report(fault: ReportFault) -> RunError
     ensures { result ≡ of_report fault }
 {
     match fault {
@@ -66,7 +66,7 @@ pub(crate) fn thread_count(world: &World) -> u8
 }
 
 /// Where a trap stopped the machine.
-fn trap_at(stop: Option<Stop>) -> Option<TrapAt>
+pub(crate) fn trap_at(stop: Option<Stop>) -> Option<TrapAt>
     ensures { result ≡ option_map (λ s. trap_at (stop_view s)) stop }
 {
     match stop {

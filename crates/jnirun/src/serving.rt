@@ -8,6 +8,7 @@ ghost use Rattle.jnirun.specs.Serve.{TextsWrite, TextsEarn, passed, TellsTrap, S
 
 use crate::replaying::replay_text;
 use crate::run::run_text;
+use crate::working::work_text;
 use cli_commands::{
     Command, DONE, FileFault, Files, Place, REFUSED, Text, Texts, fail, read_texts, say, say_fault,
     tell,
@@ -16,6 +17,8 @@ use program_check::{RunError, check_text};
 use replay::TrapAt;
 use report::Sink;
 use std::alloc::Global;
+use std::sync::Wait;
+use std::thread::Threads;
 
 /// Checks a program, and says `ok` where it passes.
 fn check_and_say<W: Sink>(
@@ -37,7 +40,8 @@ fn check_and_say<W: Sink>(
 }
 
 /// Checks, runs or replays. Answers the trap that stopped the run, if one did.
-fn run_texts<W: Sink>(
+fn run_texts<W: Sink, R: Threads + Wait + Sync>(
+    rt: &R,
     alloc: Global,
     command: Command<'_>,
     texts: &Texts,
@@ -51,6 +55,7 @@ fn run_texts<W: Sink>(
     match command {
         Command::Check { .. } => check_and_say(alloc, &texts.program, out),
         Command::Run { .. } => run_text(alloc, &texts.program, &texts.world, &texts.order, out),
+        Command::Work { .. } => work_text(rt, alloc, &texts.program, &texts.world, out),
         Command::Replay { .. } => {
             replay_text(alloc, &texts.program, &texts.world, &texts.order, out)
         }
@@ -127,7 +132,8 @@ fn refuse<O: Sink, E: Sink>(
 }
 
 /// Checks, runs or replays, and says how it went.
-fn serve_texts<O: Sink, E: Sink>(
+fn serve_texts<O: Sink, E: Sink, R: Threads + Wait + Sync>(
+    rt: &R,
     alloc: Global,
     command: Command<'_>,
     texts: &Texts,
@@ -139,7 +145,7 @@ fn serve_texts<O: Sink, E: Sink>(
     ensures { ServesTexts command.entry texts.now.program.items texts.now.world.items texts.now.order.items
         (O.written out.old) (O.written out.new) (E.written err.old) (E.written err.new) result }
 {
-    match run_texts(alloc, command, texts, out) {
+    match run_texts(rt, alloc, command, texts, out) {
         Ok(trap) => {
             tell_trap(command, &texts.program, trap, err);
             DONE
@@ -155,7 +161,8 @@ fn serve_texts<O: Sink, E: Sink>(
 ///
 /// Standard output gets what the command writes, or the line of a fault; standard error gets where and why a text is refused,
 /// with the line of that text, where a trap stopped the run, in the same way, or one word for what failed. That standard error fails changes no status.
-pub fn serve<F: Files, O: Sink, E: Sink>(
+pub fn serve<F: Files, O: Sink, E: Sink, R: Threads + Wait + Sync>(
+    rt: &R,
     alloc: Global,
     command: Command<'_>,
     files: &mut F,
@@ -167,7 +174,7 @@ pub fn serve<F: Files, O: Sink, E: Sink>(
     ensures { Serves (F.gives files.old) (F.lacks files.old) command.entry (O.written out.old) (O.written out.new) (E.written err.old) (E.written err.new) result }
 {
     match read_texts(alloc, files, command) {
-        Ok(texts) => serve_texts(alloc, command, &texts, out, err),
+        Ok(texts) => serve_texts(rt, alloc, command, &texts, out, err),
         Err(FileFault::Memory) => fail(err, b"memory\n"),
         Err(FileFault::File) => fail(err, b"file\n"),
     }

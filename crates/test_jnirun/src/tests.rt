@@ -2,12 +2,14 @@
 
 use jnirun::{
     Command, DONE, FAILED, FileFault, Files, REFUSED, TrapAt, check_text, replay_text, run_text,
-    serve,
+    serve, work_text,
 };
 use report::StdSink;
 use std::alloc::Global;
 use std::io;
 use std::io::{ErrorKind, Write};
+use std::sync::Wait;
+use std::thread::Threads;
 
 const PROGRAM: &[u8] = b"JNIEXPORT jint JNICALL Java_A_f(JNIEnv *env, jclass cls) { return 0; }";
 
@@ -27,6 +29,11 @@ const RUN: Command = Command::Run {
     program: "p",
     world: "w",
     schedule: "s",
+};
+
+const WORK: Command = Command::Work {
+    program: "p",
+    world: "w",
 };
 
 const REPLAY: Command = Command::Replay {
@@ -95,7 +102,7 @@ fn writer_of(rt: &impl AllocGlobal, most: usize, room: usize) -> Narrow {
 
 /// The status of a command, its output where that has this room, and what is said on standard error where that has this room.
 fn served(
-    rt: &impl AllocGlobal,
+    rt: &(impl AllocGlobal + Threads + Wait + Sync),
     command: Command<'_>,
     program: &'static [u8],
     room: usize,
@@ -104,18 +111,21 @@ fn served(
     let mut files = Folder { program };
     let mut out = StdSink::new(writer_of(rt, 1, room));
     let mut err = StdSink::new(writer_of(rt, 1, err_room));
-    let status = serve(rt.alloc(), command, &mut files, &mut out, &mut err);
+    let status = serve(rt, rt.alloc(), command, &mut files, &mut out, &mut err);
     (status, out.into_inner().taken, err.into_inner().taken)
 }
 
 #[test]
 fn texts(rt: HostRuntime) {
     let mut ran = StdSink::new(writer_of(&rt, 4096, 4096));
+    let mut worked = StdSink::new(writer_of(&rt, 4096, 4096));
     let mut replayed = StdSink::new(writer_of(&rt, 4096, 4096));
     assert!(rt; check_text(rt.alloc(), PROGRAM) == Ok(()));
     assert!(rt; run_text(rt.alloc(), PROGRAM, WORLD, b"1*9", &mut ran) == Ok(None));
+    assert!(rt; work_text(&rt, rt.alloc(), PROGRAM, WORLD, &mut worked) == Ok(None));
     assert!(rt; replay_text(rt.alloc(), PROGRAM, WORLD, b"1 1 1", &mut replayed) == Ok(None));
     assert!(rt; ran.into_inner().taken.as_slice() == REPORT);
+    assert!(rt; worked.into_inner().taken.as_slice() == REPORT);
     assert!(rt; replayed.into_inner().taken.as_slice() == REPORT);
 }
 
@@ -142,7 +152,12 @@ fn traps(rt: HostRuntime) {
 // Each output is one that takes a byte a call.
 #[test]
 fn commands(rt: HostRuntime) {
-    for (command, written) in [(CHECK, b"ok\n".as_slice()), (RUN, REPORT), (REPLAY, REPORT)] {
+    for (command, written) in [
+        (CHECK, b"ok\n".as_slice()),
+        (RUN, REPORT),
+        (WORK, REPORT),
+        (REPLAY, REPORT),
+    ] {
         let (status, out, err) = served(&rt, command, PROGRAM, 4096, 4096);
         assert!(rt; status == DONE && out.as_slice() == written && err.is_empty());
     }
@@ -153,7 +168,7 @@ fn commands(rt: HostRuntime) {
 fn refusals(rt: HostRuntime) {
     let told =
         b"p:3: error 42: a way doesn't end with return, or a statement is reached by none\n     put_jint(1); }\n".as_slice();
-    for command in [CHECK, RUN, REPLAY] {
+    for command in [CHECK, RUN, WORK, REPLAY] {
         for (room, said) in [(4096, told), (10, &told[..10])] {
             let (status, out, err) = served(&rt, command, OPEN, 4096, room);
             assert!(rt;
@@ -170,6 +185,7 @@ fn failing_writers(rt: HostRuntime) {
     let cases = [
         (CHECK, PROGRAM, 2, b"ok".as_slice()),
         (RUN, PROGRAM, 12, b"T1 ended\njou".as_slice()),
+        (WORK, PROGRAM, 12, b"T1 ended\njou".as_slice()),
         (REPLAY, PROGRAM, 12, b"T1 ended\njou".as_slice()),
         (RUN, OPEN, 8, b"fault 42".as_slice()),
     ];
@@ -191,6 +207,10 @@ fn missing_files(rt: HostRuntime) {
             program: "p",
             world: "x",
             schedule: "s",
+        },
+        Command::Work {
+            program: "p",
+            world: "x",
         },
         Command::Replay {
             program: "p",

@@ -1,0 +1,165 @@
+//! A run by workers, from its texts to its report.
+
+ghost use Rattle.std.specs.Prelude.{◌≡◌, ℕ, List, Ok};
+ghost use Rattle.syntax.specs.Views.{unit_tree};
+ghost use Rattle.report.specs.Sink.{CanFail};
+ghost use Rattle.shared.specs.Work.{VerdictHolds};
+ghost use Rattle.program_check.specs.Programs.{IsProgram};
+ghost use Rattle.jnirun.specs.Running.{IsPassed, IsUnderWay, HasRoom};
+ghost use Rattle.jnirun.specs.Runs.{RunsTexts};
+ghost use Rattle.jnirun.specs.Works.{WorkMeaning, EndsWork, AreRefusedWork, IsWorkOrFails};
+ghost use Rattle.world.specs.ReadingWorlds.{world_of_text};
+
+use crate::run::{of_load, of_reading, of_report, trap_at};
+use cli_commands::{Place, Text};
+use lower::{Program, lower};
+use machine::Machine;
+use program_check::{RunError, of_lower, read_program};
+use region_rules::Checked;
+use replay::TrapAt;
+use report::Sink;
+use shared::{Gate, Verdict, run_workers};
+use std::alloc::Global;
+use std::sync::Wait;
+use std::thread::Threads;
+use world::read_world;
+use world_values::World;
+
+/// The number of the fault that a journal has no room for another entry. It has no line.
+const FULL: u32 = 92;
+
+/// Lets every worker go on.
+struct Open;
+
+impl Gate for Open {
+    fn pass(&self, _seat: usize) -> bool {
+        true
+    }
+}
+
+/// Writes the report of a machine that workers ran.
+fn report_work<W: Sink>(
+    alloc: Global,
+    machine: &Machine<'_>,
+    out: &mut W,
+) -> Result<Option<TrapAt>, RunError>
+    requires can_fail { CanFail (W.written out.old) }
+    requires has_room { HasRoom machine.now }
+    ensures run { (program world : List ℕ) → IsUnderWay program world machine.now.unit machine.now.world
+        → RunsTexts (W.written out.old) (W.written out.new) result (EndsWork program world) (AreRefusedWork program world) }
+    ensures accepted { IsWorkOrFails result }
+{
+    let trap = trap_at(machine.stop());
+    match machine.report(alloc, out) {
+        Ok(()) => Ok(trap),
+        Err(fault) => Err(of_report(fault)),
+    }
+}
+
+/// Tells what workers did with a machine, by their verdict.
+fn tell_work<W: Sink>(
+    alloc: Global,
+    machine: &Machine<'_>,
+    verdict: Verdict,
+    out: &mut W,
+) -> Result<Option<TrapAt>, RunError>
+    requires can_fail { CanFail (W.written out.old) }
+    requires verdict { VerdictHolds machine.now verdict }
+    ensures run { (program world : List ℕ) → IsUnderWay program world machine.now.unit machine.now.world
+        → RunsTexts (W.written out.old) (W.written out.new) result (EndsWork program world) (AreRefusedWork program world) }
+    ensures accepted { IsWorkOrFails result }
+{
+    match verdict {
+        Verdict::NoMemory => Err(RunError::Memory),
+        Verdict::Done => report_work(alloc, machine, out),
+        Verdict::Stalled => report_work(alloc, machine, out),
+        Verdict::Full => {
+            let _ = machine.journal();
+            Err(RunError::Fault(FULL, Place::Line(Text::Program, 0)))
+        }
+    }
+}
+
+/// Lets workers run a machine that has taken no step.
+fn work_loaded<W: Sink, R: Threads + Wait + Sync>(
+    rt: &R,
+    alloc: Global,
+    machine: Machine<'_>,
+    out: &mut W,
+) -> Result<Option<TrapAt>, RunError>
+    requires can_fail { CanFail (W.written out.old) }
+    ensures run { (program world : List ℕ) → IsUnderWay program world machine.entry.unit machine.entry.world
+        → RunsTexts (W.written out.old) (W.written out.new) result (EndsWork program world) (AreRefusedWork program world) }
+    ensures accepted { IsWorkOrFails result }
+{
+    match run_workers(rt, alloc, machine, &Open) {
+        Ok((machine, verdict)) => tell_work(alloc, &machine, verdict, out),
+        Err(_) => Err(RunError::Memory),
+    }
+}
+
+/// Lets workers run a program in a world.
+fn work_in<W: Sink, R: Threads + Wait + Sync>(
+    rt: &R,
+    alloc: Global,
+    lowered: Program<'_>,
+    world: World,
+    out: &mut W,
+) -> Result<Option<TrapAt>, RunError>
+    requires can_fail { CanFail (W.written out.old) }
+    ensures run { (program text : List ℕ) → IsPassed program text (unit_tree lowered.entry.unit) world
+        → RunsTexts (W.written out.old) (W.written out.new) result (EndsWork program text) (AreRefusedWork program text) }
+    ensures accepted { (program text : List ℕ) → world_of_text text ≡ Ok world → (m : WorkMeaning program text) → unit_tree lowered.entry.unit ≡ m.unit → IsWorkOrFails result }
+{
+    match Machine::load(alloc, lowered, world) {
+        Ok(machine) => work_loaded(rt, alloc, machine, out),
+        Err(fault) => Err(of_load(fault)),
+    }
+}
+
+/// Lets workers run an accepted program in the world.
+fn work_checked<W: Sink, R: Threads + Wait + Sync>(
+    rt: &R,
+    alloc: Global,
+    checked: &Checked,
+    world_text: &[u8],
+    out: &mut W,
+) -> Result<Option<TrapAt>, RunError>
+    requires { CanFail (W.written out.old) }
+    ensures run { (program : List ℕ) → IsProgram program (unit_tree checked.now)
+        → RunsTexts (W.written out.old) (W.written out.new) result (EndsWork program world_text.now) (AreRefusedWork program world_text.now) }
+    ensures accepted { (program : List ℕ) (m : WorkMeaning program world_text.now) → unit_tree checked.now ≡ m.unit → IsWorkOrFails result }
+{
+    match lower(alloc, checked) {
+        Ok(lowered) => match read_world(alloc, world_text) {
+            Ok(world) => work_in(rt, alloc, lowered, world, out),
+            Err(error) => Err(of_reading(Text::World, error)),
+        },
+        Err(fault) => Err(of_lower(fault)),
+    }
+}
+
+/// Runs the program in the world by workers, a thread of the system for each thread, and writes the report of the run and its journal.
+/// Answers the trap that stopped the run, if one did.
+///
+/// On `Ok` what was written is the report of the source run that the journal names, and that journal; none of it waits in the
+/// sink. In which order the threads step isn't known before, and the journal tells it. A fault is one that the texts earn, 92 where the journal has no
+/// room for another entry, and nothing is written then. Memory is also refused where a worker couldn't be started. The texts are read as in `run_text`.
+pub fn work_text<W: Sink, R: Threads + Wait + Sync>(
+    rt: &R,
+    alloc: Global,
+    program_text: &[u8],
+    world_text: &[u8],
+    out: &mut W,
+) -> Result<Option<TrapAt>, RunError>
+    requires { CanFail (W.written out.old) }
+    ensures run { RunsTexts (W.written out.old) (W.written out.new) result
+        (EndsWork program_text.now world_text.now) (AreRefusedWork program_text.now world_text.now) }
+    // Texts that go with each other are refused for memory, for length, where the journal is full, or by the writer alone.
+    ensures accepted { WorkMeaning program_text.now world_text.now → IsWorkOrFails result }
+{
+    match read_program(alloc, program_text) {
+        Ok(checked) => work_checked(rt, alloc, &checked, world_text, out),
+        Err(error) => Err(error),
+    }
+}
