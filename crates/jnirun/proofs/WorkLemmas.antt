@@ -1,5 +1,5 @@
 -- What the layers answer, as what a run by workers does to the sink.
-use Rattle.std.proofs.Common.{◌≡◌, ◌<◌, ◌≤◌, ℕ, List, ◌++◌, true, false, Option, Some, None, Result, Ok, Err, length, inl, refl, sym, ap, ◌∙◌, subst}
+use Rattle.std.proofs.Common.{◌≡◌, ◌<◌, ◌≤◌, ℕ, List, ◌++◌, true, false, Option, None, Result, Ok, Err, length, inl, refl, sym, ap, ◌∙◌, subst}
 use Rattle.std.specs.Prelude.{OnOk}
 use Rattle.std.specs.Option.{option_map}
 use Rattle.syntax.specs.declared.unit.Item.{Item}
@@ -36,12 +36,12 @@ use Rattle.program_check.specs.declared.fault.RunError.TheVariants.{Memory, Faul
 use Rattle.program_check.specs.Errors.{of_lower}
 use Rattle.program_check.specs.Passes.{IsRefusal}
 use Rattle.program_check.specs.Programs.{IsProgram}
-use Rattle.program_check.specs.Checks.{PassesCheck, ChecksText}
+use Rattle.program_check.specs.Checks.{ChecksText}
 use Rattle.replay.specs.TrapAt.{trap_at}
 use Rattle.jnirun.specs.Errors.{of_reading, of_load, of_report}
 use Rattle.jnirun.specs.Running.{IsUnderWay, HasRoom}
 use Rattle.jnirun.specs.Runs.{RunsTexts}
-use Rattle.jnirun.specs.Works.{WorkMeaning, IsWork, is_over, EndsWork, AreRefusedWork, by_check, by_world, by_load, by_full, IsWorkOrFails}
+use Rattle.jnirun.specs.Works.{WorkMeaning, IsWork, EndsWork, AreRefusedWork, by_check, by_world, by_load, by_full, IsWorkOrFails}
 use Rattle.jnirun.proofs.RunLemmas.{as_run, told}
 use Rattle.program_check.proofs.CheckLemmas as checks
 
