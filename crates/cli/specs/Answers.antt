@@ -6,7 +6,7 @@ use Rattle.cli_commands.specs.Saying.{Tells}
 use Rattle.jnirun.specs.Serve.{Serves}
 use Rattle.cli_explanations.specs.declared.Explanation.{Explanation}
 use Rattle.cli_words.specs.declared.request.Request.{Request}
-use Rattle.cli_words.specs.declared.request.Request.TheVariants.{Serve, Explain, Show, Misuse, LacksSchedule, LacksMemory}
+use Rattle.cli_words.specs.declared.request.Request.TheVariants.{Serve, Explain, Show, Misuse, LacksOrder, LacksMemory}
 
 -- ---- texts for a reader
 
@@ -27,11 +27,16 @@ Declines words err err_after status = (status ≡ 2) × Tells err err_after word
 
 -- ---- the program
 
+-- why a run isn't begun: it goes by a schedule or by workers
+abbrev pub needs_order : List ℕ
+needs_order =
+    codes "error: run needs one of --schedule FILE and --workers\n\nUsage: jnirun run <PROG> <WORLD> --schedule <FILE>\n       jnirun run <PROG> <WORLD> --workers\n"
+
 -- what the program answers
 abbrev pub Answers : (gives : List ℕ → List ℕ → Type 0) → (lacks : List ℕ → Type 0) → Request → (out out_after err err_after : Written) → (status : ℕ) → Type 0
 Answers gives lacks (Serve command) out out_after err err_after status = Serves gives lacks command out out_after err err_after status
 Answers gives lacks (Explain explanation) out out_after err err_after status = Shows (IsTextOf explanation) out out_after err err_after status
 Answers gives lacks (Show text) out out_after err err_after status = Shows (λ t. t ≡ string_bytes text) out out_after err err_after status
 Answers gives lacks (Misuse text) out out_after err err_after status = (out_after ≡ out) × Declines (string_bytes text) err err_after status
-Answers gives lacks LacksSchedule out out_after err err_after status = (out_after ≡ out) × Declines (codes "error: run needs --schedule FILE\n") err err_after status
+Answers gives lacks LacksOrder out out_after err err_after status = (out_after ≡ out) × Declines needs_order err err_after status
 Answers gives lacks LacksMemory out out_after err err_after status = (out_after ≡ out) × (status ≡ 3) × Tells err err_after (codes "memory\n")

@@ -11,11 +11,14 @@ use jnirun::{COMMAND_LINE, DONE, Files, fail, say, serve};
 use report::Sink;
 use std::alloc::Global;
 use std::io::ErrorKind;
+use std::sync::Wait;
+use std::thread::Threads;
 
 const NO_EXPLANATION: &[u8] =
     b"error: there is no fault or trap of this number: explain N, or explain trap N\n";
 
-const NO_SCHEDULE: &[u8] = b"error: run needs --schedule FILE\n";
+const NO_ORDER: &[u8] =
+    b"error: run needs one of --schedule FILE and --workers\n\nUsage: jnirun run <PROG> <WORLD> --schedule <FILE>\n       jnirun run <PROG> <WORLD> --workers\n";
 
 const NOT_UTF_8: &[u8] = b"error: a word of the command line isn't UTF-8\n";
 
@@ -66,7 +69,8 @@ fn explain<O: Sink, E: Sink>(explanation: Option<Explanation>, out: &mut O, err:
 
 /// Does what was asked for, and answers the program's status: 0 done, 1 a text is refused, 2 the words are no command
 /// line, 3 memory, a file or a writer failed.
-pub fn answer<F: Files, O: Sink, E: Sink>(
+pub fn answer<F: Files, O: Sink, E: Sink, R: Threads + Wait + Sync>(
+    rt: &R,
     alloc: Global,
     request: &Request<'_>,
     files: &mut F,
@@ -78,11 +82,11 @@ pub fn answer<F: Files, O: Sink, E: Sink>(
     ensures { Answers (F.gives files.old) (F.lacks files.old) request.now (O.written out.old) (O.written out.new) (E.written err.old) (E.written err.new) result }
 {
     match request {
-        Request::Serve(command) => serve(alloc, *command, files, out, err),
+        Request::Serve(command) => serve(rt, alloc, *command, files, out, err),
         Request::Explain(explanation) => explain(*explanation, out, err),
         Request::Show(text) => show(text.as_bytes(), out, err),
         Request::Misuse(text) => decline(text.as_bytes(), err),
-        Request::LacksSchedule => decline(NO_SCHEDULE, err),
+        Request::LacksOrder => decline(NO_ORDER, err),
         Request::LacksMemory => fail(err, b"memory\n"),
     }
 }

@@ -13,8 +13,8 @@ returns-in-Show g c = rw c.in-Show.is (rw c.as_bytes.ensures.value at c.show.ens
 pub returns-in-Misuse : goal.returns-in-Misuse
 returns-in-Misuse g c = rw c.in-Misuse.is (refl, rw c.as_bytes-in-Misuse.ensures.value at c.decline.ensures)
 
-pub returns-in-LacksSchedule : goal.returns-in-LacksSchedule
-returns-in-LacksSchedule g c = rw c.in-LacksSchedule.is (refl, c.decline-in-LacksSchedule.ensures)
+pub returns-in-LacksOrder : goal.returns-in-LacksOrder
+returns-in-LacksOrder g c = rw c.in-LacksOrder.is (refl, c.decline-in-LacksOrder.ensures)
 
 pub returns-in-LacksMemory : goal.returns-in-LacksMemory
 returns-in-LacksMemory g c = rw c.in-LacksMemory.is (refl, c.fail.ensures.status, c.fail.ensures.tells)
