@@ -175,6 +175,7 @@ impl<'a> Machine<'a> {
     ///
     /// An `Err` says that the thread could step and the journal has room, but host memory was refused, to the step or to its
     /// collection. Nothing has changed then, and the same turn can be asked again.
+    #[inline(always)]
     pub fn step(&mut self, k: u8) -> Result<Turn, AllocError>
         requires counted { 0 < k }
         requires is_thread { k ≤ length self.old.world.threads }
