@@ -74,8 +74,8 @@ static FAULTS_20: [Explanation; 8] = [
     },
     Explanation {
         number: 24,
-        title: b"a function of the JNI isn't known, or can't be called today",
-        text: b"fault 24: a function of the JNI isn't known, or can't be called today\n\nREADME has the list of those that can (JNI Specification, chapter 4).\n\n    JNIEXPORT void JNICALL Java_A_f(JNIEnv *env, jclass cls)\n    {\n        jint version = (*env)->GetVersion(env);\n        return;\n    }\n\nfault 24 line 3\n",
+        title: b"a function of the JNI isn't known, or isn't implemented",
+        text: b"fault 24: a function of the JNI isn't known, or isn't implemented\n\nREADME has the list of those that are (JNI Specification, chapter 4).\n\n    JNIEXPORT void JNICALL Java_A_f(JNIEnv *env, jclass cls)\n    {\n        jint version = (*env)->GetVersion(env);\n        return;\n    }\n\nfault 24 line 3\n",
     },
     Explanation {
         number: 25,
@@ -90,7 +90,7 @@ static FAULTS_20: [Explanation; 8] = [
     Explanation {
         number: 27,
         title: b"a bad mode",
-        text: b"fault 27: a bad mode\n\nThe mode of a release is 0, JNI_COMMIT or JNI_ABORT (JNI Specification, chapter 4, \"Array Operations\"). Write one of these.\n\n    JNIEXPORT void JNICALL Java_A_f(JNIEnv *env, jclass cls, jintArray array)\n    {\n        jint *numbers = NULL;\n        (*env)->ReleaseIntArrayElements(env, array, numbers, 3);\n        return;\n    }\n\nfault 27 line 4 (today 24, since its functions can't be called yet)\n",
+        text: b"fault 27: a bad mode\n\nThe mode of a release is 0, JNI_COMMIT or JNI_ABORT (JNI Specification, chapter 4, \"Array Operations\"). Write one of these.\n\n    JNIEXPORT void JNICALL Java_A_f(JNIEnv *env, jclass cls, jintArray array)\n    {\n        jint *numbers = NULL;\n        (*env)->ReleaseIntArrayElements(env, array, numbers, 3);\n        return;\n    }\n\nfault 27 line 4\n",
     },
     Explanation {
         number: 28,
@@ -109,22 +109,22 @@ static FAULTS_30: [Explanation; 9] = [
     Explanation {
         number: 31,
         title: b"a call or a print while a buffer is critical",
-        text: b"fault 31: a call or a print while a buffer is critical\n\nFrom a critical Get to its release only critical Gets and releases are called, and nothing is printed, since a virtual machine may keep its collector waiting all the while\n(JNI Specification, chapter 4, \"GetPrimitiveArrayCritical\"). Keep what the buffer has in a variable, and call or print after the release.\n\n    JNIEXPORT void JNICALL Java_A_f(JNIEnv *env, jclass cls, jintArray array)\n    {\n        jint *numbers = (*env)->GetPrimitiveArrayCritical(env, array, NULL);\n        if (numbers == NULL) {\n            return;\n        }\n        put_jint(numbers[0]);\n        (*env)->ReleasePrimitiveArrayCritical(env, array, numbers, JNI_ABORT);\n        return;\n    }\n\nfault 31 line 7 (today 24, since its functions can't be called yet)\n",
+        text: b"fault 31: a call or a print while a buffer is critical\n\nFrom a critical Get to its release only critical Gets and releases are called, and nothing is printed, since a virtual machine may keep its collector waiting all the while\n(JNI Specification, chapter 4, \"GetPrimitiveArrayCritical\"). Keep what the buffer has in a variable, and call or print after the release.\n\n    JNIEXPORT void JNICALL Java_A_f(JNIEnv *env, jclass cls, jintArray array)\n    {\n        jint *numbers = (*env)->GetPrimitiveArrayCritical(env, array, NULL);\n        if (numbers == NULL) {\n            return;\n        }\n        put_jint(numbers[0]);\n        (*env)->ReleasePrimitiveArrayCritical(env, array, numbers, JNI_ABORT);\n        return;\n    }\n\nfault 31 line 7\n",
     },
     Explanation {
         number: 32,
         title: b"a return while a buffer is held",
-        text: b"fault 32: a return while a buffer is held\n\nWhat a Get gave is released on each way (JNI Specification, chapter 4, \"Array Operations\" and \"String Operations\"). Release it before the return.\n\n    JNIEXPORT void JNICALL Java_A_f(JNIEnv *env, jclass cls, jintArray array)\n    {\n        jint *numbers = (*env)->GetIntArrayElements(env, array, NULL);\n        if (numbers == NULL) {\n            return;\n        }\n        numbers[0] = 1;\n        return;\n    }\n\nfault 32 line 8 (today 24, since its functions can't be called yet)\n",
+        text: b"fault 32: a return while a buffer is held\n\nWhat a Get gave is released on each way (JNI Specification, chapter 4, \"Array Operations\" and \"String Operations\"). Release it before the return.\n\n    JNIEXPORT void JNICALL Java_A_f(JNIEnv *env, jclass cls, jintArray array)\n    {\n        jint *numbers = (*env)->GetIntArrayElements(env, array, NULL);\n        if (numbers == NULL) {\n            return;\n        }\n        numbers[0] = 1;\n        return;\n    }\n\nfault 32 line 8\n",
     },
     Explanation {
         number: 33,
         title: b"a buffer is lost",
-        text: b"fault 33: a buffer is lost\n\nA Get goes into a variable that holds no buffer, and the buffers that a block declares have to be released before it ends (JNI Specification, chapter 4, \"Array Operations\"). Release it\nfirst.\n\n    JNIEXPORT void JNICALL Java_A_f(JNIEnv *env, jclass cls, jintArray array)\n    {\n        jint *numbers = (*env)->GetIntArrayElements(env, array, NULL);\n        numbers = (*env)->GetIntArrayElements(env, array, NULL);\n        if (numbers == NULL) {\n            return;\n        }\n        (*env)->ReleaseIntArrayElements(env, array, numbers, JNI_ABORT);\n        return;\n    }\n\nfault 33 line 4 (today 24, since its functions can't be called yet)\n",
+        text: b"fault 33: a buffer is lost\n\nA Get goes into a variable that holds no buffer, and the buffers that a block declares have to be released before it ends (JNI Specification, chapter 4, \"Array Operations\"). Release it\nfirst.\n\n    JNIEXPORT void JNICALL Java_A_f(JNIEnv *env, jclass cls, jintArray array)\n    {\n        jint *numbers = (*env)->GetIntArrayElements(env, array, NULL);\n        numbers = (*env)->GetIntArrayElements(env, array, NULL);\n        if (numbers == NULL) {\n            return;\n        }\n        (*env)->ReleaseIntArrayElements(env, array, numbers, JNI_ABORT);\n        return;\n    }\n\nfault 33 line 4\n",
     },
     Explanation {
         number: 34,
         title: b"a buffer isn't tested",
-        text: b"fault 34: a buffer isn't tested\n\nA Get answers NULL where it has no memory, so its buffer is compared with NULL before it is read, written or released (JNI Specification, chapter 4,\nGet<PrimitiveType>ArrayElements). Put the comparison after the Get.\n\n    JNIEXPORT void JNICALL Java_A_f(JNIEnv *env, jclass cls, jintArray array)\n    {\n        jint *numbers = (*env)->GetIntArrayElements(env, array, NULL);\n        (*env)->ReleaseIntArrayElements(env, array, numbers, JNI_ABORT);\n        return;\n    }\n\nfault 34 line 4 (today 24, since its functions can't be called yet)\n",
+        text: b"fault 34: a buffer isn't tested\n\nA Get answers NULL where it has no memory, so its buffer is compared with NULL before it is read, written or released (JNI Specification, chapter 4,\nGet<PrimitiveType>ArrayElements). Put the comparison after the Get.\n\n    JNIEXPORT void JNICALL Java_A_f(JNIEnv *env, jclass cls, jintArray array)\n    {\n        jint *numbers = (*env)->GetIntArrayElements(env, array, NULL);\n        (*env)->ReleaseIntArrayElements(env, array, numbers, JNI_ABORT);\n        return;\n    }\n\nfault 34 line 4\n",
     },
     Explanation {
         number: 35,
@@ -149,7 +149,7 @@ static FAULTS_30: [Explanation; 9] = [
     Explanation {
         number: 39,
         title: b"the array of a held buffer is lost",
-        text: b"fault 39: the array of a held buffer is lost\n\nThe release wants the array, so its variable is a local one and isn't set, deleted or popped before (JNI Specification, chapter 4, Release<PrimitiveType>ArrayElements).\nRelease the buffer first.\n\n    JNIEXPORT void JNICALL Java_A_f(JNIEnv *env, jclass cls, jintArray array)\n    {\n        jint *numbers = (*env)->GetIntArrayElements(env, array, NULL);\n        if (numbers == NULL) {\n            return;\n        }\n        array = NULL;\n        (*env)->ReleaseIntArrayElements(env, array, numbers, 0);\n        return;\n    }\n\nfault 39 line 7 (today 24, since its functions can't be called yet)\n",
+        text: b"fault 39: the array of a held buffer is lost\n\nThe release wants the array, so its variable is a local one and isn't set, deleted or popped before (JNI Specification, chapter 4, Release<PrimitiveType>ArrayElements).\nRelease the buffer first.\n\n    JNIEXPORT void JNICALL Java_A_f(JNIEnv *env, jclass cls, jintArray array)\n    {\n        jint *numbers = (*env)->GetIntArrayElements(env, array, NULL);\n        if (numbers == NULL) {\n            return;\n        }\n        array = NULL;\n        (*env)->ReleaseIntArrayElements(env, array, numbers, 0);\n        return;\n    }\n\nfault 39 line 7\n",
     },
 ];
 

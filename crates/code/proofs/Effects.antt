@@ -86,6 +86,8 @@ plain_keeps (instr.StoreElement type array line) [] numbers = tt
 plain_keeps (instr.StoreElement type array line) (word ∷ []) numbers = tt
 plain_keeps (instr.StoreElement type array line) (word ∷ index ∷ stack) numbers = one_keeps (nat_lt index array.len) _ _ numbers (stored_keeps (array.start + index) (element_word type word) stack numbers) refl
 plain_keeps (instr.ClearArray array) stack numbers = cleared_keeps array stack numbers (nat_le (array.start + array.len) (length numbers)) refl
+plain_keeps (instr.LoadBuffer slot line) stack numbers = tt
+plain_keeps (instr.StoreBuffer type slot line) stack numbers = tt
 plain_keeps (instr.TestNull variable equal) stack numbers = tt
 plain_keeps (instr.StoreNull variable) stack numbers = tt
 plain_keeps instr.PutJint stack numbers = tt
@@ -151,6 +153,8 @@ plain_there slots (instr.StoreElement type array line) (word ∷ index ∷ stack
 plain_there slots (instr.ClearArray array) stack numbers after p w l h =
     let inside = array_inside slots.numbers array w in
     rw (le-leb (array.start + array.len) (length numbers) (omega arith)) refl
+plain_there slots (instr.LoadBuffer slot line) stack numbers after p w l h = absurd p
+plain_there slots (instr.StoreBuffer type slot line) stack numbers after p w l h = absurd p
 plain_there slots (instr.TestNull variable equal) stack numbers after p w l h = absurd p
 plain_there slots (instr.StoreNull variable) stack numbers after p w l h = absurd p
 plain_there slots instr.PutJint stack numbers after p w l h = absurd p

@@ -93,6 +93,8 @@ module _ (code : List Instr) (place : ℕ) where
       tt
   led (instr.ClearArray array) stack numbers after k next lands =
       one_led (nat_le (array.start + array.len) (length numbers)) (Some (way.Next, stack, cleared array numbers)) None (at_next after (length stack) (next (λ h. h)) (cc)) tt
+  led (instr.LoadBuffer slot line) stack numbers after k next lands = tt
+  led (instr.StoreBuffer type slot line) stack numbers after k next lands = tt
   led (instr.TestNull variable equal) stack numbers after k next lands = tt
   led (instr.StoreNull variable) stack numbers after k next lands = tt
   led instr.PutJint stack numbers after k next lands = tt

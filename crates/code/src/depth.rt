@@ -33,11 +33,13 @@ fn next_depth(instr: &Instr, depth: usize) -> Option<usize>
         Instr::Push(_) | Instr::Load(_) | Instr::TestNull { .. } => {
             (depth < 64).then_some(depth + 1)
         }
-        Instr::Complement | Instr::Not | Instr::Convert | Instr::LoadElement(..) => {
-            (depth > 0).then_some(depth)
-        }
+        Instr::Complement
+        | Instr::Not
+        | Instr::Convert
+        | Instr::LoadElement(..)
+        | Instr::LoadBuffer(..) => (depth > 0).then_some(depth),
         Instr::Operate(_) | Instr::OperateOrTrap(..) => depth.checked_sub(1).filter(|d| *d > 0),
-        Instr::StoreElement(..) => depth.checked_sub(2),
+        Instr::StoreElement(..) | Instr::StoreBuffer(..) => depth.checked_sub(2),
         Instr::Store(_)
         | Instr::JumpIfFalseOrPop(_)
         | Instr::JumpIfTrueOrPop(_)

@@ -153,8 +153,8 @@ pub enum Target {
     FieldId(u32),
     /// Into the global reference of this static.
     Static(u32),
-    /// Into this slot of buffers.
-    Buffer(u32),
+    /// Into this slot of buffers, where its variable's elements are of this type.
+    Buffer(ElementType, u32),
     /// Onto the stack: the truth whether the result, a `jint`, is 0, which is the test of an `if` (6.8.4.1).
     Test,
 }
@@ -275,7 +275,7 @@ impl BoxedCall {
     }
 }
 
-/// One instruction, which is one step of the source, in at most 16 bytes. Slots of numbers are counted from 0. The line of an
+/// One instruction, which is one step of the source, in at most 16 bytes. Slots of each kind are counted from 0. The line of an
 /// instruction that can trap is its statement's, counted from 1; the trap is reported there. The number of a jump is how many
 /// instructions after it are skipped, or how many places it leads back.
 #[derive(Drop)]
@@ -311,6 +311,12 @@ pub enum Instr {
     /// Takes a `jint`, then an index, and writes the element there, converted to its type, or traps on this line where there
     /// is none (6.5.16.1 and 6.3.1.3, where the signed types wrap).
     StoreElement(ElementType, LocalArray, u32),
+    /// Takes an index and puts the element there of the buffer in this slot, or traps on this line where there is none
+    /// (6.5.2.1). A buffer that is NULL has none.
+    LoadBuffer(u32, u32),
+    /// Takes a `jint`, then an index, and writes the element there of the buffer in this slot, converted to its type, or traps
+    /// on this line where there is none (6.5.16.1 and 6.3.1.3, where the signed types wrap).
+    StoreBuffer(ElementType, u32, u32),
     /// Writes zeros into an array (6.7.8).
     ClearArray(LocalArray),
     /// Puts the truth whether a variable is NULL, or whether it isn't (6.5.9).

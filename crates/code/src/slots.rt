@@ -37,6 +37,7 @@ fn within_slots(instr: &Instr, slots: SlotCounts) -> bool
         Instr::LoadElement(array, _)
         | Instr::StoreElement(_, array, _)
         | Instr::ClearArray(array) => array_within(*array, slots.numbers),
+        Instr::LoadBuffer(slot, _) | Instr::StoreBuffer(_, slot, _) => *slot < slots.buffers,
         Instr::TestNull { variable, equal: _ } | Instr::StoreNull(variable) => {
             variable_within(*variable, slots)
         }
@@ -75,7 +76,7 @@ fn target_within(target: Target, slots: SlotCounts) -> bool
         Target::Local(slot) => slot < slots.references,
         Target::FieldId(slot) => slot < slots.field_ids,
         Target::Static(index) => index < slots.statics,
-        Target::Buffer(slot) => slot < slots.buffers,
+        Target::Buffer(_, slot) => slot < slots.buffers,
         Target::Test => true,
     }
 }

@@ -3,3 +3,4 @@ pub mod SlotLaws
 pub mod OwnerLaws
 pub mod StaticLaws
 pub mod ElementWords
+pub mod BufferLaws

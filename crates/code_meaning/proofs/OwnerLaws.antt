@@ -43,7 +43,7 @@ module _ (visible : Visible) (slots : Slots) (own : Identifier → Option ℕ) (
     reference = h.reference;
   }
   slot_shown FieldId i kept h = record { field = h.field; is = h.is; is_null = h.is_null; no_number = h.no_number; kind = h.kind; there = h.there }
-  slot_shown (Buffer t writable) i kept h = record { is_null = h.is_null; kind = h.kind }
+  slot_shown (Buffer t writable) i kept h = record { buffer = h.buffer; is = h.is; is_null = h.is_null; kind = h.kind; there = h.there }
   slot_shown (Array t size) i kept h = record { few = h.few; array_type = h.array_type; elements = h.elements; past = h.past }
 
 module _ (code : Listing) (known : Known) (visible : Visible) (slots : Slots) (shows : Shows code known visible slots) where
@@ -53,6 +53,7 @@ module _ (code : Listing) (known : Known) (visible : Visible) (slots : Slots) (s
     references = shows.references;
     owners = count ∙ shows.owners;
     fields = shows.fields;
+    buffers = shows.buffers;
     each = λ x s at. slot_shown visible slots own owners x s.sort s.index (λ e before level owned. kept x s.index level (at ∙ ap (λ (k : Sort). Some (record { sort = k; index = s.index })) e) before owned) (shows.each x s at);
   }
 

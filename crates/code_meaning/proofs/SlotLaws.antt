@@ -15,7 +15,8 @@ use Rattle.class_rules.specs.Fields as source
 use Rattle.semantics.specs.Object.{Reference}
 use Rattle.semantics.specs.Task.{VariableKind, ScalarKind, ReferenceKind, FieldKind, BufferKind}
 use Rattle.semantics.specs.Value.{Value, Gives, convert}
-use Rattle.semantics.specs.Variable.{StaticReference, Empty, Statics, assign}
+use Rattle.semantics.specs.Variable as variable
+use Rattle.semantics.specs.Variable.{NoBuffer, StaticReference, Empty, Statics, assign}
 use Rattle.code.specs.declared.instr.NullableVariable.{NullableVariable}
 use Rattle.code.specs.declared.instr.NullableVariable.TheVariants as nullable
 use Rattle.code.specs.Depth.{Listing}
@@ -23,8 +24,8 @@ use Rattle.code.specs.Effect.{cleared}
 use Rattle.code.proofs.Arrays.{cleared_element, cleared_before, cleared_after}
 use Rattle.code_meaning.specs.Layout.{Slot, Known}
 use Rattle.code_meaning.specs.Coding.{nullable_of}
-use Rattle.code_meaning.specs.Slots.{word_of, ValueHasSort, IsNumberSort, Visible, IsAsBefore, OthersStay, IsSet, IsNulled, IsReferred, IsFieldSet, IsMade, IsElementSet, IsHeld, HasNoVariable, is_empty, nulled_statics, static_index, Slots, ShowsNumber, ShowsElement, ShowsStatic, ShowsSlot, Shows, with_null}
-use Rattle.code_meaning.specs.Fits.{IsPlaceOf, IsOwn, IndexWithin}
+use Rattle.code_meaning.specs.Slots.{word_of, ValueHasSort, IsNumberSort, Visible, IsAsBefore, OthersStay, IsSet, IsNulled, IsReferred, IsFieldSet, IsBufferSet, IsMade, IsElementSet, IsHeld, HasNoVariable, is_empty, nulled_statics, static_index, Slots, ShowsNumber, ShowsElement, ShowsStatic, ShowsSlot, Shows, with_null}
+use Rattle.code_meaning.specs.Fits.{IsPlaceOf, IsBufferSort, IsOwn, IndexWithin}
 use Rattle.code_meaning.specs.Stands.{AreAmong, IsSlotOf}
 use Rattle.code_meaning.proofs.StaticPlaces.{StaticStays, statics_stay, assigned_stays, assigned_place, assigned_held, same_name}
 
@@ -77,7 +78,7 @@ pub all_among : (known : Known) → AreAmong known known
 all_among known x s h = h
 
 pub fewer_shown : (code : Listing) (names known : Known) (visible : Visible) (slots : Slots) → AreAmong names known → Shows code known visible slots → Shows code names visible slots
-fewer_shown code names known visible slots among shows = record { numbers = shows.numbers; references = shows.references; owners = shows.owners; fields = shows.fields; each = λ x s at. shows.each x s (among x s at) }
+fewer_shown code names known visible slots among shows = record { numbers = shows.numbers; references = shows.references; owners = shows.owners; fields = shows.fields; buffers = shows.buffers; each = λ x s at. shows.each x s (among x s at) }
 
 -- ---- what stays
 
@@ -99,39 +100,41 @@ module _ (old new : Visible) (x : Identifier) (slots slots' : Slots) (same : IsA
   number_stays kind i word h = record { value = h.value; is = same.number ∙ h.is; kind = same.kind ∙ h.kind; sort = h.sort; word = word ∙ h.word }
 
   pub slot_stays : (kind : Sort) (i : ℕ) → ((k : ℕ) → IsPlaceOf (record { sort = kind; index = i }) k → slice_get slots'.numbers k ≡ slice_get slots.numbers k) → (kind ≡ Ref → ReferenceStays slots slots' i) → (kind ≡ FieldId → slice_get slots'.fields i ≡ slice_get slots.fields i)
-      → (kind ≡ Global → StaticStays old.statics new.statics x) → ShowsSlot old x slots (record { sort = kind; index = i }) kind → ShowsSlot new x slots' (record { sort = kind; index = i }) kind
-  slot_stays sort.Word i numbers references fields statics h = number_stays sort.Word i (numbers i (omega arith, omega arith)) h
-  slot_stays Jint i numbers references fields statics h = number_stays Jint i (numbers i (omega arith, omega arith)) h
-  slot_stays sort.Flag i numbers references fields statics h = number_stays sort.Flag i (numbers i (omega arith, omega arith)) h
-  slot_stays sort.Truth i numbers references fields statics h = tt
-  slot_stays Ref i numbers references fields statics h = record { reference = h.reference; is = same.reference ∙ h.is; is_null = same.is_null ∙ h.is_null; no_number = same.number ∙ h.no_number; kind = same.kind ∙ h.kind; there = (references refl).0 ∙ h.there; owner = λ n level is own. (references refl).1 ∙ h.owner n level is (sym same.owner ∙ own) }
-  slot_stays Global i numbers references fields statics h = record {
+      → (IsBufferSort kind → slice_get slots'.buffers i ≡ slice_get slots.buffers i) → (kind ≡ Global → StaticStays old.statics new.statics x) → ShowsSlot old x slots (record { sort = kind; index = i }) kind → ShowsSlot new x slots' (record { sort = kind; index = i }) kind
+  slot_stays sort.Word i numbers references fields buffers statics h = number_stays sort.Word i (numbers i (omega arith, omega arith)) h
+  slot_stays Jint i numbers references fields buffers statics h = number_stays Jint i (numbers i (omega arith, omega arith)) h
+  slot_stays sort.Flag i numbers references fields buffers statics h = number_stays sort.Flag i (numbers i (omega arith, omega arith)) h
+  slot_stays sort.Truth i numbers references fields buffers statics h = tt
+  slot_stays Ref i numbers references fields buffers statics h = record { reference = h.reference; is = same.reference ∙ h.is; is_null = same.is_null ∙ h.is_null; no_number = same.number ∙ h.no_number; kind = same.kind ∙ h.kind; there = (references refl).0 ∙ h.there; owner = λ n level is own. (references refl).1 ∙ h.owner n level is (sym same.owner ∙ own) }
+  slot_stays Global i numbers references fields buffers statics h = record {
     static = record { place = (statics refl).place ∙ h.static.place; held = h.static.held; there = (statics refl).there ∙ h.static.there };
     no_variable = record { number = same.number ∙ h.no_variable.number; array_type = same.array_type ∙ h.no_variable.array_type; kind = same.kind ∙ h.no_variable.kind };
     is_null = same.is_null ∙ h.is_null;
     reference = same.reference ∙ h.reference;
   }
-  slot_stays FieldId i numbers references fields statics h = record { field = h.field; is = same.field ∙ h.is; is_null = same.is_null ∙ h.is_null; no_number = same.number ∙ h.no_number; kind = same.kind ∙ h.kind; there = fields refl ∙ h.there }
-  slot_stays (Buffer t writable) i numbers references fields statics h = record { is_null = same.is_null ∙ h.is_null; kind = same.kind ∙ h.kind }
-  slot_stays (Array t size) i numbers references fields statics h = record {
+  slot_stays FieldId i numbers references fields buffers statics h = record { field = h.field; is = same.field ∙ h.is; is_null = same.is_null ∙ h.is_null; no_number = same.number ∙ h.no_number; kind = same.kind ∙ h.kind; there = fields refl ∙ h.there }
+  slot_stays (Buffer t writable) i numbers references fields buffers statics h = record { buffer = h.buffer; is = same.buffer ∙ h.is; is_null = same.is_null ∙ h.is_null; kind = same.kind ∙ h.kind; there = buffers tt ∙ h.there }
+  slot_stays (Array t size) i numbers references fields buffers statics h = record {
     few = h.few;
     array_type = same.array_type ∙ h.array_type;
     elements = λ k below.
         let element = h.elements k below in
-        record { number = element.number; is = same.element k ∙ element.is; fits = element.fits; word = numbers (i + k) (omega arith, omega arith) ∙ element.word };
-    past = λ k above. same.element k ∙ h.past k above;
+        record { number = element.number; is = same.element t k h.array_type ∙ element.is; fits = element.fits; word = numbers (i + k) (omega arith, omega arith) ∙ element.word };
+    past = λ k above. same.element t k h.array_type ∙ h.past k above;
   }
 
 -- A name has this slot, which it shows, and the others are as they were.
 module _ (code : Listing) (known : Known) (old new : Visible) (slots slots' : Slots) (x : Identifier) (s : Slot) (shows : Shows code known old slots) (own : IsOwn known x s) (others : OthersStay old new x) (statics : (y : Identifier) → y ≢ x → StaticStays old.statics new.statics y) where
   pub with_changed : length slots'.numbers ≡ length slots.numbers → length slots'.references ≡ length slots.references → length slots'.owners ≡ length slots.owners → length slots'.fields ≡ length slots.fields → ((k : ℕ) → (IsPlaceOf s k → ⊥) → slice_get slots'.numbers k ≡ slice_get slots.numbers k)
       → ((i : ℕ) → (s.sort ≡ Ref → i ≢ s.index) → ReferenceStays slots slots' i)
-      → ((i : ℕ) → (s.sort ≡ FieldId → i ≢ s.index) → slice_get slots'.fields i ≡ slice_get slots.fields i) → ShowsSlot new x slots' s s.sort → Shows code ((x, s) ∷ known) new slots'
-  with_changed numbers references owners fields number reference field here = record {
+      → ((i : ℕ) → (s.sort ≡ FieldId → i ≢ s.index) → slice_get slots'.fields i ≡ slice_get slots.fields i)
+      → length slots'.buffers ≡ length slots.buffers → ((i : ℕ) → (IsBufferSort s.sort → i ≢ s.index) → slice_get slots'.buffers i ≡ slice_get slots.buffers i) → ShowsSlot new x slots' s s.sort → Shows code ((x, s) ∷ known) new slots'
+  with_changed numbers references owners fields number reference field buffers buffer here = record {
     numbers = numbers ∙ shows.numbers;
     references = references ∙ shows.references;
     owners = owners ∙ shows.owners;
     fields = fields ∙ shows.fields;
+    buffers = buffers ∙ shows.buffers;
     each = λ y t at.
         first_or_after x y s t known (ShowsSlot new y slots' t t.sort)
         (λ same is. subst (λ (z : Identifier). ShowsSlot new z slots' t t.sort) (sym same) (subst (λ (r : Slot). ShowsSlot new x slots' r r.sort) is here))
@@ -141,6 +144,7 @@ module _ (code : Listing) (known : Known) (old new : Visible) (slots slots' : Sl
         (λ k p. number k (λ q. apart.numbers k p q))
         (λ e. reference t.index (λ e'. apart.references e e'))
         (λ e. field t.index (λ e'. apart.fields e e'))
+        (λ e. buffer t.index (λ e'. apart.buffers e e'))
         (λ e. statics y other)
         (shows.each y t h)) at;
   }
@@ -169,7 +173,7 @@ shows_set code known old new slots x s v shows own n fits set =
     with_changed code known old new slots (record slots { numbers = slice_set slots.numbers s.index (word_of v) }) x s shows own.own set.others (λ y other. statics_stay old.statics new.statics set.statics y)
     (length-set slots.numbers s.index (word_of v)) refl refl refl
     (λ k outside. get-set_other slots.numbers s.index k (word_of v) (λ e. outside (subst (IsPlaceOf s) (sym e) (number_place s n))))
-    (λ i other. (refl, refl)) (λ i other. refl)
+    (λ i other. (refl, refl)) (λ i other. refl) refl (λ i other. refl)
     (number_shown new x (record slots { numbers = slice_set slots.numbers s.index (word_of v) }) s s.sort n (record { value = v; is = set.is; kind = set.kind; sort = fits; word = get-set_same slots.numbers s.index (word_of v) below }))
 
 -- ---- a local reference or a field ID is set
@@ -181,7 +185,7 @@ with_reference : (code : Listing) (known : Known) (old new : Visible) (slots : S
 with_reference code known old new slots x i r owners shows own set count others owner =
     let below : i < length slots.references = omega (arith, own.within, shows.references) in
     with_changed code known old new slots (record slots { references = slice_set slots.references i r; owners = owners }) x (record { sort = Ref; index = i }) shows own.own set.others (λ y other. statics_stay old.statics new.statics set.statics y)
-    refl (length-set slots.references i r) count refl (λ k outside. refl) (λ j other. (get-set_other slots.references i j r (other refl), others j (other refl))) (λ j other. refl)
+    refl (length-set slots.references i r) count refl (λ k outside. refl) (λ j other. (get-set_other slots.references i j r (other refl), others j (other refl))) (λ j other. refl) refl (λ j other. refl)
     (record { reference = r; is = set.reference; is_null = set.is_null; no_number = set.number; kind = set.kind; there = get-set_same slots.references i r below; owner = owner })
 
 pub shows_referred : (code : Listing) (known : Known) (old new : Visible) (slots : Slots) (x : Identifier) (i : ℕ) (r : Reference) → Shows code known old slots → IsSlotOf code known x (record { sort = Ref; index = i }) → IsReferred old x r new
@@ -195,8 +199,25 @@ pub shows_field_set : (code : Listing) (known : Known) (old new : Visible) (slot
 shows_field_set code known old new slots x i f shows own set =
     let below : i < length slots.fields = omega (arith, own.within, shows.fields) in
     with_changed code known old new slots (record slots { fields = slice_set slots.fields i f }) x (record { sort = FieldId; index = i }) shows own.own set.others (λ y other. statics_stay old.statics new.statics set.statics y)
-    refl refl refl (length-set slots.fields i f) (λ k outside. refl) (λ j other. (refl, refl)) (λ j other. get-set_other slots.fields i j f (other refl))
+    refl refl refl (length-set slots.fields i f) (λ k outside. refl) (λ j other. (refl, refl)) (λ j other. get-set_other slots.fields i j f (other refl)) refl (λ j other. refl)
     (record { field = f; is = set.field; is_null = set.is_null; no_number = set.number; kind = set.kind; there = get-set_same slots.fields i f below })
+
+-- ---- a buffer is set
+
+pub shows_buffer_set : (code : Listing) (known : Known) (old new : Visible) (slots : Slots) (x : Identifier) (t : ElementType) (writable : Bool) (i : ℕ) (b : variable.Buffer) → Shows code known old slots → IsSlotOf code known x (record { sort = Buffer t writable; index = i })
+    → IsBufferSet old t x b new → Shows code ((x, record { sort = Buffer t writable; index = i }) ∷ known) new (record slots { buffers = slice_set slots.buffers i b })
+shows_buffer_set code known old new slots x t writable i b shows own set =
+    let below : i < length slots.buffers = omega (arith, own.within, shows.buffers) in
+    with_changed code known old new slots (record slots { buffers = slice_set slots.buffers i b }) x (record { sort = Buffer t writable; index = i }) shows own.own set.others (λ y other. statics_stay old.statics new.statics set.statics y)
+    refl refl refl refl (λ k outside. refl) (λ j other. (refl, refl)) (λ j other. refl) (length-set slots.buffers i b) (λ j other. get-set_other slots.buffers i j b (other tt))
+    (record { buffer = b; is = set.buffer; is_null = set.is_null; kind = set.kind; there = get-set_same slots.buffers i b below })
+
+-- one that has its slot already
+pub shows_buffer_again : (code : Listing) (known : Known) (old new : Visible) (slots : Slots) (x : Identifier) (t : ElementType) (writable : Bool) (i : ℕ) (b : variable.Buffer) → Shows code known old slots → lookup x known ≡ Some (record { sort = Buffer t writable; index = i })
+    → IsSlotOf code known x (record { sort = Buffer t writable; index = i }) → IsBufferSet old t x b new → Shows code known new (record slots { buffers = slice_set slots.buffers i b })
+shows_buffer_again code known old new slots x t writable i b shows at own set =
+    fewer_shown code known ((x, record { sort = Buffer t writable; index = i }) ∷ known) new (record slots { buffers = slice_set slots.buffers i b }) (known_among x (record { sort = Buffer t writable; index = i }) known at)
+    (shows_buffer_set code known old new slots x t writable i b shows own set)
 
 -- ---- a static holds something else
 
@@ -234,6 +255,7 @@ static_changes code known old new slots x h shows held = record {
   references = shows.references;
   owners = shows.owners;
   fields = shows.fields;
+  buffers = shows.buffers;
   each = λ y s at.
       elim (bytes_eq y x) as (λ b. bytes_eq y x ≡ b → ShowsSlot new y slots s s.sort) [
         | true ↦ λ e.
@@ -241,7 +263,7 @@ static_changes code known old new slots x h shows held = record {
             subst (λ (z : Identifier). ShowsSlot new z slots s s.sort) (sym same) (no_variable_shown old new x slots h s s.sort held (subst (λ (z : Identifier). ShowsSlot old z slots s s.sort) same (shows.each y s at)))
         | false ↦ λ e.
             let other : y ≢ x = not_from_Decides (bytes_eq y x) (bytes_eq-Decides y x) e in
-            slot_stays old new y slots slots (held.others y other) s.sort s.index (λ k p. refl) (λ r. (refl, refl)) (λ r. refl) (λ r. others_assigned old new x y h held.statics other) (shows.each y s at)
+            slot_stays old new y slots slots (held.others y other) s.sort s.index (λ k p. refl) (λ r. (refl, refl)) (λ r. refl) (λ b. refl) (λ r. others_assigned old new x y h held.statics other) (shows.each y s at)
       ] refl;
 }
 
@@ -269,7 +291,7 @@ shows_nulled code known old new slots x Global kind i variable shows own same e 
     let is : nullable.Static i ≡ variable = cc in
     let assigned : new.statics ≡ assign x Empty old.statics = set.statics ∙ ap (λ (o : Option VariableKind). nulled_statics o x old.statics) e.0 in
     subst (λ v. Shows code ((x, record { sort = Global; index = i }) ∷ known) new (with_null v slots)) is
-    (with_changed code known old new slots slots x (record { sort = Global; index = i }) shows own.own set.others (λ y other. others_assigned old new x y Empty assigned other) refl refl refl refl (λ k outside. refl) (λ j other. (refl, refl)) (λ j other. refl)
+    (with_changed code known old new slots slots x (record { sort = Global; index = i }) shows own.own set.others (λ y other. others_assigned old new x y Empty assigned other) refl refl refl refl (λ k outside. refl) (λ j other. (refl, refl)) (λ j other. refl) refl (λ j other. refl)
     (static_holds old new x i Empty e.1 assigned (record { number = set.number; array_type = set.array_type; kind = set.same_kind ∙ e.0 }) set.is_null set.reference))
 shows_nulled code known old new slots x FieldId kind i variable shows own same e set =
     let is : nullable.FieldId i ≡ variable = cc in
@@ -278,7 +300,7 @@ shows_nulled code known old new slots x FieldId kind i variable shows own same e
 shows_nulled code known old new slots x (Buffer t writable) kind i variable shows own same e set =
     let is : nullable.Buffer i ≡ variable = cc in
     subst (λ v. Shows code ((x, record { sort = Buffer t writable; index = i }) ∷ known) new (with_null v slots)) is
-    (with_changed code known old new slots slots x (record { sort = Buffer t writable; index = i }) shows own.own set.others (λ y other. statics_stay old.statics new.statics (nulled_stay old new x kind (BufferKind t) e set.statics) y) refl refl refl refl (λ k outside. refl) (λ j other. (refl, refl)) (λ j other. refl) (record { is_null = set.is_null; kind = set.same_kind ∙ e }))
+    (shows_buffer_set code known old new slots x t writable i NoBuffer shows own (record { buffer = set.buffer; is_null = set.is_null; kind = set.same_kind ∙ e; statics = nulled_stay old new x kind (BufferKind t) e set.statics; others = set.others }))
 shows_nulled code known old new slots x s kind i variable shows own same e set = absurd (cc)
 
 -- ---- a local array
@@ -307,7 +329,7 @@ shows_made code known old new slots t x size start shows own keeps made =
     with_changed code known old new slots (record slots { numbers = cleared (record { start = start; len = size }) slots.numbers }) x (record { sort = Array t size; index = start }) shows own.own made.others (λ y other. statics_stay old.statics new.statics made.statics y)
     keeps refl refl refl
     (λ k outside. cleared_outside t size start k slots.numbers inside outside (nat_lt k start) refl)
-    (λ i other. (refl, refl)) (λ i other. refl)
+    (λ i other. (refl, refl)) (λ i other. refl) refl (λ i other. refl)
     (record {
       few = own.within.1;
       array_type = made.array_type;
@@ -337,7 +359,7 @@ shows_element_set code known old new slots t x size start index z word shows at 
     (with_changed code known old new slots (record slots { numbers = slice_set slots.numbers (start + index) word }) x (record { sort = Array t size; index = start }) shows own.own set.others (λ y other. statics_stay old.statics new.statics set.statics y)
     (length-set slots.numbers (start + index) word) refl refl refl
     (λ k outside. get-set_other slots.numbers (start + index) k word (λ e. outside (omega (arith, e), omega (arith, e, below))))
-    (λ i other. (refl, refl)) (λ i other. refl)
+    (λ i other. (refl, refl)) (λ i other. refl) refl (λ i other. refl)
     (record {
       few = array.few;
       array_type = set.array_type ∙ array.array_type;

@@ -54,7 +54,7 @@ module _ (own : Identifier → Option ℕ) (shared : Shared) (t : Thread) (x : I
   -- a name shows what it did, if what it may show of a static is the same
   as_before : (y : Identifier) → holds_null (lookup y t.variables) (lookup y after.statics) ≡ holds_null (lookup y t.variables) (lookup y shared.statics)
       → held_reference (lookup y t.variables) (lookup y after.statics) ≡ held_reference (lookup y t.variables) (lookup y shared.statics) → IsAsBefore (visible_to own shared t) (visible_to own after t) y
-  as_before y is_null reference = record { number = refl; is_null = is_null; element = λ i. refl; reference = reference; field = refl; array_type = refl; kind = refl; owner = refl }
+  as_before y is_null reference = record { number = refl; is_null = is_null; element = λ k i array. refl; reference = reference; field = refl; buffer = refl; array_type = refl; kind = refl; owner = refl }
 
   others_as_before : (y : Identifier) → y ≢ x → IsAsBefore (visible_to own shared t) (visible_to own after t) y
   others_as_before y other =
@@ -79,7 +79,7 @@ module _ (own : Identifier → Option ℕ) (shared : Shared) (t : Thread) (x : I
   variable_shown v is slots s shown =
       slot_stays (visible_to own shared t) (visible_to own after t) x slots slots
       (as_before x (hidden_null (lookup x t.variables) v _ _ is) (ap (λ (o : Option Variable). held_reference o (lookup x after.statics)) is ∙ hidden_reference v _ _ ∙ sym (ap (λ (o : Option Variable). held_reference o (lookup x shared.statics)) is)))
-      s.sort s.index (λ k p. refl) (λ e. (refl, refl)) (λ e. refl)
+      s.sort s.index (λ k p. refl) (λ e. (refl, refl)) (λ e. refl) (λ e. refl)
       (λ e. absurd (
       let static = subst (ShowsSlot (visible_to own shared t) x slots s) e shown in
       no_kind v (ap kind_of_variable (sym is) ∙ static.no_variable.kind) (ap type_of_array (sym is) ∙ static.no_variable.array_type)))
@@ -96,6 +96,7 @@ module _ (own : Identifier → Option ℕ) (shared : Shared) (t : Thread) (x : I
         references = shows.references;
         owners = shows.owners;
         fields = shows.fields;
+        buffers = shows.buffers;
         each = λ y s at.
             elim (bytes_eq y x) as (λ b. bytes_eq y x ≡ b → ShowsSlot (visible_to own after t) y slots s s.sort) [
               | true ↦ λ e.
@@ -103,7 +104,7 @@ module _ (own : Identifier → Option ℕ) (shared : Shared) (t : Thread) (x : I
                   subst (λ (z : Identifier). ShowsSlot (visible_to own after t) z slots s s.sort) (sym same) (variable_shown v is slots s (subst (λ (z : Identifier). ShowsSlot (visible_to own shared t) z slots s s.sort) same (shows.each y s at)))
               | false ↦ λ e.
                   let other : y ≢ x = not_from_Decides (bytes_eq y x) (bytes_eq-Decides y x) e in
-                  slot_stays (visible_to own shared t) (visible_to own after t) y slots slots (others_as_before y other) s.sort s.index (λ k p. refl) (λ r. (refl, refl)) (λ r. refl) (λ r. assigned_stays x y h shared.statics other) (shows.each y s at)
+                  slot_stays (visible_to own shared t) (visible_to own after t) y slots slots (others_as_before y other) s.sort s.index (λ k p. refl) (λ r. (refl, refl)) (λ r. refl) (λ b. refl) (λ r. assigned_stays x y h shared.statics other) (shows.each y s at)
             ] refl;
       }
 

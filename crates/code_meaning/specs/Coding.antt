@@ -24,7 +24,7 @@ use Rattle.code.specs.declared.instr.ReferenceOperand.TheVariants.{Null, Local}
 use Rattle.code.specs.declared.instr.Target.{Target}
 use Rattle.code.specs.declared.instr.Target.TheVariants as target
 use Rattle.code.specs.declared.instr.Instr.{Instr}
-use Rattle.code.specs.declared.instr.Instr.TheVariants.{Push, Load, Store, Convert, Operate, OperateOrTrap, JumpIfFalseOrPop, JumpIfTrueOrPop, JumpIfFalse, Jump, JumpBack, LoadElement, StoreElement, ClearArray, TestNull, StoreNull, PutJint, Call, Return, ReturnJint, ReturnReference}
+use Rattle.code.specs.declared.instr.Instr.TheVariants.{Push, Load, Store, Convert, Operate, OperateOrTrap, JumpIfFalseOrPop, JumpIfTrueOrPop, JumpIfFalse, Jump, JumpBack, LoadElement, StoreElement, LoadBuffer, StoreBuffer, ClearArray, TestNull, StoreNull, PutJint, Call, Return, ReturnJint, ReturnReference}
 use Rattle.code.specs.declared.instr.Instr.TheVariants as instr
 use Rattle.semantics.specs.Arguments.{ReleaseMode, CopyBackAndFree, CopyBack, FreeUncopied, mode_of}
 use Rattle.semantics.specs.Term as term
@@ -64,14 +64,16 @@ element_of JShort = element.Short
 element_of JByte = element.Byte
 element_of JChar = element.Char
 
--- an element of an array with its first slot here
+-- an element of an array with its first slot here, or of a buffer with its slot here
 abbrev pub element_code : (line : ℕ) → Sort → ℕ → List Instr
 element_code line (Array t size) i = LoadElement (record { start = i; len = size }) line ∷ []
+element_code line (Buffer t writable) i = LoadBuffer i line ∷ []
 element_code line s i = []
 
 -- such an element is written
 abbrev pub write_code : (line : ℕ) → Sort → ℕ → List Instr
 write_code line (Array t size) i = StoreElement (element_of t) (record { start = i; len = size }) line ∷ []
+write_code line (Buffer t writable) i = StoreBuffer (element_of t) i line ∷ []
 write_code line s i = []
 
 -- a part that needs the slot of a name
@@ -219,7 +221,7 @@ abbrev pub result_target : Sort → ℕ → Target
 result_target Ref i = target.Local i
 result_target Global i = target.Static i
 result_target FieldId i = target.FieldId i
-result_target (Buffer t writable) i = target.Buffer i
+result_target (Buffer t writable) i = target.Buffer (element_of t) i
 result_target s i = target.Number i
 
 -- a call of a function, whose result goes there

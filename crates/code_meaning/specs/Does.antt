@@ -2,13 +2,14 @@
 use Rattle.std.specs.Prelude.{◌≡◌, ℕ, ℤ, ◌+◌, ◌-◌, ◌<◌, ◌≤◌, ◌⊎◌, Bool, true, List, [], ◌∷◌, ◌++◌, length, flat_map, slice_get, slice_set, Option, Some, None, FitsSigned}
 use Rattle.std.specs.Bool.{beq}
 use Rattle.std.specs.List.{AllZip}
-use Rattle.std.specs.Int.{w32, cast_signed}
+use Rattle.std.specs.Int.{w32, cast_signed, cast_unsigned}
 use Rattle.base.specs.Bytes.{Identifier, lookup}
 use Rattle.base.specs.Element.{ElementType}
 use Rattle.syntax.specs.Tree.{Block}
 use Rattle.jni.specs.Access.{Access}
 use Rattle.jni.specs.JniFunction.{JniFunction, is_built_function, prototype}
 use Rattle.jni.specs.Prototype.{ParameterKind, FieldID, IntNumber, TextBytes, ArrayVariable, BufferVariable, Mode, IsCopy, ResultKind, NewLocal, NewGlobal, GivesInt, GivesField}
+use Rattle.type_rules.specs.SortRules.{is_droppable}
 use Rattle.type_rules.specs.Sorts.{Sort, Flag, Ref, Global, FieldId, Buffer}
 use Rattle.class_rules.specs.Fields as source
 use Rattle.semantics.specs.Object.{Reference}
@@ -18,6 +19,7 @@ use Rattle.semantics.specs.Task.{Task, Branch, Target, Declared, Assigned, Teste
 use Rattle.semantics.specs.Term.{Done}
 use Rattle.semantics.specs.Value.{Value, Trap, Int, Gives}
 use Rattle.semantics.specs.Value as value
+use Rattle.semantics.specs.Variable as variable
 use Rattle.semantics.specs.Variable.{StaticReference, Empty}
 use Rattle.code.specs.Call.{Call}
 use Rattle.code.specs.declared.instr.Operand.{Operand as Where}
@@ -34,10 +36,10 @@ use Rattle.code.specs.declared.instr.PlainTrap.{PlainTrap}
 use Rattle.code.specs.declared.instr.PlainTrap.TheVariants as trap
 use Rattle.code.specs.Depth.{Listing}
 use Rattle.code.specs.Effect.{truth_word, plain_of}
-use Rattle.code_meaning.specs.Coding.{mode_code}
+use Rattle.code_meaning.specs.Coding.{mode_code, element_of}
 use Rattle.code_meaning.specs.Layout.{Known}
-use Rattle.code_meaning.specs.Slots.{word_of, ValueHasSort, Visible, Slots, Shows, IsSet, IsNulled, IsReferred, IsFieldSet, IsMade, IsElementSet, IsHeld, ShowsStatic, holds_null, with_null}
-use Rattle.code_meaning.specs.Stands.{target_name, number_sort, StandsFor}
+use Rattle.code_meaning.specs.Slots.{word_of, ValueHasSort, Visible, Slots, Shows, IsSet, IsNulled, IsReferred, IsFieldSet, IsBufferSet, IsMade, IsElementSet, IsHeld, ShowsStatic, elements_in, with_element, slot_elements, holds_null, with_null}
+use Rattle.code_meaning.specs.Stands.{target_name, number_sort, IsBufferResult, StandsFor}
 use Rattle.code_meaning.specs.Fits.{IsReferenceKind, TakesNull, TakesLocal, TakesGlobal, IsArray, HaveOwnSlots}
 
 -- the instructions that leave a function
@@ -53,11 +55,24 @@ trap_of trap.DivisionByZero = value.DivisionByZero
 trap_of trap.ShiftTooFar = value.ShiftTooFar
 trap_of trap.OutOfRange = value.OutOfRange
 
+-- no element of a buffer in a slot is at this index
+abbrev pub IsPast : Visible → Slots → (i index : ℕ) → Type 0
+IsPast visible slots i index = (zs : List ℤ) × (slot_elements visible slots i ≡ Some zs) × (slice_get zs index ≡ None)
+
+-- the element at an index takes its place, or a trap leaves it there
+abbrev pub Loads : (line index : ℕ) → (stack : List ℕ) → Option ℤ → Plain → (after : List ℕ) → Type 0
+Loads line index stack (Some z) way after = (way ≡ plain.Next) × (after ≡ cast_unsigned w32 z ∷ stack)
+Loads line index stack None way after = (way ≡ plain.Trap trap.OutOfRange line) × (after ≡ index ∷ stack)
+
 -- an instruction works on the stack alone: where it leads, and the stack after it; a null test looks at the slots and the
--- statics too
+-- statics too, and one on a buffer at its elements, which are written elsewhere
 abbrev pub Works : Visible → Slots → Instr → (stack : List ℕ) → Plain → (after : List ℕ) → Type 0
 Works visible slots (instr.TestNull variable equal) stack way after =
     (null : Bool) × (holds_null visible slots variable ≡ Some null) × (way ≡ plain.Next) × (after ≡ truth_word (beq null equal) ∷ stack)
+Works visible slots (instr.LoadBuffer i line) (index ∷ stack) way after =
+    (zs : List ℤ) × (slot_elements visible slots i ≡ Some zs) × Loads line index stack (slice_get zs index) way after
+Works visible slots (instr.StoreBuffer type i line) (word ∷ index ∷ stack) way after =
+    IsPast visible slots i index × (way ≡ plain.Trap trap.OutOfRange line) × (after ≡ word ∷ index ∷ stack)
 Works visible slots i stack way after = plain_of i stack slots.numbers ≡ Some (way, after, slots.numbers)
 
 -- what holds at the place that a way leads to
@@ -137,6 +152,27 @@ module _ (code : Listing) (known : Known) (place : ℕ) (stack : List ℕ) (slot
     pub plain : plain_of here stack slots.numbers ≡ Some (plain.Next, [], numbers)
     pub names : Known
     pub shows : (new : Visible) → changed new → Shows code names new (record slots { numbers = numbers })
+    pub stands : StandsFor code names (place + 1) [] tasks
+
+  -- it writes an element of a local array, and the next place stands for these tasks
+  abbrev pub WritesArray : Identifier → (index : ℕ) → ℤ → List Task → Type 0
+  WritesArray x index z tasks = (t : ElementType) × (visible.array_type x ≡ Some t) × Writes (IsElementSet visible t x index z) tasks
+
+  -- it writes an element of a buffer, which is there: of a copy in its slot, or of a viewed object, and the next place stands for
+  -- these tasks
+  pub record WritesBuffer (x : Identifier) (index : ℕ) (z : ℤ) (tasks : List Task) : Type 0 where
+    pub type : ElementType
+    pub kind : visible.kind x ≡ Some (BufferKind type)
+    pub slot : ℕ
+    pub there : slice_get slots.buffers slot ≡ Some (visible.buffer x)
+    pub inside : index < length (elements_in (visible.buffer x) visible.numbers)
+    pub line : ℕ
+    pub at : slice_get code.instrs place ≡ Some (instr.StoreBuffer (element_of type) slot line)
+    pub operands : stack ≡ cast_unsigned w32 z ∷ index ∷ []
+    pub fits : FitsSigned w32 z
+    pub names : Known
+    pub shows : (new : Visible) → IsBufferSet visible type x (with_element type index z (visible.buffer x)) new
+        → Shows code names new (record slots { buffers = slice_set slots.buffers slot (with_element type index z (visible.buffer x)) })
     pub stands : StandsFor code names (place + 1) [] tasks
 
   -- a new variable that isn't a number, or one that can be NULL
@@ -226,6 +262,15 @@ module _ (code : Listing) (known : Known) (place : ℕ) (stack : List ℕ) (slot
     pub shows : (h : StaticReference) (new : Visible) → IsHeld visible x h new → Shows code names new slots
     pub stands : StandsFor code names (place + 1) [] tasks
 
+  -- The same of a buffer with elements of this type, which is put when `isCopy` has been told: so from whatever can be seen then,
+  -- and with the slots that show it.
+  pub record TakesBuffer (t : ElementType) (i : ℕ) (x : Identifier) (tasks : List Task) : Type 0 where
+    pub within : i < length slots.buffers
+    pub names : Known
+    pub shows : (told new : Visible) (now : Slots) (b : variable.Buffer) → Shows code known told now → IsBufferSet told t x b new
+        → Shows code names new (record now { buffers = slice_set now.buffers i b })
+    pub stands : StandsFor code names (place + 1) [] tasks
+
   -- The result is tested by an `if` on this line: with the truth whether it is 0 on the stack the next place stands for its
   -- ways, and then for these tasks.
   pub record TakesTest (line : ℕ) (target : Target) (tasks : List Task) : Type 0 where
@@ -240,16 +285,16 @@ module _ (code : Listing) (known : Known) (place : ℕ) (stack : List ℕ) (slot
   GoesInto kind (Assigned x) Takes = (visible.kind x ≡ Some kind) × Takes x
   GoesInto kind target Takes = ⊥
 
-  -- where the result of a call in a statement on this line goes, by what the function gives, and what comes then; no function
-  -- that can be called today gives a buffer
+  -- where the result of a call in a statement on this line goes, by what the function gives, and what comes then
   abbrev pub TakesResult : (line : ℕ) → Destination → ResultKind → Target → List Task → Type 0
   TakesResult line (destination.Number i) gives target tasks = (s : Sort) × (number_sort gives ≡ Some s) × GoesInto ScalarKind target (λ x. TakesNumber s i x tasks)
   TakesResult line (destination.Local i) gives target tasks = (gives ≡ NewLocal) × GoesInto ReferenceKind target (λ x. TakesReference i x tasks)
   TakesResult line (destination.FieldId i) gives target tasks = (gives ≡ GivesField) × GoesInto FieldKind target (λ x. TakesField i x tasks)
   TakesResult line (destination.Static i) gives target tasks = (gives ≡ NewGlobal) × ((x : Identifier) × (target ≡ Assigned x) × TakesStatic i x tasks)
-  TakesResult line (destination.Buffer i) gives target tasks = ⊥
+  TakesResult line (destination.Buffer element i) gives target tasks =
+      IsBufferResult gives × ((t : ElementType) × (element ≡ element_of t) × GoesInto (BufferKind t) target (λ x. TakesBuffer t i x tasks))
   TakesResult line destination.Test gives target tasks = (gives ≡ GivesInt) × TakesTest line target tasks
-  TakesResult line destination.Dropped gives target tasks = (target ≡ Dropped) × StandsFor code known (place + 1) [] tasks
+  TakesResult line destination.Dropped gives target tasks = (target ≡ Dropped) × (is_droppable gives ≡ true) × StandsFor code known (place + 1) [] tasks
 
   -- it calls this function with these arguments
   pub record CallsFunction (line : ℕ) (target : Target) (f : JniFunction) (args : List Actual) (tasks : List Task) : Type 0 where
@@ -279,17 +324,18 @@ module _ (code : Listing) (known : Known) (place : ℕ) (stack : List ℕ) (slot
     pub trap : PlainTrap
     pub is : trap_of trap ≡ reason
     pub at : slice_get code.instrs place ≡ Some here
-    pub plain : plain_of here stack slots.numbers ≡ Some (plain.Trap trap line, stack, slots.numbers)
+    pub works : Works visible slots here stack (plain.Trap trap line) stack
 
-  -- the instruction at the place does what the first of the tasks does, whose effect is given
+  -- The instruction at the place does what the first of the tasks does, whose effect is given. A task that has none is one of no
+  -- accepted program: it isn't met.
   abbrev pub DoesEffect : (rest : List Task) → Effect → Type 0
   DoesEffect rest (Becomes tasks) = GoesOn (tasks ++ rest)
   DoesEffect rest (Sets x v) = Writes (IsSet visible x v) rest
   DoesEffect rest (SetsNull target) = StoresNull target rest
-  DoesEffect rest (SetsElement x index z) = (t : ElementType) × (visible.array_type x ≡ Some t) × Writes (IsElementSet visible t x index z) rest
+  DoesEffect rest (SetsElement x index z) = WritesArray x index z rest ⊎ WritesBuffer x index z rest
   DoesEffect rest (MakesArray t x size) = Writes (IsMade visible t x size) rest
   DoesEffect rest (Prints z) = PrintsTop z rest
   DoesEffect rest (Calls line target f args) = CallsFunction line target f args rest
   DoesEffect rest Returns = LeavesCall
   DoesEffect rest (TrapsAt reason line) = Stops reason line
-  DoesEffect rest NoEffect = ⊥
+  DoesEffect rest NoEffect = Unit {0}

@@ -7,9 +7,9 @@ use Rattle.syntax.specs.Tree as tree
 use Rattle.syntax.specs.Tree.{LogicalNot, Complement, ToWord, ToInt, Expr, Argument, Call, RightSide, FromExpr, FromCall, Test, TestExpr, TestCall, Stmt, Block, End, Next, Function}
 use Rattle.jni.specs.Access.{Access}
 use Rattle.jni.specs.JniFunction.{JniFunction, is_built_function, function_named, prototype}
-use Rattle.jni.specs.Prototype.{ParameterKind, Nullable, NonNull, ClassObject, AnyArray, ObjectArray, StringObject, NumberArray, LocalVariable, StaticVariable, FieldID, IntNumber, TextBytes, ArrayVariable, BufferVariable, Mode, IsCopy, ResultKind, NewLocal, NewGlobal, GivesFlag, GivesInt, GivesField}
+use Rattle.jni.specs.Prototype.{ParameterKind, Nullable, NonNull, ClassObject, AnyArray, ObjectArray, StringObject, NumberArray, LocalVariable, StaticVariable, FieldID, IntNumber, TextBytes, ArrayVariable, BufferVariable, Mode, IsCopy, ResultKind, NewLocal, NewGlobal, GivesFlag, GivesInt, GivesField, GivesBuffer, GivesNothing}
 use Rattle.type_rules.specs.Sorts.{Sort, Word, Jint, Flag, Truth, Ref, Global, FieldId, Buffer, Array, OperatorGroup, Logic, Equality, Order, OnWords, group, is_buffer_for}
-use Rattle.type_rules.specs.SortRules.{variable_sort, is_mode}
+use Rattle.type_rules.specs.SortRules.{variable_sort, is_droppable, is_mode}
 use Rattle.code.specs.declared.slots.SlotCounts.{SlotCounts}
 use Rattle.semantics.specs.Term as term
 use Rattle.semantics.specs.Term.{Term, Done, Read, And, Or, IsNull, Prefix, Binary, term_of}
@@ -40,6 +40,12 @@ IsNullable FieldId = Unit {0}
 IsNullable (Buffer t writable) = Unit {0}
 IsNullable s = ⊥
 
+-- what has elements
+abbrev pub HasElements : Sort → Type 0
+HasElements (Buffer t writable) = Unit {0}
+HasElements (Array t size) = Unit {0}
+HasElements s = ⊥
+
 -- the sort of both operands of an operator, and that of its result
 abbrev pub OperatorFits : OperatorGroup → (operands result : Sort) → Type 0
 OperatorFits Logic r s = ⊥
@@ -56,7 +62,7 @@ TermHasSort known (term.Named tree.True) s = s ≡ Flag
 TermHasSort known (term.Named tree.False) s = s ≡ Flag
 TermHasSort known (term.Named c) s = ⊥
 TermHasSort known (Read x) s = IsVariable known x s
-TermHasSort known (term.Element x t) s = (r : Sort) × IsIndexSort r × TermHasSort known t r × ((e : ElementType) × (size : ℕ) × (start : ℕ) × IsArray known x e size start) × (s ≡ Jint)
+TermHasSort known (term.Element x t) s = (r : Sort) × IsIndexSort r × TermHasSort known t r × ((n : Slot) × (lookup x known ≡ Some n) × HasElements n.sort) × (s ≡ Jint)
 TermHasSort known (IsNull equal x) s = ((n : Slot) × (lookup x known ≡ Some n) × IsNullable n.sort) × (s ≡ Truth)
 TermHasSort known (Prefix LogicalNot t) s = TermHasSort known t Truth × (s ≡ Truth)
 TermHasSort known (Prefix Complement t) s = TermHasSort known t Word × (s ≡ Word)
@@ -107,11 +113,17 @@ IndexWithin slots s i = i < slots.numbers
 abbrev pub IsPlaceOf : Slot → ℕ → Type 0
 IsPlaceOf s k = (s.index ≤ k) × (k < s.index + width s.sort)
 
+-- the sorts of buffers
+abbrev pub IsBufferSort : Sort → Type 0
+IsBufferSort (Buffer t writable) = Unit {0}
+IsBufferSort s = ⊥
+
 -- two variables have no slot in common
 pub record AreApart (s t : Slot) : Type 0 where
   pub numbers : (k : ℕ) → IsPlaceOf s k → IsPlaceOf t k → ⊥
   pub references : s.sort ≡ Ref → t.sort ≡ Ref → s.index ≢ t.index
   pub fields : s.sort ≡ FieldId → t.sort ≡ FieldId → s.index ≢ t.index
+  pub buffers : IsBufferSort s.sort → IsBufferSort t.sort → s.index ≢ t.index
 
 -- no known name but this has the slot
 abbrev pub IsOwn : Known → Identifier → Slot → Type 0
@@ -229,19 +241,25 @@ ValueFits known Truth e = ⊥
 ValueFits known (Array t size) e = ⊥
 ValueFits known s e = e ≡ tree.Named tree.Null
 
--- what a function gives fits a variable of this sort: a number, a reference or a field ID today
+-- what a function gives fits a variable of this sort
 abbrev pub ResultFits : Sort → ResultKind → Type 0
 ResultFits s GivesInt = s ≡ Jint
 ResultFits s GivesFlag = s ≡ Flag
 ResultFits s NewLocal = s ≡ Ref
 ResultFits s NewGlobal = s ≡ Global
 ResultFits s GivesField = s ≡ FieldId
-ResultFits s gives = ⊥
+ResultFits s (GivesBuffer access) = IsTrue (is_buffer_for access (Some s))
+ResultFits s GivesNothing = ⊥
 
 -- a call's result for a variable of this sort
 pub record CallGives (known : Known) (s : Sort) (c : Call) : Type 0 where
   pub fits : CallFits known c
   pub result : ResultFits s (prototype fits.function).result
+
+-- a call whose result is dropped
+pub record CallDrops (known : Known) (c : Call) : Type 0 where
+  pub fits : CallFits known c
+  pub result : is_droppable (prototype fits.function).result ≡ true
 
 -- a right side for such a variable
 abbrev pub RightFits : Known → Sort → RightSide → Type 0
@@ -272,8 +290,8 @@ abbrev mutual
   StmtFits l (tree.DeclareArray line t x size) = IsNew l.known x × (0 < size) × (size ≤ 1024)
   StmtFits l (tree.Assign line x r) = (s : Slot) × (lookup x l.known ≡ Some s) × RightFits l.known s.sort r
   StmtFits l (tree.AssignElement line x i e) =
-      ((t : ElementType) × (size : ℕ) × (start : ℕ) × IsArray l.known x t size start) × ((r : Sort) × IsIndexSort r × NumberFits l.known (term_of i) r) × NumberFits l.known (term_of e) Jint
-  StmtFits l (tree.Perform line c) = CallFits l.known c
+      ((n : Slot) × (lookup x l.known ≡ Some n) × HasElements n.sort) × ((r : Sort) × IsIndexSort r × NumberFits l.known (term_of i) r) × NumberFits l.known (term_of e) Jint
+  StmtFits l (tree.Perform line c) = CallDrops l.known c
   StmtFits l (tree.PutJint line e) = NumberFits l.known (term_of e) Jint
   StmtFits l (tree.If line test then') = TestFits l.known test × BlockFits l then'
   StmtFits l (tree.IfElse line test then' else') = TestFits l.known test × BlockFits l then' × BlockFits (closed l (block_layout l then')) else'

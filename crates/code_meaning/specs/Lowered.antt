@@ -13,7 +13,7 @@ use Rattle.semantics.specs.Thread.{Shared, Thread}
 use Rattle.code.specs.Depth.{Listing, IsValid}
 use Rattle.code_meaning.specs.Layout.{Known, with_static, entry_layout}
 use Rattle.code_meaning.specs.Length.{function_steps, step_limit}
-use Rattle.code_meaning.specs.Slots.{Visible, visible_to, Slots, Shows, ArgumentsFit, EntrySlots, HasRoom, AreShared, AreOfLowest}
+use Rattle.code_meaning.specs.Slots.{Visible, visible_to, Slots, Shows, SeesBuffers, ArgumentsFit, EntrySlots, HasRoom, AreShared, AreOfLowest}
 use Rattle.code_meaning.specs.Stands.{StandsFor}
 use Rattle.code_meaning.specs.Does.{DoesEffect}
 
@@ -23,8 +23,8 @@ pub record Lowered : Type 0 where
   pub codes : List Listing
 
 -- The code begins at the function's first statement, where the slots, of which there are enough, show the arguments, and the
--- statics before the function are seen as they are. Each instruction is one step of the source, whatever can be seen that the slots show. There
--- is one for each step, and a return at the end of the body.
+-- statics before the function are seen as they are. Each instruction is one step of the source, whatever can be seen that the slots show,
+-- where what is seen of buffers are their elements. There is one for each step, and a return at the end of the body.
 pub record IsCodeOf (statics : Known) (f : Function) (code : Listing) : Type 0 where
   pub valid : IsValid code
   pub counted : length code.instrs ≡ function_steps f + 1
@@ -35,7 +35,7 @@ pub record IsCodeOf (statics : Known) (f : Function) (code : Listing) : Type 0 w
       → ArgumentsFit f.parameters arguments → EntrySlots code class arguments slots → AreShared statics shared → AreOfLowest own
       → Shows code (entry_layout statics f).known (visible_to own shared (entered thread calls f class arguments)) slots
   pub steps : (visible : Visible) (known : Known) (slots : Slots) (place : ℕ) (stack : List ℕ) (task : Task) (rest : List Task)
-      → Shows code known visible slots → StandsFor code known place stack (task ∷ rest)
+      → Shows code known visible slots → SeesBuffers visible slots.buffers → StandsFor code known place stack (task ∷ rest)
       → DoesEffect code known place stack slots visible rest (effect_of visible.sight task)
 
 -- one code for each function, in their order, after the statics so far, each of which has a name of its own

@@ -9,12 +9,14 @@ use Rattle.syntax.specs.Tree.{ParameterType, IntParameter, ReferenceParameter, P
 use Rattle.type_rules.specs.Sorts.{Sort, Jint, Ref, Global, FieldId, Buffer, Array}
 use Rattle.type_rules.specs.Sorts as sort
 use Rattle.class_rules.specs.Fields as source
+use Rattle.semantics.specs.Heap.{numbers_of}
 use Rattle.semantics.specs.Object.{ObjectValue, Number, Refers, Reference}
-use Rattle.semantics.specs.Sight.{Sight}
+use Rattle.semantics.specs.Sight.{Sight, in_range}
 use Rattle.semantics.specs.Task.{VariableKind, ScalarKind, ReferenceKind, FieldKind, BufferKind}
 use Rattle.semantics.specs.Thread.{Shared, Thread, sight_of}
 use Rattle.semantics.specs.Value.{Value, Word, Int, Flag, Truth, OutOfRange, Outcome, Gives, Traps, Stuck, convert}
-use Rattle.semantics.specs.Variable.{Variable, Scalar, LocalRef, FieldHandle, Elements, LocalArray, StaticReference, Empty, Live, Deleted, Statics, as_static, assign}
+use Rattle.semantics.specs.Variable as variable
+use Rattle.semantics.specs.Variable.{Variable, Scalar, LocalRef, FieldHandle, Elements, LocalArray, NoBuffer, Copy, View, StaticReference, Empty, Live, Deleted, Statics, as_static, assign}
 use Rattle.code.specs.declared.instr.NullableVariable.{NullableVariable}
 use Rattle.code.specs.declared.instr.NullableVariable.TheVariants as nullable
 use Rattle.code.specs.Depth.{Listing}
@@ -47,13 +49,15 @@ IsNumberSort s = ⊥
 -- ---- what can be seen
 
 -- what can be seen, the element types of local arrays, of what kind the other variables are declared, the levels of the references
--- that are variables' own, and what the statics hold, in the unit's order
+-- that are variables' own, what buffers hold, what the statics do, in the unit's order, and the numbers of objects, by their names
 pub record Visible : Type 0 where
   pub sight : Sight
   pub array_type : Identifier → Option ElementType
   pub kind : Identifier → Option VariableKind
   pub owner : Identifier → Option ℕ
+  pub buffer : Identifier → variable.Buffer
   pub statics : Statics
+  pub numbers : ℕ → List ℤ
 
 -- the element type of a local array
 abbrev pub type_of_array : Option Variable → Option ElementType
@@ -69,6 +73,11 @@ kind_of_variable (Some (Elements t b)) = Some (BufferKind t)
 kind_of_variable (Some (LocalArray t zs)) = None
 kind_of_variable None = None
 
+-- what a variable holds that is a buffer
+abbrev pub held_buffer : Option Variable → variable.Buffer
+held_buffer (Some (Elements t b)) = b
+held_buffer v = NoBuffer
+
 -- what a thread can see, whose variables have these references of their own
 abbrev pub visible_to : (Identifier → Option ℕ) → Shared → Thread → Visible
 visible_to own s t = record {
@@ -76,16 +85,19 @@ visible_to own s t = record {
   array_type = λ x. type_of_array (lookup x t.variables);
   kind = λ x. kind_of_variable (lookup x t.variables);
   owner = own;
+  buffer = λ x. held_buffer (lookup x t.variables);
   statics = s.statics;
+  numbers = numbers_of s.heap;
 }
 
--- a name shows what it did
+-- a name shows what it did; a buffer holds what it did, of which the elements may be others
 pub record IsAsBefore (old new : Visible) (x : Identifier) : Type 0 where
   pub number : new.sight.number x ≡ old.sight.number x
   pub is_null : new.sight.is_null x ≡ old.sight.is_null x
-  pub element : (i : ℕ) → new.sight.element x i ≡ old.sight.element x i
+  pub element : (t : ElementType) (i : ℕ) → old.array_type x ≡ Some t → new.sight.element x i ≡ old.sight.element x i
   pub reference : new.sight.reference x ≡ old.sight.reference x
   pub field : new.sight.field x ≡ old.sight.field x
+  pub buffer : new.buffer x ≡ old.buffer x
   pub array_type : new.array_type x ≡ old.array_type x
   pub kind : new.kind x ≡ old.kind x
   pub owner : new.owner x ≡ old.owner x
@@ -112,6 +124,7 @@ pub record IsNulled (old : Visible) (kind : Option VariableKind) (x : Identifier
   pub is_null : new.sight.is_null x ≡ Gives true
   pub reference : new.sight.reference x ≡ Empty
   pub field : new.sight.field x ≡ None
+  pub buffer : new.buffer x ≡ NoBuffer
   pub array_type : new.array_type x ≡ None
   pub same_kind : new.kind x ≡ kind
   pub statics : new.statics ≡ nulled_statics kind x old.statics
@@ -156,6 +169,19 @@ pub record IsFieldSet (old : Visible) (x : Identifier) (f : Option source.FieldI
   pub statics : new.statics ≡ old.statics
   pub others : OthersStay old new x
 
+-- whether a buffer is NULL
+abbrev pub is_no_buffer : variable.Buffer → Bool
+is_no_buffer NoBuffer = true
+is_no_buffer b = false
+
+-- a buffer with elements of this type holds this
+pub record IsBufferSet (old : Visible) (t : ElementType) (x : Identifier) (b : variable.Buffer) (new : Visible) : Type 0 where
+  pub buffer : new.buffer x ≡ b
+  pub is_null : new.sight.is_null x ≡ Gives (is_no_buffer b)
+  pub kind : new.kind x ≡ Some (BufferKind t)
+  pub statics : new.statics ≡ old.statics
+  pub others : OthersStay old new x
+
 -- a local array has this number of zeros
 pub record IsMade (old : Visible) (t : ElementType) (x : Identifier) (size : ℕ) (new : Visible) : Type 0 where
   pub array_type : new.array_type x ≡ Some t
@@ -174,13 +200,15 @@ pub record IsElementSet (old : Visible) (t : ElementType) (x : Identifier) (inde
 
 -- ---- slots
 
--- The words of the number variables and the elements of arrays, what the local references hold, and what the field IDs do.
--- The owners are the levels of those local references that are variables' own.
+-- The words of the number variables and the elements of arrays, what the local references hold, and what the field IDs and the
+-- buffers do: a copy has its elements, and a view the name of its object alone. The owners are the levels of those local references
+-- that are variables' own.
 pub record Slots : Type 0 where
   pub numbers : List ℕ
   pub references : List Reference
   pub owners : List (Option ℕ)
   pub fields : List (Option source.FieldId)
+  pub buffers : List variable.Buffer
 
 -- a number variable has a value of its sort, whose word is in its slot
 pub record ShowsNumber (visible : Visible) (x : Identifier) (numbers : List ℕ) (s : Slot) : Type 0 where
@@ -241,10 +269,13 @@ pub record ShowsStatic (visible : Visible) (x : Identifier) (i : ℕ) : Type 0 w
   pub is_null : visible.sight.is_null x ≡ Gives (is_empty static.held)
   pub reference : visible.sight.reference x ≡ static.held
 
--- a buffer holds nothing but NULL yet
-pub record ShowsBuffer (visible : Visible) (x : Identifier) (t : ElementType) : Type 0 where
-  pub is_null : visible.sight.is_null x ≡ Gives true
+-- what a buffer holds is in its slot
+pub record ShowsBuffer (visible : Visible) (x : Identifier) (buffers : List variable.Buffer) (t : ElementType) (i : ℕ) : Type 0 where
+  pub buffer : variable.Buffer
+  pub is : visible.buffer x ≡ buffer
+  pub is_null : visible.sight.is_null x ≡ Gives (is_no_buffer buffer)
   pub kind : visible.kind x ≡ Some (BufferKind t)
+  pub there : slice_get buffers i ≡ Some buffer
 
 -- what the slots show of a name with a slot of this sort
 abbrev pub ShowsSlot : Visible → Identifier → Slots → Slot → Sort → Type 0
@@ -255,7 +286,7 @@ ShowsSlot visible x slots s sort.Truth = Unit {0}
 ShowsSlot visible x slots s Ref = ShowsReference visible x slots s.index
 ShowsSlot visible x slots s Global = ShowsStatic visible x s.index
 ShowsSlot visible x slots s FieldId = ShowsField visible x slots.fields s.index
-ShowsSlot visible x slots s (Buffer t writable) = ShowsBuffer visible x t
+ShowsSlot visible x slots s (Buffer t writable) = ShowsBuffer visible x slots.buffers t s.index
 ShowsSlot visible x slots s (Array t size) = ShowsArray visible x slots.numbers t size s.index
 
 -- the slots show each known name, and there are as many of each kind as the code wants
@@ -264,21 +295,51 @@ pub record Shows (code : Listing) (known : Known) (visible : Visible) (slots : S
   pub references : length slots.references ≡ code.slots.references
   pub owners : length slots.owners ≡ code.slots.references
   pub fields : length slots.fields ≡ code.slots.field_ids
+  pub buffers : length slots.buffers ≡ code.slots.buffers
   pub each : (x : Identifier) (s : Slot) → lookup x known ≡ Some s → ShowsSlot visible x slots s s.sort
+
+-- ---- the elements of buffers
+
+-- the elements of a buffer, by the numbers of objects; NULL has none
+abbrev pub elements_in : variable.Buffer → (numbers : ℕ → List ℤ) → List ℤ
+elements_in NoBuffer numbers = []
+elements_in (Copy n zs) numbers = zs
+elements_in (View n) numbers = numbers n
+
+-- what is seen of one
+abbrev pub seen_element : variable.Buffer → (numbers : ℕ → List ℤ) → ℕ → Outcome ℤ
+seen_element b numbers i = if is_no_buffer b then Stuck else in_range (slice_get (elements_in b numbers) i)
+
+-- What is seen of a buffer are the elements of what it holds, and those of each buffer in a slot are `jint`s, at indices that are.
+pub record SeesBuffers (visible : Visible) (buffers : List variable.Buffer) : Type 0 where
+  pub seen : (x : Identifier) (t : ElementType) (i : ℕ) → visible.kind x ≡ Some (BufferKind t)
+      → visible.sight.element x i ≡ seen_element (visible.buffer x) visible.numbers i
+  pub fit : (slot i : ℕ) (b : variable.Buffer) (z : ℤ) → slice_get buffers slot ≡ Some b → slice_get (elements_in b visible.numbers) i ≡ Some z
+      → (i < 2 ^ 31) × FitsSigned w32 z
+
+-- a buffer with an element of it written, converted; a view stays, as its object has the element
+abbrev pub with_element : ElementType → (index : ℕ) → ℤ → variable.Buffer → variable.Buffer
+with_element t index z (Copy n zs) = Copy n (slice_set zs index (convert t z))
+with_element t index z b = b
+
+-- the elements of what is in a slot
+abbrev pub slot_elements : Visible → Slots → ℕ → Option (List ℤ)
+slot_elements visible slots i = option_map (λ b. elements_in b visible.numbers) (slice_get slots.buffers i)
 
 -- ---- NULL
 
--- whether a variable is NULL; a buffer is
+-- whether a variable is NULL
 abbrev pub holds_null : Visible → Slots → NullableVariable → Option Bool
 holds_null visible slots (nullable.Local i) = option_map is_none (slice_get slots.references i)
 holds_null visible slots (nullable.Static i) = option_map (λ (named : Identifier × StaticReference). is_empty named.1) (slice_get visible.statics i)
 holds_null visible slots (nullable.FieldId i) = option_map is_none (slice_get slots.fields i)
-holds_null visible slots (nullable.Buffer i) = Some true
+holds_null visible slots (nullable.Buffer i) = option_map is_no_buffer (slice_get slots.buffers i)
 
 -- the slots with NULL in a variable; a static has none
 abbrev pub with_null : NullableVariable → Slots → Slots
 with_null (nullable.Local i) slots = record slots { references = slice_set slots.references i None }
 with_null (nullable.FieldId i) slots = record slots { fields = slice_set slots.fields i None }
+with_null (nullable.Buffer i) slots = record slots { buffers = slice_set slots.buffers i NoBuffer }
 with_null v slots = slots
 
 -- ---- the entry of a function
@@ -317,6 +378,7 @@ pub record EntrySlots (code : Listing) (class : ℕ) (arguments : List ObjectVal
   pub more_numbers : List ℕ
   pub words : slots.numbers ≡ filter_map argument_word arguments ++ more_numbers
   pub fields : length slots.fields ≡ code.slots.field_ids
+  pub buffers : length slots.buffers ≡ code.slots.buffers
   pub references : length slots.references ≡ code.slots.references
   pub more_references : List Reference
   pub given : slots.references ≡ Some class ∷ filter_map argument_reference arguments ++ more_references

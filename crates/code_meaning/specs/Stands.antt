@@ -7,9 +7,10 @@ use Rattle.syntax.specs.Tree as tree
 use Rattle.syntax.specs.Tree.{BitOr, Expr, Stmt, Block, End, Next}
 use Rattle.jni.specs.Access.{Access}
 use Rattle.jni.specs.JniFunction.{JniFunction, is_built_function, prototype}
-use Rattle.jni.specs.Prototype.{ParameterKind, FieldID, IntNumber, TextBytes, ArrayVariable, BufferVariable, Mode, IsCopy, ResultKind, NewLocal, NewGlobal, GivesFlag, GivesInt, GivesField}
+use Rattle.jni.specs.Prototype.{ParameterKind, FieldID, IntNumber, TextBytes, ArrayVariable, BufferVariable, Mode, IsCopy, ResultKind, NewLocal, NewGlobal, GivesFlag, GivesInt, GivesField, GivesBuffer}
 use Rattle.type_rules.specs.Sorts.{Sort, Jint, Ref, Global, FieldId, Buffer, Array}
 use Rattle.type_rules.specs.Sorts as sort
+use Rattle.type_rules.specs.SortRules.{is_droppable}
 use Rattle.semantics.specs.Arguments.{mode_of}
 use Rattle.semantics.specs.Task.{Task, SetScalar, SetElement, SetNull, MakeArray, Invoke, Print, Branch, EndIf, Loop, EndTurn, Return, ReturnValue, Impossible, Target, Declared, Assigned, Tested, Dropped, VariableKind, ScalarKind, ReferenceKind, FieldKind, BufferKind, Operand, NumberOperand, Given}
 use Rattle.semantics.specs.Term as term
@@ -19,6 +20,7 @@ use Rattle.code.specs.Call.{Call}
 use Rattle.code.specs.declared.instr.Operand.{Operand as Where}
 use Rattle.code.specs.declared.instr.Operand.TheVariants as operand
 use Rattle.code.specs.declared.instr.LocalArray.{LocalArray}
+use Rattle.code.specs.declared.instr.ElementType.{ElementType as ElementOfCode}
 use Rattle.code.specs.declared.instr.ReleaseMode.{ReleaseMode}
 use Rattle.code.specs.declared.instr.NullableVariable.{NullableVariable}
 use Rattle.code.specs.declared.instr.ReferenceOperand.TheVariants.{Null, Local}
@@ -30,8 +32,8 @@ use Rattle.code.specs.declared.slots.SlotCounts.{SlotCounts}
 use Rattle.code.specs.Depth.{Listing}
 use Rattle.code.specs.Effect.{truth_word}
 use Rattle.code_meaning.specs.Layout.{Slot, Known, Layout, block_layout}
-use Rattle.code_meaning.specs.Coding.{mode_code, nullable_of, element_of, term_code, expr_code, ways_code, turn_code, block_code}
-use Rattle.code_meaning.specs.Fits.{TakesNull, TakesLocal, TakesGlobal, IsArray, IsIndexSort, TermHasSort, IsUntouched, NumberFits, IndexWithin, IsOwn, HaveOwnSlots, IsLaidOut, HasRoomFor, BlockFits}
+use Rattle.code_meaning.specs.Coding.{mode_code, nullable_of, element_of, write_code, term_code, expr_code, ways_code, turn_code, block_code}
+use Rattle.code_meaning.specs.Fits.{TakesNull, TakesLocal, TakesGlobal, IsArray, IsIndexSort, HasElements, TermHasSort, IsUntouched, NumberFits, IndexWithin, IsOwn, HaveOwnSlots, IsLaidOut, HasRoomFor, BlockFits}
 use Rattle.code_meaning.specs.Slots.{word_of, IsNumberSort}
 
 -- ---- terms
@@ -100,18 +102,17 @@ pub record SetStands (code : Listing) (known : Known) (place : ℕ) (stack : Lis
   pub own : IsSlotOf code known x slot
   pub further : ComesAfter after (place + length (term_code known line t) + 1) ((x, slot) ∷ known)
 
--- an element of an array is set by the instruction after index and number, which are worked out like an operator's operands
+-- an element of an array or a buffer is set by the instruction after index and number, which are worked out like an operator's operands
 pub record SetElementStands (code : Listing) (known : Known) (place : ℕ) (stack : List ℕ) (after : After) (line : ℕ) (x : Identifier) (i e : Term) : Type 0 where
-  pub type : ElementType
-  pub size : ℕ
-  pub start : ℕ
-  pub array : IsArray known x type size start
-  pub own : IsSlotOf code known x (record { sort = Array type size; index = start })
+  pub slot : Slot
+  pub there : lookup x known ≡ Some slot
+  pub elements : HasElements slot.sort
+  pub own : IsSlotOf code known x slot
   pub index : (r : Sort) × IsIndexSort r × TermHasSort known i r
   pub value : TermHasSort known e Jint
   pub begun : IsBegun (Binary BitOr i e)
   pub operands : stack ≡ held e ++ held i
-  pub at : HasAt code.instrs place (term_code known line i ++ (term_code known line e ++ instr.StoreElement (element_of type) (record { start = start; len = size }) line ∷ []))
+  pub at : HasAt code.instrs place (term_code known line i ++ (term_code known line e ++ write_code line slot.sort slot.index))
   pub further : after (place + (length (term_code known line i) + length (term_code known line e)) + 1) known
 
 -- the variable that a NULL goes to
@@ -320,17 +321,26 @@ pub record TestStands (code : Listing) (known : Known) (after : After) (place : 
   pub is : target ≡ Tested then' else'
   pub ways : (gave_zero : Bool) → BranchStands code known place (truth_word gave_zero ∷ []) after line (Done (Truth gave_zero)) then' else'
 
--- where the result of a call in a statement on this line goes, as an instruction has it, and then what comes; no function that can
--- be called today gives a buffer
+-- what a function gives is a buffer
+abbrev pub IsBufferResult : ResultKind → Type 0
+IsBufferResult gives = (access : Access) × (gives ≡ GivesBuffer access)
+
+-- a buffer takes it, with elements of the type that the instruction has
+abbrev pub BufferGoes : Listing → Known → After → (place : ℕ) → ElementOfCode → (i : ℕ) → Target → Type 0
+BufferGoes code known after place element i target =
+    (t : ElementType) × (writable : Bool) × (element ≡ element_of t)
+    × ResultGoes code known after place (record { sort = Buffer t writable; index = i }) (BufferKind t) target
+
+-- where the result of a call in a statement on this line goes, as an instruction has it, and then what comes
 abbrev pub TargetStands : Listing → Known → After → (place : ℕ) → (line : ℕ) → Destination → ResultKind → Target → Type 0
 TargetStands code known after place line (destination.Number i) gives target =
     (s : Sort) × (number_sort gives ≡ Some s) × ResultGoes code known after place (record { sort = s; index = i }) ScalarKind target
 TargetStands code known after place line (destination.Local i) gives target = (gives ≡ NewLocal) × ResultGoes code known after place (record { sort = Ref; index = i }) ReferenceKind target
 TargetStands code known after place line (destination.FieldId i) gives target = (gives ≡ GivesField) × ResultGoes code known after place (record { sort = FieldId; index = i }) FieldKind target
 TargetStands code known after place line (destination.Static i) gives target = (gives ≡ NewGlobal) × StaticStands known after place i target
-TargetStands code known after place line (destination.Buffer i) gives target = ⊥
+TargetStands code known after place line (destination.Buffer element i) gives target = IsBufferResult gives × BufferGoes code known after place element i target
 TargetStands code known after place line destination.Test gives target = (gives ≡ GivesInt) × TestStands code known after place line target
-TargetStands code known after place line destination.Dropped gives target = (target ≡ Dropped) × after place known
+TargetStands code known after place line destination.Dropped gives target = (target ≡ Dropped) × (is_droppable gives ≡ true) × after place known
 
 -- what is left to be worked out for a call is at the place, and then its instruction, and then what comes
 pub record InvokeStands (code : Listing) (known : Known) (place : ℕ) (stack : List ℕ) (after : After) (line : ℕ) (target : Target) (f : JniFunction) (operands : List Operand) : Type 0 where

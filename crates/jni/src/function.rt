@@ -154,8 +154,8 @@ static INT_ROWS: [Prototype; 9] = rows! {
     b"NewIntArray"             [IntNumber]                                                    => NewLocal,          Other,          false, true;
     b"GetIntArrayRegion"       [NumberArray(Jint), IntNumber, IntNumber, ArrayVariable(Jint)] => GivesNothing,      Other,          false, true;
     b"SetIntArrayRegion"       [NumberArray(Jint), IntNumber, IntNumber, ArrayVariable(Jint)] => GivesNothing,      Other,          false, true;
-    b"GetIntArrayElements"     [NumberArray(Jint), IsCopy]                                    => GivesBuffer(INTS), Gets(INTS),     false, false;
-    b"ReleaseIntArrayElements" [NumberArray(Jint), BufferVariable(INTS), Mode]                => GivesNothing,      Releases(INTS), true,  false;
+    b"GetIntArrayElements"     [NumberArray(Jint), IsCopy]                                    => GivesBuffer(INTS), Gets(INTS),     false, true;
+    b"ReleaseIntArrayElements" [NumberArray(Jint), BufferVariable(INTS), Mode]                => GivesNothing,      Releases(INTS), true,  true;
 };
 
 /// Those of elements of `jshort`.
@@ -167,8 +167,8 @@ static SHORT_ROWS: [Prototype; 9] = rows! {
     b"NewShortArray"             [IntNumber]                                                        => NewLocal,            Other,            false, true;
     b"GetShortArrayRegion"       [NumberArray(Jshort), IntNumber, IntNumber, ArrayVariable(Jshort)] => GivesNothing,        Other,            false, true;
     b"SetShortArrayRegion"       [NumberArray(Jshort), IntNumber, IntNumber, ArrayVariable(Jshort)] => GivesNothing,        Other,            false, true;
-    b"GetShortArrayElements"     [NumberArray(Jshort), IsCopy]                                      => GivesBuffer(SHORTS), Gets(SHORTS),     false, false;
-    b"ReleaseShortArrayElements" [NumberArray(Jshort), BufferVariable(SHORTS), Mode]                => GivesNothing,        Releases(SHORTS), true,  false;
+    b"GetShortArrayElements"     [NumberArray(Jshort), IsCopy]                                      => GivesBuffer(SHORTS), Gets(SHORTS),     false, true;
+    b"ReleaseShortArrayElements" [NumberArray(Jshort), BufferVariable(SHORTS), Mode]                => GivesNothing,        Releases(SHORTS), true,  true;
 };
 
 /// Those of elements of `jbyte`.
@@ -180,8 +180,8 @@ static BYTE_ROWS: [Prototype; 9] = rows! {
     b"NewByteArray"             [IntNumber]                                                      => NewLocal,           Other,           false, true;
     b"GetByteArrayRegion"       [NumberArray(Jbyte), IntNumber, IntNumber, ArrayVariable(Jbyte)] => GivesNothing,       Other,           false, true;
     b"SetByteArrayRegion"       [NumberArray(Jbyte), IntNumber, IntNumber, ArrayVariable(Jbyte)] => GivesNothing,       Other,           false, true;
-    b"GetByteArrayElements"     [NumberArray(Jbyte), IsCopy]                                     => GivesBuffer(BYTES), Gets(BYTES),     false, false;
-    b"ReleaseByteArrayElements" [NumberArray(Jbyte), BufferVariable(BYTES), Mode]                => GivesNothing,       Releases(BYTES), true,  false;
+    b"GetByteArrayElements"     [NumberArray(Jbyte), IsCopy]                                     => GivesBuffer(BYTES), Gets(BYTES),     false, true;
+    b"ReleaseByteArrayElements" [NumberArray(Jbyte), BufferVariable(BYTES), Mode]                => GivesNothing,       Releases(BYTES), true,  true;
 };
 
 /// Those of elements of `jchar`.
@@ -193,18 +193,18 @@ static CHAR_ROWS: [Prototype; 9] = rows! {
     b"NewCharArray"             [IntNumber]                                                      => NewLocal,           Other,           false, true;
     b"GetCharArrayRegion"       [NumberArray(Jchar), IntNumber, IntNumber, ArrayVariable(Jchar)] => GivesNothing,       Other,           false, true;
     b"SetCharArrayRegion"       [NumberArray(Jchar), IntNumber, IntNumber, ArrayVariable(Jchar)] => GivesNothing,       Other,           false, true;
-    b"GetCharArrayElements"     [NumberArray(Jchar), IsCopy]                                     => GivesBuffer(CHARS), Gets(CHARS),     false, false;
-    b"ReleaseCharArrayElements" [NumberArray(Jchar), BufferVariable(CHARS), Mode]                => GivesNothing,       Releases(CHARS), true,  false;
+    b"GetCharArrayElements"     [NumberArray(Jchar), IsCopy]                                     => GivesBuffer(CHARS), Gets(CHARS),     false, true;
+    b"ReleaseCharArrayElements" [NumberArray(Jchar), BufferVariable(CHARS), Mode]                => GivesNothing,       Releases(CHARS), true,  true;
 };
 
 /// Those of views of arrays and strings, and copies of strings.
 static VIEW_ROWS: [Prototype; 6] = rows! {
-    b"GetPrimitiveArrayCritical"     [NonNull, IsCopy]                          => GivesBuffer(ArrayView), Gets(ArrayView),     false, false;
-    b"ReleasePrimitiveArrayCritical" [NonNull, BufferVariable(ArrayView), Mode] => GivesNothing,           Releases(ArrayView), true,  false;
-    b"GetStringChars"                [StringObject, IsCopy]                     => GivesBuffer(CharsCopy), Gets(CharsCopy),     false, false;
-    b"ReleaseStringChars"            [StringObject, BufferVariable(CharsCopy)]  => GivesNothing,           Releases(CharsCopy), true,  false;
-    b"GetStringCritical"             [StringObject, IsCopy]                     => GivesBuffer(CharsView), Gets(CharsView),     false, false;
-    b"ReleaseStringCritical"         [StringObject, BufferVariable(CharsView)]  => GivesNothing,           Releases(CharsView), true,  false;
+    b"GetPrimitiveArrayCritical"     [NonNull, IsCopy]                          => GivesBuffer(ArrayView), Gets(ArrayView),     false, true;
+    b"ReleasePrimitiveArrayCritical" [NonNull, BufferVariable(ArrayView), Mode] => GivesNothing,           Releases(ArrayView), true,  true;
+    b"GetStringChars"                [StringObject, IsCopy]                     => GivesBuffer(CharsCopy), Gets(CharsCopy),     false, true;
+    b"ReleaseStringChars"            [StringObject, BufferVariable(CharsCopy)]  => GivesNothing,           Releases(CharsCopy), true,  true;
+    b"GetStringCritical"             [StringObject, IsCopy]                     => GivesBuffer(CharsView), Gets(CharsView),     false, true;
+    b"ReleaseStringCritical"         [StringObject, BufferVariable(CharsView)]  => GivesNothing,           Releases(CharsView), true,  true;
 };
 
 /// The number of the first function of an element type in the table, each of which has nine.

@@ -7,12 +7,11 @@ use Rattle.base.specs.Bytes.{Identifier, lookup}
 use Rattle.syntax.specs.Limits.{numbers_in_range, block_height, block_well_formed, IsTree}
 use Rattle.syntax.specs.Parts.{functions_of, statements_of, own_expressions, parameter_names}
 use Rattle.syntax.specs.Tree.{ParameterType, IntParameter, ReferenceParameter, Parameter, Function, Void, Item, StaticItem, FunctionItem, SourceUnit}
-use Rattle.type_rules.specs.Sorts.{Sort, Jint, Ref, Global, Buffer, Scope}
+use Rattle.type_rules.specs.Sorts.{Sort, Jint, Ref, Global, Scope}
 use Rattle.type_rules.specs.SortRules.{IsSorted, Place, StaticForm, HeadForm, has_name, parameter_sort, places_of, function_places, item_places}
 use Rattle.type_rules.specs.BuiltCalls.{calls_unbuilt, calls_are_built}
 use Rattle.code.specs.declared.instr.Instr.TheVariants as instr
-use Rattle.region_rules.specs.RegionStates.{RegionState, state_at_entry}
-use Rattle.region_rules.specs.Regions.{Returned, AcceptedFunction, HasRegions}
+use Rattle.region_rules.specs.Regions.{AcceptedFunction, HasRegions}
 use Rattle.code_meaning.specs.Layout.{Slot, Known, with_static, parameter_slot, parameter_slots, numbers_after, references_after, entry_layout}
 use Rattle.code_meaning.specs.Coding.{block_code, function_code}
 use Rattle.code_meaning.specs.Fits.{AreStatics, FunctionFits}
@@ -23,7 +22,7 @@ use Rattle.lower.proofs.EntryLayouts.{no_statics, one_static_more}
 use Rattle.lower.proofs.SortFacts.{scope_of, HasNoTruth}
 use Rattle.lower.proofs.PlaceFacts.{and_left, and_right, or_right, static_kept, AreKept, first_kept, front_kept, back_kept, rest_kept}
 use Rattle.lower.proofs.NameFacts.{AreTaken, taken_first}
-use Rattle.lower.proofs.BufferFacts.{AreBuilt, AreFree}
+use Rattle.lower.proofs.BuiltCalls.{AreBuilt}
 use Rattle.lower.proofs.BodyFacts.{AreInRange, block_fits}
 use Rattle.lower.proofs.LengthFacts.{block_length}
 use Rattle.lower.proofs.RegionFacts.{function_returns}
@@ -88,9 +87,6 @@ entry_sorts statics f h = entry_sort_first f.class_name (record { sort = Ref; in
 entry_no_truth : (known : Known) → HaveEntrySorts known → HasNoTruth known
 entry_no_truth known h x s at e = subst IsEntrySort e (h x s at)
 
-entry_free : (known : Known) (state : RegionState) → HaveEntrySorts known → AreFree known state
-entry_free known state h x t w i at = absurd (h x (record { sort = Buffer t w; index = i }) at)
-
 -- ---- functions
 
 module _ (statics : Known) (f : Function) (known : AreStatics statics) where
@@ -112,21 +108,19 @@ module _ (statics : Known) (f : Function) (known : AreStatics statics) where
       let body = block_length f.result f.body l (parameter_names f ++ map (λ s. s.0) (scope_of statics)) fits kept in
       omega (arith, length-append (block_code l f.body) (instr.Return ∷ []))
 
-  function_fits : BodyIsKept → AreInRange (statements_of f.body) → AreBuilt (statements_of f.body) → block_well_formed f.body ≡ true → block_height f.body ≤ 32 → AcceptedFunction f → FunctionFits statics f
-  function_fits sorted numbers calls formed low accepted =
+  function_fits : BodyIsKept → AreInRange (statements_of f.body) → AreBuilt (statements_of f.body) → block_well_formed f.body ≡ true → block_height f.body ≤ 32 → FunctionFits statics f
+  function_fits sorted numbers calls formed low =
       let l = entry_layout statics f in
       let sorts = entry_sorts statics f known in
       let taken = parameter_names f ++ map (λ s. s.0) (scope_of statics) in
-      block_fits f.body l taken f.result (state_at_entry f) (state_at_entry f) Returned (record {
+      block_fits f.body l taken f.result (record {
         sorted = sorted;
         numbers = numbers;
         calls = calls;
         formed = formed;
         low = low;
-        keeps = accepted;
         names = taken_first (map (λ p. p.name) f.parameters ++ map (λ s. s.0) (scope_of statics)) (parameter_slots f.parameters 0 1 ++ statics) f.class_name (record { sort = Ref; index = 0 }) (parameters_taken f.parameters 0 1 statics);
         no_truth = entry_no_truth l.known sorts;
-        free = entry_free l.known (state_at_entry f) sorts;
       })
 
 -- ---- items
@@ -160,7 +154,7 @@ all_fit (FunctionItem f ∷ items) names statics known taken sorted h =
     (and_left _ (list_all (λ f. list_all (λ s. list_all numbers_in_range (own_expressions s)) (statements_of f.body)) all) h.numbers)
     (and_left _ (list_all (λ f. list_all (λ s. not (calls_unbuilt s)) (statements_of f.body)) all) h.calls)
     (and_left _ (list_all (λ f. block_well_formed f.body) all) h.formed)
-    (leb-true (block_height f.body) 32 (and_left _ (list_all (λ f. nat_le (block_height f.body) 32) all) h.low)) h.regions.0 in (
+    (leb-true (block_height f.body) 32 (and_left _ (list_all (λ f. nat_le (block_height f.body) 32) all) h.low)) in (
       known,
       fits,
       function_returns f h.regions.0,

@@ -1,14 +1,16 @@
 -- The steps of `if`, `while`, elements and returns; then those of all tasks.
-use Rattle.std.proofs.Common.{◌≡◌, ℕ, ℤ, pos, negsuc, ◌+◌, ◌-◌, ◌<◌, ◌≤◌, ◌⊎◌, inl, inr, Bool, true, false, List, [], ◌∷◌, ◌++◌, length, Some, refl, sym, ap, ◌∙◌, subst, arith, append_assoc, length-append}
-use Rattle.std.specs.Prelude.{slice_get, slice_set, nat_lt, IsTrue}
+use Rattle.std.proofs.Common.{◌≡◌, ℕ, ℤ, pos, negsuc, ◌+◌, ◌-◌, ◌<◌, ◌≤◌, ◌⊎◌, inl, inr, Bool, true, false, List, [], ◌∷◌, ◌++◌, length, Option, Some, None, refl, sym, ap, ◌∙◌, subst, arith, append_assoc, length-append}
+use Rattle.std.specs.Prelude.{slice_get, slice_set, nat_lt, IsTrue, FitsSigned}
 use Rattle.std.specs.List.{list_any}
 use Rattle.std.specs.Int.{w32, cast_unsigned}
 use Rattle.std.proofs.lemmas.List.{append-nil}
 use Rattle.std.proofs.lemmas.Bool.{ltb-true, ltb-false, lt-ltb}
-use Rattle.base.specs.Bytes.{Identifier}
+use Rattle.std.proofs.lemmas.Option.{slice_get_within}
+use Rattle.base.specs.Bytes.{Identifier, lookup}
+use Rattle.base.specs.Element.{ElementType}
 use Rattle.syntax.specs.Tree as tree
 use Rattle.syntax.specs.Tree.{Expr, Block, BitOr}
-use Rattle.type_rules.specs.Sorts.{Jint, Ref, Array}
+use Rattle.type_rules.specs.Sorts.{Sort, Jint, Ref, Buffer, Array}
 use Rattle.type_rules.specs.Sorts as sort
 use Rattle.code.specs.declared.instr.ReferenceOperand.TheVariants.{Null, Local}
 use Rattle.code.specs.declared.instr.Instr.TheVariants as instr
@@ -17,19 +19,21 @@ use Rattle.code.specs.declared.instr.PlainTrap.TheVariants as trap
 use Rattle.code.specs.Depth.{Listing}
 use Rattle.code.specs.Effect.{element_word}
 use Rattle.semantics.specs.Effect.{Returns, with_value, return_effect, element_effect, effect_of}
+use Rattle.semantics.specs.Sight.{in_range}
 use Rattle.semantics.specs.Task.{Task, SetScalar, SetElement, SetNull, MakeArray, Invoke, Print, Branch, EndIf, Loop, EndTurn, Return, ReturnValue, Impossible, tasks_of}
 use Rattle.semantics.specs.Term as term
 use Rattle.semantics.specs.Term.{Term, Done, Read, term_of}
-use Rattle.semantics.specs.Value.{Value, Word, Int, Flag, Truth, Gives}
-use Rattle.code_meaning.specs.Layout.{Known, Layout}
-use Rattle.code_meaning.specs.Coding.{element_of, term_code, ways_code, turn_code, block_code}
-use Rattle.code_meaning.specs.Slots.{word_of, Visible, Slots, Shows}
-use Rattle.code_meaning.specs.Fits.{IsIndexSort, TermHasSort}
-use Rattle.code_meaning.specs.Stands.{held, HasAt, AreAmong, NumberStands, SetElementStands, BlockStands, LoopStands, TasksStand, StandsFor, ReferenceReturned, task_returns}
-use Rattle.code_meaning.specs.Does.{DoesEffect}
-use Rattle.code_meaning.proofs.SlotLaws.{fewer_shown, shows_element_set}
+use Rattle.semantics.specs.Value.{Value, Word, Int, Flag, Truth, OutOfRange, Gives, Traps}
+use Rattle.semantics.specs.Variable as variable
+use Rattle.code_meaning.specs.Layout.{Slot, Known, Layout}
+use Rattle.code_meaning.specs.Coding.{element_of, write_code, term_code, ways_code, turn_code, block_code}
+use Rattle.code_meaning.specs.Slots.{word_of, ValueHasSort, Visible, Slots, is_no_buffer, ShowsBuffer, Shows, elements_in, SeesBuffers, with_element}
+use Rattle.code_meaning.specs.Fits.{IsIndexSort, HasElements, TermHasSort}
+use Rattle.code_meaning.specs.Stands.{held, HasAt, AreAmong, IsSlotOf, NumberStands, BlockStands, LoopStands, TasksStand, StandsFor, ReferenceReturned, task_returns}
+use Rattle.code_meaning.specs.Does.{Works, WritesBuffer, Stops, DoesEffect}
+use Rattle.code_meaning.proofs.SlotLaws.{fewer_shown, shows_buffer_again, shows_element_set}
 use Rattle.lower.proofs.CodePlaces.{has_front, has_back}
-use Rattle.lower.proofs.TermSteps.{negative_past, shows_number, untouched_held, begun_left, left_first}
+use Rattle.lower.proofs.TermSteps.{negative_past, none_negative, seen_as, slot_has, shows_number, untouched_held, begun_left, left_first}
 use Rattle.lower.proofs.Bodies.{number_begins, begins}
 use Rattle.code_meaning.proofs.ElementWords.{element_words, convert_fits}
 use Rattle.lower.proofs.WaysReturn.{then_returns, else_returns, any_after}
@@ -37,7 +41,7 @@ use Rattle.lower.proofs.Steps.{step_inside, put_step, set_step, null_step, made_
 use Rattle.lower.proofs.CallSteps.{call_step}
 
 -- The place, with these names known, these operands and these slots, which show what can be seen.
-module _ (code : Listing) (known : Known) (place : ℕ) (stack : List ℕ) (slots : Slots) (visible : Visible) (shows : Shows code known visible slots) where
+module _ (code : Listing) (known : Known) (place : ℕ) (stack : List ℕ) (slots : Slots) (visible : Visible) (shows : Shows code known visible slots) (sees : SeesBuffers visible slots.buffers) where
   -- ---- the end of a way
 
   end_step : (rest : List Task) → StandsFor code known place stack (EndIf ∷ rest) → DoesEffect code known place stack slots visible rest (effect_of visible.sight EndIf)
@@ -140,7 +144,7 @@ module _ (code : Listing) (known : Known) (place : ℕ) (stack : List ℕ) (slot
   branch_step line (Done (Flag b)) then' else' rest h = absurd (let e : sort.Truth ≡ sort.Flag = h.stand.test.sort in cc)
   branch_step line t then' else' rest h =
       let d = h.stand in
-      step_inside code known place stack slots visible shows line t sort.Truth [] (ways_code d.then_code (d.else_code ++ instr.Jump 0 ∷ [])) (λ u. Branch line u then' else') rest tt d.test.sort d.test.begun (d.test.operands ∙ sym (append-nil (held t))) d.at (λ u. h.returns)
+      step_inside code known place stack slots visible shows sees line t sort.Truth [] (ways_code d.then_code (d.else_code ++ instr.Jump 0 ∷ [])) (λ u. Branch line u then' else') rest tt d.test.sort d.test.begun (d.test.operands ∙ sym (append-nil (held t))) d.at (λ u. h.returns)
       (λ p u sorted begun at size.
       let first : place + length (term_code known line t) + 1 ≡ p + length (term_code known line u) + 1 = omega (arith, size) in
       let second : place + length (term_code known line t) + 1 + length d.then_code + 1 ≡ p + length (term_code known line u) + 1 + length d.then_code + 1 = omega (arith, size) in
@@ -242,7 +246,7 @@ module _ (code : Listing) (known : Known) (place : ℕ) (stack : List ℕ) (slot
   loop_step line test (Done (Flag b)) body rest h = absurd (let e : sort.Truth ≡ sort.Flag = h.stand.under_way.sort in cc)
   loop_step line test t body rest h =
       let d = h.stand in
-      step_inside code known place stack slots visible shows line t sort.Truth [] [] (λ u. Loop line test u body) rest tt d.under_way.sort d.under_way.begun (d.under_way.operands ∙ sym (append-nil (held t)))
+      step_inside code known place stack slots visible shows sees line t sort.Truth [] [] (λ u. Loop line test u body) rest tt d.under_way.sort d.under_way.begun (d.under_way.operands ∙ sym (append-nil (held t)))
       (subst (HasAt code.instrs place) (sym (append-nil (term_code known line t))) d.here) (λ u. h.returns)
       (λ p u sorted begun at size. record {
         slots = d.slots;
@@ -265,7 +269,7 @@ module _ (code : Listing) (known : Known) (place : ℕ) (stack : List ℕ) (slot
   return_step : (line : ℕ) (t : Term) (rest : List Task) → NumberStands code known place stack line Jint t (instr.ReturnJint ∷ []) → IsTrue (list_any task_returns (ReturnValue line t ∷ rest)) → DoesEffect code known place stack slots visible rest (with_value visible.sight line (λ v. Returns) (ReturnValue line) t)
   return_step line (Done v) rest h returns = record { here = instr.ReturnJint; at = h.1.0; returns = tt }
   return_step line t rest h returns =
-      step_inside code known place stack slots visible shows line t Jint [] (instr.ReturnJint ∷ []) (ReturnValue line) rest tt h.0.sort h.0.begun (h.0.operands ∙ sym (append-nil (held t))) h.1 (λ u. refl)
+      step_inside code known place stack slots visible shows sees line t Jint [] (instr.ReturnJint ∷ []) (ReturnValue line) rest tt h.0.sort h.0.begun (h.0.operands ∙ sym (append-nil (held t))) h.1 (λ u. refl)
       (λ p u sorted begun at size. inl (record { sort = sorted; begun = begun; operands = append-nil (held u) }, at))
 
   -- a `jint` is worked out before it is returned
@@ -284,69 +288,142 @@ module _ (code : Listing) (known : Known) (place : ℕ) (stack : List ℕ) (slot
 
   -- ---- elements
 
-  -- a number goes to an index that isn't negative
-  element_written : (line : ℕ) (x : Identifier) (v : Value) (z : ℤ) (k : ℕ) (rest : List Task) → (d : SetElementStands code known place stack (λ p names. TasksStand code names p [] rest) line x (Done v) (Done (Int z))) → IsTrue (list_any task_returns rest)
-      → word_of v ≡ k → term.index_of v ≡ Gives k → (b : Bool) → nat_lt k d.size ≡ b → DoesEffect code known place stack slots visible rest (element_effect visible.sight line x v (Int z))
-  element_written line x v z k rest d returns word index true below =
-      let shown = shows.each x (record { sort = Array d.type d.size; index = d.start }) d.array in
-      let small : k < d.size = ltb-true k d.size below in
+  -- a number and an index are there for an element of what has this slot, and what comes after it
+  record IsReady (line : ℕ) (x : Identifier) (v : Value) (z : ℤ) (rest : List Task) (s : Slot) : Type 0 where
+    there : lookup x known ≡ Some s
+    own : IsSlotOf code known x s
+    index : (r : Sort) × IsIndexSort r × ValueHasSort v r
+    fits : FitsSigned w32 z
+    operands : stack ≡ cast_unsigned w32 z ∷ word_of v ∷ []
+    at : HasAt code.instrs place (write_code line s.sort s.index)
+    stands : StandsFor code known (place + 1) [] rest
+
+  -- of an array, at an index that isn't negative
+  array_written : (line : ℕ) (x : Identifier) (v : Value) (z : ℤ) (rest : List Task) (t : ElementType) (size start k : ℕ) → IsReady line x v z rest (record { sort = Array t size; index = start }) → word_of v ≡ k → term.index_of v ≡ Gives k → (b : Bool) → nat_lt k size ≡ b
+      → DoesEffect code known place stack slots visible rest (element_effect visible.sight line x v (Int z))
+  array_written line x v z rest t size start k d word index true below =
+      let shown = shows.each x (record { sort = Array t size; index = start }) d.there in
+      let small : k < size = ltb-true k size below in
       let element = shown.elements k small in
-      let inside : d.start + k < length slots.numbers = omega (arith, d.own.within.2, shows.numbers, small) in
-      let none : place + (0 + 0) + 1 ≡ place + 1 = omega arith in
-      rw (index, element.is) (
-        d.type,
+      let inside : start + k < length slots.numbers = omega (arith, d.own.within.2, shows.numbers, small) in
+      rw (index, element.is) (inl (
+        t,
         shown.array_type,
         record {
-          here = instr.StoreElement (element_of d.type) (record { start = d.start; len = d.size }) line;
-          numbers = slice_set slots.numbers (d.start + k) (element_word (element_of d.type) (cast_unsigned w32 z));
+          here = instr.StoreElement (element_of t) (record { start = start; len = size }) line;
+          numbers = slice_set slots.numbers (start + k) (element_word (element_of t) (cast_unsigned w32 z));
           at = d.at.0;
-          plain = rw (d.operands, word, below, lt-ltb (d.start + k) (length slots.numbers) inside) refl;
+          plain = rw (d.operands, word, below, lt-ltb (start + k) (length slots.numbers) inside) refl;
           names = known;
-          shows = λ new set. shows_element_set code known visible new slots d.type x d.size d.start k z (element_word (element_of d.type) (cast_unsigned w32 z)) shows d.array d.own small (element_words d.type z d.value.0) (convert_fits d.type z) set;
-          stands = record { stand = subst (λ p. TasksStand code known p [] rest) none d.further; returns = returns };
+          shows = λ new set. shows_element_set code known visible new slots t x size start k z (element_word (element_of t) (cast_unsigned w32 z)) shows d.there d.own small (element_words t z d.fits) (convert_fits t z) set;
+          stands = d.stands;
         },
-      )
-  element_written line x v z k rest d returns word index false below =
-      let shown = shows.each x (record { sort = Array d.type d.size; index = d.start }) d.array in
-      rw (index, shown.past k (ltb-false k d.size below)) (record {
-        here = instr.StoreElement (element_of d.type) (record { start = d.start; len = d.size }) line;
+      ))
+  array_written line x v z rest t size start k d word index false below =
+      let shown = shows.each x (record { sort = Array t size; index = start }) d.there in
+      rw (index, shown.past k (ltb-false k size below)) (record {
+        here = instr.StoreElement (element_of t) (record { start = start; len = size }) line;
         trap = trap.OutOfRange;
         is = refl;
         at = d.at.0;
-        plain = rw (d.operands, word, below) refl;
+        works = rw (d.operands, word, below) refl;
       })
 
-  write_step : (line : ℕ) (x : Identifier) (v : Value) (z : ℤ) (rest : List Task) → (d : SetElementStands code known place stack (λ p names. TasksStand code names p [] rest) line x (Done v) (Done (Int z))) → IsTrue (list_any task_returns rest)
+  write_array : (line : ℕ) (x : Identifier) (v : Value) (z : ℤ) (rest : List Task) (t : ElementType) (size start : ℕ) → IsReady line x v z rest (record { sort = Array t size; index = start })
       → DoesEffect code known place stack slots visible rest (element_effect visible.sight line x v (Int z))
-  write_step line x (Word n) z rest d returns = element_written line x (Word n) z n rest d returns refl refl (nat_lt n d.size) refl
-  write_step line x (Int (pos n)) z rest d returns = element_written line x (Int (pos n)) z n rest d returns refl refl (nat_lt n d.size) refl
-  write_step line x (Int (negsuc n)) z rest d returns =
-      let shown = shows.each x (record { sort = Array d.type d.size; index = d.start }) d.array in
+  write_array line x (Word n) z rest t size start d = array_written line x (Word n) z rest t size start n d refl refl (nat_lt n size) refl
+  write_array line x (Int (pos n)) z rest t size start d = array_written line x (Int (pos n)) z rest t size start n d refl refl (nat_lt n size) refl
+  write_array line x (Int (negsuc n)) z rest t size start d =
+      let shown = shows.each x (record { sort = Array t size; index = start }) d.there in
       record {
-        here = instr.StoreElement (element_of d.type) (record { start = d.start; len = d.size }) line;
+        here = instr.StoreElement (element_of t) (record { start = start; len = size }) line;
         trap = trap.OutOfRange;
         is = refl;
         at = d.at.0;
-        plain = rw (d.operands, negative_past n d.size d.index.2.0 shown.few) refl;
+        works = rw (d.operands, negative_past n size d.index.2.0 shown.few) refl;
       }
-  write_step line x (Flag b) z rest d returns = absurd (subst IsIndexSort d.index.2 d.index.1)
-  write_step line x (Truth b) z rest d returns = absurd (subst IsIndexSort d.index.2 d.index.1)
+  write_array line x (Flag b) z rest t size start d = absurd (subst IsIndexSort d.index.2 d.index.1)
+  write_array line x (Truth b) z rest t size start d = absurd (subst IsIndexSort d.index.2 d.index.1)
+
+  -- of a buffer that has none there
+  buffer_stops : (line : ℕ) (x : Identifier) (v : Value) (z : ℤ) (rest : List Task) (t : ElementType) (writable : Bool) (i : ℕ) → IsReady line x v z rest (record { sort = Buffer t writable; index = i }) → (h : ShowsBuffer visible x slots.buffers t i)
+      → slice_get (elements_in h.buffer visible.numbers) (word_of v) ≡ None → Stops code known place stack slots visible OutOfRange line
+  buffer_stops line x v z rest t writable i d h none = record {
+    here = instr.StoreBuffer (element_of t) i line;
+    trap = trap.OutOfRange;
+    is = refl;
+    at = d.at.0;
+    works = subst (λ (words : List ℕ). Works visible slots (instr.StoreBuffer (element_of t) i line) words (plain.Trap trap.OutOfRange line) words) (sym d.operands)
+        ((elements_in h.buffer visible.numbers, slot_has known line slots visible sees x t i h, none), refl, refl);
+  }
+
+  -- of a buffer that has one
+  buffer_writes : (line : ℕ) (x : Identifier) (v : Value) (z old : ℤ) (rest : List Task) (t : ElementType) (writable : Bool) (i k : ℕ) → IsReady line x v z rest (record { sort = Buffer t writable; index = i }) → (h : ShowsBuffer visible x slots.buffers t i) → word_of v ≡ k
+      → slice_get (elements_in h.buffer visible.numbers) k ≡ Some old → WritesBuffer code known place stack slots visible x k z rest
+  buffer_writes line x v z old rest t writable i k d h word found = record {
+    type = t;
+    kind = h.kind;
+    slot = i;
+    there = h.there ∙ ap (λ (b : variable.Buffer). Some b) (sym h.is);
+    inside = subst (λ (b : variable.Buffer). k < length (elements_in b visible.numbers)) (sym h.is) (slice_get_within (elements_in h.buffer visible.numbers) k old found);
+    line = line;
+    at = d.at.0;
+    operands = d.operands ∙ ap (λ (n : ℕ). cast_unsigned w32 z ∷ n ∷ []) word;
+    fits = d.fits;
+    names = known;
+    shows = λ new set. shows_buffer_again code known visible new slots x t writable i (with_element t k z (visible.buffer x)) shows d.there d.own set;
+    stands = d.stands;
+  }
+
+  -- at an index that isn't negative
+  buffer_written : (line : ℕ) (x : Identifier) (v : Value) (z : ℤ) (rest : List Task) (t : ElementType) (writable : Bool) (i k : ℕ) → IsReady line x v z rest (record { sort = Buffer t writable; index = i }) → (h : ShowsBuffer visible x slots.buffers t i) → word_of v ≡ k → term.index_of v ≡ Gives k
+      → (null : Bool) → is_no_buffer h.buffer ≡ null → (found : Option ℤ) → slice_get (elements_in h.buffer visible.numbers) k ≡ found → DoesEffect code known place stack slots visible rest (element_effect visible.sight line x v (Int z))
+  buffer_written line x v z rest t writable i k d h word index true null found is = rw (index, seen_as known line slots visible sees x t i k h true null) tt
+  buffer_written line x v z rest t writable i k d h word index false null (Some old) is =
+      let seen : visible.sight.element x k ≡ Gives old = seen_as known line slots visible sees x t i k h false null ∙ ap in_range is in
+      rw (index, seen) (inr (buffer_writes line x v z old rest t writable i k d h word is))
+  buffer_written line x v z rest t writable i k d h word index false null None is =
+      let seen : visible.sight.element x k ≡ Traps OutOfRange = seen_as known line slots visible sees x t i k h false null ∙ ap in_range is in
+      rw (index, seen) (buffer_stops line x v z rest t writable i d h (ap (slice_get (elements_in h.buffer visible.numbers)) word ∙ is))
+
+  write_buffer : (line : ℕ) (x : Identifier) (v : Value) (z : ℤ) (rest : List Task) (t : ElementType) (writable : Bool) (i : ℕ) → IsReady line x v z rest (record { sort = Buffer t writable; index = i }) → ShowsBuffer visible x slots.buffers t i
+      → DoesEffect code known place stack slots visible rest (element_effect visible.sight line x v (Int z))
+  write_buffer line x (Word n) z rest t writable i d h = buffer_written line x (Word n) z rest t writable i n d h refl refl (is_no_buffer h.buffer) refl (slice_get (elements_in h.buffer visible.numbers) n) refl
+  write_buffer line x (Int (pos n)) z rest t writable i d h = buffer_written line x (Int (pos n)) z rest t writable i n d h refl refl (is_no_buffer h.buffer) refl (slice_get (elements_in h.buffer visible.numbers) n) refl
+  write_buffer line x (Int (negsuc n)) z rest t writable i d h = buffer_stops line x (Int (negsuc n)) z rest t writable i d h (none_negative known line slots visible sees i h.buffer n h.there d.index.2.0)
+  write_buffer line x (Flag b) z rest t writable i d h = absurd (subst IsIndexSort d.index.2 d.index.1)
+  write_buffer line x (Truth b) z rest t writable i d h = absurd (subst IsIndexSort d.index.2 d.index.1)
+
+  write_step : (line : ℕ) (x : Identifier) (v : Value) (z : ℤ) (rest : List Task) (s : Sort) (i : ℕ) → HasElements s → IsReady line x v z rest (record { sort = s; index = i }) → DoesEffect code known place stack slots visible rest (element_effect visible.sight line x v (Int z))
+  write_step line x v z rest (Array t size) i has d = write_array line x v z rest t size i d
+  write_step line x v z rest (Buffer t writable) i has d = write_buffer line x v z rest t writable i d (shows.each x (record { sort = Buffer t writable; index = i }) d.there)
+  write_step line x v z rest s i has d = absurd has
 
   element_step : (line : ℕ) (x : Identifier) (i e : Term) (rest : List Task) → StandsFor code known place stack (SetElement line x i e ∷ rest) → DoesEffect code known place stack slots visible rest (effect_of visible.sight (SetElement line x i e))
-  element_step line x (Done v) (Done (Int z)) rest h = write_step line x v z rest h.stand h.returns
+  element_step line x (Done v) (Done (Int z)) rest h =
+      let d = h.stand in
+      let none : place + (0 + 0) + 1 ≡ place + 1 = omega arith in
+      write_step line x v z rest d.slot.sort d.slot.index d.elements (record {
+        there = d.there;
+        own = d.own;
+        index = d.index;
+        fits = d.value.0;
+        operands = d.operands;
+        at = d.at;
+        stands = record { stand = subst (λ p. TasksStand code known p [] rest) none d.further; returns = h.returns };
+      })
   element_step line x (Done v) (Done (Word n)) rest h = absurd (let c : Jint ≡ sort.Word = h.stand.value.1 in cc)
   element_step line x (Done v) (Done (Flag b)) rest h = absurd (let c : Jint ≡ sort.Flag = h.stand.value in cc)
   element_step line x (Done v) (Done (Truth b)) rest h = absurd (let c : Jint ≡ sort.Truth = h.stand.value in cc)
   element_step line x (Done v) e rest h =
       let d = h.stand in
-      step_inside code known place stack slots visible shows line e Jint (word_of v ∷ []) (instr.StoreElement (element_of d.type) (record { start = d.start; len = d.size }) line ∷ []) (SetElement line x (Done v)) rest tt d.value d.begun d.operands d.at (λ u. h.returns)
+      step_inside code known place stack slots visible shows sees line e Jint (word_of v ∷ []) (write_code line d.slot.sort d.slot.index) (SetElement line x (Done v)) rest tt d.value d.begun d.operands d.at (λ u. h.returns)
       (λ p u sorted begun at size.
       let end : place + (0 + length (term_code known line e)) + 1 ≡ p + (0 + length (term_code known line u)) + 1 = omega (arith, size) in
       record {
-        type = d.type;
-        size = d.size;
-        start = d.start;
-        array = d.array;
+        slot = d.slot;
+        there = d.there;
+        elements = d.elements;
         own = d.own;
         index = d.index;
         value = sorted;
@@ -358,15 +435,14 @@ module _ (code : Listing) (known : Known) (place : ℕ) (stack : List ℕ) (slot
   element_step line x i e rest h =
       let d = h.stand in
       let parts = left_first BitOr i e tt d.begun in
-      step_inside code known place stack slots visible shows line i d.index.0 [] (term_code known line e ++ instr.StoreElement (element_of d.type) (record { start = d.start; len = d.size }) line ∷ []) (λ u. SetElement line x u e) rest tt d.index.2 parts.0
+      step_inside code known place stack slots visible shows sees line i d.index.0 [] (term_code known line e ++ write_code line d.slot.sort d.slot.index) (λ u. SetElement line x u e) rest tt d.index.2 parts.0
       (d.operands ∙ ap (λ q. q ++ held i) (untouched_held e parts.1) ∙ sym (append-nil (held i))) d.at (λ u. h.returns)
       (λ p u sorted begun at size.
       let end : place + (length (term_code known line i) + length (term_code known line e)) + 1 ≡ p + (length (term_code known line u) + length (term_code known line e)) + 1 = omega (arith, size) in
       record {
-        type = d.type;
-        size = d.size;
-        start = d.start;
-        array = d.array;
+        slot = d.slot;
+        there = d.there;
+        elements = d.elements;
         own = d.own;
         index = (d.index.0, d.index.1, sorted);
         value = d.value;
@@ -380,12 +456,12 @@ module _ (code : Listing) (known : Known) (place : ℕ) (stack : List ℕ) (slot
 
   -- each instruction is one step of the source
   pub steps : (task : Task) (rest : List Task) → StandsFor code known place stack (task ∷ rest) → DoesEffect code known place stack slots visible rest (effect_of visible.sight task)
-  steps (SetScalar line x t) rest h = set_step code known place stack slots visible shows line x t rest h
+  steps (SetScalar line x t) rest h = set_step code known place stack slots visible shows sees line x t rest h
   steps (SetElement line x i e) rest h = element_step line x i e rest h
-  steps (SetNull target) rest h = null_step code known place stack slots visible shows target rest h
-  steps (MakeArray t x size) rest h = made_step code known place stack slots visible shows t x size rest h
-  steps (Invoke line target f operands) rest h = call_step code known place stack slots visible shows line target f operands rest h.stand h.returns
-  steps (Print line t) rest h = put_step code known place stack slots visible shows line t rest h
+  steps (SetNull target) rest h = null_step code known place stack slots visible shows sees target rest h
+  steps (MakeArray t x size) rest h = made_step code known place stack slots visible shows sees t x size rest h
+  steps (Invoke line target f operands) rest h = call_step code known place stack slots visible shows sees line target f operands rest h.stand h.returns
+  steps (Print line t) rest h = put_step code known place stack slots visible shows sees line t rest h
   steps (Branch line t then' else') rest h = branch_step line t then' else' rest h
   steps EndIf rest h = end_step rest h
   steps (Loop line test t body) rest h = loop_step line test t body rest h

@@ -11,7 +11,7 @@ use Rattle.syntax.specs.Tree as tree
 use Rattle.syntax.specs.Tree.{Expr, Argument, RightSide, FromExpr, FromCall, Test, TestExpr, TestCall, Stmt, Block, End, Next, VariableType, BitOr, Call}
 use Rattle.jni.specs.Access.{Access, ElementsCopy, ArrayView, CharsCopy, CharsView}
 use Rattle.jni.specs.JniFunction.{function_named, prototype}
-use Rattle.jni.specs.Prototype.{ParameterKind, LocalVariable, StaticVariable, FieldID, IntNumber, TextBytes, ArrayVariable, BufferVariable, Mode, IsCopy, ResultKind, NewLocal, NewGlobal, GivesFlag, GivesInt, GivesField}
+use Rattle.jni.specs.Prototype.{ParameterKind, LocalVariable, StaticVariable, FieldID, IntNumber, TextBytes, ArrayVariable, BufferVariable, Mode, IsCopy, ResultKind, NewLocal, NewGlobal, GivesFlag, GivesInt, GivesField, GivesBuffer, GivesNothing}
 use Rattle.type_rules.specs.Sorts.{Sort, Jint, Ref, Global, FieldId, Buffer, Array, is_buffer_for}
 use Rattle.type_rules.specs.Sorts as sort
 use Rattle.type_rules.specs.SortRules.{variable_sort}
@@ -27,9 +27,9 @@ use Rattle.semantics.specs.Term as term
 use Rattle.semantics.specs.Term.{Term, Done, Read, Binary, term_of}
 use Rattle.semantics.specs.Task.{Task, SetScalar, Branch, ReturnValue, Target, Declared, Assigned, Tested, Dropped, VariableKind, ScalarKind, ReferenceKind, FieldKind, BufferKind, kind_of, set_task, invocation, call_task, right_side_task, if_task, task_of, tasks_of, operand, Given, Operand}
 use Rattle.code_meaning.specs.Layout.{Slot, Known, Layout, new_slot, closed, layout_after, block_layout}
-use Rattle.code_meaning.specs.Coding.{nullable_of, store_of, element_of, write_code, of_slot, operand_of, address_operand, term_code, expr_code, value_code, right_code, assign_code, returned_code, return_code, ways_code, turn_code, loop_code, if_code, stmt_code, block_code, named_call_code, operand_code, argument_code, arguments_code, argument_text, arguments_texts, result_target}
+use Rattle.code_meaning.specs.Coding.{nullable_of, store_of, write_code, of_slot, operand_of, address_operand, term_code, expr_code, value_code, right_code, assign_code, returned_code, return_code, ways_code, turn_code, loop_code, if_code, stmt_code, block_code, named_call_code, operand_code, argument_code, arguments_code, argument_text, arguments_texts, result_target}
 use Rattle.code_meaning.specs.Slots.{IsNumberSort}
-use Rattle.code_meaning.specs.Fits.{IsUntouched, NumberFits, IndexWithin, IsLaidOut, HaveOwnSlots, HasRoomFor, IsVariable, TakesLocal, TakesGlobal, NameFits, ArrayFits, BufferFits, ArgumentFits, ValueFits, RightFits, TestFits, ReturnFits, StmtFits, BlockFits, CallFits, ReferenceFits, FieldFits, ResultFits}
+use Rattle.code_meaning.specs.Fits.{HasElements, IsUntouched, NumberFits, IndexWithin, IsLaidOut, HaveOwnSlots, HasRoomFor, IsVariable, TakesLocal, TakesGlobal, NameFits, ArrayFits, BufferFits, ArgumentFits, ValueFits, RightFits, TestFits, ReturnFits, StmtFits, BlockFits, CallFits, ReferenceFits, FieldFits, ResultFits}
 use Rattle.code_meaning.specs.Stands.{held, IsBegun, IsUnderWay, HasAt, AreAmong, IsSlotOf, kind_of_sort, GoesTo, ResultStands, ResultGoes, StaticStands, TargetStands, operand_text, operands_texts, target_name, BlockStands, TasksStand, OperandStands, AreUntouched, operand_rest, operands_rest}
 use Rattle.code_meaning.proofs.SlotLaws.{known_among, known_again, all_among}
 use Rattle.lower.proofs.CodePlaces.{has_front, has_back}
@@ -49,6 +49,14 @@ set_is known line target x e s h = refl
 pub value_is : (known : Known) (line : ℕ) (slot : Slot) (e : Expr) (s : Sort) → NumberFits known (term_of e) s → value_code known line slot e ≡ expr_code known line e ++ instr.Store slot.index ∷ []
 value_is known line slot (tree.Named tree.Null) s h = absurd h.sort
 value_is known line slot e s h = refl
+
+-- a buffer for an access is a buffer
+pub buffer_sort : (access : Access) (s : Sort) → is_buffer_for access (Some s) ≡ true → (t : ElementType) × (writable : Bool) × (s ≡ Buffer t writable)
+buffer_sort access (Buffer t writable) h = (t, writable, refl)
+buffer_sort (ElementsCopy t) s h = absurd (cc)
+buffer_sort ArrayView s h = absurd (cc)
+buffer_sort CharsCopy s h = absurd (cc)
+buffer_sort CharsView s h = absurd (cc)
 
 -- ---- right sides
 
@@ -140,14 +148,6 @@ module _ (code : Listing) (known : Known) (line place : ℕ) (tail : List Task) 
   array_found t (tree.Variable x) h =
       subst (λ o. OperandStands known (operand_of o) (ArrayVariable t, Given (tree.Value (tree.Variable x)))) (sym h.2) (record { type = t; kind = refl; name = x; is = refl; there = h.2 })
   array_found t e h = absurd h
-
-  -- a buffer for an access is a buffer
-  buffer_sort : (access : Access) (s : Sort) → is_buffer_for access (Some s) ≡ true → (t : ElementType) × (writable : Bool) × (s ≡ Buffer t writable)
-  buffer_sort access (Buffer t writable) h = (t, writable, refl)
-  buffer_sort (ElementsCopy t) s h = absurd (cc)
-  buffer_sort ArrayView s h = absurd (cc)
-  buffer_sort CharsCopy s h = absurd (cc)
-  buffer_sort CharsView s h = absurd (cc)
 
   buffer_found : (access : Access) (e : Expr) → BufferFits known access e → OperandStands known (operand_code known (BufferVariable access, tree.Value e)) (BufferVariable access, Given (tree.Value e))
   buffer_found access (tree.Variable x) h =
@@ -290,7 +290,11 @@ module _ (code : Listing) (known : Known) (line place : ℕ) (tail : List Task) 
   result_comes p i NewLocal target x s name e = subst (ResultComes p i NewLocal target x) (sym e) (λ goes stands. (refl, result_goes p ReferenceKind (record { sort = Ref; index = i }) target x refl name goes stands))
   result_comes p i NewGlobal target x s name e = subst (ResultComes p i NewGlobal target x) (sym e) (λ goes stands. (refl, static_goes p i target x name goes stands))
   result_comes p i GivesField target x s name e = subst (ResultComes p i GivesField target x) (sym e) (λ goes stands. (refl, result_goes p FieldKind (record { sort = FieldId; index = i }) target x refl name goes stands))
-  result_comes p i gives target x s name e = absurd e
+  result_comes p i (GivesBuffer access) target x s name e =
+      let is = buffer_sort access s e in
+      subst (ResultComes p i (GivesBuffer access) target x) (sym is.2)
+      (λ goes stands. ((access, refl), (is.0, is.1, refl, result_goes p (BufferKind is.0) (record { sort = Buffer is.0 is.1; index = i }) target x refl name goes stands)))
+  result_comes p i GivesNothing target x s name e = absurd e
 
   pub right_stands : (target : Target) (x : Identifier) (s : Slot) (r : RightSide) (names : Known) → HaveOwnSlots known → RightFits known s.sort r → target_name target ≡ Some x → GoesTo known s target → HasAt code.instrs place (right_code known line s r) → IsSlotOf code known x s
       → AreAmong names ((x, s) ∷ known) → TasksStand code names (place + length (right_code known line s r)) [] tail → TasksStand code known place [] (right_side_task line target x r ∷ tail)
@@ -347,7 +351,8 @@ jint_given GivesFlag e = absurd (let c : Jint ≡ sort.Flag = e in cc)
 jint_given NewLocal e = absurd (let c : Jint ≡ Ref = e in cc)
 jint_given NewGlobal e = absurd (let c : Jint ≡ Global = e in cc)
 jint_given GivesField e = absurd (let c : Jint ≡ FieldId = e in cc)
-jint_given gives e = absurd e
+jint_given (GivesBuffer access) e = absurd (let is = buffer_sort access Jint e in let c : Jint ≡ Buffer is.0 is.1 = is.2 in cc)
+jint_given GivesNothing e = absurd e
 
 if_stands : (code : Listing) (line : ℕ) (test : Test) (then' else' : Block) (l : Layout) (slots_else : _) (place : ℕ) (tail : List Task)
     → HasAt code.instrs place (if_code l.known line test (block_code l then') (block_code (record { known = l.known; slots = slots_else }) else'))
@@ -406,24 +411,27 @@ pair_begun a b h k = untouched_begun (Binary BitOr a b) (h, k)
 pair_held : (a b : Term) → IsUntouched a → IsUntouched b → [] ≡ held b ++ held a
 pair_held a b h k = sym (untouched_held (Binary BitOr a b) (h, k))
 
+-- an element is written by one instruction
+pub one_write : (line : ℕ) (s : Sort) (i : ℕ) → HasElements s → length (write_code line s i) ≡ 1
+one_write line (Array t size) i has = refl
+one_write line (Buffer t writable) i has = refl
+one_write line s i has = absurd has
+
 element_set_stands : (code : Listing) (line : ℕ) (x : Identifier) (i e : Expr) → StmtBegins code (tree.AssignElement line x i e)
 element_set_stands code line x i e l place tail at fits laid room further =
-    let type = fits.0.0 in
-    let size = fits.0.1 in
-    let start = fits.0.2 in
-    let store = instr.StoreElement (element_of type) (record { start = start; len = size }) line ∷ [] in
+    let s = fits.0.0 in
     let I = expr_code l.known line i in
     let E = expr_code l.known line e in
-    let is : of_slot (write_code line) (lookup x l.known) ≡ store = ap (of_slot (write_code line)) fits.0.3 in
+    let is : of_slot (write_code line) (lookup x l.known) ≡ write_code line s.sort s.index = ap (of_slot (write_code line)) fits.0.1 in
+    let one = one_write line s.sort s.index fits.0.2 in
     let there = subst (λ w. HasAt code.instrs place (I ++ (E ++ w))) is at in
     let count : place + length (I ++ (E ++ of_slot (write_code line) (lookup x l.known))) ≡ place + (length I + length E) + 1 =
-    omega (arith, length-append I (E ++ of_slot (write_code line) (lookup x l.known)), length-append E (of_slot (write_code line) (lookup x l.known)), ap length is) in
+    omega (arith, length-append I (E ++ of_slot (write_code line) (lookup x l.known)), length-append E (of_slot (write_code line) (lookup x l.known)), ap length is, one) in
     record {
-      type = type;
-      size = size;
-      start = start;
-      array = fits.0.3;
-      own = record { within = slot_within code l x (record { sort = Array type size; index = start }) fits.0.3 laid room; own = laid.own x (record { sort = Array type size; index = start }) fits.0.3 };
+      slot = s;
+      there = fits.0.1;
+      elements = fits.0.2;
+      own = record { within = slot_within code l x s fits.0.1 laid room; own = laid.own x s fits.0.1 };
       index = (fits.1.0, fits.1.1, fits.1.2.sort);
       value = fits.2.sort;
       begun = pair_begun (term_of i) (term_of e) fits.1.2.untouched fits.2.untouched;
@@ -475,7 +483,7 @@ stmt_begins code (tree.Assign line x r) l place tail at fits laid room further =
     right_stands code l.known line place tail (Assigned x) x slot r l.known laid.own fits.2 refl found there own (known_among x slot l.known found)
     (subst (λ c. TasksStand code l.known (place + length c) [] tail) (ap (λ (o : Option Slot). assign_code l.known line o r) found) further)
 stmt_begins code (tree.AssignElement line x i e) l place tail at fits laid room further = element_set_stands code line x i e l place tail at fits laid room further
-stmt_begins code (tree.Perform line c) l place tail at fits laid room further = call_stands code l.known line place tail Dropped destination.Dropped c laid.own fits at (refl, further)
+stmt_begins code (tree.Perform line c) l place tail at fits laid room further = call_stands code l.known line place tail Dropped destination.Dropped c laid.own fits.fits at (refl, fits.result, further)
 stmt_begins code (tree.PutJint line e) l place tail at fits laid room further =
     let size : place + length (expr_code l.known line e ++ instr.PutJint ∷ []) ≡ place + length (expr_code l.known line e) + 1 = omega (arith, length-append (expr_code l.known line e) (instr.PutJint ∷ [])) in
     ((number_begins l.known (term_of e) Jint fits, at), subst (λ p. TasksStand code l.known p [] tail) size further)

@@ -1,5 +1,5 @@
 -- The body of an accepted function fits.
-use Rattle.std.proofs.Common.{◌≡◌, ◌≤◌, inl, inr, Bool, true, false, ◌&&◌, List, ◌∷◌, ◌++◌, Some, map, refl, sym, ap, ◌∙◌, subst, arith}
+use Rattle.std.proofs.Common.{◌≡◌, ◌≤◌, Bool, true, false, not, ◌&&◌, List, ◌∷◌, ◌++◌, Some, map, refl, sym, ap, ◌∙◌, subst, arith}
 use Rattle.std.specs.List.{list_all}
 use Rattle.std.proofs.lemmas.List.Folds.{list_all-append}
 use Rattle.base.specs.Bytes.{Identifier}
@@ -9,17 +9,15 @@ use Rattle.syntax.specs.Parts.{statements_of, statements_within, call_of_right_s
 use Rattle.syntax.specs.Tree as tree
 use Rattle.syntax.specs.Tree.{ResultType, RightSide, FromExpr, FromCall, TestExpr, TestCall, Stmt, Block, End, Next}
 use Rattle.type_rules.specs.Sorts.{Truth, Buffer, Array}
-use Rattle.type_rules.specs.SortRules.{variable_sort, with_declared, places_within, places_of}
-use Rattle.region_rules.specs.RegionStates.{RegionState, state_of}
-use Rattle.region_rules.specs.RegionRules.{is_free}
-use Rattle.region_rules.specs.Regions.{where_true, where_false, Way, On, Returned, IsEnd, Keeps, KeepsBlock}
+use Rattle.jni.specs.JniFunction.{JniFunction, prototype}
+use Rattle.type_rules.specs.SortRules.{is_droppable, is_push, may_be_dropped, variable_sort, with_declared, places_within, places_of}
 use Rattle.code_meaning.specs.Layout.{Slot, Known, Layout, new_slot, closed, layout_after, block_layout}
 use Rattle.code_meaning.specs.Fits.{StmtFits, BlockFits}
 use Rattle.code_meaning.proofs.SlotLaws.{first_or_after}
 use Rattle.lower.proofs.SortFacts.{scope_of, HasNoTruth}
-use Rattle.lower.proofs.PlaceFacts.{and_left, and_right, or_left, IsKept, AreKept, own_kept, inside_kept, block_kept, ways_kept}
-use Rattle.lower.proofs.NameFacts.{AreTaken, taken_more, taken_after, known_taken, stmt_others}
-use Rattle.lower.proofs.BufferFacts.{AreBuilt, first_built, both_built, inside_built, AreFree, true_free, false_free, free_after, no_free_buffer, own_not_free}
+use Rattle.lower.proofs.PlaceFacts.{and_left, and_right, IsKept, AreKept, own_kept, inside_kept, block_kept, ways_kept}
+use Rattle.lower.proofs.NameFacts.{AreTaken, taken_more, taken_after}
+use Rattle.lower.proofs.BuiltCalls.{AreBuilt, first_built, both_built, inside_built}
 use Rattle.lower.proofs.StatementFacts.{AreFine, are_fine, called_expressions, CallHolds, call_fits_name, right_fits, buffer_fits, assigned_fits, element_fits, jint_fits, truth_fits, tested_fits, returned_fits, size_fits}
 
 -- ---- what holds of a statement and of a block
@@ -29,28 +27,24 @@ abbrev pub AreInRange : List Stmt → Type 0
 AreInRange statements = list_all (λ s. list_all numbers_in_range (own_expressions s)) statements ≡ true
 
 -- a statement of an accepted function, with what is known before it
-pub record StmtHolds (l : Layout) (taken : List Identifier) (returns : ResultType) (before : RegionState) (way : Way) (s : Stmt) : Type 0 where
+pub record StmtHolds (l : Layout) (taken : List Identifier) (returns : ResultType) (s : Stmt) : Type 0 where
   pub sorted : AreKept (places_within returns (scope_of l.known) taken s)
   pub numbers : AreInRange (statements_within s)
   pub calls : AreBuilt (statements_within s)
   pub formed : well_formed s ≡ true
   pub low : statement_height s ≤ 31
-  pub keeps : Keeps before s way
   pub names : AreTaken taken l.known
   pub no_truth : HasNoTruth l.known
-  pub free : AreFree l.known before
 
 -- the same of the rest of a block
-pub record BlockHolds (l : Layout) (taken : List Identifier) (returns : ResultType) (outer before : RegionState) (way : Way) (b : Block) : Type 0 where
+pub record BlockHolds (l : Layout) (taken : List Identifier) (returns : ResultType) (b : Block) : Type 0 where
   pub sorted : AreKept (places_of returns (scope_of l.known) taken b)
   pub numbers : AreInRange (statements_of b)
   pub calls : AreBuilt (statements_of b)
   pub formed : block_well_formed b ≡ true
   pub low : block_height b ≤ 32
-  pub keeps : KeepsBlock outer before b way
   pub names : AreTaken taken l.known
   pub no_truth : HasNoTruth l.known
-  pub free : AreFree l.known before
 
 -- ---- one statement
 
@@ -78,33 +72,33 @@ own_low (tree.AssignElement line x i e) = omega arith
 own_low s = omega arith
 
 -- the arguments of a statement's call are among its expressions
-right_fine : (known : Known) (r : RightSide) → AreFine known (right_side_expressions r) → AreFine known (called_expressions (call_of_right_side (Some r)))
-right_fine known (FromExpr e) h = tt
-right_fine known (FromCall c) h = h
+right_fine : (r : RightSide) → AreFine (right_side_expressions r) → AreFine (called_expressions (call_of_right_side (Some r)))
+right_fine (FromExpr e) h = tt
+right_fine (FromCall c) h = h
 
-called_fine : (known : Known) (s : Stmt) → AreFine known (own_expressions s) → AreFine known (called_expressions (own_call s))
-called_fine known (tree.Declare line t x r) h = right_fine known r h
-called_fine known (tree.DeclareBuffer line t x r) h = right_fine known r h
-called_fine known (tree.DeclareChars line x r) h = right_fine known r h
-called_fine known (tree.Assign line x r) h = right_fine known r h
-called_fine known (tree.Perform line c) h = h
-called_fine known (tree.If line (TestExpr e) then') h = tt
-called_fine known (tree.If line (TestCall c) then') h = h
-called_fine known (tree.IfElse line (TestExpr e) then' else') h = tt
-called_fine known (tree.IfElse line (TestCall c) then' else') h = h
-called_fine known s h = tt
+called_fine : (s : Stmt) → AreFine (own_expressions s) → AreFine (called_expressions (own_call s))
+called_fine (tree.Declare line t x r) h = right_fine r h
+called_fine (tree.DeclareBuffer line t x r) h = right_fine r h
+called_fine (tree.DeclareChars line x r) h = right_fine r h
+called_fine (tree.Assign line x r) h = right_fine r h
+called_fine (tree.Perform line c) h = h
+called_fine (tree.If line (TestExpr e) then') h = tt
+called_fine (tree.If line (TestCall c) then') h = h
+called_fine (tree.IfElse line (TestExpr e) then' else') h = tt
+called_fine (tree.IfElse line (TestCall c) then' else') h = h
+called_fine s h = tt
 
-module _ (l : Layout) (taken : List Identifier) (returns : ResultType) (before : RegionState) (way : Way) where
-  all_fine : (s : Stmt) → StmtHolds l taken returns before way s → AreFine l.known (own_expressions s)
+module _ (l : Layout) (taken : List Identifier) (returns : ResultType) where
+  all_fine : (s : Stmt) → StmtHolds l taken returns s → AreFine (own_expressions s)
   all_fine s h =
       let few = own_low s in
-      are_fine (own_expressions s) l.known before h.free (own_not_free s before way h.keeps).1 (first_in_range s h.numbers) (omega (arith, few, h.low))
+      are_fine (own_expressions s) (first_in_range s h.numbers) (omega (arith, few, h.low))
 
-  kept : (s : Stmt) → StmtHolds l taken returns before way s → IsKept (scope_of l.known) taken returns s
+  kept : (s : Stmt) → StmtHolds l taken returns s → IsKept (scope_of l.known) taken returns s
   kept s h = own_kept returns (scope_of l.known) taken s h.sorted
 
-  call_holds : (s : Stmt) → StmtHolds l taken returns before way s → CallHolds l.known (own_call s)
-  call_holds s h = record { built = first_built s h.calls; arguments = (kept s h).arguments; count = (kept s h).count; modes = (kept s h).modes; fine = called_fine l.known s (all_fine s h) }
+  call_holds : (s : Stmt) → StmtHolds l taken returns s → CallHolds l.known (own_call s)
+  call_holds s h = record { built = first_built s h.calls; arguments = (kept s h).arguments; count = (kept s h).count; modes = (kept s h).modes; fine = called_fine s (all_fine s h) }
 
 -- ---- after a statement
 
@@ -147,138 +141,120 @@ next_formed (tree.IfElse line test then' else') rest h =
 next_formed (tree.While line test body) rest h = (and_left (block_well_formed body) (block_well_formed rest) h, and_right (block_well_formed body) (block_well_formed rest) h)
 next_formed s rest h = (and_left (well_formed s) (block_well_formed rest) h, and_right (well_formed s) (block_well_formed rest) h)
 
-end_fits : (b : Block) (l : Layout) → IsEnd b → BlockFits l b
-end_fits (End line) l h = tt
-end_fits (Next s rest) l h = absurd h
-
-module _ (l : Layout) (taken : List Identifier) (returns : ResultType) (outer before : RegionState) (way : Way) (s : Stmt) (rest : Block) (h : BlockHolds l taken returns outer before way (Next s rest)) where
-  first_holds : (mine : Way) → Keeps before s mine → StmtHolds l taken returns before mine s
-  first_holds mine keeps = record {
+module _ (l : Layout) (taken : List Identifier) (returns : ResultType) (s : Stmt) (rest : Block) (h : BlockHolds l taken returns (Next s rest)) where
+  first_holds : StmtHolds l taken returns s
+  first_holds = record {
     sorted = (block_kept returns (scope_of l.known) taken s rest h.sorted).0;
     numbers = (both_in_range (statements_within s) (statements_of rest) h.numbers).0;
     calls = (both_built (statements_within s) (statements_of rest) h.calls).0;
     formed = (next_formed s rest h.formed).0;
     low = omega (arith, h.low);
-    keeps = keeps;
     names = h.names;
     no_truth = h.no_truth;
-    free = h.free;
   }
 
-  rest_holds : (middle : RegionState) → Keeps before s (On middle) → KeepsBlock outer middle rest way → BlockHolds (layout_after l s) (taken ++ names_declared (statements_within s)) returns outer middle way rest
-  rest_holds middle keeps further =
-      let first = first_holds (On middle) keeps in
-      record {
-        sorted = subst (λ scope. AreKept (places_of returns scope (taken ++ names_declared (statements_within s)) rest)) (scope_after s l) (block_kept returns (scope_of l.known) taken s rest h.sorted).1;
-        numbers = (both_in_range (statements_within s) (statements_of rest) h.numbers).1;
-        calls = (both_built (statements_within s) (statements_of rest) h.calls).1;
-        formed = (next_formed s rest h.formed).1;
-        low = omega (arith, h.low);
-        keeps = further;
-        names = taken_after s l taken h.names;
-        no_truth = no_truth_after s l h.no_truth;
-        free = free_after s l before middle first.calls (λ x slot at. stmt_others s returns (scope_of l.known) taken first.sorted x (known_taken taken l.known x slot h.names at)) keeps h.free;
-      }
+  rest_holds : BlockHolds (layout_after l s) (taken ++ names_declared (statements_within s)) returns rest
+  rest_holds = record {
+    sorted = subst (λ scope. AreKept (places_of returns scope (taken ++ names_declared (statements_within s)) rest)) (scope_after s l) (block_kept returns (scope_of l.known) taken s rest h.sorted).1;
+    numbers = (both_in_range (statements_within s) (statements_of rest) h.numbers).1;
+    calls = (both_built (statements_within s) (statements_of rest) h.calls).1;
+    formed = (next_formed s rest h.formed).1;
+    low = omega (arith, h.low);
+    names = taken_after s l taken h.names;
+    no_truth = no_truth_after s l h.no_truth;
+  }
+
+-- what may be dropped
+drops : (f : JniFunction) → may_be_dropped (Some f) ≡ true → is_droppable (prototype f).result ≡ true
+drops f h = and_right (not (is_push f)) (is_droppable (prototype f).result) h
 
 -- ---- all statements
 
 mutual
-  stmt_fits : (s : Stmt) (l : Layout) (taken : List Identifier) (returns : ResultType) (before : RegionState) (way : Way) → StmtHolds l taken returns before way s → StmtFits l s
-  stmt_fits (tree.Declare line t x r) l taken returns before way h =
+  stmt_fits : (s : Stmt) (l : Layout) (taken : List Identifier) (returns : ResultType) → StmtHolds l taken returns s → StmtFits l s
+  stmt_fits (tree.Declare line t x r) l taken returns h =
       let s = tree.Declare line t x r in
-      let k = kept l taken returns before way s h in
-      (h.names x k.new, right_fits l.known h.no_truth (variable_sort t) r (all_fine l taken returns before way s h) (call_holds l taken returns before way s h) k.fits k.uncopied)
-  stmt_fits (tree.DeclareBuffer line t x r) l taken returns before way h =
+      let k = kept l taken returns s h in
+      (h.names x k.new, right_fits l.known h.no_truth (variable_sort t) r (all_fine l taken returns s h) (call_holds l taken returns s h) k.fits k.uncopied)
+  stmt_fits (tree.DeclareBuffer line t x r) l taken returns h =
       let s = tree.DeclareBuffer line t x r in
-      let k = kept l taken returns before way s h in
-      (h.names x k.new, buffer_fits l.known h.no_truth t true r (call_holds l taken returns before way s h) k.fits)
-  stmt_fits (tree.DeclareChars line x r) l taken returns before way h =
+      let k = kept l taken returns s h in
+      (h.names x k.new, buffer_fits l.known h.no_truth t true r (call_holds l taken returns s h) k.fits)
+  stmt_fits (tree.DeclareChars line x r) l taken returns h =
       let s = tree.DeclareChars line x r in
-      let k = kept l taken returns before way s h in
-      (h.names x k.new, buffer_fits l.known h.no_truth JChar false r (call_holds l taken returns before way s h) k.fits)
-  stmt_fits (tree.DeclareArray line t x size) l taken returns before way h =
+      let k = kept l taken returns s h in
+      (h.names x k.new, buffer_fits l.known h.no_truth JChar false r (call_holds l taken returns s h) k.fits)
+  stmt_fits (tree.DeclareArray line t x size) l taken returns h =
       let few = size_fits size h.formed in
-      (h.names x (kept l taken returns before way (tree.DeclareArray line t x size) h).new, few.0, few.1)
-  stmt_fits (tree.Assign line x r) l taken returns before way h =
+      (h.names x (kept l taken returns (tree.DeclareArray line t x size) h).new, few.0, few.1)
+  stmt_fits (tree.Assign line x r) l taken returns h =
       let s = tree.Assign line x r in
-      let k = kept l taken returns before way s h in
-      assigned_fits l.known h.no_truth x r (all_fine l taken returns before way s h) (call_holds l taken returns before way s h) k.fits k.uncopied
-  stmt_fits (tree.AssignElement line x i e) l taken returns before way h =
+      let k = kept l taken returns s h in
+      assigned_fits l.known h.no_truth x r (all_fine l taken returns s h) (call_holds l taken returns s h) k.fits k.uncopied
+  stmt_fits (tree.AssignElement line x i e) l taken returns h =
       let s = tree.AssignElement line x i e in
-      let fine = all_fine l taken returns before way s h in
-      element_fits l.known h.no_truth x i e (no_free_buffer l.known before x h.free (or_left (is_free (state_of before x)) false (own_not_free s before way h.keeps).0)) fine.0 fine.1.0 (kept l taken returns before way s h).fits
-  stmt_fits (tree.Perform line c) l taken returns before way h = call_fits_name l.known h.no_truth c (call_holds l taken returns before way (tree.Perform line c) h)
-  stmt_fits (tree.PutJint line e) l taken returns before way h = jint_fits l.known h.no_truth e (all_fine l taken returns before way (tree.PutJint line e) h).0 (kept l taken returns before way (tree.PutJint line e) h).fits
-  stmt_fits (tree.If line test then') l taken returns before way h =
+      let fine = all_fine l taken returns s h in
+      element_fits l.known h.no_truth x i e fine.0 fine.1.0 (kept l taken returns s h).fits
+  stmt_fits (tree.Perform line c) l taken returns h =
+      let fits = call_fits_name l.known h.no_truth c (call_holds l taken returns (tree.Perform line c) h) in
+      record { fits = fits; result = drops fits.function (sym (ap may_be_dropped fits.named) ∙ (kept l taken returns (tree.Perform line c) h).fits) }
+  stmt_fits (tree.PutJint line e) l taken returns h = jint_fits l.known h.no_truth e (all_fine l taken returns (tree.PutJint line e) h).0 (kept l taken returns (tree.PutJint line e) h).fits
+  stmt_fits (tree.If line test then') l taken returns h =
       let s = tree.If line test then' in (
-        tested_fits l.known h.no_truth test (all_fine l taken returns before way s h) (λ c e. subst (λ t. CallHolds l.known (own_call (tree.If line t then'))) e (call_holds l taken returns before way s h)) (kept l taken returns before way s h).fits,
-        block_fits then' l taken returns before (where_true before test) h.keeps.1 (record {
+        tested_fits l.known h.no_truth test (all_fine l taken returns s h) (λ c e. subst (λ t. CallHolds l.known (own_call (tree.If line t then'))) e (call_holds l taken returns s h)) (kept l taken returns s h).fits,
+        block_fits then' l taken returns (record {
           sorted = inside_kept returns (scope_of l.known) taken s h.sorted;
           numbers = inside_in_range s (statements_of then') h.numbers;
           calls = inside_built s (statements_of then') h.calls;
           formed = h.formed;
           low = omega (arith, h.low);
-          keeps = h.keeps.2;
           names = h.names;
           no_truth = h.no_truth;
-          free = λ x t w i at. true_free before test x (h.free x t w i at);
         }),
       )
-  stmt_fits (tree.IfElse line test then' else') l taken returns before way h =
+  stmt_fits (tree.IfElse line test then' else') l taken returns h =
       let s = tree.IfElse line test then' else' in
       let sorted = ways_kept returns (scope_of l.known) taken line test then' else' h.sorted in
       let numbers = both_in_range (statements_of then') (statements_of else') (inside_in_range s (statements_of then' ++ statements_of else') h.numbers) in
       let calls = both_built (statements_of then') (statements_of else') (inside_built s (statements_of then' ++ statements_of else') h.calls) in (
-        tested_fits l.known h.no_truth test (all_fine l taken returns before way s h) (λ c e. subst (λ t. CallHolds l.known (own_call (tree.IfElse line t then' else'))) e (call_holds l taken returns before way s h)) (kept l taken returns before way s h).fits,
-        block_fits then' l taken returns before (where_true before test) h.keeps.1 (record {
+        tested_fits l.known h.no_truth test (all_fine l taken returns s h) (λ c e. subst (λ t. CallHolds l.known (own_call (tree.IfElse line t then' else'))) e (call_holds l taken returns s h)) (kept l taken returns s h).fits,
+        block_fits then' l taken returns (record {
           sorted = sorted.0;
           numbers = numbers.0;
           calls = calls.0;
           formed = and_left (block_well_formed then') (block_well_formed else') h.formed;
           low = omega (arith, h.low);
-          keeps = h.keeps.3;
           names = h.names;
           no_truth = h.no_truth;
-          free = λ x t w i at. true_free before test x (h.free x t w i at);
         }),
-        block_fits else' (closed l (block_layout l then')) (taken ++ names_declared (statements_of then')) returns before (where_false before test) h.keeps.2 (record {
+        block_fits else' (closed l (block_layout l then')) (taken ++ names_declared (statements_of then')) returns (record {
           sorted = sorted.1;
           numbers = numbers.1;
           calls = calls.1;
           formed = and_right (block_well_formed then') (block_well_formed else') h.formed;
           low = omega (arith, h.low);
-          keeps = h.keeps.4;
           names = taken_more taken (names_declared (statements_of then')) l.known h.names;
           no_truth = h.no_truth;
-          free = λ x t w i at. false_free before test x (h.free x t w i at);
         }),
       )
-  stmt_fits (tree.While line test body) l taken returns before way h =
+  stmt_fits (tree.While line test body) l taken returns h =
       let s = tree.While line test body in (
-        truth_fits l.known h.no_truth test (all_fine l taken returns before way s h).0 (kept l taken returns before way s h).fits,
-        block_fits body l taken returns before before h.keeps.1 (record {
+        truth_fits l.known h.no_truth test (all_fine l taken returns s h).0 (kept l taken returns s h).fits,
+        block_fits body l taken returns (record {
           sorted = inside_kept returns (scope_of l.known) taken s h.sorted;
           numbers = inside_in_range s (statements_of body) h.numbers;
           calls = inside_built s (statements_of body) h.calls;
           formed = h.formed;
           low = omega (arith, h.low);
-          keeps = h.keeps.2;
           names = h.names;
           no_truth = h.no_truth;
-          free = h.free;
         }),
       )
-  stmt_fits (tree.Return line) l taken returns before way h = tt
-  stmt_fits (tree.ReturnValue line e) l taken returns before way h =
-      returned_fits l.known h.no_truth returns e (all_fine l taken returns before way (tree.ReturnValue line e) h).0 (kept l taken returns before way (tree.ReturnValue line e) h).fits
+  stmt_fits (tree.Return line) l taken returns h = tt
+  stmt_fits (tree.ReturnValue line e) l taken returns h =
+      returned_fits l.known h.no_truth returns e (all_fine l taken returns (tree.ReturnValue line e) h).0 (kept l taken returns (tree.ReturnValue line e) h).fits
 
-  pub block_fits : (b : Block) (l : Layout) (taken : List Identifier) (returns : ResultType) (outer before : RegionState) (way : Way) → BlockHolds l taken returns outer before way b → BlockFits l b
-  block_fits (End line) l taken returns outer before way h = tt
-  block_fits (Next s rest) l taken returns outer before way h =
-      elim h.keeps [
-        | inl on ↦ (
-          stmt_fits s l taken returns before (On on.0) (first_holds l taken returns outer before way s rest h (On on.0) on.1),
-          block_fits rest (layout_after l s) (taken ++ names_declared (statements_within s)) returns outer on.0 way (rest_holds l taken returns outer before way s rest h on.0 on.1 on.2),
-        )
-        | inr stopped ↦ (stmt_fits s l taken returns before Returned (first_holds l taken returns outer before way s rest h Returned stopped.0), end_fits rest (layout_after l s) stopped.1)
-      ]
+  pub block_fits : (b : Block) (l : Layout) (taken : List Identifier) (returns : ResultType) → BlockHolds l taken returns b → BlockFits l b
+  block_fits (End line) l taken returns h = tt
+  block_fits (Next s rest) l taken returns h =
+      (stmt_fits s l taken returns (first_holds l taken returns s rest h), block_fits rest (layout_after l s) (taken ++ names_declared (statements_within s)) returns (rest_holds l taken returns s rest h))

@@ -7,6 +7,7 @@ use Rattle.std.specs.List.{list_any, AllZip}
 use Rattle.std.specs.Int.{w32}
 use Rattle.std.proofs.lemmas.List.{append-nil}
 use Rattle.base.specs.Bytes.{Identifier, lookup}
+use Rattle.base.specs.Element.{ElementType}
 use Rattle.syntax.specs.Tree as tree
 use Rattle.syntax.specs.Tree.{Expr}
 use Rattle.jni.specs.JniFunction.{JniFunction, prototype}
@@ -24,16 +25,16 @@ use Rattle.semantics.specs.Effect.{goes_on, is_given, is_ready, call_effect_of, 
 use Rattle.semantics.specs.Arguments.{Actual, ReferenceActual, FieldActual, NumberActual, TextActual, VariableActual, ModeActual, NothingActual, mode_of, reference_argument, look_up_expression, look_up, actuals}
 use Rattle.semantics.specs.Sight.{Sight}
 use Rattle.semantics.specs.Variable.{Empty}
-use Rattle.semantics.specs.Task.{Task, Invoke, Target, Declared, Assigned, Dropped, VariableKind, ScalarKind, ReferenceKind, FieldKind, Operand, NumberOperand, Given, Tested}
+use Rattle.semantics.specs.Task.{Task, Invoke, Target, Declared, Assigned, Dropped, VariableKind, ScalarKind, ReferenceKind, FieldKind, BufferKind, Operand, NumberOperand, Given, Tested}
 use Rattle.semantics.specs.Term.{Term, Done, reduce}
 use Rattle.semantics.specs.Value.{Word, Int, Flag, Truth, Gives, Outcome, Traps, Stuck, outcome_map}
 use Rattle.code_meaning.specs.Layout.{Slot, Known}
 use Rattle.code_meaning.specs.Coding.{term_code}
-use Rattle.code_meaning.specs.Slots.{word_of, IsNumberSort, Visible, Slots, Shows}
+use Rattle.code_meaning.specs.Slots.{word_of, IsNumberSort, Visible, Slots, Shows, SeesBuffers}
 use Rattle.code_meaning.specs.Fits.{IsReferenceKind, TakesNull, TakesLocal, TakesGlobal, TermHasSort}
 use Rattle.code_meaning.specs.Stands.{held, IsBegun, HasAt, operand_text, operands_texts, ResultStands, ResultGoes, StaticStands, TestStands, number_sort, OperandStands, TargetStands, InvokeStands, TasksStand, task_returns, operands_rest, operand_held, operands_held, AreUntouched, AreBegun}
-use Rattle.code_meaning.specs.Does.{IsOperand, TakesNumber, TakesReference, TakesField, TakesStatic, TakesTest, GoesInto, TakesResult, DoesEffect, word_given, words_given, text_given, texts_given, OperandFits, IsVariableKind, ActualFits}
-use Rattle.code_meaning.proofs.SlotLaws.{fewer_shown, number_below, shows_set, shows_referred, shows_field_set, static_changes}
+use Rattle.code_meaning.specs.Does.{IsOperand, TakesNumber, TakesReference, TakesField, TakesStatic, TakesBuffer, TakesTest, GoesInto, TakesResult, DoesEffect, word_given, words_given, text_given, texts_given, OperandFits, IsVariableKind, ActualFits}
+use Rattle.code_meaning.proofs.SlotLaws.{fewer_shown, number_below, shows_set, shows_referred, shows_field_set, shows_buffer_set, static_changes}
 use Rattle.lower.proofs.TermSteps.{IsOpen, untouched_held, untouched_begun, shows_number}
 
 -- ---- the number that is worked out
@@ -211,7 +212,7 @@ returns_alike line (Tested first second) f a b = refl
 returns_alike line Dropped f a b = refl
 
 -- The place, with these names known, these operands and these slots, which show what can be seen.
-module _ (code : Listing) (known : Known) (place : ℕ) (stack : List ℕ) (slots : Slots) (visible : Visible) (shows : Shows code known visible slots) where
+module _ (code : Listing) (known : Known) (place : ℕ) (stack : List ℕ) (slots : Slots) (visible : Visible) (shows : Shows code known visible slots) (sees : SeesBuffers visible slots.buffers) where
   -- ---- results
 
   -- a number goes into its slot
@@ -238,6 +239,16 @@ module _ (code : Listing) (known : Known) (place : ℕ) (stack : List ℕ) (slot
     within = omega (arith, h.own.within, shows.fields);
     names = h.further.0;
     shows = λ f new set. fewer_shown code h.further.0 ((x, record { sort = FieldId; index = i }) ∷ known) new (record slots { fields = slice_set slots.fields i f }) h.further.1 (shows_field_set code known visible new slots x i f shows h.own set);
+    stands = record { stand = h.further.2; returns = returns };
+  }
+
+  -- a buffer
+  takes_buffer : (t : ElementType) (writable : Bool) (i : ℕ) (x : Identifier) (rest : List Task) → IsTrue (list_any task_returns rest) → ResultStands code known (λ p names. TasksStand code names p [] rest) (place + 1) (record { sort = Buffer t writable; index = i }) x
+      → TakesBuffer code known place stack slots visible t i x rest
+  takes_buffer t writable i x rest returns h = record {
+    within = omega (arith, h.own.within, shows.buffers);
+    names = h.further.0;
+    shows = λ told new now b shown set. fewer_shown code h.further.0 ((x, record { sort = Buffer t writable; index = i }) ∷ known) new (record now { buffers = slice_set now.buffers i b }) h.further.1 (shows_buffer_set code known told new now x t writable i b shown h.own set);
     stands = record { stand = h.further.2; returns = returns };
   }
 
@@ -291,9 +302,12 @@ module _ (code : Listing) (known : Known) (place : ℕ) (stack : List ℕ) (slot
       let slot : Slot = record { sort = FieldId; index = i } in
       (h.0, goes_into line f operands FieldKind slot target rest (λ x. TakesField code known place stack slots visible i x rest) returns (λ x r stands. takes_field i x rest r stands) (λ x found. (shows.each x slot found).kind) h.1)
   takes_result line f operands (destination.Static i) gives target rest h returns = (h.0, takes_static line f operands i target rest returns h.1)
-  takes_result line f operands (destination.Buffer i) gives target rest h returns = absurd h
+  takes_result line f operands (destination.Buffer element i) gives target rest h returns =
+      let t = h.1.0 in
+      let slot : Slot = record { sort = Buffer t h.1.1; index = i } in
+      (h.0, (t, h.1.2, goes_into line f operands (BufferKind t) slot target rest (λ x. TakesBuffer code known place stack slots visible t i x rest) returns (λ x r stands. takes_buffer t h.1.1 i x rest r stands) (λ x found. (shows.each x slot found).kind) h.1.3))
   takes_result line f operands destination.Test gives target rest h returns = (h.0, takes_test line f operands target rest returns h.1)
-  takes_result line f operands destination.Dropped gives target rest h returns = (h.0, record { stand = h.1; returns = subst (λ (t : Target). IsTrue (list_any task_returns (Invoke line t f operands ∷ rest))) h.0 returns })
+  takes_result line f operands destination.Dropped gives target rest h returns = (h.0, h.1, record { stand = h.2; returns = subst (λ (t : Target). IsTrue (list_any task_returns (Invoke line t f operands ∷ rest))) h.0 returns })
 
   -- ---- arguments
 
@@ -466,7 +480,7 @@ module _ (code : Listing) (known : Known) (place : ℕ) (stack : List ℕ) (slot
         let under : stack ≡ held t ++ words_under operands = c.held ∙ ap operands_held (sym (same_operands operands unready)) ∙ held_with operands t unready c.begun in
         subst (DoesEffect code known place stack slots visible rest)
         (sym (ap (goes_on line (Invoke line target f)) (reduced visible.sight operands unready) ∙ goes_on_inside line (with_open operands) (Invoke line target f) (reduce visible.sight t)))
-        (step_inside code known place stack slots visible shows line t Jint (words_under operands) (rest_after known line operands ++ instr.Call c.call ∷ []) (λ u. Invoke line target f (with_open operands u)) rest
+        (step_inside code known place stack slots visible shows sees line t Jint (words_under operands) (rest_after known line operands ++ instr.Call c.call ∷ []) (λ u. Invoke line target f (with_open operands u)) rest
         (open_is_open operands unready) (open_is_sorted known c.call.operands (prototype f).parameters operands c.count unready c.operands_stand) (open_is_begun operands unready c.begun) under at (λ u. subst (λ (b : Bool). IsTrue (b || list_any task_returns rest)) (returns_alike line target f operands (with_open operands u)) returns)
         (λ p u sorted begun there size.
         let same : operands_rest known line (with_open operands u) ≡ term_code known line u ++ rest_after known line operands = rest_with known line operands u unready in

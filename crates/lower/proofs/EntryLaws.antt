@@ -184,6 +184,7 @@ entry_shows statics f code known own shared thread calls class arguments slots f
   references = entry.references;
   owners = ap length entry.owners ∙ length-replicate code.slots.references (Some 1);
   fields = entry.fields;
+  buffers = entry.buffers;
   each = λ x s at. either_shown statics f code known own shared thread calls class arguments slots fit entry there lowest x s (in_both x (entry_names f) statics (lookup x (entry_names f)) refl s at);
 }
 

@@ -66,19 +66,19 @@ global_at : (s : Slot) → s.sort ≡ Global → s ≡ record { sort = Global; i
 global_at s e = ap (λ (k : Sort). record { sort = k; index = s.index }) e
 
 apart_numbers : (i j : ℕ) → i ≢ j → AreApart (record { sort = Jint; index = i }) (record { sort = Jint; index = j })
-apart_numbers i j other = record { numbers = λ k p q. other (omega (arith, p.0, p.1, q.0, q.1)); references = λ e e' same. absurd (let c : Jint ≡ Ref = e in cc); fields = λ e e' same. absurd (let c : Jint ≡ FieldId = e in cc) }
+apart_numbers i j other = record { numbers = λ k p q. other (omega (arith, p.0, p.1, q.0, q.1)); references = λ e e' same. absurd (let c : Jint ≡ Ref = e in cc); fields = λ e e' same. absurd (let c : Jint ≡ FieldId = e in cc); buffers = λ b b' same. absurd b }
 
 apart_references : (i j : ℕ) → i ≢ j → AreApart (record { sort = Ref; index = i }) (record { sort = Ref; index = j })
-apart_references i j other = record { numbers = λ k p q. absurd (omega (arith, p.0, p.1)); references = λ e e' same. other same; fields = λ e e' same. absurd (let c : Ref ≡ FieldId = e in cc) }
+apart_references i j other = record { numbers = λ k p q. absurd (omega (arith, p.0, p.1)); references = λ e e' same. other same; fields = λ e e' same. absurd (let c : Ref ≡ FieldId = e in cc); buffers = λ b b' same. absurd b }
 
 apart_number_reference : (i j : ℕ) → AreApart (record { sort = Jint; index = i }) (record { sort = Ref; index = j })
-apart_number_reference i j = record { numbers = λ k p q. absurd (omega (arith, q.0, q.1)); references = λ e e' same. absurd (let c : Jint ≡ Ref = e in cc); fields = λ e e' same. absurd (let c : Jint ≡ FieldId = e in cc) }
+apart_number_reference i j = record { numbers = λ k p q. absurd (omega (arith, q.0, q.1)); references = λ e e' same. absurd (let c : Jint ≡ Ref = e in cc); fields = λ e e' same. absurd (let c : Jint ≡ FieldId = e in cc); buffers = λ b b' same. absurd b }
 
 apart_static : (s : Slot) (i : ℕ) → AreApart s (record { sort = Global; index = i })
-apart_static s i = record { numbers = λ k p q. absurd (omega (arith, q.0, q.1)); references = λ e e' same. absurd (let c : Global ≡ Ref = e' in cc); fields = λ e e' same. absurd (let c : Global ≡ FieldId = e' in cc) }
+apart_static s i = record { numbers = λ k p q. absurd (omega (arith, q.0, q.1)); references = λ e e' same. absurd (let c : Global ≡ Ref = e' in cc); fields = λ e e' same. absurd (let c : Global ≡ FieldId = e' in cc); buffers = λ b b' same. absurd b' }
 
 pub apart_back : (s t : Slot) → AreApart s t → AreApart t s
-apart_back s t h = record { numbers = λ k p q. h.numbers k q p; references = λ e e' same. h.references e' e (sym same); fields = λ e e' same. h.fields e' e (sym same) }
+apart_back s t h = record { numbers = λ k p q. h.numbers k q p; references = λ e e' same. h.references e' e (sym same); fields = λ e e' same. h.fields e' e (sym same); buffers = λ b b' same. h.buffers b' b (sym same) }
 
 -- of two slots one is at the place of its kind, and the other after
 first_apart : (type : ParameterType) (n r n' r' : ℕ) (t : Slot) → Between (numbers_after type n) (references_after type r) n' r' t → AreApart (parameter_slot type n r) t

@@ -69,5 +69,5 @@ is_code_of statics f known fits returns counted short = record {
   begins = function_begins statics f known fits returns;
   room = function_room statics f;
   shows = entry_shows statics f (listing_of statics f) known;
-  steps = λ visible known slots place stack task rest shows stands. steps (listing_of statics f) known place stack slots visible shows task rest stands;
+  steps = λ visible known slots place stack task rest shows sees stands. steps (listing_of statics f) known place stack slots visible shows sees task rest stands;
 }

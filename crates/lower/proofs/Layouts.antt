@@ -1,5 +1,5 @@
 -- Slots that are taken stay taken, and each known name has its own.
-use Rattle.std.proofs.Common.{◌≡◌, ℕ, ◌<◌, ◌≤◌, true, false, Some, sym, ap, ◌∙◌, subst, arith}
+use Rattle.std.proofs.Common.{◌≡◌, ℕ, ◌<◌, ◌≤◌, true, false, Some, refl, sym, ap, ◌∙◌, subst, arith}
 use Rattle.base.specs.Bytes.{Identifier, lookup}
 use Rattle.base.specs.Element.{JChar}
 use Rattle.syntax.specs.Tree as tree
@@ -9,7 +9,7 @@ use Rattle.type_rules.specs.SortRules.{variable_sort}
 use Rattle.code.specs.declared.slots.SlotCounts.{SlotCounts}
 use Rattle.code.specs.Depth.{Listing}
 use Rattle.code_meaning.specs.Layout.{Slot, Known, Layout, next_index, slots_after, new_slot, with_name, closed, layout_after, block_layout}
-use Rattle.code_meaning.specs.Fits.{IndexWithin, IsPlaceOf, AreApart, IsOwn, IsLaidOut, HasRoomFor, StmtFits}
+use Rattle.code_meaning.specs.Fits.{IndexWithin, IsPlaceOf, IsBufferSort, AreApart, IsOwn, IsLaidOut, HasRoomFor, StmtFits}
 use Rattle.code_meaning.specs.Stands.{AreAmong, IsSlotOf}
 use Rattle.code_meaning.proofs.SlotLaws.{first_or_after, new_among, all_among}
 
@@ -136,6 +136,14 @@ place_below FieldId i c k w h = absurd (omega (arith, h.0, h.1))
 place_below (Buffer t wr) i c k w h = absurd (omega (arith, h.0, h.1))
 place_below (Array t n) i c k w h = omega (arith, w.2, h.0, h.1)
 
+buffer_within : (c : SlotCounts) (s : Sort) (i : ℕ) → IsBufferSort s → IndexWithin c s i → i < c.buffers
+buffer_within c (Buffer t w) i b h = h
+buffer_within c s i b h = absurd b
+
+buffer_next : (c : SlotCounts) (s : Sort) → IsBufferSort s → next_index s c ≡ c.buffers
+buffer_next c (Buffer t w) b = refl
+buffer_next c s b = absurd b
+
 new_apart : (s : Sort) (l : Layout) (x : Identifier) (t : Slot) → IsLaidOut l.known l.slots → lookup x l.known ≡ Some t → AreApart t (new_slot s l)
 new_apart s l x t laid at = record {
   numbers = λ k p q.
@@ -150,10 +158,14 @@ new_apart s l x t laid at = record {
       let below : t.index < l.slots.field_ids = subst (λ (r : Sort). IndexWithin l.slots r t.index) e (laid.within x t at) in
       let next : next_index s l.slots ≡ l.slots.field_ids = ap (λ (r : Sort). next_index r l.slots) e' in
       absurd (omega (arith, below, next, same));
+  buffers = λ b b' same.
+      let below = buffer_within l.slots t.sort t.index b (laid.within x t at) in
+      let next = buffer_next l.slots s b' in
+      absurd (omega (arith, below, next, same));
 }
 
 apart_back : (s t : Slot) → AreApart s t → AreApart t s
-apart_back s t h = record { numbers = λ k p q. h.numbers k q p; references = λ e e' same. h.references e' e (sym same); fields = λ e e' same. h.fields e' e (sym same) }
+apart_back s t h = record { numbers = λ k p q. h.numbers k q p; references = λ e e' same. h.references e' e (sym same); fields = λ e e' same. h.fields e' e (sym same); buffers = λ b b' same. h.buffers b' b (sym same) }
 
 pub new_own : (s : Sort) (l : Layout) (x : Identifier) → IsLaidOut l.known l.slots → IsOwn l.known x (new_slot s l)
 new_own s l x laid y t at other = new_apart s l y t laid at

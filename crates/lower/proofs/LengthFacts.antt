@@ -10,7 +10,7 @@ use Rattle.syntax.specs.Tree.{ResultType, Void, IntResult, ReferenceResult, Logi
 use Rattle.base.specs.Element.{JChar}
 use Rattle.jni.specs.JniFunction.{function_named, prototype}
 use Rattle.jni.specs.Prototype.{ParameterKind, IntNumber}
-use Rattle.type_rules.specs.Sorts.{Sort, Jint, Ref, Global, FieldId, Buffer, constant_sort, sort_in, sort_of, is_ref, is_null, name_sort}
+use Rattle.type_rules.specs.Sorts.{Sort, Jint, Ref, Global, FieldId, Buffer, Array, constant_sort, sort_in, sort_of, is_ref, is_null, name_sort}
 use Rattle.type_rules.specs.Sorts as sort
 use Rattle.type_rules.specs.SortRules.{variable_sort, return_fits, places_within, places_of}
 use Rattle.code.specs.declared.instr.Target.{Target}
@@ -21,8 +21,9 @@ use Rattle.semantics.specs.Term as term
 use Rattle.semantics.specs.Term.{Term, Done, Read, IsNull, Prefix, And, Or, Binary, binary_term, term_of}
 use Rattle.code_meaning.specs.Layout.{Slot, Known, Layout, new_slot, closed, layout_after, block_layout}
 use Rattle.code_meaning.specs.Coding.{arguments_texts, result_target, nullable_of, test_of, store_of, null_code, element_code, write_code, of_slot, load_code, prefix_code, operator_code, is_signed, skip_code, term_code, expr_code, named_call_code, value_code, right_code, assign_code, returned_code, return_code, test_code, ways_code, if_code, turn_code, loop_code, stmt_code, block_code, argument_code, arguments_code, operand_code}
-use Rattle.code_meaning.specs.Fits.{IsNullable, TermHasSort, NumberFits, ArgumentFits, CallFits, ValueFits, RightFits, TestFits, ReturnFits, StmtFits, BlockFits}
+use Rattle.code_meaning.specs.Fits.{IsNullable, HasElements, TermHasSort, NumberFits, ArgumentFits, CallFits, ValueFits, RightFits, TestFits, ReturnFits, StmtFits, BlockFits}
 use Rattle.code_meaning.specs.Length.{binary_steps, expr_steps, argument_steps, arguments_steps, call_steps, value_steps, right_steps, test_steps, return_steps, stmt_steps, block_steps}
+use Rattle.lower.proofs.Bodies.{one_write}
 use Rattle.lower.proofs.SortFacts.{scope_of, slot_of_name}
 use Rattle.lower.proofs.StatementFacts.{jint_is, ref_is}
 use Rattle.lower.proofs.PlaceFacts.{AreKept, own_kept, inside_kept, block_kept, ways_kept}
@@ -72,6 +73,12 @@ null_length equal FieldId i h = refl
 null_length equal (Buffer t w) i h = refl
 null_length equal s i h = absurd h
 
+-- an element is read by one instruction
+one_read : (line : ℕ) (s : Sort) (i : ℕ) → HasElements s → length (element_code line s i) ≡ 1
+one_read line (Array t n) i h = refl
+one_read line (Buffer t w) i h = refl
+one_read line s i h = absurd h
+
 -- instructions after those of an operand, and between those of two
 after_one : (a : List Instr) (last : Instr) (n : ℕ) → length a ≡ n → length (a ++ last ∷ []) ≡ n + 1
 after_one a last n h = omega (arith, length-append a (last ∷ []))
@@ -90,9 +97,8 @@ term_length known line (term.Named tree.False) s h = refl
 term_length known line (term.Named c) s h = absurd h
 term_length known line (Read x) s h = ap (λ o. length (of_slot load_code o)) h.1
 term_length known line (term.Element x t) s h =
-    let array = h.3 in
     let inside = term_length known line t h.0 h.2 in
-    let last : length (of_slot (element_code line) (lookup x known)) ≡ 1 = ap (λ o. length (of_slot (element_code line) o)) array.3 in
+    let last : length (of_slot (element_code line) (lookup x known)) ≡ 1 = ap (λ o. length (of_slot (element_code line) o)) h.3.1 ∙ one_read line h.3.0.sort h.3.0.index h.3.2 in
     omega (arith, length-append (term_code known line t) (of_slot (element_code line) (lookup x known)))
 term_length known line (IsNull equal x) s h = ap (λ o. length (null_code equal o)) h.0.1 ∙ null_length equal h.0.0.sort h.0.0.index h.0.2
 term_length known line (Prefix LogicalNot t) s h = after_one (term_code known line t) (prefix_code LogicalNot) (term_steps t) (term_length known line t sort.Truth h.0)
@@ -218,7 +224,7 @@ write_length : (l : Layout) (line : ℕ) (x : Identifier) (i e : Expr) → StmtF
 write_length l line x i e h =
     let index = expr_length l.known line i h.1.0 h.1.2 in
     let value = expr_length l.known line e Jint h.2 in
-    let last : length (of_slot (write_code line) (lookup x l.known)) ≡ 1 = ap (λ o. length (of_slot (write_code line) o)) h.0.3 in
+    let last : length (of_slot (write_code line) (lookup x l.known)) ≡ 1 = ap (λ o. length (of_slot (write_code line) o)) h.0.1 ∙ one_write line h.0.0.sort h.0.0.index h.0.2 in
     omega (arith, length-append (expr_code l.known line i) (expr_code l.known line e ++ of_slot (write_code line) (lookup x l.known)), length-append (expr_code l.known line e) (of_slot (write_code line) (lookup x l.known)))
 
 module _ (returns : ResultType) where
@@ -230,7 +236,7 @@ module _ (returns : ResultType) where
     stmt_length (tree.DeclareArray line t x size) l taken fits kept = refl
     stmt_length (tree.Assign line x r) l taken fits kept = ap (λ o. length (assign_code l.known line o r)) fits.1 ∙ right_length l.known line fits.0 r fits.2
     stmt_length (tree.AssignElement line x i e) l taken fits kept = write_length l line x i e fits
-    stmt_length (tree.Perform line c) l taken fits kept = call_length l.known line destination.Dropped c fits
+    stmt_length (tree.Perform line c) l taken fits kept = call_length l.known line destination.Dropped c fits.fits
     stmt_length (tree.PutJint line e) l taken fits kept = after_one (expr_code l.known line e) instr.PutJint (expr_steps e) (expr_length l.known line e Jint fits)
     stmt_length (tree.If line test then') l taken fits kept =
         let inside = block_length then' l taken fits.1 (inside_kept returns (scope_of l.known) taken (tree.If line test then') kept) in

@@ -16,7 +16,6 @@ pub mod SortFacts
 pub mod PlaceFacts
 pub mod NameFacts
 pub mod BuiltCalls
-pub mod BufferFacts
 pub mod StatementFacts
 pub mod BodyFacts
 pub mod Left

@@ -4,7 +4,6 @@ use Rattle.std.specs.Option.{option_or}
 use Rattle.std.specs.Str.{bytes_eq}
 use Rattle.std.proofs.lemmas.Bool.{ltb-true}
 use Rattle.base.specs.Bytes.{Identifier, lookup}
-use Rattle.base.specs.Element.{ElementType}
 use Rattle.syntax.specs.Limits.{height, number_limit, numbers_in_range}
 use Rattle.syntax.specs.Parts.{null_tested}
 use Rattle.syntax.specs.Tree.{Constant, True, False, Null, PrefixOp, LogicalNot, Complement, ToWord, ToInt, BinaryOp, LogicalOr, LogicalAnd, Equal, NotEqual, Expr, Number, Named, Variable, Element, Prefix, Binary, Paren}
@@ -13,7 +12,7 @@ use Rattle.semantics.specs.Term as term
 use Rattle.semantics.specs.Term.{Term, binary_term, term_of}
 use Rattle.code_meaning.specs.Layout.{Slot, Known}
 use Rattle.code_meaning.specs.Slots.{IsNumberSort}
-use Rattle.code_meaning.specs.Fits.{IsVariable, IsIndexSort, IsNullable, OperatorFits, TermHasSort, IsUntouched, term_height, NumberFits}
+use Rattle.code_meaning.specs.Fits.{IsVariable, IsIndexSort, IsNullable, HasElements, OperatorFits, TermHasSort, IsUntouched, term_height, NumberFits}
 
 -- the sorts of the known names
 abbrev pub scope_of : Known → Scope
@@ -33,18 +32,6 @@ slot_of_name x ((y, slot) ∷ rest) s h =
 -- no variable is a truth
 abbrev pub HasNoTruth : Known → Type 0
 HasNoTruth known = (x : Identifier) (s : Slot) → lookup x known ≡ Some s → s.sort ≡ Truth → ⊥
-
--- a name that is no buffer
-abbrev pub IsNoBuffer : Known → Identifier → Type 0
-IsNoBuffer known x = (t : ElementType) (w : Bool) (i : ℕ) → lookup x known ≡ Some (record { sort = Buffer t w; index = i }) → ⊥
-
--- each element is one of an array
-abbrev pub ElementsFit : Known → Expr → Type 0
-ElementsFit known (Element x i) = IsNoBuffer known x × ElementsFit known i
-ElementsFit known (Prefix op a) = ElementsFit known a
-ElementsFit known (Binary op a b) = ElementsFit known a × ElementsFit known b
-ElementsFit known (Paren a) = ElementsFit known a
-ElementsFit known e = Unit {0}
 
 -- the sorts that an expression is worked out to
 abbrev pub IsValueSort : Sort → Type 0
@@ -82,9 +69,9 @@ nullable (Some FieldId) h = (FieldId, refl, tt)
 nullable (Some (Buffer t w)) h = (Buffer t w, refl, tt)
 nullable o h = absurd (cc)
 
-pub elements : (o : Option Sort) → has_elements o ≡ true → ((t : ElementType) × (w : Bool) × (o ≡ Some (Buffer t w))) ⊎ ((t : ElementType) × (n : ℕ) × (o ≡ Some (Array t n)))
-elements (Some (Buffer t w)) h = inl (t, w, refl)
-elements (Some (Array t n)) h = inr (t, n, refl)
+pub elements : (o : Option Sort) → has_elements o ≡ true → (r : Sort) × (o ≡ Some r) × HasElements r
+elements (Some (Buffer t w)) h = (Buffer t w, refl, tt)
+elements (Some (Array t n)) h = (Array t n, refl, tt)
 elements o h = absurd (cc)
 
 operands : (g : OperatorGroup) (a b : Option Sort) (s : Sort) → binary_sort g a b ≡ Some s → (r : Sort) × (a ≡ Some r) × (b ≡ Some r) × IsValueSort r × (s ≡ Truth ⊎ s ≡ Word) × ((g ≡ Logic) × (r ≡ Truth) × (s ≡ Truth) ⊎ OperatorFits g r s)
@@ -173,15 +160,14 @@ prefix_sorted known ToInt o s t h sorts =
     (r.0, r.2, sorts r.0 r.1 (number_is_value r.0 r.2), passed.1)
 prefix_sorted known op o s t h sorts = absurd (cc)
 
-element_sorted : (known : Known) (x : Identifier) (o : Option Sort) (s : Sort) (t : Term) → (if has_elements (sort_in (scope_of known) x) && is_index o then Some Jint else None) ≡ Some s → IsNoBuffer known x → HasSorts known t o → TermHasSort known (term.Element x t) s
-element_sorted known x o s t h no_buffer sorts =
+element_sorted : (known : Known) (x : Identifier) (o : Option Sort) (s : Sort) (t : Term) → (if has_elements (sort_in (scope_of known) x) && is_index o then Some Jint else None) ≡ Some s → HasSorts known t o → TermHasSort known (term.Element x t) s
+element_sorted known x o s t h sorts =
     let passed = given (has_elements (sort_in (scope_of known) x) && is_index o) Jint s h in
     let both = and_true (has_elements (sort_in (scope_of known) x)) (is_index o) passed.0 in
     let r = indexed o both.1 in
-    elim (elements (sort_in (scope_of known) x) both.0) [
-      | inl b ↦ let at = slot_of_name x known (Buffer b.0 b.1) b.2 in absurd (no_buffer b.0 b.1 at.0 at.1)
-      | inr a ↦ let at = slot_of_name x known (Array a.0 a.1) a.2 in (r.0, r.2, sorts r.0 r.1 (index_is_value r.0 r.2), (a.0, a.1, at.0, at.1), passed.1)
-    ]
+    let e = elements (sort_in (scope_of known) x) both.0 in
+    let at = slot_of_name x known e.0 e.1 in
+    (r.0, r.2, sorts r.0 r.1 (index_is_value r.0 r.2), (record { sort = e.0; index = at.0 }, at.1, e.2), passed.1)
 
 operator_sorted : (known : Known) (op : BinaryOp) (r s : Sort) (a b : Term) → TermHasSort known a r → TermHasSort known b r → ((group op ≡ Logic) × (r ≡ Truth) × (s ≡ Truth) ⊎ OperatorFits (group op) r s) → TermHasSort known (binary_term op None a b) s
 operator_sorted known LogicalOr r s a b h k (inl l) = (subst (TermHasSort known a) l.1 h, subst (TermHasSort known b) l.1 k, l.2)
@@ -216,16 +202,16 @@ variable_sorted known x Flag no_truth h v = let at = slot_of_name x known Flag h
 variable_sorted known x Truth no_truth h v = let at = slot_of_name x known Truth h in absurd (no_truth x (record { sort = Truth; index = at.0 }) at.1 refl)
 variable_sorted known x s no_truth h v = absurd v
 
-term_sort : (e : Expr) (known : Known) (s : Sort) → HasNoTruth known → ElementsFit known e → numbers_in_range e ≡ true → sort_of (scope_of known) e ≡ Some s → IsValueSort s → TermHasSort known (term_of e) s
-term_sort (Number n u) known s no_truth fit range h v = number_sorted known n u s h range
-term_sort (Named c) known s no_truth fit range h v = constant_sorted known c s h
-term_sort (Variable x) known s no_truth fit range h v = variable_sorted known x s no_truth h v
-term_sort (Element x i) known s no_truth fit range h v = element_sorted known x (sort_of (scope_of known) i) s (term_of i) h fit.0 (λ r e w. term_sort i known r no_truth fit.1 range e w)
-term_sort (Prefix op a) known s no_truth fit range h v = prefix_sorted known op (sort_of (scope_of known) a) s (term_of a) h (λ r e w. term_sort a known r no_truth fit range e w)
-term_sort (Binary op a b) known s no_truth fit range h v =
+term_sort : (e : Expr) (known : Known) (s : Sort) → HasNoTruth known → numbers_in_range e ≡ true → sort_of (scope_of known) e ≡ Some s → IsValueSort s → TermHasSort known (term_of e) s
+term_sort (Number n u) known s no_truth range h v = number_sorted known n u s h range
+term_sort (Named c) known s no_truth range h v = constant_sorted known c s h
+term_sort (Variable x) known s no_truth range h v = variable_sorted known x s no_truth h v
+term_sort (Element x i) known s no_truth range h v = element_sorted known x (sort_of (scope_of known) i) s (term_of i) h (λ r e w. term_sort i known r no_truth range e w)
+term_sort (Prefix op a) known s no_truth range h v = prefix_sorted known op (sort_of (scope_of known) a) s (term_of a) h (λ r e w. term_sort a known r no_truth range e w)
+term_sort (Binary op a b) known s no_truth range h v =
     let both = and_true (numbers_in_range a) (numbers_in_range b) range in
-    operation_sorted known op a b s h (λ r e w. term_sort a known r no_truth fit.0 both.0 e w) (λ r e w. term_sort b known r no_truth fit.1 both.1 e w)
-term_sort (Paren a) known s no_truth fit range h v = term_sort a known s no_truth fit range h v
+    operation_sorted known op a b s h (λ r e w. term_sort a known r no_truth both.0 e w) (λ r e w. term_sort b known r no_truth both.1 e w)
+term_sort (Paren a) known s no_truth range h v = term_sort a known s no_truth range h v
 
 -- ---- heights, and no values
 
@@ -267,13 +253,12 @@ low (Paren a) = let h = low a in omega (arith, h)
 
 -- ---- expressions
 
--- its elements are those of arrays, its numbers are in range, and it isn't nested too deep
-pub record IsFine (known : Known) (e : Expr) : Type 0 where
-  pub elements : ElementsFit known e
+-- its numbers are in range, and it isn't nested too deep
+pub record IsFine (e : Expr) : Type 0 where
   pub range : numbers_in_range e ≡ true
   pub low : height e ≤ 32
 
-pub number_fits : (known : Known) (e : Expr) (s : Sort) → HasNoTruth known → IsFine known e → sort_of (scope_of known) e ≡ Some s → IsValueSort s → NumberFits known (term_of e) s
+pub number_fits : (known : Known) (e : Expr) (s : Sort) → HasNoTruth known → IsFine e → sort_of (scope_of known) e ≡ Some s → IsValueSort s → NumberFits known (term_of e) s
 number_fits known e s no_truth fine h v =
     let few = low e in
-    record { sort = term_sort e known s no_truth fine.elements fine.range h v; untouched = untouched e; low = omega (arith, few, fine.low) }
+    record { sort = term_sort e known s no_truth fine.range h v; untouched = untouched e; low = omega (arith, few, fine.low) }

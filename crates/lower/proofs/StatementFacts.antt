@@ -5,23 +5,21 @@ use Rattle.base.specs.Bytes.{Identifier, lookup}
 use Rattle.base.specs.Element.{ElementType, JInt, JShort, JByte, JChar, same_element}
 use Rattle.base.specs.Options.{some_passes}
 use Rattle.syntax.specs.Limits.{height, highest, numbers_in_range}
-use Rattle.syntax.specs.Parts.{call_of_right_side, argument_expressions, call_expressions, right_side_expressions, test_expressions, names_in}
+use Rattle.syntax.specs.Parts.{call_of_right_side, argument_expressions, call_expressions, right_side_expressions, test_expressions}
 use Rattle.syntax.specs.Tree as tree
 use Rattle.syntax.specs.Tree.{ResultType, Void, IntResult, ReferenceResult, Expr, Argument, Call, RightSide, FromExpr, FromCall, Test, TestExpr, TestCall}
 use Rattle.jni.specs.Access.{Access, ElementsCopy, ArrayView, CharsCopy, CharsView}
 use Rattle.jni.specs.JniFunction.{function_named, prototype}
-use Rattle.jni.specs.Prototype.{ParameterKind, Nullable, NonNull, ClassObject, AnyArray, ObjectArray, StringObject, NumberArray, LocalVariable, StaticVariable, FieldID, IntNumber, TextBytes, ArrayVariable, BufferVariable, Mode, IsCopy, ResultKind, NewLocal, NewGlobal, GivesFlag, GivesInt, GivesField, GivesNothing}
+use Rattle.jni.specs.Prototype.{ParameterKind, Nullable, NonNull, ClassObject, AnyArray, ObjectArray, StringObject, NumberArray, LocalVariable, StaticVariable, FieldID, IntNumber, TextBytes, ArrayVariable, BufferVariable, Mode, IsCopy, ResultKind, NewLocal, NewGlobal, GivesFlag, GivesInt, GivesField, GivesBuffer, GivesNothing}
 use Rattle.type_rules.specs.Sorts.{Sort, Word, Jint, Flag, Truth, Ref, Global, FieldId, Buffer, Array, sort_in, sort_of, is_word, is_jint, is_flag, is_truth, is_index, has_elements, is_null, is_ref, is_global, is_field, is_reference, is_array_of, is_buffer_for, name_sort, text_fits, address_fits, argument_fits, arguments_fit, call_arguments_fit}
 use Rattle.type_rules.specs.SortRules.{result_fits, is_push, call_fits, may_be_tested, value_sets, right_side_sets, buffer_begins, test_fits, return_fits, has_wrong_count, has_wrong_mode, is_mode, is_mode_parameter, modes_fit, copies_reference}
 use Rattle.semantics.specs.Term as term
 use Rattle.semantics.specs.Term.{Term, Read, term_of}
-use Rattle.region_rules.specs.RegionStates.{RegionState}
 use Rattle.code_meaning.specs.Layout.{Slot, Known}
-use Rattle.code_meaning.specs.Fits.{IsVariable, IsArray, IsIndexSort, NumberFits, TakesLocal, TakesGlobal, NameFits, ReferenceFits, FieldFits, ArrayFits, BufferFits, ArgumentFits, CallFits, ResultFits, CallGives, ValueFits, RightFits, TestFits, ReturnFits}
-use Rattle.lower.proofs.SortFacts.{scope_of, slot_of_name, HasNoTruth, IsNoBuffer, IsFine, elements, indexed, index_is_value, number_fits}
+use Rattle.code_meaning.specs.Fits.{IsVariable, IsIndexSort, HasElements, NumberFits, TakesLocal, TakesGlobal, NameFits, ReferenceFits, FieldFits, ArrayFits, BufferFits, ArgumentFits, CallFits, ResultFits, CallGives, ValueFits, RightFits, TestFits, ReturnFits}
+use Rattle.lower.proofs.SortFacts.{scope_of, slot_of_name, HasNoTruth, IsFine, elements, indexed, index_is_value, number_fits}
 use Rattle.lower.proofs.PlaceFacts.{and_left, and_right, not_false}
-use Rattle.lower.proofs.BuiltCalls.{BuiltCall, built_call, is_taken, result_taken, is_tested}
-use Rattle.lower.proofs.BufferFacts.{IsBuilt, AreFree, AreNotFree, elements_fit, both_not_free}
+use Rattle.lower.proofs.BuiltCalls.{BuiltCall, built_call, is_tested, IsBuilt}
 
 -- ---- sorts by their tests
 
@@ -91,27 +89,22 @@ all_three a b c h = absurd (cc)
 -- ---- expressions
 
 -- each of the expressions is fine
-abbrev pub AreFine : Known → List Expr → Type 0
-AreFine known [] = Unit {0}
-AreFine known (e ∷ rest) = IsFine known e × AreFine known rest
+abbrev pub AreFine : List Expr → Type 0
+AreFine [] = Unit {0}
+AreFine (e ∷ rest) = IsFine e × AreFine rest
 
-pub are_fine : (all : List Expr) (known : Known) (state : RegionState) → AreFree known state → AreNotFree state (flat_map names_in all) → list_all numbers_in_range all ≡ true → highest (map height all) ≤ 32 → AreFine known all
-are_fine [] known state free uses range low = tt
-are_fine (e ∷ rest) known state free uses range low =
-    let both = both_not_free state (names_in e) (flat_map names_in rest) uses in (
-      record {
-        elements = elements_fit e known state free both.0;
-        range = and_left (numbers_in_range e) (list_all numbers_in_range rest) range;
-        low = omega (arith, low);
-      },
-      are_fine rest known state free both.1 (and_right (numbers_in_range e) (list_all numbers_in_range rest) range) (omega (arith, low)),
-    )
+pub are_fine : (all : List Expr) → list_all numbers_in_range all ≡ true → highest (map height all) ≤ 32 → AreFine all
+are_fine [] range low = tt
+are_fine (e ∷ rest) range low = (
+  record { range = and_left (numbers_in_range e) (list_all numbers_in_range rest) range; low = omega (arith, low) },
+  are_fine rest (and_right (numbers_in_range e) (list_all numbers_in_range rest) range) (omega (arith, low)),
+)
 
 -- ---- calls
 
-are_both : (known : Known) (front back : List Expr) → AreFine known (front ++ back) → AreFine known front × AreFine known back
-are_both known [] back h = (tt, h)
-are_both known (e ∷ front) back h = let both = are_both known front back h.1 in ((h.0, both.0), both.1)
+are_both : (front back : List Expr) → AreFine (front ++ back) → AreFine front × AreFine back
+are_both [] back h = (tt, h)
+are_both (e ∷ front) back h = let both = are_both front back h.1 in ((h.0, both.0), both.1)
 
 -- the expressions that are arguments of a call, where there is one
 abbrev pub called_expressions : Option Call → List Expr
@@ -124,7 +117,7 @@ pub record CallHolds (known : Known) (call : Option Call) : Type 0 where
   pub arguments : some_passes (λ c. not (call_arguments_fit (scope_of known) c (function_named c.function))) call ≡ false
   pub count : some_passes (λ c. has_wrong_count c (function_named c.function)) call ≡ false
   pub modes : some_passes (λ c. has_wrong_mode c (function_named c.function)) call ≡ false
-  pub fine : AreFine known (called_expressions call)
+  pub fine : AreFine (called_expressions call)
 
 module _ (known : Known) where
   reference_fits : (e : Expr) → (is_null e || is_reference (name_sort (scope_of known) e)) ≡ true → ReferenceFits known e
@@ -187,7 +180,7 @@ module _ (known : Known) where
   address_kept p x h mode = absurd (cc)
 
   module _ (no_truth : HasNoTruth known) where
-    value_kept : (p : ParameterKind) (e : Expr) → IsFine known e → argument_fits (scope_of known) p (tree.Value e) ≡ true → ModeIsKept p (tree.Value e) → ArgumentFits known p (tree.Value e)
+    value_kept : (p : ParameterKind) (e : Expr) → IsFine e → argument_fits (scope_of known) p (tree.Value e) ≡ true → ModeIsKept p (tree.Value e) → ArgumentFits known p (tree.Value e)
     value_kept IntNumber e fine h mode = number_fits known e Jint no_truth fine (jint_is (sort_of (scope_of known) e) h) tt
     value_kept FieldID e fine h mode = field_fits e h
     value_kept TextBytes e fine h mode = absurd (cc)
@@ -199,17 +192,17 @@ module _ (known : Known) where
     value_kept StaticVariable e fine h mode = name_fits Global e (global_is (name_sort (scope_of known) e) h)
     value_kept p e fine h mode = value_is_reference p e tt tt h
 
-    one_fits : (p : ParameterKind) (a : Argument) → AreFine known (argument_expressions a) → argument_fits (scope_of known) p a ≡ true → ModeIsKept p a → ArgumentFits known p a
+    one_fits : (p : ParameterKind) (a : Argument) → AreFine (argument_expressions a) → argument_fits (scope_of known) p a ≡ true → ModeIsKept p a → ArgumentFits known p a
     one_fits p (tree.Value e) fine h mode = value_kept p e fine.0 h mode
     one_fits p (tree.Text bytes) fine h mode = text_kept p bytes h mode
     one_fits p (tree.AddressOf x) fine h mode = address_kept p x h mode
 
-    all_fit : (parameters : List ParameterKind) (arguments : List Argument) → AreFine known (flat_map argument_expressions arguments) → arguments_fit (scope_of known) parameters arguments ≡ true → modes_fit parameters arguments ≡ true → length arguments ≡ length parameters → AllZip (ArgumentFits known) parameters arguments
+    all_fit : (parameters : List ParameterKind) (arguments : List Argument) → AreFine (flat_map argument_expressions arguments) → arguments_fit (scope_of known) parameters arguments ≡ true → modes_fit parameters arguments ≡ true → length arguments ≡ length parameters → AllZip (ArgumentFits known) parameters arguments
     all_fit [] [] fine h modes count = tt
     all_fit [] (a ∷ arguments) fine h modes count = absurd (omega (arith, count))
     all_fit (p ∷ parameters) [] fine h modes count = absurd (omega (arith, count))
     all_fit (p ∷ parameters) (a ∷ arguments) fine h modes count =
-        let both = are_both known (argument_expressions a) (flat_map argument_expressions arguments) fine in (
+        let both = are_both (argument_expressions a) (flat_map argument_expressions arguments) fine in (
           one_fits p a both.0 (and_left (argument_fits (scope_of known) p a) (arguments_fit (scope_of known) parameters arguments) h) (and_left (not (is_mode_parameter p) || is_mode a) (modes_fit parameters arguments) modes),
           all_fit parameters arguments both.1 (and_right (argument_fits (scope_of known) p a) (arguments_fit (scope_of known) parameters arguments) h) (and_right (not (is_mode_parameter p) || is_mode a) (modes_fit parameters arguments) modes) (omega (arith, count)),
         )
@@ -234,22 +227,22 @@ module _ (known : Known) where
     call_fits_name c holds = (fits_with c holds (built_call c (not_false _ holds.built))).0
 
     -- the sort of what takes a result
-    result_sort : (o : Option Sort) (gives : ResultKind) → is_taken gives ≡ true → result_fits o gives ≡ true → (s : Sort) × (o ≡ Some s) × ResultFits s gives
-    result_sort o GivesInt taken h = (Jint, jint_is o h, refl)
-    result_sort o GivesFlag taken h = (Flag, flag_is o h, refl)
-    result_sort o NewLocal taken h = (Ref, ref_is o h, refl)
-    result_sort (Some Global) NewGlobal taken h = (Global, refl, refl)
-    result_sort o NewGlobal taken h = absurd (cc)
-    result_sort o GivesField taken h = (FieldId, field_is o h, refl)
-    result_sort o GivesNothing taken h = absurd (cc)
-    result_sort o gives taken h = absurd (cc)
+    result_sort : (o : Option Sort) (gives : ResultKind) → result_fits o gives ≡ true → (s : Sort) × (o ≡ Some s) × ResultFits s gives
+    result_sort o GivesInt h = (Jint, jint_is o h, refl)
+    result_sort o GivesFlag h = (Flag, flag_is o h, refl)
+    result_sort o NewLocal h = (Ref, ref_is o h, refl)
+    result_sort (Some Global) NewGlobal h = (Global, refl, refl)
+    result_sort o NewGlobal h = absurd (cc)
+    result_sort o GivesField h = (FieldId, field_is o h, refl)
+    result_sort o (GivesBuffer access) h = let s = some_buffer access o h in (s.0, s.1, subst (λ (p : Option Sort). is_buffer_for access p ≡ true) s.1 h)
+    result_sort o GivesNothing h = absurd (cc)
 
     call_gives : (o : Option Sort) (c : Call) → CallHolds known (Some c) → call_fits o (function_named c.function) ≡ true → (s : Sort) × (o ≡ Some s) × CallGives known s c
     call_gives o c holds h =
         let is = built_call c (not_false _ holds.built) in
         let fits = fits_with c holds is in
         let known_fits : call_fits o (Some is.function) ≡ true = sym (ap (call_fits o) is.named) ∙ h in
-        let result = result_sort o (prototype is.function).result (result_taken is.function is.built) (and_right (not (is_push is.function)) (result_fits o (prototype is.function).result) known_fits) in
+        let result = result_sort o (prototype is.function).result (and_right (not (is_push is.function)) (result_fits o (prototype is.function).result) known_fits) in
         (result.0, result.1, record { fits = fits.0; result = subst (λ f. ResultFits result.0 (prototype f).result) (sym fits.1) result.2 })
 
     same_sort : (a b : Sort) → Some a ≡ Some b → a ≡ b
@@ -262,7 +255,7 @@ module _ (known : Known) where
 
     -- ---- right sides
 
-    value_fits : (s : Sort) (e : Expr) → IsFine known e → value_sets (scope_of known) (Some s) e ≡ true → copies_reference (scope_of known) (Some s) (Some (FromExpr e)) ≡ false → ValueFits known s e
+    value_fits : (s : Sort) (e : Expr) → IsFine e → value_sets (scope_of known) (Some s) e ≡ true → copies_reference (scope_of known) (Some s) (Some (FromExpr e)) ≡ false → ValueFits known s e
     value_fits Word e fine h k = number_fits known e Word no_truth fine (word_is (sort_of (scope_of known) e) h) tt
     value_fits Jint e fine h k = number_fits known e Jint no_truth fine (jint_is (sort_of (scope_of known) e) h) tt
     value_fits Flag e fine h k = number_fits known e Flag no_truth fine (flag_is (sort_of (scope_of known) e) h) tt
@@ -271,7 +264,7 @@ module _ (known : Known) where
     value_fits FieldId e fine h k = null_is e h
     value_fits s e fine h k = absurd (cc)
 
-    pub right_fits : (s : Sort) (r : RightSide) → AreFine known (right_side_expressions r) → CallHolds known (call_of_right_side (Some r)) → right_side_sets (scope_of known) (Some s) r ≡ true → copies_reference (scope_of known) (Some s) (Some r) ≡ false
+    pub right_fits : (s : Sort) (r : RightSide) → AreFine (right_side_expressions r) → CallHolds known (call_of_right_side (Some r)) → right_side_sets (scope_of known) (Some s) r ≡ true → copies_reference (scope_of known) (Some s) (Some r) ≡ false
         → RightFits known s r
     right_fits s (FromExpr e) fine holds h k = value_fits s e fine.0 h k
     right_fits s (FromCall c) fine holds h k = gives_sort s c holds h
@@ -285,7 +278,7 @@ module _ (known : Known) where
     assigned_sort None (FromExpr e) holds h = absurd (cc)
     assigned_sort None (FromCall c) holds h = absurd (let gives = call_gives None c holds h in let e : None ≡ Some gives.0 = gives.1 in cc)
 
-    pub assigned_fits : (x : Identifier) (r : RightSide) → AreFine known (right_side_expressions r) → CallHolds known (call_of_right_side (Some r)) → right_side_sets (scope_of known) (sort_in (scope_of known) x) r ≡ true
+    pub assigned_fits : (x : Identifier) (r : RightSide) → AreFine (right_side_expressions r) → CallHolds known (call_of_right_side (Some r)) → right_side_sets (scope_of known) (sort_in (scope_of known) x) r ≡ true
         → copies_reference (scope_of known) (sort_in (scope_of known) x) (Some r) ≡ false → (s : Slot) × (lookup x known ≡ Some s) × RightFits known s.sort r
     assigned_fits x r fine holds h k =
         let s = assigned_sort (sort_in (scope_of known) x) r holds h in
@@ -297,26 +290,25 @@ module _ (known : Known) where
 
     -- ---- other statements
 
-    pub element_fits : (x : Identifier) (i e : Expr) → IsNoBuffer known x → IsFine known i → IsFine known e → (has_elements (sort_in (scope_of known) x) && is_index (sort_of (scope_of known) i) && is_jint (sort_of (scope_of known) e)) ≡ true
-        → ((t : ElementType) × (size : ℕ) × (start : ℕ) × IsArray known x t size start) × ((r : Sort) × IsIndexSort r × NumberFits known (term_of i) r) × NumberFits known (term_of e) Jint
-    element_fits x i e no_buffer index value h =
+    pub element_fits : (x : Identifier) (i e : Expr) → IsFine i → IsFine e → (has_elements (sort_in (scope_of known) x) && is_index (sort_of (scope_of known) i) && is_jint (sort_of (scope_of known) e)) ≡ true
+        → ((n : Slot) × (lookup x known ≡ Some n) × HasElements n.sort) × ((r : Sort) × IsIndexSort r × NumberFits known (term_of i) r) × NumberFits known (term_of e) Jint
+    element_fits x i e index value h =
         let all = all_three (has_elements (sort_in (scope_of known) x)) (is_index (sort_of (scope_of known) i)) (is_jint (sort_of (scope_of known) e)) h in
+        let s = elements (sort_in (scope_of known) x) all.0 in
+        let at = slot_of_name x known s.0 s.1 in
         let r = indexed (sort_of (scope_of known) i) all.1 in (
-          elim (elements (sort_in (scope_of known) x) all.0) [
-            | inl b ↦ let at = slot_of_name x known (Buffer b.0 b.1) b.2 in absurd (no_buffer b.0 b.1 at.0 at.1)
-            | inr a ↦ let at = slot_of_name x known (Array a.0 a.1) a.2 in (a.0, a.1, at.0, at.1)
-          ],
+          (record { sort = s.0; index = at.0 }, at.1, s.2),
           (r.0, r.2, number_fits known i r.0 no_truth index r.1 (index_is_value r.0 r.2)),
           number_fits known e Jint no_truth value (jint_is (sort_of (scope_of known) e) all.2) tt,
         )
 
-    pub jint_fits : (e : Expr) → IsFine known e → is_jint (sort_of (scope_of known) e) ≡ true → NumberFits known (term_of e) Jint
+    pub jint_fits : (e : Expr) → IsFine e → is_jint (sort_of (scope_of known) e) ≡ true → NumberFits known (term_of e) Jint
     jint_fits e fine h = number_fits known e Jint no_truth fine (jint_is (sort_of (scope_of known) e) h) tt
 
-    pub truth_fits : (e : Expr) → IsFine known e → is_truth (sort_of (scope_of known) e) ≡ true → NumberFits known (term_of e) Truth
+    pub truth_fits : (e : Expr) → IsFine e → is_truth (sort_of (scope_of known) e) ≡ true → NumberFits known (term_of e) Truth
     truth_fits e fine h = number_fits known e Truth no_truth fine (truth_is (sort_of (scope_of known) e) h) tt
 
-    pub tested_fits : (test : Test) → AreFine known (test_expressions test) → ((c : Call) → test ≡ TestCall c → CallHolds known (Some c)) → test_fits (scope_of known) test ≡ true → TestFits known test
+    pub tested_fits : (test : Test) → AreFine (test_expressions test) → ((c : Call) → test ≡ TestCall c → CallHolds known (Some c)) → test_fits (scope_of known) test ≡ true → TestFits known test
     tested_fits (TestExpr e) fine holds h = truth_fits e fine.0 h
     tested_fits (TestCall c) fine holds h =
         let call = holds c refl in
@@ -337,7 +329,7 @@ module _ (known : Known) where
         (record { sort = Ref; index = at.0 }, at.1, inl refl)
     return_reference e h = absurd (cc)
 
-    pub returned_fits : (returns : ResultType) (e : Expr) → IsFine known e → return_fits (scope_of known) returns e ≡ true → ReturnFits known (term_of e)
+    pub returned_fits : (returns : ResultType) (e : Expr) → IsFine e → return_fits (scope_of known) returns e ≡ true → ReturnFits known (term_of e)
     returned_fits Void e fine h = absurd (cc)
     returned_fits IntResult e fine h = return_number (term_of e) (jint_fits e fine h)
     returned_fits (ReferenceResult r) e fine h = return_reference e h

@@ -1,5 +1,5 @@
 -- The instruction at a place does what the first task there does.
-use Rattle.std.proofs.Common.{◌≡◌, ℕ, ◌+◌, ◌<◌, ◌≤◌, ◌⊎◌, inl, inr, Bool, true, List, [], ◌∷◌, ◌++◌, length, Some, refl, sym, ap, ◌∙◌, subst, arith, append_assoc, length-append, Option}
+use Rattle.std.proofs.Common.{◌≡◌, ℕ, ◌+◌, ◌<◌, ◌≤◌, ◌⊎◌, inl, inr, Bool, List, [], ◌∷◌, ◌++◌, length, Some, refl, sym, ap, ◌∙◌, subst, arith, append_assoc, length-append, Option}
 use Rattle.std.specs.Prelude.{slice_set, is_none, IsTrue}
 use Rattle.std.specs.List.{list_any}
 use Rattle.std.specs.Int.{w32, cast_unsigned}
@@ -25,13 +25,13 @@ use Rattle.semantics.specs.Term.{Term, Done, reduce}
 use Rattle.semantics.specs.Value.{Value, Word, Int, Flag, Truth, Gives}
 use Rattle.code_meaning.specs.Layout.{Slot, Known}
 use Rattle.code_meaning.specs.Coding.{nullable_of, term_code}
-use Rattle.code_meaning.specs.Slots.{word_of, is_empty, Visible, Slots, ShowsSlot, Shows}
+use Rattle.code_meaning.specs.Slots.{word_of, is_empty, is_no_buffer, Visible, Slots, ShowsSlot, Shows, SeesBuffers}
 use Rattle.code_meaning.specs.Fits.{TermHasSort}
 use Rattle.code_meaning.specs.Stands.{held, IsBegun, HasAt, IsUnderWay, kind_of_sort, GoesTo, target_name, TasksStand, StandsFor, task_returns}
 use Rattle.code_meaning.specs.Does.{AtEnd, Works, CanBeNull, kind_of_target, IsStoredIn, DoesEffect}
 use Rattle.code_meaning.proofs.SlotLaws.{fewer_shown, number_below, shows_set, KindFits, shows_nulled, shows_made}
 use Rattle.lower.proofs.CodePlaces.{has_back}
-use Rattle.lower.proofs.TermSteps.{IsOpen, LeadsOver, TermGoes, TermTraps, steps_term}
+use Rattle.lower.proofs.TermSteps.{IsOpen, LeadsOver, TermGoes, TermTraps, IsStuck, steps_term}
 
 -- a term without a value takes its step inside its task
 pub into_task : (sight : Sight) (line : ℕ) (f : Value → Effect) (task : Term → Task) (t : Term) → IsOpen t → with_value sight line f task t ≡ goes_on line task (reduce sight t)
@@ -46,7 +46,7 @@ at_way P place (plain.Back n) skipped h k = absurd h
 at_way P place (plain.Trap t line) skipped h k = absurd h
 
 -- The place, with these names known, these operands and these slots, which show what can be seen.
-module _ (code : Listing) (known : Known) (place : ℕ) (stack : List ℕ) (slots : Slots) (visible : Visible) (shows : Shows code known visible slots) where
+module _ (code : Listing) (known : Known) (place : ℕ) (stack : List ℕ) (slots : Slots) (visible : Visible) (shows : Shows code known visible slots) (sees : SeesBuffers visible slots.buffers) where
   -- ---- a step inside an expression
 
   -- The expression is on the stack in front of `base`, and its instructions come before `after`.
@@ -58,7 +58,7 @@ module _ (code : Listing) (known : Known) (place : ℕ) (stack : List ℕ) (slot
         → TasksStand code known p (held u ++ base) (task u ∷ rest)
 
     outcome_does : (here : Instr) (more : List Instr) → term_code known line t ≡ here ∷ more → stack ≡ held t ++ base → HasAt code.instrs place (term_code known line t ++ rest_of) → ((u : Term) → IsTrue (list_any task_returns (task u ∷ rest))) → Further
-        → TermGoes known line slots visible t s here more ⊎ TermTraps known line slots visible t here → DoesEffect code known place stack slots visible rest (goes_on line task (reduce visible.sight t))
+        → TermGoes known line slots visible t s here more ⊎ TermTraps known line slots visible t here ⊎ IsStuck known line slots visible t → DoesEffect code known place stack slots visible rest (goes_on line task (reduce visible.sight t))
     outcome_does here more is operands at returns further (inl g) =
         let whole : HasAt code.instrs place ((here ∷ more) ++ rest_of) = subst (λ c. HasAt code.instrs place (c ++ rest_of)) is at in
         let cut : HasAt code.instrs (place + 1) ((g.skipped ++ term_code known line g.next) ++ rest_of) = subst (λ c. HasAt code.instrs (place + 1) (c ++ rest_of)) g.code whole.1 in
@@ -75,20 +75,21 @@ module _ (code : Listing) (known : Known) (place : ℕ) (stack : List ℕ) (slot
           shows = shows;
           stands = at_way (λ p. StandsFor code known p (held g.next ++ base) (task g.next ∷ rest)) place g.way g.skipped g.leads (record { stand = further (place + 1 + length g.skipped) g.next g.sort g.begun there size; returns = returns g.next });
         })
-    outcome_does here more is operands at returns further (inr g) =
+    outcome_does here more is operands at returns further (inr (inl g)) =
         let whole : HasAt code.instrs place ((here ∷ more) ++ rest_of) = subst (λ c. HasAt code.instrs place (c ++ rest_of)) is at in
         subst (λ r. DoesEffect code known place stack slots visible rest (goes_on line task r)) (sym g.is) (record {
           here = here;
           trap = g.trap;
           is = refl;
           at = whole.0;
-          plain = subst (λ a. plain_of here a slots.numbers ≡ Some (plain.Trap g.trap line, a, slots.numbers)) (sym operands) (g.plain base);
+          works = subst (λ a. Works visible slots here a (plain.Trap g.trap line) a) (sym operands) (g.works base);
         })
+    outcome_does here more is operands at returns further (inr (inr none)) = subst (λ r. DoesEffect code known place stack slots visible rest (goes_on line task r)) (sym none) tt
 
     pub step_inside : IsOpen t → TermHasSort known t s → IsBegun t → stack ≡ held t ++ base → HasAt code.instrs place (term_code known line t ++ rest_of) → ((u : Term) → IsTrue (list_any task_returns (task u ∷ rest))) → Further
         → DoesEffect code known place stack slots visible rest (goes_on line task (reduce visible.sight t))
     step_inside o sorted begun operands at returns further =
-        let st = steps_term known line slots visible shows.each t s o sorted begun in
+        let st = steps_term known line slots visible shows.each sees t s o sorted begun in
         outcome_does st.here st.more st.code operands at returns further st.outcome
 
   -- the same where the expression is alone on the stack
@@ -156,7 +157,7 @@ module _ (code : Listing) (known : Known) (place : ℕ) (stack : List ℕ) (slot
   shown_null x s Ref variable e h = (is_none h.reference, h.is_null)
   shown_null x s Global variable e h = (is_empty h.static.held, h.is_null)
   shown_null x s FieldId variable e h = (is_none h.field, h.is_null)
-  shown_null x s (Buffer t writable) variable e h = (true, h.is_null)
+  shown_null x s (Buffer t writable) variable e h = (is_no_buffer h.buffer, h.is_null)
   shown_null x s kind variable e h = absurd (cc)
 
   -- a variable that can be NULL is declared as no number

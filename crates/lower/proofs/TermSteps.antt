@@ -1,6 +1,6 @@
 -- The first instruction of a term's code replaces the leftmost part that can be reduced, or traps where it does.
-use Rattle.std.proofs.Common.{◌≡◌, ℕ, zero, suc, ℤ, pos, negsuc, ◌+◌, ◌-◌, ◌<◌, ◌≤◌, ◌^◌, ◌%◌, ◌*◌, ◌/◌, ◌⊎◌, inl, inr, lit<, Bool, true, false, not, List, [], ◌∷◌, ◌++◌, length, Option, Some, refl, sym, ap, ◌∙◌, subst, arith, append_assoc}
-use Rattle.std.specs.Prelude.{FitsSigned, nat_lt, nat_le, int_lt, int_le, is_none, ◌==◌}
+use Rattle.std.proofs.Common.{◌≡◌, ℕ, zero, suc, ℤ, pos, negsuc, ◌+◌, ◌-◌, ◌<◌, ◌≤◌, ◌^◌, ◌%◌, ◌*◌, ◌/◌, ◌⊎◌, inl, inr, lit<, Bool, true, false, not, List, [], ◌∷◌, ◌++◌, length, Option, Some, None, if◌then◌else◌, refl, sym, ap, ◌∙◌, subst, arith, append_assoc}
+use Rattle.std.specs.Prelude.{FitsSigned, nat_lt, nat_le, int_lt, int_le, is_none, slice_get, ◌==◌}
 use Rattle.std.specs.Bool.{beq}
 use Rattle.std.specs.Ordering.{int_eq}
 use Rattle.std.specs.Option.{option_map}
@@ -13,6 +13,8 @@ use Rattle.std.proofs.lemmas.Bool.Decides.{Decides-eqb, Decides-int_eq, same_fro
 use Rattle.syntax.specs.Tree as tree
 use Rattle.syntax.specs.Tree.{PrefixOp, LogicalNot, Complement, ToWord, ToInt, BinaryOp, LogicalOr, LogicalAnd, BitOr, BitXor, BitAnd, Equal, NotEqual, Less, LessEqual, Greater, GreaterEqual, ShiftLeft, ShiftRight, Add, Subtract, Multiply, Divide, Remainder}
 use Rattle.base.specs.Bytes.{Identifier, lookup}
+use Rattle.semantics.specs.Sight.{in_range}
+use Rattle.semantics.specs.Variable as variable
 use Rattle.semantics.specs.Variable.{StaticReference}
 use Rattle.code_meaning.proofs.StaticPlaces.{there_at}
 use Rattle.base.specs.Element.{ElementType, JInt}
@@ -29,15 +31,15 @@ use Rattle.code.specs.declared.instr.Plain.TheVariants as plain
 use Rattle.code.specs.declared.instr.PlainTrap.{PlainTrap}
 use Rattle.code.specs.declared.instr.PlainTrap.TheVariants as trap
 use Rattle.code.specs.Effect.{plain_of, truth_word, operate}
-use Rattle.semantics.specs.Value.{Value, Word, Int, Flag, Truth, Gives, Traps, outcome_map, convert}
+use Rattle.semantics.specs.Value.{Value, Word, Int, Flag, Truth, OutOfRange, Gives, Traps, Stuck, outcome_map, convert}
 use Rattle.semantics.specs.Term as term
 use Rattle.semantics.specs.Term.{Term, Done, Read, IsNull, Prefix, And, Or, Binary, Reduction, done, with_part, reduce}
 use Rattle.code_meaning.specs.Layout.{Slot, Known}
 use Rattle.code_meaning.specs.Coding.{nullable_of, test_of, null_code, element_code, of_slot, load_code, prefix_code, operator_code, is_signed, skip_code, term_code}
-use Rattle.code_meaning.specs.Slots.{word_of, ValueHasSort, IsNumberSort, Visible, Slots, is_empty, ShowsNumber, ShowsArray, ShowsSlot, holds_null}
-use Rattle.code_meaning.specs.Fits.{IsIndexSort, IsNullable, OperatorFits, TermHasSort, IsUntouched}
+use Rattle.code_meaning.specs.Slots.{word_of, ValueHasSort, IsNumberSort, Visible, Slots, is_empty, is_no_buffer, ShowsNumber, ShowsArray, ShowsBuffer, ShowsSlot, elements_in, seen_element, SeesBuffers, slot_elements, holds_null}
+use Rattle.code_meaning.specs.Fits.{IsIndexSort, IsNullable, HasElements, OperatorFits, TermHasSort, IsUntouched}
 use Rattle.code_meaning.specs.Stands.{held, IsBegun}
-use Rattle.code_meaning.specs.Does.{trap_of, Works}
+use Rattle.code_meaning.specs.Does.{trap_of, Loads, Works}
 
 -- some part has no value yet
 abbrev pub IsOpen : Term → Type 0
@@ -118,8 +120,8 @@ signed_is known (Binary op a b) s h = sym (result_unsigned (group op) h.0 s h.1)
 -- ---- numbers
 
 -- a number of 32 bits is its own remainder
-in_range : (n : ℕ) → n < 2 ^ 32 → n % 2 ^ 32 ≡ n
-in_range n h = omega arith
+own_remainder : (n : ℕ) → n < 2 ^ 32 → n % 2 ^ 32 ≡ n
+own_remainder n h = omega arith
 
 -- what a word becomes by the cast to `jint`
 abbrev convert_int : ℕ → ℤ
@@ -127,10 +129,10 @@ convert_int n = convert JInt (pos n)
 
 -- a word that becomes a `jint` keeps its bits
 same_word : (n : ℕ) → n < 2 ^ 32 → cast_unsigned w32 (convert_int n) ≡ n
-same_word n h = rw (in_range n h) (of_z-to_z {w = w32} (Fits-of_lt h))
+same_word n h = rw (own_remainder n h) (of_z-to_z {w = w32} (Fits-of_lt h))
 
 int_fits : (n : ℕ) → n < 2 ^ 32 → FitsSigned w32 (convert_int n)
-int_fits n h = rw (in_range n h) (sfits_to_z (Fits-of_lt h))
+int_fits n h = rw (own_remainder n h) (sfits_to_z (Fits-of_lt h))
 
 -- `jint`s are equal where their words are
 equal_words : (a b : ℤ) → FitsSigned w32 a → FitsSigned w32 b → int_eq a b ≡ (cast_unsigned w32 a == cast_unsigned w32 b)
@@ -172,14 +174,18 @@ module _ (known : Known) (line : ℕ) (slots : Slots) (visible : Visible) where
   pub record TermTraps (t : Term) (here : Instr) : Type 0 where
     pub trap : PlainTrap
     pub is : reduce visible.sight t ≡ Traps (trap_of trap)
-    pub plain : (stack : List ℕ) → plain_of here (held t ++ stack) slots.numbers ≡ Some (plain.Trap trap line, held t ++ stack, slots.numbers)
+    pub works : (stack : List ℕ) → Works visible slots here (held t ++ stack) (plain.Trap trap line) (held t ++ stack)
+
+  -- nothing fits
+  abbrev pub IsStuck : Term → Type 0
+  IsStuck t = reduce visible.sight t ≡ Stuck
 
   -- a term's step, and what the instruction for it does
   pub record StepsTerm (t : Term) (s : Sort) : Type 0 where
     pub here : Instr
     pub more : List Instr
     pub code : term_code known line t ≡ here ∷ more
-    pub outcome : TermGoes t s here more ⊎ TermTraps t here
+    pub outcome : TermGoes t s here more ⊎ TermTraps t here ⊎ IsStuck t
 
   -- a part becomes a value by one instruction
   gives_value : (t : Term) (v : Value) (s : Sort) (here : Instr) → term_code known line t ≡ here ∷ [] → reduce visible.sight t ≡ Gives (Done v) → ((stack : List ℕ) → Works visible slots here (held t ++ stack) plain.Next (word_of v ∷ stack)) → ValueHasSort v s → StepsTerm t s
@@ -191,8 +197,11 @@ module _ (known : Known) (line : ℕ) (slots : Slots) (visible : Visible) where
   }
 
   gives_trap : (t : Term) (s : Sort) (here : Instr) (reason : PlainTrap) → term_code known line t ≡ here ∷ [] → reduce visible.sight t ≡ Traps (trap_of reason)
-      → ((stack : List ℕ) → plain_of here (held t ++ stack) slots.numbers ≡ Some (plain.Trap reason line, held t ++ stack, slots.numbers)) → StepsTerm t s
-  gives_trap t s here reason code is works = record { here = here; more = []; code = code; outcome = inr (record { trap = reason; is = is; plain = works }) }
+      → ((stack : List ℕ) → Works visible slots here (held t ++ stack) (plain.Trap reason line) (held t ++ stack)) → StepsTerm t s
+  gives_trap t s here reason code is works = record { here = here; more = []; code = code; outcome = inr (inl (record { trap = reason; is = is; works = works })) }
+
+  gives_nothing : (t : Term) (s : Sort) (here : Instr) → term_code known line t ≡ here ∷ [] → IsStuck t → StepsTerm t s
+  gives_nothing t s here code is = record { here = here; more = []; code = code; outcome = inr (inr is) }
 
   -- ---- a part inside a term
 
@@ -205,7 +214,8 @@ module _ (known : Known) (line : ℕ) (slots : Slots) (visible : Visible) where
     sorts : (u : Term) → TermHasSort known u r → TermHasSort known (whole u) s
     begins : (u : Term) → IsBegun u → IsBegun (whole u)
 
-  inside_outcome : (whole : Term → Term) (t : Term) (r s : Sort) (here : Instr) (more : List Instr) → (i : Inside whole t r s) → TermGoes t r here more ⊎ TermTraps t here → TermGoes (whole t) s here (more ++ i.tail) ⊎ TermTraps (whole t) here
+  inside_outcome : (whole : Term → Term) (t : Term) (r s : Sort) (here : Instr) (more : List Instr) → (i : Inside whole t r s) → TermGoes t r here more ⊎ TermTraps t here ⊎ IsStuck t
+      → TermGoes (whole t) s here (more ++ i.tail) ⊎ TermTraps (whole t) here ⊎ IsStuck (whole t)
   inside_outcome whole t r s here more i (inl g) = inl (record {
     next = whole g.next;
     is = i.reduces ∙ ap (outcome_map whole) g.is;
@@ -217,11 +227,12 @@ module _ (known : Known) (line : ℕ) (slots : Slots) (visible : Visible) where
     sort = i.sorts g.next g.sort;
     begun = i.begins g.next g.begun;
   })
-  inside_outcome whole t r s here more i (inr g) = inr (record {
+  inside_outcome whole t r s here more i (inr (inl g)) = inr (inl (record {
     trap = g.trap;
     is = i.reduces ∙ ap (outcome_map whole) g.is;
-    plain = λ stack. rw (i.holds t, append_assoc (held t) i.base stack) (g.plain (i.base ++ stack));
-  })
+    works = λ stack. rw (i.holds t, append_assoc (held t) i.base stack) (g.works (i.base ++ stack));
+  }))
+  inside_outcome whole t r s here more i (inr (inr is)) = inr (inr (i.reduces ∙ ap (outcome_map whole) is))
 
   inside : (whole : Term → Term) (t : Term) (r s : Sort) → Inside whole t r s → TermHasSort known t r → StepsTerm t r → StepsTerm (whole t) s
   inside whole t r s i h st = record {
@@ -522,7 +533,7 @@ module _ (known : Known) (line : ℕ) (slots : Slots) (visible : Visible) where
     holds = ap (option_map (λ (named : Identifier × StaticReference). is_empty named.1)) (there_at x s.index h.static.held visible.statics h.static.place h.static.there);
   }
   shows_null x s FieldId n h = record { null = is_none h.field; is = h.is_null; variable = nullable.FieldId s.index; same = refl; holds = ap (option_map is_none) h.there }
-  shows_null x s (Buffer t writable) n h = record { null = true; is = h.is_null; variable = nullable.Buffer s.index; same = refl; holds = refl }
+  shows_null x s (Buffer t writable) n h = record { null = is_no_buffer h.buffer; is = h.is_null; variable = nullable.Buffer s.index; same = refl; holds = ap (option_map is_no_buffer) h.there }
   shows_null x s kind n h = absurd n
 
   same_truth : (b : Bool) → truth_word b ≡ truth_word (beq b true)
@@ -565,6 +576,63 @@ module _ (known : Known) (line : ℕ) (slots : Slots) (visible : Visible) where
   index_step x (Flag b) r s t size start at shown i h e = absurd (subst IsIndexSort h i)
   index_step x (Truth b) r s t size start at shown i h e = absurd (subst IsIndexSort h i)
 
+  -- a buffer, of which the elements are seen
+  module _ (sees : SeesBuffers visible slots.buffers) where
+    -- no element is at an index that is negative
+    pub none_negative : (i : ℕ) (b : variable.Buffer) (n : ℕ) → slice_get slots.buffers i ≡ Some b → FitsSigned w32 (negsuc n) → slice_get (elements_in b visible.numbers) (cast_unsigned w32 (negsuc n)) ≡ None
+    none_negative i b n there fits = by_found (slice_get (elements_in b visible.numbers) (cast_unsigned w32 (negsuc n))) refl
+      where
+        by_found : (o : Option ℤ) → slice_get (elements_in b visible.numbers) (cast_unsigned w32 (negsuc n)) ≡ o → o ≡ None
+        by_found None e = refl
+        by_found (Some z) e = absurd (let low = (sees.fit i (cast_unsigned w32 (negsuc n)) b z there e).0 in omega (arith, fits.sfits, low))
+
+    -- what is seen of one
+    pub seen_as : (x : Identifier) (t : ElementType) (i k : ℕ) (h : ShowsBuffer visible x slots.buffers t i) (null : Bool) → is_no_buffer h.buffer ≡ null → visible.sight.element x k ≡ (if null then Stuck else in_range (slice_get (elements_in h.buffer visible.numbers) k))
+    seen_as x t i k h null is =
+        sees.seen x t k h.kind ∙ ap (λ (b : variable.Buffer). seen_element b visible.numbers k) h.is ∙ ap (λ (q : Bool). if q then Stuck else in_range (slice_get (elements_in h.buffer visible.numbers) k)) is
+
+    -- what is in the slot has these elements
+    pub slot_has : (x : Identifier) (t : ElementType) (i : ℕ) → (h : ShowsBuffer visible x slots.buffers t i) → slot_elements visible slots i ≡ Some (elements_in h.buffer visible.numbers)
+    slot_has x t i h = ap (option_map (λ (b : variable.Buffer). elements_in b visible.numbers)) h.there
+
+    -- an element is there, or none
+    loaded : (x : Identifier) (t : ElementType) (i k word : ℕ) (stack : List ℕ) (h : ShowsBuffer visible x slots.buffers t i) (found : Option ℤ) (way : Plain) (after : List ℕ) → word ≡ k → slice_get (elements_in h.buffer visible.numbers) k ≡ found
+        → Loads line word stack found way after → Works visible slots (instr.LoadBuffer i line) (word ∷ stack) way after
+    loaded x t i k word stack h found way after same is loads =
+        (elements_in h.buffer visible.numbers, slot_has x t i h, subst (λ (o : Option ℤ). Loads line word stack o way after) (sym (ap (slice_get (elements_in h.buffer visible.numbers)) same ∙ is)) loads)
+
+    -- an index that isn't negative
+    buffer_element : (x : Identifier) (v : Value) (s : Sort) (t : ElementType) (writable : Bool) (i k : ℕ) → lookup x known ≡ Some (record { sort = Buffer t writable; index = i }) → (h : ShowsBuffer visible x slots.buffers t i)
+        → word_of v ≡ k → term.index_of v ≡ Gives k → s ≡ Jint → (null : Bool) → is_no_buffer h.buffer ≡ null → (found : Option ℤ) → slice_get (elements_in h.buffer visible.numbers) k ≡ found → StepsTerm (term.Element x (Done v)) s
+    buffer_element x v s t writable i k at h word index e true null found is =
+        gives_nothing (term.Element x (Done v)) s (instr.LoadBuffer i line) (ap (of_slot (element_code line)) at) (rw (index, seen_as x t i k h true null) refl)
+    buffer_element x v s t writable i k at h word index e false null (Some z) is =
+        let seen : visible.sight.element x k ≡ Gives z = seen_as x t i k h false null ∙ ap in_range is in
+        gives_value (term.Element x (Done v)) (Int z) s (instr.LoadBuffer i line) (ap (of_slot (element_code line)) at) (rw (index, seen) refl)
+        (λ stack. loaded x t i k (word_of v) stack h (Some z) plain.Next (cast_unsigned w32 z ∷ stack) word is (refl, refl)) ((sees.fit i k h.buffer z h.there is).1, e)
+    buffer_element x v s t writable i k at h word index e false null None is =
+        let seen : visible.sight.element x k ≡ Traps OutOfRange = seen_as x t i k h false null ∙ ap in_range is in
+        gives_trap (term.Element x (Done v)) s (instr.LoadBuffer i line) trap.OutOfRange (ap (of_slot (element_code line)) at) (rw (index, seen) refl)
+        (λ stack. loaded x t i k (word_of v) stack h None (plain.Trap trap.OutOfRange line) (word_of v ∷ stack) word is (refl, refl))
+
+    buffer_index : (x : Identifier) (v : Value) (r s : Sort) (t : ElementType) (writable : Bool) (i : ℕ) → lookup x known ≡ Some (record { sort = Buffer t writable; index = i }) → ShowsBuffer visible x slots.buffers t i → IsIndexSort r → ValueHasSort v r → s ≡ Jint
+        → StepsTerm (term.Element x (Done v)) s
+    buffer_index x (Word n) r s t writable i at h index fits e = buffer_element x (Word n) s t writable i n at h refl refl e (is_no_buffer h.buffer) refl (slice_get (elements_in h.buffer visible.numbers) n) refl
+    buffer_index x (Int (pos n)) r s t writable i at h index fits e = buffer_element x (Int (pos n)) s t writable i n at h refl refl e (is_no_buffer h.buffer) refl (slice_get (elements_in h.buffer visible.numbers) n) refl
+    buffer_index x (Int (negsuc n)) r s t writable i at h index fits e =
+        let word = cast_unsigned w32 (negsuc n) in
+        gives_trap (term.Element x (Done (Int (negsuc n)))) s (instr.LoadBuffer i line) trap.OutOfRange (ap (of_slot (element_code line)) at) refl
+        (λ stack. loaded x t i word word stack h None (plain.Trap trap.OutOfRange line) (word ∷ stack) refl (none_negative i h.buffer n h.there fits.0) (refl, refl))
+    buffer_index x (Flag b) r s t writable i at h index fits e = absurd (subst IsIndexSort fits index)
+    buffer_index x (Truth b) r s t writable i at h index fits e = absurd (subst IsIndexSort fits index)
+
+    -- a name that has elements
+    named_element : (x : Identifier) (v : Value) (r s kind : Sort) (i : ℕ) → HasElements kind → lookup x known ≡ Some (record { sort = kind; index = i }) → ShowsSlot visible x slots (record { sort = kind; index = i }) kind → IsIndexSort r → ValueHasSort v r → s ≡ Jint
+        → StepsTerm (term.Element x (Done v)) s
+    named_element x v r s (Array t size) i has at shown index fits e = index_step x v r s t size i at shown index fits e
+    named_element x v r s (Buffer t writable) i has at shown index fits e = buffer_index x v r s t writable i at shown index fits e
+    named_element x v r s kind i has at shown index fits e = absurd has
+
   -- ---- all terms
 
   -- the slots show each known name
@@ -578,28 +646,28 @@ module _ (known : Known) (line : ℕ) (slots : Slots) (visible : Visible) where
   shows_number x s sort.Flag kind h = h
   shows_number x s other kind h = absurd kind
 
-  pub steps_term : AllShown → (t : Term) (s : Sort) → IsOpen t → TermHasSort known t s → IsBegun t → StepsTerm t s
-  steps_term shown (Done v) s o h b = absurd o
-  steps_term shown (term.Number n true) s o h b = gives_value (term.Number n true) (Word n) s (instr.Push n) refl refl (λ stack. refl) h
-  steps_term shown (term.Number n false) s o h b = gives_value (term.Number n false) (Int (pos n)) s (instr.Push n) refl refl (λ stack. refl) (record { sfits = h.0 }, h.1)
-  steps_term shown (term.Named tree.True) s o h b = gives_value (term.Named tree.True) (Flag true) s (instr.Push 1) refl refl (λ stack. refl) h
-  steps_term shown (term.Named tree.False) s o h b = gives_value (term.Named tree.False) (Flag false) s (instr.Push 0) refl refl (λ stack. refl) h
-  steps_term shown (term.Named c) s o h b = absurd h
-  steps_term shown (Read x) s o h b =
+  pub steps_term : AllShown → SeesBuffers visible slots.buffers → (t : Term) (s : Sort) → IsOpen t → TermHasSort known t s → IsBegun t → StepsTerm t s
+  steps_term shown sees (Done v) s o h b = absurd o
+  steps_term shown sees (term.Number n true) s o h b = gives_value (term.Number n true) (Word n) s (instr.Push n) refl refl (λ stack. refl) h
+  steps_term shown sees (term.Number n false) s o h b = gives_value (term.Number n false) (Int (pos n)) s (instr.Push n) refl refl (λ stack. refl) (record { sfits = h.0 }, h.1)
+  steps_term shown sees (term.Named tree.True) s o h b = gives_value (term.Named tree.True) (Flag true) s (instr.Push 1) refl refl (λ stack. refl) h
+  steps_term shown sees (term.Named tree.False) s o h b = gives_value (term.Named tree.False) (Flag false) s (instr.Push 0) refl refl (λ stack. refl) h
+  steps_term shown sees (term.Named c) s o h b = absurd h
+  steps_term shown sees (Read x) s o h b =
       let slot : Slot = record { sort = s; index = h.0 } in
       read_step x slot h.1 (shows_number x slot s h.2 (shown x slot h.1))
-  steps_term shown (term.Element x (Done v)) s o h b = index_step x v h.0 s h.3.0 h.3.1 h.3.2 h.3.3 (shown x (record { sort = Array h.3.0 h.3.1; index = h.3.2 }) h.3.3) h.1 h.2 h.4
-  steps_term shown (term.Element x t) s o h b = inside (term.Element x) t h.0 s (in_element x t h.0 s tt (λ u k. (h.0, h.1, k, h.3, h.4))) h.2 (steps_term shown t h.0 tt h.2 b)
-  steps_term shown (IsNull equal x) s o h b = null_step equal x h.0.0 s h.0.1 (shows_null x h.0.0 h.0.0.sort h.0.2 (shown x h.0.0 h.0.1)) h.1
-  steps_term shown (Prefix op (Done v)) s o h b = prefix_step op v s h
-  steps_term shown (Prefix LogicalNot t) s o h b = inside (Prefix LogicalNot) t sort.Truth s (in_prefix LogicalNot t sort.Truth s tt (λ u k. (k, h.1))) h.0 (steps_term shown t sort.Truth tt h.0 b)
-  steps_term shown (Prefix Complement t) s o h b = inside (Prefix Complement) t sort.Word s (in_prefix Complement t sort.Word s tt (λ u k. (k, h.1))) h.0 (steps_term shown t sort.Word tt h.0 b)
-  steps_term shown (Prefix ToWord t) s o h b = inside (Prefix ToWord) t h.0 s (in_prefix ToWord t h.0 s tt (λ u k. (h.0, h.1, k, h.3))) h.2 (steps_term shown t h.0 tt h.2 b)
-  steps_term shown (Prefix ToInt t) s o h b = inside (Prefix ToInt) t h.0 s (in_prefix ToInt t h.0 s tt (λ u k. (h.0, h.1, k, h.3))) h.2 (steps_term shown t h.0 tt h.2 b)
-  steps_term shown (And (Done v) c) s o h b = and_step c s v h.0 h.1 h.2 b.1
-  steps_term shown (And a c) s o h b = inside (λ u. And u c) a sort.Truth s (in_and a c s tt b.1 h.1 h.2) h.0 (steps_term shown a sort.Truth tt h.0 b.0)
-  steps_term shown (Or (Done v) c) s o h b = or_step c s v h.0 h.1 h.2 b.1
-  steps_term shown (Or a c) s o h b = inside (λ u. Or u c) a sort.Truth s (in_or a c s tt b.1 h.1 h.2) h.0 (steps_term shown a sort.Truth tt h.0 b.0)
-  steps_term shown (Binary op (Done v) (Done w)) s o h b = values_step op v w h.0 s h.1 h.2 h.3
-  steps_term shown (Binary op (Done v) c) s o h b = inside (Binary op (Done v)) c h.0 s (in_right op v c h.0 s tt h.1 h.2) h.3 (steps_term shown c h.0 tt h.3 b)
-  steps_term shown (Binary op a c) s o h b = inside (λ u. Binary op u c) a h.0 s (in_left op a c h.0 s tt b.1 h.1 h.3) h.2 (steps_term shown a h.0 tt h.2 b.0)
+  steps_term shown sees (term.Element x (Done v)) s o h b = named_element sees x v h.0 s h.3.0.sort h.3.0.index h.3.2 h.3.1 (shown x h.3.0 h.3.1) h.1 h.2 h.4
+  steps_term shown sees (term.Element x t) s o h b = inside (term.Element x) t h.0 s (in_element x t h.0 s tt (λ u k. (h.0, h.1, k, h.3, h.4))) h.2 (steps_term shown sees t h.0 tt h.2 b)
+  steps_term shown sees (IsNull equal x) s o h b = null_step equal x h.0.0 s h.0.1 (shows_null x h.0.0 h.0.0.sort h.0.2 (shown x h.0.0 h.0.1)) h.1
+  steps_term shown sees (Prefix op (Done v)) s o h b = prefix_step op v s h
+  steps_term shown sees (Prefix LogicalNot t) s o h b = inside (Prefix LogicalNot) t sort.Truth s (in_prefix LogicalNot t sort.Truth s tt (λ u k. (k, h.1))) h.0 (steps_term shown sees t sort.Truth tt h.0 b)
+  steps_term shown sees (Prefix Complement t) s o h b = inside (Prefix Complement) t sort.Word s (in_prefix Complement t sort.Word s tt (λ u k. (k, h.1))) h.0 (steps_term shown sees t sort.Word tt h.0 b)
+  steps_term shown sees (Prefix ToWord t) s o h b = inside (Prefix ToWord) t h.0 s (in_prefix ToWord t h.0 s tt (λ u k. (h.0, h.1, k, h.3))) h.2 (steps_term shown sees t h.0 tt h.2 b)
+  steps_term shown sees (Prefix ToInt t) s o h b = inside (Prefix ToInt) t h.0 s (in_prefix ToInt t h.0 s tt (λ u k. (h.0, h.1, k, h.3))) h.2 (steps_term shown sees t h.0 tt h.2 b)
+  steps_term shown sees (And (Done v) c) s o h b = and_step c s v h.0 h.1 h.2 b.1
+  steps_term shown sees (And a c) s o h b = inside (λ u. And u c) a sort.Truth s (in_and a c s tt b.1 h.1 h.2) h.0 (steps_term shown sees a sort.Truth tt h.0 b.0)
+  steps_term shown sees (Or (Done v) c) s o h b = or_step c s v h.0 h.1 h.2 b.1
+  steps_term shown sees (Or a c) s o h b = inside (λ u. Or u c) a sort.Truth s (in_or a c s tt b.1 h.1 h.2) h.0 (steps_term shown sees a sort.Truth tt h.0 b.0)
+  steps_term shown sees (Binary op (Done v) (Done w)) s o h b = values_step op v w h.0 s h.1 h.2 h.3
+  steps_term shown sees (Binary op (Done v) c) s o h b = inside (Binary op (Done v)) c h.0 s (in_right op v c h.0 s tt h.1 h.2) h.3 (steps_term shown sees c h.0 tt h.3 b)
+  steps_term shown sees (Binary op a c) s o h b = inside (λ u. Binary op u c) a h.0 s (in_left op a c h.0 s tt b.1 h.1 h.3) h.2 (steps_term shown sees a h.0 tt h.2 b.0)

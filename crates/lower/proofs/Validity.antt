@@ -24,7 +24,7 @@ use Rattle.semantics.specs.Term as term
 use Rattle.semantics.specs.Term.{Term, Done, Read, IsNull, Prefix, And, Or, Binary, term_of}
 use Rattle.code_meaning.specs.Layout.{Slot, Known, Layout, new_slot, closed, layout_after, block_layout}
 use Rattle.code_meaning.specs.Coding.{nullable_of, test_of, null_code, element_of, element_code, write_code, of_slot, load_code, prefix_code, operator_code, is_signed, skip_code, term_code, expr_code, named_call_code, value_code, right_code, assign_code, returned_code, return_code, test_code, ways_code, if_code, stmt_code, block_code, argument_code, arguments_code, operand_code, operand_of, address_operand, variable_operand, arguments_texts, result_target}
-use Rattle.code_meaning.specs.Fits.{IsNullable, TermHasSort, IsUntouched, term_height, NumberFits, ValueFits, RightFits, TestFits, ReturnFits, StmtFits, BlockFits, CallFits, ArgumentFits}
+use Rattle.code_meaning.specs.Fits.{IsNullable, HasElements, TermHasSort, IsUntouched, term_height, NumberFits, ValueFits, RightFits, TestFits, ReturnFits, StmtFits, BlockFits, CallFits, ArgumentFits}
 use Rattle.lower.proofs.Bodies.{value_is}
 
 -- ---- instructions
@@ -44,6 +44,16 @@ null_piece equal Global i d n h = piece_one (instr.TestNull _ equal) d (suc d) (
 null_piece equal FieldId i d n h = piece_one (instr.TestNull _ equal) d (suc d) (rw (lt-ltb d 64 h) refl) tt
 null_piece equal (Buffer t w) i d n h = piece_one (instr.TestNull _ equal) d (suc d) (rw (lt-ltb d 64 h) refl) tt
 null_piece equal s i d n h = absurd n
+
+element_piece : (line : ℕ) (s : Sort) (i d : ℕ) → HasElements s → IsPiece (element_code line s i) (suc d) (suc d)
+element_piece line (Array t n) i d h = piece_one (instr.LoadElement _ line) (suc d) (suc d) refl tt
+element_piece line (Buffer t w) i d h = piece_one (instr.LoadBuffer i line) (suc d) (suc d) refl tt
+element_piece line s i d h = absurd h
+
+written_piece : (line : ℕ) (s : Sort) (i : ℕ) → HasElements s → IsPiece (write_code line s i) 2 0
+written_piece line (Array t n) i h = piece_one (instr.StoreElement (element_of t) _ line) 2 0 refl tt
+written_piece line (Buffer t w) i h = piece_one (instr.StoreBuffer (element_of t) i line) 2 0 refl tt
+written_piece line s i h = absurd h
 
 prefix_piece : (op : PrefixOp) (d : ℕ) → IsPiece (prefix_code op ∷ []) (suc d) (suc d)
 prefix_piece LogicalNot d = piece_one instr.Not (suc d) (suc d) refl tt
@@ -85,10 +95,8 @@ term_piece known line (term.Named tree.False) s d sorted u h = push_piece 0 d (o
 term_piece known line (term.Named c) s d sorted u h = absurd sorted
 term_piece known line (Read x) s d sorted u h = subst (λ c. IsPiece c d (suc d)) (sym (ap (of_slot load_code) sorted.1)) (load_piece sorted.0 d (omega arith))
 term_piece known line (term.Element x t) s d sorted u h =
-    let array = sorted.3 in
-    let element = instr.LoadElement (record { start = array.2; len = array.1 }) line in
     piece_append (term_code known line t) (of_slot (element_code line) (lookup x known)) d (suc d) (suc d) (term_piece known line t sorted.0 d sorted.2 u (omega arith))
-    (subst (λ c. IsPiece c (suc d) (suc d)) (sym (ap (of_slot (element_code line)) array.3)) (piece_one element (suc d) (suc d) refl tt))
+    (subst (λ c. IsPiece c (suc d) (suc d)) (sym (ap (of_slot (element_code line)) sorted.3.1)) (element_piece line sorted.3.0.sort sorted.3.0.index d sorted.3.2))
 term_piece known line (IsNull equal x) s d sorted u h =
     let slot = sorted.0.0 in
     subst (λ c. IsPiece c d (suc d)) (sym (ap (null_code equal) sorted.0.1)) (null_piece equal slot.sort slot.index d sorted.0.2 (omega arith))
@@ -242,11 +250,9 @@ if_piece known line test then' else' fits h k =
 
 write_piece : (l : Layout) (line : ℕ) (x : Identifier) (i e : Expr) → StmtFits l (tree.AssignElement line x i e) → IsPiece (stmt_code l (tree.AssignElement line x i e)) 0 0
 write_piece l line x i e fits =
-    let array = fits.0 in
-    let store = instr.StoreElement (element_of array.0) (record { start = array.2; len = array.1 }) line in
     piece_append (expr_code l.known line i) (expr_code l.known line e ++ of_slot (write_code line) (lookup x l.known)) 0 1 0 (number_piece l.known line (term_of i) fits.1.0 0 fits.1.2 (omega arith))
     (piece_append (expr_code l.known line e) (of_slot (write_code line) (lookup x l.known)) 1 2 0 (number_piece l.known line (term_of e) Jint 1 fits.2 (omega arith))
-    (subst (λ c. IsPiece c 2 0) (sym (ap (of_slot (write_code line)) array.3)) (piece_one store 2 0 refl tt)))
+    (subst (λ c. IsPiece c 2 0) (sym (ap (of_slot (write_code line)) fits.0.1)) (written_piece line fits.0.0.sort fits.0.0.index fits.0.2)))
 
 mutual
   pub stmt_piece : (s : Stmt) (l : Layout) → StmtFits l s → IsPiece (stmt_code l s) 0 0
@@ -256,7 +262,7 @@ mutual
   stmt_piece (tree.DeclareArray line t x size) l fits = piece_one (instr.ClearArray _) 0 0 refl tt
   stmt_piece (tree.Assign line x r) l fits = subst (λ (o : Option Slot). IsPiece (assign_code l.known line o r) 0 0) (sym fits.1) (right_piece l.known line fits.0 r fits.2)
   stmt_piece (tree.AssignElement line x i e) l fits = write_piece l line x i e fits
-  stmt_piece (tree.Perform line c) l fits = call_piece l.known line destination.Dropped c 0 fits refl
+  stmt_piece (tree.Perform line c) l fits = call_piece l.known line destination.Dropped c 0 fits.fits refl
   stmt_piece (tree.PutJint line e) l fits = taken_piece l.known line (term_of e) Jint instr.PutJint fits (piece_one instr.PutJint 1 0 refl tt)
   stmt_piece (tree.If line test then') l fits = if_piece l.known line test (block_code l then') [] fits.0 (block_piece then' l fits.1) (piece_none 0)
   stmt_piece (tree.IfElse line test then' else') l fits =

@@ -15,7 +15,7 @@ use Rattle.code.specs.declared.instr.Target.{Target}
 use Rattle.code.specs.declared.instr.Target.TheVariants as destination
 use Rattle.jni.specs.Access.{Access}
 use Rattle.jni.specs.JniFunction.{function_named, prototype}
-use Rattle.jni.specs.Prototype.{ParameterKind, LocalVariable, StaticVariable, FieldID, IntNumber, TextBytes, ArrayVariable, BufferVariable, Mode, IsCopy, ResultKind, NewLocal, NewGlobal, GivesFlag, GivesInt, GivesField}
+use Rattle.jni.specs.Prototype.{ParameterKind, LocalVariable, StaticVariable, FieldID, IntNumber, TextBytes, ArrayVariable, BufferVariable, Mode, IsCopy, ResultKind, NewLocal, NewGlobal, GivesFlag, GivesInt, GivesField, GivesBuffer, GivesNothing}
 use Rattle.code.specs.declared.instr.Instr.{Instr}
 use Rattle.code.specs.declared.instr.Instr.TheVariants as instr
 use Rattle.code.specs.declared.slots.SlotCounts.{SlotCounts}
@@ -24,9 +24,9 @@ use Rattle.semantics.specs.Term as term
 use Rattle.semantics.specs.Term.{Term, Done, Read, IsNull, Prefix, And, Or, Binary, term_of}
 use Rattle.code_meaning.specs.Layout.{Slot, Known, Layout, next_index, slots_after, new_slot, closed, layout_after, block_layout}
 use Rattle.code_meaning.specs.Coding.{nullable_of, test_of, null_code, element_code, write_code, of_slot, load_code, prefix_code, operator_code, is_signed, skip_code, term_code, expr_code, variable_operand, operand_of, address_operand, arguments_texts, result_target, operand_code, named_call_code, value_code, right_code, assign_code, returned_code, return_code, test_code, ways_code, turn_code, if_code, stmt_code, block_code, argument_code, arguments_code}
-use Rattle.code_meaning.specs.Fits.{IsNullable, TermHasSort, NumberFits, IndexWithin, IsLaidOut, HasRoomFor, ArgumentFits, ValueFits, RightFits, TestFits, ReturnFits, StmtFits, BlockFits, CallFits, IsReferenceKind, NameFits, ReferenceFits, FieldFits, ArrayFits, BufferFits, ResultFits}
+use Rattle.code_meaning.specs.Fits.{IsNullable, HasElements, TermHasSort, NumberFits, IndexWithin, IsLaidOut, HasRoomFor, ArgumentFits, ValueFits, RightFits, TestFits, ReturnFits, StmtFits, BlockFits, CallFits, IsReferenceKind, NameFits, ReferenceFits, FieldFits, ArrayFits, BufferFits, ResultFits}
 use Rattle.code_meaning.specs.Slots.{IsNumberSort}
-use Rattle.lower.proofs.Bodies.{value_is}
+use Rattle.lower.proofs.Bodies.{value_is, buffer_sort}
 use Rattle.lower.proofs.Layouts.{SizeFits, index_more, room_before, room_at_least, declared_slot, laid_after, laid_more, variable_size, block_grows, stmt_grows}
 
 -- ---- instructions in these slots
@@ -60,6 +60,16 @@ module _ (slots : SlotCounts) where
   null_within equal FieldId i n h = rw (lt-ltb i slots.field_ids h) refl
   null_within equal (Buffer t w) i n h = rw (lt-ltb i slots.buffers h) refl
   null_within equal s i n h = absurd n
+
+  element_within : (line : ℕ) (s : Sort) (i : ℕ) → HasElements s → IndexWithin slots s i → AllWithin (element_code line s i)
+  element_within line (Array t n) i has h = rw (lt-ltb 0 n h.0, le-leb n 1024 h.1, le-leb (i + n) slots.numbers h.2) refl
+  element_within line (Buffer t w) i has h = rw (lt-ltb i slots.buffers h) refl
+  element_within line s i has h = absurd has
+
+  written_within : (line : ℕ) (s : Sort) (i : ℕ) → HasElements s → IndexWithin slots s i → AllWithin (write_code line s i)
+  written_within line (Array t n) i has h = rw (lt-ltb 0 n h.0, le-leb n 1024 h.1, le-leb (i + n) slots.numbers h.2) refl
+  written_within line (Buffer t w) i has h = rw (lt-ltb i slots.buffers h) refl
+  written_within line s i has h = absurd has
 
   prefix_within : (op : PrefixOp) → AllWithin (prefix_code op ∷ [])
   prefix_within LogicalNot = refl
@@ -99,10 +109,8 @@ module _ (slots : SlotCounts) where
   term_within known line (term.Named c) s all h = absurd h
   term_within known line (Read x) s all h = subst AllWithin (sym (ap (of_slot load_code) h.1)) (load_within h.0 (number_there s h.0 h.2 (all x (record { sort = s; index = h.0 }) h.1)))
   term_within known line (term.Element x t) s all h =
-      let array = h.3 in
-      let there = all x (record { sort = Array array.0 array.1; index = array.2 }) array.3 in
       both_within (term_code known line t) (of_slot (element_code line) (lookup x known)) (term_within known line t h.0 all h.2)
-      (subst AllWithin (sym (ap (of_slot (element_code line)) array.3)) (rw (lt-ltb 0 array.1 there.0, le-leb array.1 1024 there.1, le-leb (array.2 + array.1) slots.numbers there.2) refl))
+      (subst AllWithin (sym (ap (of_slot (element_code line)) h.3.1)) (element_within line h.3.0.sort h.3.0.index h.3.2 (all x h.3.0 h.3.1)))
   term_within known line (IsNull equal x) s all h = subst AllWithin (sym (ap (null_code equal) h.0.1)) (null_within equal h.0.0.sort h.0.0.index h.0.2 (all x h.0.0 h.0.1))
   term_within known line (Prefix LogicalNot t) s all h = both_within (term_code known line t) (prefix_code LogicalNot ∷ []) (term_within known line t sort.Truth all h.0) refl
   term_within known line (Prefix Complement t) s all h = both_within (term_code known line t) (prefix_code Complement ∷ []) (term_within known line t sort.Word all h.0) refl
@@ -219,7 +227,10 @@ module _ (slots : SlotCounts) where
   target_there NewLocal s i e there = subst (λ (k : Sort). IndexWithin slots k i → target_within slots (result_target k i) ≡ true) (sym e) (λ h. lt-ltb i slots.references h) there
   target_there NewGlobal s i e there = subst (λ (k : Sort). IndexWithin slots k i → target_within slots (result_target k i) ≡ true) (sym e) (λ h. lt-ltb i slots.statics h) there
   target_there GivesField s i e there = subst (λ (k : Sort). IndexWithin slots k i → target_within slots (result_target k i) ≡ true) (sym e) (λ h. lt-ltb i slots.field_ids h) there
-  target_there gives s i e there = absurd e
+  target_there (GivesBuffer access) s i e there =
+      let is = buffer_sort access s e in
+      subst (λ (k : Sort). IndexWithin slots k i → target_within slots (result_target k i) ≡ true) (sym is.2) (λ h. lt-ltb i slots.buffers h) there
+  target_there GivesNothing s i e there = absurd e
 
   right_within : (known : Known) (line : ℕ) (s : Slot) (r : RightSide) → AllThere known → IndexWithin slots s.sort s.index → RightFits known s.sort r → AllWithin (right_code known line s r)
   right_within known line s (FromExpr e) all there fits = value_within known line s.sort s.index e all there fits
@@ -246,16 +257,11 @@ module _ (slots : SlotCounts) where
       (cons_within (instr.JumpIfFalse (length then' + 1)) (then' ++ instr.Jump (length (else' ++ instr.Jump 0 ∷ [])) ∷ (else' ++ instr.Jump 0 ∷ [])) refl
       (both_within then' (instr.Jump (length (else' ++ instr.Jump 0 ∷ [])) ∷ (else' ++ instr.Jump 0 ∷ [])) h (cons_within (instr.Jump (length (else' ++ instr.Jump 0 ∷ []))) (else' ++ instr.Jump 0 ∷ []) refl second)))
 
-  array_there : (known : Known) (x : Identifier) (t : _) (n i : ℕ) → AllThere known → lookup x known ≡ Some (record { sort = Array t n; index = i }) → IndexWithin slots (Array t n) i
-  array_there known x t n i all found = all x (record { sort = Array t n; index = i }) found
-
   write_within : (l : Layout) (line : ℕ) (x : Identifier) (i e : Expr) → AllThere l.known → StmtFits l (tree.AssignElement line x i e) → AllWithin (stmt_code l (tree.AssignElement line x i e))
   write_within l line x i e all fits =
-      let array = fits.0 in
-      let there = array_there l.known x array.0 array.1 array.2 all array.3 in
       both_within (expr_code l.known line i) (expr_code l.known line e ++ of_slot (write_code line) (lookup x l.known)) (term_within l.known line (term_of i) fits.1.0 all fits.1.2.sort)
       (both_within (expr_code l.known line e) (of_slot (write_code line) (lookup x l.known)) (term_within l.known line (term_of e) Jint all fits.2.sort)
-      (subst AllWithin (sym (ap (of_slot (write_code line)) array.3)) (rw (lt-ltb 0 array.1 there.0, le-leb array.1 1024 there.1, le-leb (array.2 + array.1) slots.numbers there.2) refl)))
+      (subst AllWithin (sym (ap (of_slot (write_code line)) fits.0.1)) (written_within line fits.0.0.sort fits.0.0.index fits.0.2 (all x fits.0.0 fits.0.1))))
 
   -- the new slot of a declaration is there
   new_there : (s : Sort) (l : Layout) (x : Identifier) → SizeFits s → IsLaidOut l.known l.slots → HasRoomFor slots (slots_after s l.slots) → IndexWithin slots s (next_index s l.slots)
@@ -274,7 +280,7 @@ module _ (slots : SlotCounts) where
         rw (lt-ltb 0 size there.0, le-leb size 1024 there.1, le-leb (l.slots.numbers + size) slots.numbers there.2) refl
     stmt_within (tree.Assign line x r) l fits laid room all = subst (λ (o : Option Slot). AllWithin (assign_code l.known line o r)) (sym fits.1) (right_within l.known line fits.0 r all (all x fits.0 fits.1) fits.2)
     stmt_within (tree.AssignElement line x i e) l fits laid room all = write_within l line x i e all fits
-    stmt_within (tree.Perform line c) l fits laid room all = call_within l.known line destination.Dropped c refl all fits
+    stmt_within (tree.Perform line c) l fits laid room all = call_within l.known line destination.Dropped c refl all fits.fits
     stmt_within (tree.PutJint line e) l fits laid room all = taken_within l.known line (term_of e) Jint instr.PutJint all fits refl
     stmt_within (tree.If line test then') l fits laid room all = if_within l.known line test (block_code l then') [] all fits.0 (block_within then' l fits.1 laid room) refl
     stmt_within (tree.IfElse line test then' else') l fits laid room all =

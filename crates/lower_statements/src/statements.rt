@@ -308,12 +308,12 @@ fn result_target(slot: Slot) -> Target
         Sort::Reference => Target::Local(slot.index),
         Sort::Static => Target::Static(slot.index),
         Sort::FieldId => Target::FieldId(slot.index),
-        Sort::Buffer(..) => Target::Buffer(slot.index),
+        Sort::Buffer(element, _) => Target::Buffer(element_type(element), slot.index),
         _ => Target::Number(slot.index),
     }
 }
 
-/// An index, a value, and the element of a named array that is set to it.
+/// An index, a value, and the element of a named array or buffer that is set to it.
 fn emit_element_set(
     code: &mut Vec<Instr>,
     names: &Names<'_>,
@@ -342,7 +342,7 @@ fn emit_print(
     emit(code, Instr::PutJint)
 }
 
-/// An element of a named array, after its index and its value.
+/// An element of a named array or buffer, after its index and its value.
 fn emit_write(
     code: &mut Vec<Instr>,
     names: &Names<'_>,
@@ -364,6 +364,12 @@ fn emit_write(
                 Instr::StoreElement(element_type(element), array, line),
             )
         }
+        Some(
+            Slot {
+                sort: Sort::Buffer(element, _),
+                index,
+            },
+        ) => emit(code, Instr::StoreBuffer(element_type(element), index, line)),
         _ => Ok(()),
     }
 }

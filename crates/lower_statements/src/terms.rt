@@ -68,7 +68,7 @@ fn emit_constant(code: &mut Vec<Instr>, constant: Constant) -> Result<(), AllocE
     }
 }
 
-/// An element of a named array, after its index.
+/// An element of a named array or buffer, after its index.
 fn emit_element(
     code: &mut Vec<Instr>,
     names: &Names<'_>,
@@ -87,6 +87,12 @@ fn emit_element(
             code,
             Instr::LoadElement(LocalArray { start: index, len }, line),
         ),
+        Some(
+            Slot {
+                sort: Sort::Buffer(..),
+                index,
+            },
+        ) => emit(code, Instr::LoadBuffer(index, line)),
         _ => Ok(()),
     }
 }

@@ -1,6 +1,6 @@
 -- What a collection leaves stands for the same state, and the cells that it leaves are those of what can't be reached.
-use Rattle.std.proofs.Common.{◌≡◌, ◌≢◌, ℕ, suc, ◌-◌, Bool, true, false, cond, eqb, List, [], ◌∷◌, ◌++◌, Option, Some, None, Result, Ok, Err, OnOk, OnErr, refl, sym, ap, ◌∙◌, subst, arith, IsSome, ⊎_elim}
-use Rattle.std.specs.Prelude.{find, flat_map, slice_get}
+use Rattle.std.proofs.Common.{◌≡◌, ◌≢◌, ℕ, zero, suc, ◌-◌, ◌<◌, List, [], ◌∷◌, ◌++◌, Option, Some, None, Result, Ok, Err, OnOk, OnErr, refl, sym, ap, ◌∙◌, subst, arith, IsSome, ⊎_elim}
+use Rattle.std.specs.Prelude.{Contains, flat_map, slice_get}
 use Rattle.std.specs.Option.{option_map, option_map_or, option_to_list}
 use Rattle.std.proofs.lemmas.Bool.{false≢true}
 use Rattle.std.proofs.lemmas.List.Concat.{flat_map-cons}
@@ -11,20 +11,19 @@ use Rattle.heap.proofs.Lookups.{block_at-place}
 use Rattle.heap.proofs.Places.{IsAddress-from_place}
 use Rattle.compact.specs.Reach as compact
 use Rattle.compact.specs.Reach.{IsClosed, IsKept, Refers}
-use Rattle.compact.specs.Reach.IsKept.{root, referred}
+use Rattle.compact.specs.Reach.IsKept.{root, pinned, referred}
 use Rattle.compact.proofs.Tight.{get_map}
 use Rattle.compact.proofs.Blocks.{IsAddress-from_kept}
 use Rattle.tables.specs.References.{references_in}
 use Rattle.code_meaning.specs.Lowered.{Lowered}
 use Rattle.semantics.specs.declared.journal.Entry.{Entry}
 use Rattle.semantics.specs.declared.printed.Printed.{Printed}
-use Rattle.semantics.specs.Heap.{Heap}
-use Rattle.semantics.specs.Reachable.{live_size, Reachable}
-use Rattle.semantics.specs.State.{State}
+use Rattle.semantics.specs.Reachable.{live_size, roots, Reachable}
+use Rattle.semantics.specs.State.{State, views}
 use Rattle.semantics.specs.World.{World}
 use Rattle.semantics.proofs.ReachableLemmas.{In, in_append_left, in_append_right, in_cases, in_head}
 use Rattle.machine_calls.specs.declared.store.Store.{Store}
-use Rattle.machine_calls.specs.HeapAgrees.{BlocksAgree}
+use Rattle.machine_calls.specs.HeapAgrees.{times}
 use Rattle.machine_calls.proofs.BlocksOfNames.{is_address, named}
 use Rattle.machine_steps.specs.declared.advance.Advanced.{Advanced}
 use Rattle.machine_steps.specs.declared.advance.Advanced.TheVariants as advanced
@@ -40,18 +39,31 @@ use Rattle.machine.proofs.KeptCells.{live_is}
 use Rattle.machine.proofs.KeptNames.{kept_reachable, referred_name}
 use Rattle.machine.proofs.KeptReferences.{AreKept, CallIsKept, IsClosedUnder, ThreadsAreKept, ValueIsKept, ValuesAreKept}
 use Rattle.machine.proofs.LiveBlocks.{births}
-use Rattle.machine.proofs.Reports.{gathered_name, reachable_there}
+use Rattle.machine.proofs.ReachableNames.{times_in}
+use Rattle.machine.proofs.Reports.{gathered_name, reachable_there, view_root}
 
 -- ---- blocks
 
--- no block is pinned
-unpinned : (space : Space) (heap : Heap) (bs : List Block) (a : ℕ) → BlocksAgree space heap bs → option_map_or (λ (b : Block). b.pins) (find (λ (b : Block). eqb b.address a) bs) 0 ≡ 0
-unpinned space heap [] a h = refl
-unpinned space heap (b ∷ bs) a h = by_test (eqb b.address a) (unpinned space heap bs a h.1)
+-- a block that is pinned is of an object that is viewed
+pinned_name : (space : Space) (all : List ℕ) (a : ℕ) → ((b n : ℕ) → name_at space b ≡ Some n → pins_at space b ≡ times n all) → 0 < pins_at space a → (n : ℕ) × (name_at space a ≡ Some n) × In all n
+pinned_name space all a pins some = by_block (block_at space a) refl
   where
-    by_test : (t : Bool) → option_map_or (λ (b : Block). b.pins) (find (λ (b : Block). eqb b.address a) bs) 0 ≡ 0 → option_map_or (λ (b : Block). b.pins) (cond t (Some b) (find (λ (b : Block). eqb b.address a) bs)) 0 ≡ 0
-    by_test true later = h.0.unpinned
-    by_test false later = later
+    by_block : (o : Option Block) → block_at space a ≡ o → (n : ℕ) × (name_at space a ≡ Some n) × In all n
+    by_block None at = let none : pins_at space a ≡ 0 = ap (λ (o : Option Block). option_map_or (λ (b : Block). b.pins) o 0) at in absurd (omega (arith, some, none))
+    by_block (Some b) at =
+        let name : name_at space a ≡ Some b.birth = ap (option_map (λ (b : Block). b.birth)) at in
+        (b.birth, name, times_in all b.birth (omega (arith, some, pins a b.birth name)))
+
+-- so where nothing is, no block is
+unpinned : (space : Space) (all : List ℕ) (a : ℕ) → ((b n : ℕ) → name_at space b ≡ Some n → pins_at space b ≡ times n all) → all ≡ [] → pins_at space a ≡ 0
+unpinned space all a pins none = by_pins (pins_at space a) refl
+  where
+    by_pins : (n : ℕ) → pins_at space a ≡ n → n ≡ 0
+    by_pins zero e = refl
+    by_pins (suc n) e =
+        let some : 0 < pins_at space a = omega (arith, e) in
+        let r = pinned_name space all a pins some in
+        absurd (false≢true (subst (λ (l : List ℕ). In l r.0) none r.2))
 
 some_name : (o : Option Block) → IsSome o → (n : ℕ) × (option_map (λ (b : Block). b.birth) o ≡ Some n)
 some_name None h = absurd (false≢true h)
@@ -106,8 +118,10 @@ threads_kept Kept (t ∷ ts) h =
 -- ---- the machine
 
 module _ (p : Lowered) (world : World) (store : Store) (ts : List Thread) (printed : List Printed) (stop : Option Stop) (journal : List Entry) (c : Corresponds p world store ts printed stop journal) where
-  no_pins : (a : ℕ) → pins_at store.heap a ≡ 0
-  no_pins a = unpinned store.heap c.state.shared.heap store.heap.blocks a c.store_agrees.heap.blocks
+  viewed_name : (a : ℕ) → 0 < pins_at store.heap a → (n : ℕ) × (name_at store.heap a ≡ Some n) × Contains (roots world c.state) n
+  viewed_name a some =
+      let r = pinned_name store.heap (views c.state) a c.store_agrees.buffers.pins some in
+      (r.0, r.1, view_root p world store ts printed stop journal c r.0 r.2)
 
   is_closed : IsClosed store.heap
   is_closed a b there r =
@@ -151,6 +165,7 @@ module _ (p : Lowered) (world : World) (store : Store) (ts : List Thread) (print
         (each_kept Kept items (λ a k. gathered_kept a (in_append_left items (globals ++ threads) a k)))
         (each_kept Kept globals (λ a k. gathered_kept a (in_append_right items (globals ++ threads) a (in_append_left globals threads a k))))
         (threads_kept Kept ts (λ a k. gathered_kept a (in_append_right items (globals ++ threads) a (in_append_right globals threads a k))))
+        (λ a some. pinned some)
         c)
 
     -- each block that is left can be reached
@@ -162,19 +177,19 @@ module _ (p : Lowered) (world : World) (store : Store) (ts : List Thread) (print
         let place = get_map (λ (x : Block). x.address) t.blocks at.0 b at.2 in
         let here : block_at t b.address ≡ Some b = block_at-place t at.0 b.address h.blocks.laid_out place ∙ at.2 in
         let old = h.blocks.only b.address (IsAddress-from_place t at.0 b.address h.blocks.laid_out place) in
-        let r = kept_reachable world c.state store.heap c.store_agrees.heap (root_places store ts) (gathered_name p world store ts printed stop journal c h.stacked) no_pins old.0 old.1 in
+        let r = kept_reachable world c.state store.heap c.store_agrees.heap (root_places store ts) (gathered_name p world store ts printed stop journal c h.stacked) viewed_name old.0 old.1 in
         let now : name_at t b.address ≡ Some r.0 = subst (λ (x : ℕ). name_at t x ≡ Some r.0) old.2 (name_moved Kept h.to store.heap t h.blocks old.0 r.0 old.1 r.1) in
         let birth : Some b.birth ≡ Some r.0 = sym (ap (option_map (λ (x : Block). x.birth)) here) ∙ now in
         let same : r.0 ≡ n = let first : b.birth ≡ r.0 = cc in sym first ∙ at.3 in
         subst (λ (m : ℕ). Reachable world c.state m) same r.2
 
-    -- all cells are left but those of what can be reached
-    pub left_collected : left_of after.heap ≡ world.cells - live_size world c.state
-    left_collected =
+    -- where nothing is viewed, all cells are left but those of what can be reached
+    pub left_collected : views c.state ≡ [] → left_of after.heap ≡ world.cells - live_size world c.state
+    left_collected none =
         let d = corresponds_collected in
         let same : c.state ≡ d.state = cc (sym c.replays, d.replays) in
         let live : end_of after.heap ≡ live_size world d.state = live_is world d.state after.heap d.store_agrees.heap d.store_agrees.laid_out (reachable_there p world after later printed stop journal d)
-        (λ n k. subst (λ (s : State). Reachable world s n) same (left_reachable n k)) (h.blocks.lowest no_pins) in
+        (λ n k. subst (λ (s : State). Reachable world s n) same (left_reachable n k)) (h.blocks.lowest (λ a. unpinned store.heap (views c.state) a c.store_agrees.buffers.pins none)) in
         let cells : after.heap.cells ≡ world.cells = d.store_agrees.cells in
         let back : live_size world d.state ≡ live_size world c.state = ap (live_size world) (sym same) in
         omega (arith, live, cells, back)
@@ -195,18 +210,19 @@ module _ (p : Lowered) (world : World) (store : Store) (ts : List Thread) (print
     left = (
       c.state,
       subst (λ (r : Run). replay_of r ≡ Some c.state) view c.replays,
-      λ none. subst (λ (r : Run). left_of after.heap ≡ r.world.cells - live_size r.world c.state) view (left_collected p world store ts printed stop journal c after later h),
+      λ none. subst (λ (r : Run). left_of after.heap ≡ r.world.cells - live_size r.world c.state) view (left_collected p world store ts printed stop journal c after later h none),
     );
   }
   run_after (Err x) after later old view h = tt
 
 -- ---- between two steps
 
--- a machine that stands for the same state as another, and has all cells left but those of what can be reached, where it has to
+-- a machine that stands for the same state as another, and has all cells left but those of what can be reached, where it has to and nothing
+-- is viewed
 pub record StandsBetween (p : Lowered) (world : World) (state : State) (store : Store) (ts : List Thread) (printed : List Printed) (stop : Option Stop) (journal : List Entry) (refused : Type 0) : Type 0 where
   pub stands : Corresponds p world store ts printed stop journal
   pub same : stands.state ≡ state
-  pub left : refused → left_of store.heap ≡ world.cells - live_size world stands.state
+  pub left : refused → views stands.state ≡ [] → left_of store.heap ≡ world.cells - live_size world stands.state
 
 module _ (p : Lowered) (world : World) (store : Store) (ts : List Thread) (printed : List Printed) (stop : Option Stop) (journal : List Entry) (c : Corresponds p world store ts printed stop journal) where
   pub stands_between : (between : Store) (among : List Thread) (x : Advanced) → IsBetween store ts between among x → StandsBetween p world c.state between among printed stop journal (x ≡ advanced.Refused)
@@ -218,7 +234,7 @@ module _ (p : Lowered) (world : World) (store : Store) (ts : List Thread) (print
       (λ (h : AreCollected store ts between among).
       let d = corresponds_collected p world store ts printed stop journal c between among h in
       let same : d.state ≡ c.state = cc (sym d.replays, c.replays) in
-      record { stands = d; same = same; left = λ refused. left_collected p world store ts printed stop journal c between among h ∙ ap (λ (s : State). world.cells - live_size world s) (sym same) })
+      record { stands = d; same = same; left = λ refused none. left_collected p world store ts printed stop journal c between among h (ap views (sym same) ∙ none) ∙ ap (λ (s : State). world.cells - live_size world s) (sym same) })
       is
 
 -- threads go on where they have moved

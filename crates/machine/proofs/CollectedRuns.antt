@@ -1,39 +1,47 @@
 -- A collection leaves the run as it was.
-use Rattle.std.proofs.Common.{◌≡◌, ℕ, zero, suc, ◌+◌, ◌*◌, ◌≤◌, List, [], ◌∷◌, length, map, take, drop, Option, Some, None, refl, sym, ap, ◌∙◌, subst, IsSome}
-use Rattle.std.specs.Prelude.{slice_get, reverse}
+use Rattle.std.proofs.Common.{◌≡◌, ℕ, zero, suc, ◌+◌, ◌*◌, ◌<◌, ◌≤◌, List, [], ◌∷◌, ◌++◌, length, map, take, drop, Option, Some, None, refl, sym, ap, ◌∙◌, subst, arith, IsSome}
+use Rattle.std.specs.Prelude.{flat_map, slice_get, reverse}
 use Rattle.std.specs.Option.{option_map}
 use Rattle.std.proofs.lemmas.List.{length-map}
 use Rattle.syntax.specs.Views.{unit_tree}
 use Rattle.class_rules.specs.Class.{Classes}
-use Rattle.heap.specs.Heap.{Space, IsLaidOut}
+use Rattle.std.proofs.lemmas.List.Concat.{flat_map-cons}
+use Rattle.heap.specs.Heap.{Space, IsLaidOut, name_at, pins_at}
 use Rattle.semantics.specs.Task.{Task}
 use Rattle.semantics.specs.Thread as source
-use Rattle.semantics.specs.Thread.{Shared}
+use Rattle.semantics.specs.Thread.{Shared, viewed_by}
 use Rattle.semantics.specs.World.{World, loaded_objects}
 use Rattle.semantics.specs.declared.journal.Entry.{Entry}
 use Rattle.semantics.specs.declared.printed.Printed.{Printed}
 use Rattle.code_meaning.specs.Lowered.{Lowered}
 use Rattle.code_meaning.specs.Slots.{Visible, visible_to}
 use Rattle.semantics_safety.specs.Owners.{AllOwners, owners_after}
+use Rattle.tables.specs.Elements.{OwnedNumbers}
 use Rattle.tables.specs.Locals.{Frame, slots_by_frame}
 use Rattle.tables.specs.References.{address_at, references_in}
 use Rattle.machine_calls.specs.declared.activation.Activation.{Activation}
+use Rattle.machine_calls.specs.declared.buffer.Buffer.{Buffer}
+use Rattle.machine_calls.specs.declared.buffer.Buffer.TheVariants as buffer
 use Rattle.machine_calls.specs.declared.store.Store.{Store}
+use Rattle.machine_calls.specs.Buffers.{Acquired, AreViewed, BufferAgrees, IsTaken, viewed_in}
 use Rattle.machine_calls.specs.declared.references.Held.{Held}
 use Rattle.machine_calls.specs.declared.statics.StaticReference.{StaticReference}
 use Rattle.machine_calls.specs.declared.statics.StaticReference.TheVariants as static
-use Rattle.machine_calls.specs.HeapAgrees.{HeapAgrees, IsTable, SlotsAgree}
+use Rattle.machine_calls.specs.HeapAgrees.{HeapAgrees, IsTable, SlotsAgree, times}
 use Rattle.machine_calls.specs.Statics.{all_held, held, held_at}
 use Rattle.machine_calls.specs.StoreAgrees.{StaticsAgree, StoreAgrees}
 use Rattle.machine_steps.specs.declared.thread.Thread.{Thread}
 use Rattle.machine_steps.specs.Executes.{CallStands, WorkAgrees}
-use Rattle.machine_steps.specs.ThreadAgrees.{ThreadsAgree}
+use Rattle.machine_steps.specs.ThreadAgrees.{ThreadsAgree, buffers_of}
 use Rattle.machine.specs.declared.stop.Stop.{Stop}
 use Rattle.compact.specs.Same.{MovesBy}
 use Rattle.machine.specs.Moving.{IsMoved, moved_call, moved_slots, moved_thread}
 use Rattle.machine.proofs.KeptReferences.{AllHeldAreKept, AreKept, CallIsKept, HeldIsKept, IsClosedUnder, ThreadsAreKept, moved_held}
-use Rattle.machine.specs.Run.{Corresponds}
-use Rattle.machine.proofs.Collections.{FramesKept, address_moved, heap_moved, kept_at, keys_moved, locals_moved, reference_moved, slots_moved, statics_moved, table_moved}
+use Rattle.machine.specs.Run.{Corresponds, acquired}
+use Rattle.machine.proofs.Collections.{FramesKept, address_moved, buffers_moved, heap_moved, kept_at, keys_moved, locals_moved, reference_moved, slots_moved, statics_moved, table_moved, taken_moved}
+use Rattle.machine.proofs.HeldViews.{AgreeInSlots, slots_agree, view_at, viewed_same}
+use Rattle.machine.proofs.ReachableNames.{in_times}
+use Rattle.machine.proofs.RootNames.{times_append}
 
 -- ---- what is kept, frame by frame
 
@@ -85,8 +93,8 @@ some_moved f (Some a) h = refl
 -- ---- the store and the threads
 
 module _ (Kept : ℕ → Type 0) (to : ℕ → ℕ) (p : Lowered) (w : World) (store after : Store) (t : Space) (m : MovesBy Kept to store.heap t) (closed : IsClosedUnder Kept store.heap) (is : IsMoved to store t after) where
-  store_moved : (shared : Shared) → AreKept Kept store.loaded.items → AreKept Kept (references_in store.globals) → StoreAgrees p w store shared → StoreAgrees p w after shared
-  store_moved shared loaded globals h = record {
+  store_moved : (shared : Shared) (all : Acquired) → AreKept Kept store.loaded.items → AreKept Kept (references_in store.globals) → ((a : ℕ) → 0 < pins_at store.heap a → Kept a) → StoreAgrees p w store shared all → StoreAgrees p w after shared all
+  store_moved shared all loaded globals pinned h = record {
     heap = subst (λ (x : Space). HeapAgrees x shared.heap) (sym is.heap) (heap_moved Kept to store.heap t m shared.heap h.heap closed);
     laid_out = subst IsLaidOut (sym is.heap) m.laid_out;
     cells = ap (λ (x : Space). x.cells) is.heap ∙ m.cells ∙ h.cells;
@@ -106,6 +114,10 @@ module _ (Kept : ℕ → Type 0) (to : ℕ → ℕ) (p : Lowered) (w : World) (s
     globals =
         subst (λ (x : Space). SlotsAgree x after.globals shared.globals) (sym is.heap)
         (subst (λ (l : List (Option ℕ)). SlotsAgree t l shared.globals) (sym is.globals) (slots_moved Kept to store.heap t m store.globals shared.globals globals h.globals));
+    buffers =
+        subst (λ (x : Space). IsTaken x after.elements after.views (length shared.heap) all) (sym is.heap)
+        (subst (λ (copies : List (Option OwnedNumbers)). IsTaken t copies after.views (length shared.heap) all) (sym is.elements)
+        (subst (λ (n : ℕ). IsTaken t store.elements n (length shared.heap) all) (sym is.views) (taken_moved Kept to store.heap t m closed store.elements store.views (length shared.heap) all pinned h.buffers)));
     monitors = h.monitors;
   }
     where
@@ -116,54 +128,90 @@ module _ (Kept : ℕ → Type 0) (to : ℕ → ℕ) (p : Lowered) (w : World) (s
   frames_kept [] slots h = tt
   frames_kept (f ∷ below) slots h = (kept_drop Kept f.first slots h, frames_kept below (take f.first slots) (kept_take Kept f.first slots h))
 
-  call_moved : (classes : Classes) (call : Activation) (visible : Visible) (frames : List source.Frame) (tasks : List Task) → AreKept Kept (references_in call.locals.slots) → CallStands p classes store.heap call visible frames tasks → CallStands p classes t (moved_call to call) visible frames tasks
-  call_moved classes call visible frames tasks kept h = record {
+  -- what views in slots are of is kept, and pinned
+  abbrev ArePinned : List Buffer → Type 0
+  ArePinned slots = (i a : ℕ) → slice_get slots i ≡ Some (buffer.View a) → Kept a × (0 < pins_at store.heap a)
+
+  call_moved : (classes : Classes) (k : ℕ) (call : Activation) (visible : Visible) (frames : List source.Frame) (tasks : List Task) → AreKept Kept (references_in call.locals.slots) → ArePinned call.slots.buffers.items → CallStands p classes store.heap store.elements k call visible frames tasks
+      → CallStands p classes t store.elements k (moved_call to call) visible frames tasks
+  call_moved classes k call visible frames tasks kept pinned h = record {
     code = h.code;
     of_function = h.of_function;
     known = h.known;
     stands = h.stands;
     meant = h.meant;
-    holds = record { keys = keys_moved Kept to store.heap t m call.locals call.slots.references.items h.meant.references h.meant.owners kept h.holds.keys; fields = h.holds.fields };
+    holds = record {
+      keys = keys_moved Kept to store.heap t m call.locals call.slots.references.items h.meant.references h.meant.owners kept h.holds.keys;
+      fields = h.holds.fields;
+      buffers = record { agree = buffers_moved Kept to store.heap t m store.elements k call.slots.buffers.items h.meant.buffers pinned h.holds.buffers.agree; apart = h.holds.buffers.apart };
+      small = h.holds.small;
+    };
     shows = h.shows;
     depth = h.depth;
     frames_agree = locals_moved Kept to store.heap t m call.locals frames (frames_kept (reverse call.locals.frames) call.locals.slots kept) h.frames_agree;
   }
 
-  work_moved : (classes : Classes) (visible : Visible) (o : Option Activation) (frames : List source.Frame) (tasks : Option (List Task)) → CallIsKept Kept o → WorkAgrees p classes store.heap visible o frames tasks → WorkAgrees p classes t visible (option_map (moved_call to) o) frames tasks
-  work_moved classes visible None frames None kept h = h
-  work_moved classes visible None frames (Some tasks) kept h = h
-  work_moved classes visible (Some call) frames None kept h = h
-  work_moved classes visible (Some call) frames (Some tasks) kept h = call_moved classes call visible frames tasks kept h
+  work_moved : (classes : Classes) (k : ℕ) (visible : Visible) (o : Option Activation) (frames : List source.Frame) (tasks : Option (List Task)) → CallIsKept Kept o → ArePinned (buffers_of o) → WorkAgrees p classes store.heap store.elements k visible o frames tasks
+      → WorkAgrees p classes t store.elements k visible (option_map (moved_call to) o) frames tasks
+  work_moved classes k visible None frames None kept pinned h = h
+  work_moved classes k visible None frames (Some tasks) kept pinned h = h
+  work_moved classes k visible (Some call) frames None kept pinned h = h
+  work_moved classes k visible (Some call) frames (Some tasks) kept pinned h = call_moved classes k call visible frames tasks kept pinned h
 
-  threads_moved : (classes : Classes) (made : ℕ) (owners : AllOwners) (k : ℕ) (shared : Shared) (ts : List Thread) (ss : List source.Thread) → ThreadsAreKept Kept ts → ThreadsAgree p classes store.heap made owners k shared ts ss → ThreadsAgree p classes t made owners k shared (map (moved_thread to) ts) ss
-  threads_moved classes made owners k shared [] [] kept h = h
-  threads_moved classes made owners k shared [] (s ∷ ss) kept h = h
-  threads_moved classes made owners k shared (x ∷ ts) [] kept h = h
-  threads_moved classes made owners k shared (x ∷ ts) (s ∷ ss) kept h = (
-    record {
-      calls = (h.0).calls;
-      work = work_moved classes (visible_to (owners k) shared s) x.call s.frames s.tasks kept.0 (h.0).work;
-      pending = reference_moved Kept to store.heap t m x.pending s.pending kept.1 (h.0).pending;
-      ending = (h.0).ending;
-      busy = (h.0).busy;
-      caught = (h.0).caught;
-      viewless = (h.0).viewless;
-    },
-    threads_moved classes made owners (suc k) shared ts ss kept.2 h.1,
-  )
+  -- the slots are those that they were
+  still_slots : (o : Option Activation) → buffers_of (option_map (moved_call to) o) ≡ buffers_of o
+  still_slots None = refl
+  still_slots (Some call) = refl
+
+  -- what a thread views is pinned, where all of these names are
+  thread_pinned : (k : ℕ) (o : Option Activation) (s : source.Thread) → AgreeInSlots store.heap store.elements k o → AreViewed store.heap (buffers_of o) s
+      → ((a n : ℕ) → name_at store.heap a ≡ Some n → 0 < times n (viewed_by s) → Kept a × (0 < pins_at store.heap a)) → ArePinned (buffers_of o)
+  thread_pinned k o s slots views pinned i a at =
+      let r = view_at store.heap store.elements k (buffers_of o) slots.buffers i a slots.agree at in
+      let often = in_times (viewed_in store.heap (buffers_of o)) r.0 r.2 in
+      pinned a r.0 r.1 (omega (arith, often, views r.0))
+
+  threads_moved : (classes : Classes) (made : ℕ) (owners : AllOwners) (k : ℕ) (shared : Shared) (ts : List Thread) (ss : List source.Thread) → ThreadsAreKept Kept ts
+      → ((a n : ℕ) → name_at store.heap a ≡ Some n → 0 < times n (flat_map viewed_by ss) → Kept a × (0 < pins_at store.heap a))
+      → ThreadsAgree p classes store.heap store.elements made owners k shared ts ss → ThreadsAgree p classes t store.elements made owners k shared (map (moved_thread to) ts) ss
+  threads_moved classes made owners k shared [] [] kept pinned h = h
+  threads_moved classes made owners k shared [] (s ∷ ss) kept pinned h = h
+  threads_moved classes made owners k shared (x ∷ ts) [] kept pinned h = h
+  threads_moved classes made owners k shared (x ∷ ts) (s ∷ ss) kept pinned h =
+      let slots = slots_agree p classes store.heap store.elements k (visible_to (owners k) shared s) x.call s.frames s.tasks (h.0).work in
+      let parts : (n : ℕ) → times n (flat_map viewed_by (s ∷ ss)) ≡ times n (viewed_by s) + times n (flat_map viewed_by ss) = λ n. ap (times n) (flat_map-cons viewed_by s ss) ∙ times_append n (viewed_by s) (flat_map viewed_by ss) in
+      let own = thread_pinned k x.call s slots (h.0).views (λ a n named some. pinned a n named (omega (arith, some, parts n))) in (
+        record {
+          calls = (h.0).calls;
+          work = work_moved classes k (visible_to (owners k) shared s) x.call s.frames s.tasks kept.0 own (h.0).work;
+          pending = reference_moved Kept to store.heap t m x.pending s.pending kept.1 (h.0).pending;
+          ending = (h.0).ending;
+          busy = (h.0).busy;
+          caught = (h.0).caught;
+          idle = (h.0).idle;
+          views = subst (λ (slots : List Buffer). AreViewed t slots s) (sym (still_slots x.call))
+              (subst (λ (l : List ℕ). (n : ℕ) → times n l ≤ times n (viewed_by s))
+              (sym (viewed_same store.heap t store.elements store.elements k (buffers_of x.call) slots.buffers slots.agree (buffers_moved Kept to store.heap t m store.elements k (buffers_of x.call) slots.buffers own slots.agree))) (h.0).views);
+        },
+        threads_moved classes made owners (suc k) shared ts ss kept.2 (λ a n named some. pinned a n named (omega (arith, some, parts n))) h.1,
+      )
 
   -- the machine stands for the state that it stood for
-  pub corresponds_moved : (ts : List Thread) (printed : List Printed) (stop : Option Stop) (journal : List Entry) → AreKept Kept store.loaded.items → AreKept Kept (references_in store.globals) → ThreadsAreKept Kept ts → Corresponds p w store ts printed stop journal
+  pub corresponds_moved : (ts : List Thread) (printed : List Printed) (stop : Option Stop) (journal : List Entry) → AreKept Kept store.loaded.items → AreKept Kept (references_in store.globals) → ThreadsAreKept Kept ts → ((a : ℕ) → 0 < pins_at store.heap a → Kept a) → Corresponds p w store ts printed stop journal
       → Corresponds p w after (map (moved_thread to) ts) printed stop journal
-  corresponds_moved ts printed stop journal loaded globals threads c = record {
+  corresponds_moved ts printed stop journal loaded globals threads pinned c = record {
     lowered = c.lowered;
     safe = c.safe;
     typed = c.typed;
     state = c.state;
     replays = c.replays;
-    store_agrees = store_moved c.state.shared loaded globals c.store_agrees;
-    threads_agree = subst (λ (x : Space). ThreadsAgree p w.classes x (length (loaded_objects w)) (owners_after (unit_tree p.unit) w journal) 1 c.state.shared (map (moved_thread to) ts) c.state.threads) (sym is.heap)
-        (threads_moved w.classes (length (loaded_objects w)) (owners_after (unit_tree p.unit) w journal) 1 c.state.shared ts c.state.threads threads c.threads_agree);
+    store_agrees = store_moved c.state.shared (acquired c.state) loaded globals pinned c.store_agrees;
+    threads_agree =
+        let all_pinned : (a n : ℕ) → name_at store.heap a ≡ Some n → 0 < times n (flat_map viewed_by c.state.threads) → Kept a × (0 < pins_at store.heap a) = λ a n named some.
+        let many : 0 < pins_at store.heap a = omega (arith, some, c.store_agrees.buffers.pins a n named) in (pinned a many, many) in
+        subst (λ (x : Space). ThreadsAgree p w.classes x after.elements (length (loaded_objects w)) (owners_after (unit_tree p.unit) w journal) 1 c.state.shared (map (moved_thread to) ts) c.state.threads) (sym is.heap)
+        (subst (λ (copies : List (Option OwnedNumbers)). ThreadsAgree p w.classes t copies (length (loaded_objects w)) (owners_after (unit_tree p.unit) w journal) 1 c.state.shared (map (moved_thread to) ts) c.state.threads) (sym is.elements)
+        (threads_moved w.classes (length (loaded_objects w)) (owners_after (unit_tree p.unit) w journal) 1 c.state.shared ts c.state.threads threads all_pinned c.threads_agree));
     same_printed = c.same_printed;
     same_stop = c.same_stop;
     born = subst (λ (n : ℕ). n ≤ 1048576 + 2 * length journal) (sym is.births) c.born;

@@ -1,19 +1,24 @@
 -- A collection leaves what agreed with the source agreeing, along its map of addresses.
 use Rattle.std.proofs.Common.{◌≡◌, ℕ, zero, suc, ◌+◌, ◌<◌, ◌≤◌, Bool, true, false, cond, eqb, List, [], ◌∷◌, ◌++◌, length, map, take, drop, get_or, Option, Some, None, refl, sym, ap, ◌∙◌, subst, arith, IsSome, ⊎_elim}
 use Rattle.std.specs.Prelude.{find, slice_get, reverse}
-use Rattle.std.specs.Option.{option_map}
+use Rattle.std.specs.Option.{option_map, option_map_or}
 use Rattle.std.specs.List.{AllZip}
 use Rattle.heap.specs.declared.value.Value.{Value}
 use Rattle.heap.specs.declared.value.Value.TheVariants.{Number as Word, Null, Block as Address}
-use Rattle.heap.specs.Heap.{Block, Space, IsAddress, LieFrom, block_at, block_end, name_at}
+use Rattle.heap.specs.Heap.{Block, Space, IsAddress, LieFrom, block_at, block_end, name_at, pins_at}
 use Rattle.heap.proofs.Names.{one_address}
 use Rattle.std.proofs.lemmas.Bool.Decides.{eqb_tells}
 use Rattle.semantics.specs.Heap.{Heap}
 use Rattle.semantics.specs.Object.{ObjectValue, Number, Refers, Reference}
 use Rattle.semantics.specs.Thread as source
-use Rattle.semantics.specs.Variable.{StaticReference, Empty, Live, Deleted, Statics}
+use Rattle.semantics.specs.Variable as variable
+use Rattle.semantics.specs.Variable.{StaticReference, Empty, Live, Deleted, Statics, NoBuffer, Copy, View}
 use Rattle.tables.specs.Locals.{Frame, FrameSlots, LocalTable, by_frame, slots_by_frame}
 use Rattle.tables.specs.References.{address_at, references_in}
+use Rattle.tables.specs.Elements.{OwnedNumbers}
+use Rattle.machine_calls.specs.declared.buffer.Buffer.{Buffer}
+use Rattle.machine_calls.specs.declared.buffer.Buffer.TheVariants as buffer
+use Rattle.machine_calls.specs.Buffers.{BufferAgrees, IsTaken, Acquired}
 use Rattle.machine_calls.specs.declared.references.Held.{Held}
 use Rattle.machine_calls.specs.declared.references.Held.TheVariants as held
 use Rattle.machine_calls.specs.HeapAgrees.{BlockAgrees, BlocksAgree, HeapAgrees, IsTable, NamesAgree, ReferenceAgrees, SlotsAgree, ValueAgrees, ValuesAgree}
@@ -21,6 +26,7 @@ use Rattle.machine_calls.specs.Locals.{FrameAgrees, FramesAgree, IsKeyOf, KeysAg
 use Rattle.machine_calls.specs.StoreAgrees.{HeldAgrees, StaticsAgree}
 use Rattle.compact.specs.Same.{MovesBy, moved, moved_value}
 use Rattle.machine.specs.Moving.{moved_locals, moved_slots}
+use Rattle.machine_calls.proofs.BlocksOfNames.{is_address}
 use Rattle.machine.proofs.KeptReferences.{AreKept, HeldIsKept, AllHeldAreKept, IsClosedUnder, ValueIsKept, ValuesAreKept, moved_held}
 
 -- ---- lists
@@ -89,6 +95,29 @@ module _ (Kept : ℕ → Type 0) (to : ℕ → ℕ) (s t : Space) (m : MovesBy K
       by_block : (o : Option Block) → block_at s a ≡ o → option_map (λ (b : Block). b.birth) o ≡ Some n → name_at t (to a) ≡ Some n
       by_block None at e = absurd (cc)
       by_block (Some b) at e = ap (option_map (λ (c : Block). c.birth)) (m.kept a b kept at) ∙ e
+
+  -- what is pinned stays where it is
+  view_moved : (a n : ℕ) → Kept a → 0 < pins_at s a → name_at s a ≡ Some n → name_at t a ≡ Some n
+  view_moved a n kept pinned h = subst (λ (x : ℕ). name_at t x ≡ Some n) (m.pinned a pinned) (name_moved a n kept h)
+
+  buffer_moved : (copies : List (Option OwnedNumbers)) (k : ℕ) (h : Buffer) (b : variable.Buffer) → ((a : ℕ) → h ≡ buffer.View a → Kept a × (0 < pins_at s a)) → BufferAgrees s copies k h b → BufferAgrees t copies k h b
+  buffer_moved copies k buffer.Null NoBuffer pinned e = e
+  buffer_moved copies k buffer.Null (Copy n zs) pinned e = absurd e
+  buffer_moved copies k buffer.Null (View n) pinned e = absurd e
+  buffer_moved copies k (buffer.Copy key) NoBuffer pinned e = absurd e
+  buffer_moved copies k (buffer.Copy key) (Copy n zs) pinned e = e
+  buffer_moved copies k (buffer.Copy key) (View n) pinned e = absurd e
+  buffer_moved copies k (buffer.View a) NoBuffer pinned e = absurd e
+  buffer_moved copies k (buffer.View a) (Copy n zs) pinned e = absurd e
+  buffer_moved copies k (buffer.View a) (View n) pinned e = let p = pinned a refl in view_moved a n p.0 p.1 e
+
+  -- so a view in a slot shows the object that it did
+  pub buffers_moved : (copies : List (Option OwnedNumbers)) (k : ℕ) (slots : List Buffer) (buffers : List variable.Buffer) → ((i a : ℕ) → slice_get slots i ≡ Some (buffer.View a) → Kept a × (0 < pins_at s a))
+      → AllZip (BufferAgrees s copies k) slots buffers → AllZip (BufferAgrees t copies k) slots buffers
+  buffers_moved copies k [] [] pinned e = e
+  buffers_moved copies k [] (b ∷ buffers) pinned e = absurd e
+  buffers_moved copies k (h ∷ slots) [] pinned e = absurd e
+  buffers_moved copies k (h ∷ slots) (b ∷ buffers) pinned e = (buffer_moved copies k h b (λ a is. pinned 0 a (ap (λ (x : Buffer). Some x) is)) e.0, buffers_moved copies k slots buffers (λ i a at. pinned (suc i) a at) e.1)
 
   pub reference_moved : (o : Option ℕ) (r : Reference) → ((a : ℕ) → o ≡ Some a → Kept a) → ReferenceAgrees s o r → ReferenceAgrees t (option_map to o) r
   reference_moved None None kept h = h
@@ -182,6 +211,35 @@ module _ (Kept : ℕ → Type 0) (to : ℕ → ℕ) (s t : Space) (m : MovesBy K
 
   -- ---- the blocks
 
+  module _ (closed : IsClosedUnder Kept s) where
+    some_there : (o : Option Block) → IsSome o → (b : Block) × (o ≡ Some b)
+    some_there None h = absurd (cc)
+    some_there (Some b) h = (b, refl)
+
+    -- a block has the pins that it had
+    pins_moved : (a n : ℕ) → name_at t a ≡ Some n → (old : ℕ) × (name_at s old ≡ Some n) × (pins_at t a ≡ pins_at s old)
+    pins_moved a n h =
+        let old = m.only a (is_address t a n h) in
+        let found = some_there (block_at s old.0) (closed.there old.0 old.1) in
+        let now : block_at t a ≡ Some (moved to found.0) = ap (block_at t) (sym old.2) ∙ m.kept old.0 found.0 old.1 found.1 in (
+          old.0,
+          ap (option_map (λ (b : Block). b.birth)) found.1 ∙ sym (ap (option_map (λ (b : Block). b.birth)) now) ∙ h,
+          ap (λ (o : Option Block). option_map_or (λ (b : Block). b.pins) o 0) now ∙ sym (ap (λ (o : Option Block). option_map_or (λ (b : Block). b.pins) o 0) found.1),
+        )
+
+    -- buffers take what they did
+    pub taken_moved : (copies : List (Option OwnedNumbers)) (views objects : ℕ) (all : Acquired) → ((a : ℕ) → 0 < pins_at s a → Kept a) → IsTaken s copies views objects all → IsTaken t copies views objects all
+    taken_moved copies views objects all pinned h = record {
+      copied = h.copied;
+      many = h.many;
+      pins = λ a n named. let r = pins_moved a n named in r.2 ∙ h.pins r.0 n r.1;
+      made = h.made;
+      there = λ n some.
+          let r = h.there n some in
+          let many : 0 < pins_at s r.0 = omega (arith, some, h.pins r.0 n r.1) in
+          (r.0, view_moved r.0 n (pinned r.0 many) many r.1);
+    }
+
   module _ (heap : Heap) (agrees : HeapAgrees s heap) (closed : IsClosedUnder Kept s) where
     found_agrees : (bs : List Block) (a : ℕ) (b : Block) → BlocksAgree s heap bs → find (λ (c : Block). eqb c.address a) bs ≡ Some b → BlockAgrees s heap b
     found_agrees [] a b h e = absurd (cc)
@@ -221,7 +279,6 @@ module _ (Kept : ℕ → Type 0) (to : ℕ → ℕ) (s t : Space) (m : MovesBy K
           is = before.is;
           class = before.class;
           values = values_moved w.block.values before.object.values (closed.values w.old w.block w.kept w.at) before.values;
-          unpinned = before.unpinned;
         })
 
     each_agrees : (bs : List Block) (d : Block) → ((i : ℕ) → i < length bs → block_at t (get_or bs i d).address ≡ Some (get_or bs i d)) → BlocksAgree t heap bs

@@ -1,5 +1,5 @@
 -- What a collection keeps is what can be reached.
-use Rattle.std.proofs.Common.{◌≡◌, ℕ, zero, suc, List, [], ◌∷◌, length, Option, Some, None, refl, sym, ap, ◌∙◌, subst, arith, Contains, ⊎_elim}
+use Rattle.std.proofs.Common.{◌≡◌, ℕ, zero, suc, ◌<◌, List, [], ◌∷◌, length, Option, Some, None, refl, sym, ap, ◌∙◌, subst, arith, Contains, ⊎_elim}
 use Rattle.std.specs.Prelude.{filter_map, slice_get}
 use Rattle.std.specs.Option.{option_map_or}
 use Rattle.std.proofs.lemmas.Bool.{false≢true}
@@ -56,15 +56,18 @@ module _ (w : World) (s : State) (space : Space) (agrees : HeapAgrees space s.sh
     ap (λ (o : Option Object). option_map_or (λ (x : Object). x.values) o []) (ap (object_at heap) (sym b.birth) ∙ b.agrees.is),
   )
 
-  -- Where each root of the collection names a root of the source and nothing is pinned, what is kept can be reached.
-  pub kept_reachable : ((a : ℕ) → Contains places (Some a) → (n : ℕ) × (name_at space a ≡ Some n) × Contains (roots w s) n) → ((a : ℕ) → pins_at space a ≡ 0) → (a : ℕ) → IsKept space places a → (n : ℕ) × (name_at space a ≡ Some n) × Reachable w s n
-  kept_reachable names none x (root c) =
+  -- Where each root of the collection names a root of the source, and so does what is pinned, what is kept can be reached.
+  pub kept_reachable : ((a : ℕ) → Contains places (Some a) → (n : ℕ) × (name_at space a ≡ Some n) × Contains (roots w s) n) → ((a : ℕ) → 0 < pins_at space a → (n : ℕ) × (name_at space a ≡ Some n) × Contains (roots w s) n) → (a : ℕ) → IsKept space places a → (n : ℕ) × (name_at space a ≡ Some n) × Reachable w s n
+  kept_reachable names views x (root c) =
       let r = names x c in
       let low = name_within space heap x r.0 agrees r.1 in
       (r.0, r.1, FromRoot r.0 (from_one-contains (length heap) r.0 low.0 low.1) r.2)
-  kept_reachable names none x (pinned c) = absurd (omega (arith, c, none x))
-  kept_reachable names none y (referred {a = x} k c) =
-      let r = kept_reachable names none x k in
+  kept_reachable names views x (pinned c) =
+      let r = views x c in
+      let low = name_within space heap x r.0 agrees r.1 in
+      (r.0, r.1, FromRoot r.0 (from_one-contains (length heap) r.0 low.0 low.1) r.2)
+  kept_reachable names views y (referred {a = x} k c) =
+      let r = kept_reachable names views x k in
       let b = named space heap x r.0 agrees r.1 in
       let v = values_there x r.0 b in
       let t = referred_name space b.block.values b.agrees.object.values c.place y b.agrees.values (sym (ap (λ (l : List Value). slice_get l c.place) v.0) ∙ c.value) in
@@ -74,9 +77,9 @@ module _ (w : World) (s : State) (space : Space) (agrees : HeapAgrees space s.sh
         FromObject r.0 t.0 r.2 (from_one-contains (length heap) t.0 low.0 low.1) (to_contains (references_of heap r.0) t.0 (subst (λ (vs : List ObjectValue). In (filter_map reference_in vs) t.0) (sym v.1) t.2)),
       )
 
-  -- Where each root of the source has a root of the collection, what can be reached is kept.
-  pub reachable_kept : ((n : ℕ) → Contains (roots w s) n → (a : ℕ) × (name_at space a ≡ Some n) × Contains places (Some a)) → (n : ℕ) → Reachable w s n → (a : ℕ) × (name_at space a ≡ Some n) × IsKept space places a
-  reachable_kept held n (FromRoot m a c) = let r = held m c in (r.0, r.1, root r.2)
+  -- Where each root of the source is kept, as what is viewed is by its pins, so is what can be reached.
+  pub reachable_kept : ((n : ℕ) → Contains (roots w s) n → (a : ℕ) × (name_at space a ≡ Some n) × IsKept space places a) → (n : ℕ) → Reachable w s n → (a : ℕ) × (name_at space a ≡ Some n) × IsKept space places a
+  reachable_kept held n (FromRoot m a c) = held m c
   reachable_kept held n (FromObject m q r a c) =
       let k = reachable_kept held m r in
       let b = named space heap k.0 m agrees k.1 in

@@ -1,4 +1,6 @@
 pub mod Crosses
+pub mod HeldViews
+pub mod TakenBuffers
 pub mod KeptThreads
 pub mod LiveBlocks
 pub mod OwnerSteps

@@ -1,6 +1,6 @@
 -- The owners of all threads after one more entry, and the threads that agree with them.
-use Rattle.std.proofs.Common.{◌≡◌, ◌≢◌, ℕ, zero, suc, ◌+◌, ◌<◌, Bool, true, false, List, [], ◌∷◌, ◌++◌, Option, Some, None, refl, sym, ap, ◌∙◌, subst, arith, if◌then◌else◌}
-use Rattle.std.specs.Prelude.{◌==◌, slice_get, slice_set}
+use Rattle.std.proofs.Common.{◌≡◌, ◌≢◌, ℕ, zero, suc, ◌+◌, Bool, true, false, List, [], ◌∷◌, ◌++◌, Option, Some, None, refl, sym, ap, ◌∙◌, subst, arith, if◌then◌else◌}
+use Rattle.std.specs.Prelude.{◌==◌, slice_get}
 use Rattle.std.specs.Option.{option_and_then}
 use Rattle.std.proofs.lemmas.Bool.Decides.{Decides-eqb}
 use Rattle.syntax.specs.Tree.{SourceUnit}
@@ -19,6 +19,7 @@ use Rattle.semantics.specs.Thread as source
 use Rattle.semantics.specs.Thread.{Advance, Shared}
 use Rattle.semantics.specs.ThreadStep.{thread_step}
 use Rattle.semantics.specs.World.{World}
+use Rattle.tables.specs.Elements.{OwnedNumbers}
 use Rattle.machine_steps.specs.declared.thread.Thread.{Thread}
 use Rattle.machine_steps.specs.ThreadAgrees.{ThreadAgrees, ThreadsAgree}
 
@@ -59,40 +60,21 @@ owner_elsewhere owners k own j other = by_test (j == k) refl
 
 -- ---- threads
 
-module _ (p : Lowered) (classes : Classes) (space : Space) (made : ℕ) (shared : Shared) where
+module _ (p : Lowered) (classes : Classes) (space : Space) (copies : List (Option OwnedNumbers)) (made : ℕ) (shared : Shared) where
   -- one thread of several
-  pub record Found (own : Owners) (t : Thread) (ss : List source.Thread) (i : ℕ) : Type 0 where
+  pub record Found (k : ℕ) (own : Owners) (t : Thread) (ss : List source.Thread) (i : ℕ) : Type 0 where
     pub source : source.Thread
     pub is : slice_get ss i ≡ Some source
-    pub agrees : ThreadAgrees p classes space made own shared t source
+    pub agrees : ThreadAgrees p classes space copies made k own shared t source
 
-  pub found : (owners : AllOwners) (n k : ℕ) (ts : List Thread) (ss : List source.Thread) (i : ℕ) (t : Thread) → k ≡ n + i → ThreadsAgree p classes space made owners n shared ts ss → slice_get ts i ≡ Some t → Found (owners k) t ss i
+  pub found : (owners : AllOwners) (n k : ℕ) (ts : List Thread) (ss : List source.Thread) (i : ℕ) (t : Thread) → k ≡ n + i → ThreadsAgree p classes space copies made owners n shared ts ss → slice_get ts i ≡ Some t → Found k (owners k) t ss i
   found owners n k [] [] i t place h e = absurd (cc)
   found owners n k [] (s ∷ ss) i t place h e = absurd h
   found owners n k (x ∷ ts) [] i t place h e = absurd h
   found owners n k (x ∷ ts) (s ∷ ss) zero t place h e =
       let same : x ≡ t = cc in
       let here : n ≡ k = omega (arith, place) in
-      record { source = s; is = refl; agrees = subst (λ (m : ℕ). ThreadAgrees p classes space made (owners m) shared t s) here (subst (λ y. ThreadAgrees p classes space made (owners n) shared y s) same h.0) }
+      record { source = s; is = refl; agrees = subst (λ (m : ℕ). ThreadAgrees p classes space copies made m (owners m) shared t s) here (subst (λ y. ThreadAgrees p classes space copies made n (owners n) shared y s) same h.0) }
   found owners n k (x ∷ ts) (s ∷ ss) (suc i) t place h e =
       let f = found owners (suc n) k ts ss i t (omega (arith, place)) h.1 e in
       record { source = f.source; is = f.is; agrees = f.agrees }
-
-  module _ (owners owners' : AllOwners) (k : ℕ) (elsewhere : (j : ℕ) → j ≢ k → owners' j ≡ owners j) where
-    one_same : (n : ℕ) (t : Thread) (s : source.Thread) → n ≢ k → ThreadAgrees p classes space made (owners n) shared t s → ThreadAgrees p classes space made (owners' n) shared t s
-    one_same n t s other h = subst (λ (o : Owners). ThreadAgrees p classes space made o shared t s) (sym (elsewhere n other)) h
-
-    later_same : (n : ℕ) (ts : List Thread) (ss : List source.Thread) → k < n → ThreadsAgree p classes space made owners n shared ts ss → ThreadsAgree p classes space made owners' n shared ts ss
-    later_same n [] [] later h = h
-    later_same n [] (s ∷ ss) later h = h
-    later_same n (t ∷ ts) [] later h = h
-    later_same n (t ∷ ts) (s ∷ ss) later h = (one_same n t s (λ e. omega (arith, e, later)) h.0, later_same (suc n) ts ss (omega (arith, later)) h.1)
-
-    pub changed : (n : ℕ) (ts : List Thread) (ss : List source.Thread) (i : ℕ) (t : Thread) (s : source.Thread) → k ≡ n + i → ThreadsAgree p classes space made owners n shared ts ss → ThreadAgrees p classes space made (owners' k) shared t s → ThreadsAgree p classes space made owners' n shared (slice_set ts i t) (slice_set ss i s)
-    changed n [] [] i t s place h a = tt
-    changed n [] (y ∷ ss) i t s place h a = absurd h
-    changed n (x ∷ ts) [] i t s place h a = absurd h
-    changed n (x ∷ ts) (y ∷ ss) zero t s place h a =
-        let here : k ≡ n = omega (arith, place) in
-        (subst (λ (m : ℕ). ThreadAgrees p classes space made (owners' m) shared t s) here a, later_same (suc n) ts ss (omega (arith, place)) h.1)
-    changed n (x ∷ ts) (y ∷ ss) (suc i) t s place h a = (one_same n x y (λ e. omega (arith, e, place)) h.0, changed (suc n) ts ss i t s (omega (arith, place)) h.1 a)

@@ -1,9 +1,8 @@
 -- The report of the state that a machine's journal leads to.
-use Rattle.std.proofs.Common.{append-nil, append_assoc, ⊎_elim, ◌≡◌, ℕ, zero, suc, Bool, false, List, [], ◌∷◌, ◌++◌, length, map, Option, Some, None, Result, refl, sym, ap, ◌∙◌, subst}
+use Rattle.std.proofs.Common.{append-nil, append_assoc, ⊎_elim, ◌≡◌, ℕ, zero, suc, ◌+◌, ◌<◌, Bool, false, List, [], ◌∷◌, ◌++◌, length, map, Option, Some, None, Result, refl, sym, ap, ◌∙◌, subst, arith}
 use Rattle.std.specs.Prelude.{slice_get, flat_map, is_some, ◌||◌}
 use Rattle.std.specs.List.{AllZip}
 use Rattle.std.specs.Option.{option_map, option_map_or}
-use Rattle.std.proofs.lemmas.List.Concat.{flat_map-cons}
 use Rattle.syntax.specs.Views.{unit_tree}
 use Rattle.class_rules.specs.Class.{Classes}
 use Rattle.semantics.specs.declared.journal.Entry.{Entry}
@@ -27,19 +26,23 @@ use Rattle.semantics.specs.Task.{Task}
 use Rattle.semantics.proofs.ShownRows.{length-loaded}
 use Rattle.semantics.specs.Step.{is_waiting, is_blocked}
 use Rattle.semantics.specs.Thread as source
-use Rattle.semantics.specs.Thread.{Shared, Monitor, viewed_by}
-use Rattle.heap.specs.Heap.{Space, left_of, name_at}
+use Rattle.semantics.specs.Thread.{Shared, Monitor}
+use Rattle.heap.specs.Heap.{Block, Space, block_at, left_of, name_at, pins_at}
 use Rattle.code_meaning.specs.Lowered.{Lowered, IsLowered}
 use Rattle.code_meaning.specs.Slots.{Visible, visible_to}
 use Rattle.report_objects.specs.Rows.{AreReported}
 use Rattle.machine_calls.specs.declared.activation.Activation.{Activation}
 use Rattle.machine_steps.specs.declared.thread.Thread.{Thread}
 use Rattle.machine.specs.declared.stop.Stop.{Stop}
-use Rattle.machine_steps.specs.ThreadAgrees.{ThreadsAgree}
+use Rattle.machine_steps.specs.ThreadAgrees.{ThreadAgrees, ThreadsAgree}
 use Rattle.machine_steps.specs.Executes.{WorkAgrees}
+use Rattle.tables.specs.Elements.{OwnedNumbers}
 use Rattle.machine_calls.specs.HeapAgrees.{IsNamed}
 use Rattle.machine.specs.Rows.{AreSeen}
-use Rattle.machine.proofs.ReachableNames.{loaded_named, reachable_named, slots_named, threads_named}
+use Rattle.machine.proofs.HeldViews.{name_pinned, pinned_block}
+use Rattle.compact.proofs.Tight.{get_map}
+use Rattle.heap.proofs.Lookups.{block_at-place}
+use Rattle.machine.proofs.ReachableNames.{in_times, loaded_named, reachable_named, slots_named, threads_named, times_in}
 use Rattle.semantics.proofs.ReachableLemmas.{In, contains_in, in_append_cases, in_append_left, in_append_right, to_contains}
 use Rattle.semantics_safety.specs.Owners.{AllOwners, owners_after}
 use Rattle.machine.specs.Stops.{stop_view}
@@ -48,7 +51,7 @@ use Rattle.semantics.specs.Run.{MarkedAreFair, UnmarkedFit}
 use Rattle.machine_calls.specs.declared.store.Store.{Store}
 use Rattle.machine.specs.Run.{Run, Corresponds, WritesRun, AllRest, AreShown, ShowsObjects, ShowsStandings, IsFinished, standings_in}
 use Rattle.machine_steps.proofs.Threads.{unblocked}
-use Rattle.machine.specs.Roots.{AreAddresses, name_of, root_places, ThreadsAreStacked}
+use Rattle.machine.specs.Roots.{AreAddresses, name_of, pinned_names, root_places, ThreadsAreStacked}
 use Rattle.std.specs.Prelude.{Contains}
 use Rattle.compact.proofs.Blocks.{Contains-from_get}
 use Rattle.machine_calls.proofs.BlocksOfNames.{is_address}
@@ -58,17 +61,19 @@ use Rattle.machine.proofs.RootNames.{CallFrames, HasRootsOf}
 
 -- ---- threads that wait
 
-free_at : (p : Lowered) (classes : Classes) (space : Space) (made : ℕ) (owners : AllOwners) (j k : ℕ) (shared : Shared) (ts : List Thread) (ss : List source.Thread) (i : ℕ) → IsLowered p → ThreadsAgree p classes space made owners j shared ts ss → is_waiting classes k shared (slice_get ss i) ≡ false
-free_at p classes space made owners j k shared [] [] i l h = refl
-free_at p classes space made owners j k shared [] (s ∷ ss) i l h = absurd h
-free_at p classes space made owners j k shared (t ∷ ts) [] i l h = absurd h
-free_at p classes space made owners j k shared (t ∷ ts) (s ∷ ss) zero l h = unblocked p classes space made k (owners j) shared t s l h.0
-free_at p classes space made owners j k shared (t ∷ ts) (s ∷ ss) (suc i) l h = free_at p classes space made owners (suc j) k shared ts ss i l h.1
+free_at : (p : Lowered) (classes : Classes) (space : Space) (copies : List (Option OwnedNumbers)) (made : ℕ) (owners : AllOwners) (j k : ℕ) (shared : Shared) (ts : List Thread) (ss : List source.Thread) (i : ℕ) → k ≡ j + i → ThreadsAgree p classes space copies made owners j shared ts ss → is_waiting classes k shared (slice_get ss i) ≡ false
+free_at p classes space copies made owners j k shared [] [] i place h = refl
+free_at p classes space copies made owners j k shared [] (s ∷ ss) i place h = absurd h
+free_at p classes space copies made owners j k shared (t ∷ ts) [] i place h = absurd h
+free_at p classes space copies made owners j k shared (t ∷ ts) (s ∷ ss) zero place h =
+    let here : j ≡ k = omega (arith, place) in
+    unblocked p classes space copies made k (owners j) shared t s (subst (λ (n : ℕ). ThreadAgrees p classes space copies made n (owners j) shared t s) here h.0)
+free_at p classes space copies made owners j k shared (t ∷ ts) (s ∷ ss) (suc i) place h = free_at p classes space copies made owners (suc j) k shared ts ss i (omega (arith, place)) h.1
 
 -- no thread waits for a monitor
-pub never_blocked : (p : Lowered) (classes : Classes) (space : Space) (made : ℕ) (owners : AllOwners) (j : ℕ) (s : State) (ts : List Thread) → IsLowered p → ThreadsAgree p classes space made owners j s.shared ts s.threads → (k : ℕ) → is_blocked classes s k ≡ false
-never_blocked p classes space made owners j s ts l h zero = refl
-never_blocked p classes space made owners j s ts l h (suc i) = free_at p classes space made owners j (suc i) s.shared ts s.threads i l h
+pub never_blocked : (p : Lowered) (classes : Classes) (space : Space) (copies : List (Option OwnedNumbers)) (made : ℕ) (owners : AllOwners) (s : State) (ts : List Thread) → ThreadsAgree p classes space copies made owners 1 s.shared ts s.threads → (k : ℕ) → is_blocked classes s k ≡ false
+never_blocked p classes space copies made owners s ts h zero = refl
+never_blocked p classes space copies made owners s ts h (suc i) = free_at p classes space copies made owners 1 (suc i) s.shared ts s.threads i (omega arith) h
 
 -- ---- the report
 
@@ -98,62 +103,73 @@ is_finished p world store ts printed stop journal c now view stopped is rest h =
 -- ---- the rows
 
 -- the frames and the pending exception of a thread stand for those of its thread of the source
-frames_in : (p : Lowered) (classes : Classes) (space : Space) (visible : Visible) (call : Option Activation) (frames : List source.Frame) (tasks : Option (List Task)) → WorkAgrees p classes space visible call frames tasks → CallFrames space call frames
-frames_in p classes space visible None frames None h = h
-frames_in p classes space visible None frames (Some tasks) h = absurd h
-frames_in p classes space visible (Some call) frames None h = absurd h
-frames_in p classes space visible (Some call) frames (Some tasks) h = h.frames_agree
+frames_in : (p : Lowered) (classes : Classes) (space : Space) (copies : List (Option OwnedNumbers)) (k : ℕ) (visible : Visible) (call : Option Activation) (frames : List source.Frame) (tasks : Option (List Task)) → WorkAgrees p classes space copies k visible call frames tasks → CallFrames space call frames
+frames_in p classes space copies k visible None frames None h = h
+frames_in p classes space copies k visible None frames (Some tasks) h = absurd h
+frames_in p classes space copies k visible (Some call) frames None h = absurd h
+frames_in p classes space copies k visible (Some call) frames (Some tasks) h = h.frames_agree
 
-roots_of : (p : Lowered) (classes : Classes) (space : Space) (made : ℕ) (owners : AllOwners) (k : ℕ) (shared : Shared) (ts : List Thread) (ss : List source.Thread) → ThreadsAgree p classes space made owners k shared ts ss → AllZip (HasRootsOf space) ts ss
-roots_of p classes space made owners k shared [] [] h = tt
-roots_of p classes space made owners k shared [] (s ∷ ss) h = absurd h
-roots_of p classes space made owners k shared (t ∷ ts) [] h = absurd h
-roots_of p classes space made owners k shared (t ∷ ts) (s ∷ ss) h = (
-  record { frames = frames_in p classes space (visible_to (owners k) shared s) t.call s.frames s.tasks (h.0).work; pending = (h.0).pending },
-  roots_of p classes space made owners (suc k) shared ts ss h.1,
+roots_of : (p : Lowered) (classes : Classes) (space : Space) (copies : List (Option OwnedNumbers)) (made : ℕ) (owners : AllOwners) (k : ℕ) (shared : Shared) (ts : List Thread) (ss : List source.Thread) → ThreadsAgree p classes space copies made owners k shared ts ss → AllZip (HasRootsOf space) ts ss
+roots_of p classes space copies made owners k shared [] [] h = tt
+roots_of p classes space copies made owners k shared [] (s ∷ ss) h = absurd h
+roots_of p classes space copies made owners k shared (t ∷ ts) [] h = absurd h
+roots_of p classes space copies made owners k shared (t ∷ ts) (s ∷ ss) h = (
+  record { frames = frames_in p classes space copies k (visible_to (owners k) shared s) t.call s.frames s.tasks (h.0).work; pending = (h.0).pending },
+  roots_of p classes space copies made owners (suc k) shared ts ss h.1,
 )
-
--- no function that gives a view can be called yet
-no_views : (p : Lowered) (classes : Classes) (space : Space) (made : ℕ) (owners : AllOwners) (k : ℕ) (shared : Shared) (ts : List Thread) (ss : List source.Thread) → ThreadsAgree p classes space made owners k shared ts ss → flat_map viewed_by ss ≡ []
-no_views p classes space made owners k shared ts [] h = refl
-no_views p classes space made owners k shared [] (s ∷ ss) h = absurd h
-no_views p classes space made owners k shared (t ∷ ts) (s ∷ ss) h =
-    flat_map-cons viewed_by s ss
-    ∙ ap (λ (l : List ℕ). l ++ flat_map viewed_by ss) (h.0).viewless
-    ∙ no_views p classes space made owners (suc k) shared ts ss h.1
 
 module _ (p : Lowered) (world : World) (store : Store) (ts : List Thread) (printed : List Printed) (stop : Option Stop) (journal : List Entry) (c : Corresponds p world store ts printed stop journal) where
   roots_in : AllZip (HasRootsOf store.heap) ts c.state.threads
-  roots_in = roots_of p world.classes store.heap (length (loaded_objects world)) (owners_after (unit_tree p.unit) world journal) 1 c.state.shared ts c.state.threads c.threads_agree
+  roots_in = roots_of p world.classes store.heap store.elements (length (loaded_objects world)) (owners_after (unit_tree p.unit) world journal) 1 c.state.shared ts c.state.threads c.threads_agree
 
   -- the objects made at load, the global references and what the threads refer to
   abbrev source_roots : List ℕ
   source_roots = from_one (length store.loaded.items) ++ (c.state.shared.globals ++ flat_map thread_roots c.state.threads)
 
-  -- those are all the state's roots, as no monitor is owned and nothing is viewed
-  roots_are : roots world c.state ≡ source_roots
+  -- those and what is viewed are all the state's roots, as no monitor is owned
+  roots_are : roots world c.state ≡ source_roots ++ views c.state
   roots_are =
       let names = flat_map thread_roots c.state.threads in
       let globals = c.state.shared.globals in
       let count : loaded_count world ≡ length store.loaded.items = sym (length-loaded world) ∙ sym c.store_agrees.table.counted in
-      let views_none : views c.state ≡ [] = no_views p world.classes store.heap (length (loaded_objects world)) (owners_after (unit_tree p.unit) world journal) 1 c.state.shared ts c.state.threads c.threads_agree in
       ap (λ (ms : List Monitor). (((from_one (loaded_count world) ++ globals) ++ names) ++ map (λ (m : Monitor). m.object) ms) ++ views c.state) c.store_agrees.monitors
       ∙ ap (λ (l : List ℕ). l ++ views c.state) (append-nil ((from_one (loaded_count world) ++ globals) ++ names))
-      ∙ ap (λ (l : List ℕ). ((from_one (loaded_count world) ++ globals) ++ names) ++ l) views_none
-      ∙ append-nil ((from_one (loaded_count world) ++ globals) ++ names)
-      ∙ ap (λ n. (from_one n ++ globals) ++ names) count
-      ∙ append_assoc (from_one (length store.loaded.items)) globals names
+      ∙ ap (λ n. ((from_one n ++ globals) ++ names) ++ views c.state) count
+      ∙ ap (λ (l : List ℕ). l ++ views c.state) (append_assoc (from_one (length store.loaded.items)) globals names)
 
   -- so each root is one of them, and each of them a root
-  root_among : (n : ℕ) → Contains (roots world c.state) n → In source_roots n
-  root_among n k = contains_in source_roots n (subst (λ (l : List ℕ). Contains l n) roots_are k)
+  root_among : (n : ℕ) → Contains (roots world c.state) n → In (source_roots ++ views c.state) n
+  root_among n k = contains_in (source_roots ++ views c.state) n (subst (λ (l : List ℕ). Contains l n) roots_are k)
 
-  among_roots : (n : ℕ) → In source_roots n → Contains (roots world c.state) n
-  among_roots n k = subst (λ (l : List ℕ). Contains l n) (sym roots_are) (to_contains source_roots n k)
+  among_roots : (n : ℕ) → In (source_roots ++ views c.state) n → Contains (roots world c.state) n
+  among_roots n k = subst (λ (l : List ℕ). Contains l n) (sym roots_are) (to_contains (source_roots ++ views c.state) n k)
+
+  source_root : (n : ℕ) → In source_roots n → Contains (roots world c.state) n
+  source_root n k = among_roots n (in_append_left source_roots (views c.state) n k)
+
+  pub view_root : (n : ℕ) → In (views c.state) n → Contains (roots world c.state) n
+  view_root n k = among_roots n (in_append_right source_roots (views c.state) n k)
+
+  -- what is viewed has a block, which is pinned
+  view_held : (n : ℕ) → In (views c.state) n → In (pinned_names store.heap.blocks) n
+  view_held n k =
+      let often = in_times (views c.state) n k in
+      let r = c.store_agrees.buffers.there n often in
+      name_pinned store.heap.blocks r.0 n r.1 (omega (arith, often, c.store_agrees.buffers.pins r.0 n r.1))
+
+  -- and nothing else has
+  held_view : (n : ℕ) → In (pinned_names store.heap.blocks) n → In (views c.state) n
+  held_view n k =
+      let r = pinned_block store.heap.blocks n k in
+      let place = get_map (λ (x : Block). x.address) store.heap.blocks r.0 r.1 r.2 in
+      let at : block_at store.heap r.1.address ≡ Some r.1 = block_at-place store.heap r.0 r.1.address c.store_agrees.laid_out place ∙ r.2 in
+      let named : name_at store.heap r.1.address ≡ Some n = ap (option_map (λ (b : Block). b.birth)) at ∙ ap (λ (m : ℕ). Some m) r.3 in
+      let pins : pins_at store.heap r.1.address ≡ r.1.pins = ap (λ (o : Option Block). option_map_or (λ (b : Block). b.pins) o 0) at in
+      times_in (views c.state) n (omega (arith, r.4, pins, c.store_agrees.buffers.pins r.1.address n named))
 
   -- each root has a block
-  root_there : (n : ℕ) → Contains (roots world c.state) n → IsNamed store.heap n
-  root_there n k =
+  source_there : (n : ℕ) → In source_roots n → IsNamed store.heap n
+  source_there n there =
       let front = from_one (length store.loaded.items) in
       let globals = c.state.shared.globals in
       let names = flat_map thread_roots c.state.threads in
@@ -163,7 +179,10 @@ module _ (p : Lowered) (world : World) (store : Store) (ts : List Thread) (print
       (λ (g : In globals n). slots_named store.heap store.globals globals n c.store_agrees.globals g)
       (λ (t : In names n). threads_named store.heap ts c.state.threads n roots_in t)
       (in_append_cases globals names n l))
-      (in_append_cases front (globals ++ names) n (root_among n k))
+      (in_append_cases front (globals ++ names) n there)
+
+  root_there : (n : ℕ) → Contains (roots world c.state) n → IsNamed store.heap n
+  root_there n k = ⊎_elim (source_there n) (λ (l : In (views c.state) n). c.store_agrees.buffers.there n (in_times (views c.state) n l)) (in_append_cases source_roots (views c.state) n (root_among n k))
 
   -- and so has each object that can be reached
   pub reachable_there : (n : ℕ) → Reachable world c.state n → IsNamed store.heap n
@@ -176,12 +195,12 @@ module _ (p : Lowered) (world : World) (store : Store) (ts : List Thread) (print
   gathered_name stacked a there =
       let among = subst (λ (l : List ℕ). In l a) (places_are store ts) (place_in (root_places store ts) a there) in
       let r = gathered_roots store.heap store (length (loaded_objects world)) ts c.state.threads c.state.shared.globals a c.store_agrees.table c.store_agrees.globals roots_in stacked among in
-      (r.0, r.1, among_roots r.0 r.2)
+      (r.0, r.1, source_root r.0 r.2)
 
-  -- and each root's name that of a gathered address
-  pub name_gathered : (n : ℕ) → Contains (roots world c.state) n → (a : ℕ) × (name_at store.heap a ≡ Some n) × Contains (root_places store ts) (Some a)
+  -- and each root's name, but for views, that of a gathered address
+  name_gathered : (n : ℕ) → In source_roots n → (a : ℕ) × (name_at store.heap a ≡ Some n) × Contains (root_places store ts) (Some a)
   name_gathered n k =
-      let r = roots_gathered store.heap store (length (loaded_objects world)) ts c.state.threads c.state.shared.globals n c.store_agrees.table c.store_agrees.globals roots_in (root_among n k) in
+      let r = roots_gathered store.heap store (length (loaded_objects world)) ts c.state.threads c.state.shared.globals n c.store_agrees.table c.store_agrees.globals roots_in k in
       (r.0, r.1, in_place (root_places store ts) r.0 (subst (λ (l : List ℕ). In l r.0) (sym (places_are store ts)) r.2))
 
   -- their objects are there
@@ -190,9 +209,37 @@ module _ (p : Lowered) (world : World) (store : Store) (ts : List Thread) (print
       let r = gathered_name stacked a (in_place (root_places store ts) a (contains_in (references_in (root_places store ts)) a (Contains-from_get (references_in (root_places store ts)) i a at))) in
       is_address store.heap a r.0 r.1
 
+  -- the names of the objects at those addresses, and of those whose blocks are pinned
+  abbrev gathered_names : List ℕ
+  gathered_names = map (name_of store.heap) (references_in (root_places store ts))
+
+  abbrev report_names : List ℕ
+  report_names = gathered_names ++ pinned_names store.heap.blocks
+
+  -- they are those of the roots
+  root_told : (m : ℕ) → Contains (roots world c.state) m → In report_names m
+  root_told m k = ⊎_elim
+      (λ (l : In source_roots m).
+      let r = name_gathered m l in
+      let named : name_of store.heap r.0 ≡ m = ap (λ (o : Option ℕ). option_map_or (λ (x : ℕ). x) o 0) r.1 in
+      in_append_left gathered_names (pinned_names store.heap.blocks) m
+      (subst (λ (x : ℕ). In gathered_names x) named (in_map (name_of store.heap) (references_in (root_places store ts)) r.0 (place_in (root_places store ts) r.0 r.2))))
+      (λ (l : In (views c.state) m). in_append_right gathered_names (pinned_names store.heap.blocks) m (view_held m l))
+      (in_append_cases source_roots (views c.state) m (root_among m k))
+
+  told_root : ThreadsAreStacked ts → (m : ℕ) → In report_names m → Contains (roots world c.state) m
+  told_root stacked m k = ⊎_elim
+      (λ (f : In gathered_names m).
+      let back = map_in (name_of store.heap) (references_in (root_places store ts)) m f in
+      let r = gathered_name stacked back.0 (in_place (root_places store ts) back.0 back.1) in
+      let same : r.0 ≡ m = sym (ap (λ (o : Option ℕ). option_map_or (λ (x : ℕ). x) o 0) r.1) ∙ back.2 in
+      subst (λ (x : ℕ). Contains (roots world c.state) x) same r.2)
+      (λ (f : In (pinned_names store.heap.blocks) m). view_root m (held_view m f))
+      (in_append_cases gathered_names (pinned_names store.heap.blocks) m k)
+
   -- the rows of what can be reached from them are the state's
   pub rows_are : (classes : Classes) (objects : Heap) (loaded : ℕ) (names : List ℕ) (rows : List ShownRow)
-      → classes ≡ world.classes → AreSeen store.heap c.state.shared.heap objects → loaded ≡ length store.loaded.items → names ≡ map (name_of store.heap) (references_in (root_places store ts)) → ThreadsAreStacked ts
+      → classes ≡ world.classes → AreSeen store.heap c.state.shared.heap objects → loaded ≡ length store.loaded.items → names ≡ report_names → ThreadsAreStacked ts
       → AreReported classes objects loaded names rows → rows ≡ map (shown_row world.classes c.state.shared.heap) (shown world c.state)
   unfolding report
   rows_are classes objects loaded names rows k h l n stacked told =
@@ -200,26 +247,18 @@ module _ (p : Lowered) (world : World) (store : Store) (ts : List Thread) (print
         classes = sym k;
         count = sym h.count;
         same = λ m r. sym (h.same m (reachable_there m r));
-        sound = λ m there.
-            let r = name_gathered m there in
-            let named : name_of store.heap r.0 ≡ m = ap (λ (o : Option ℕ). option_map_or (λ (x : ℕ). x) o 0) r.1 in
-            let among = subst (λ (x : ℕ). In (map (name_of store.heap) (references_in (root_places store ts))) x) named (in_map (name_of store.heap) (references_in (root_places store ts)) r.0 (place_in (root_places store ts) r.0 r.2)) in
-            to_contains (from_one loaded ++ names) m (in_append_right (from_one loaded) names m (subst (λ (ns : List ℕ). In ns m) (sym n) among));
+        sound = λ m there. to_contains (from_one loaded ++ names) m (in_append_right (from_one loaded) names m (subst (λ (ns : List ℕ). In ns m) (sym n) (root_told m there)));
         complete = λ m there. ⊎_elim
             (λ (f : In (from_one loaded) m).
-            among_roots m (in_append_left (from_one (length store.loaded.items)) (c.state.shared.globals ++ flat_map thread_roots c.state.threads) m (subst (λ (x : ℕ). In (from_one x) m) l f)))
-            (λ (f : In names m).
-            let back = map_in (name_of store.heap) (references_in (root_places store ts)) m (subst (λ (ns : List ℕ). In ns m) n f) in
-            let r = gathered_name stacked back.0 (in_place (root_places store ts) back.0 back.1) in
-            let same : r.0 ≡ m = sym (ap (λ (o : Option ℕ). option_map_or (λ (x : ℕ). x) o 0) r.1) ∙ back.2 in
-            subst (λ (x : ℕ). Contains (roots world c.state) x) same r.2)
+            source_root m (in_append_left (from_one (length store.loaded.items)) (c.state.shared.globals ++ flat_map thread_roots c.state.threads) m (subst (λ (x : ℕ). In (from_one x) m) l f)))
+            (λ (f : In names m). told_root stacked m (subst (λ (ns : List ℕ). In ns m) n f))
             (in_append_cases (from_one loaded) names m (contains_in (from_one loaded ++ names) m there));
       })
 
 module _ (p : Lowered) (world : World) (store : Store) (ts : List Thread) (printed : List Printed) (stop : Option Stop) (journal : List Entry) (c : Corresponds p world store ts printed stop journal) (now : Run)
     (view : ◌≡◌ {A = Run} (record { unit = p.unit; world = world; journal = journal; left = left_of store.heap }) now) where
   -- the names of the tables lead to what is shown
-  pub are_shown : (objects : Heap) (names : List ℕ) → AreSeen store.heap c.state.shared.heap objects → names ≡ map (name_of store.heap) (references_in (root_places store ts)) → ThreadsAreStacked ts → AreShown now objects names
+  pub are_shown : (objects : Heap) (names : List ℕ) → AreSeen store.heap c.state.shared.heap objects → names ≡ map (name_of store.heap) (references_in (root_places store ts)) ++ pinned_names store.heap.blocks → ThreadsAreStacked ts → AreShown now objects names
   are_shown objects names h n stacked =
       subst (λ (r : Run). AreShown r objects names) view
       (λ rows told. (c.state, c.replays, rows_are p world store ts printed stop journal c world.classes objects (length (loaded_objects world)) names rows refl h (sym c.store_agrees.table.counted) n stacked told))

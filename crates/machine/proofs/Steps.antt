@@ -1,5 +1,5 @@
 -- A step of the machine is a step of the state that its journal leads to.
-use Rattle.std.proofs.Common.{◌≡◌, ℕ, suc, ◌<◌, ◌≤◌, ◌-◌, Bool, true, false, List, [], ◌∷◌, ◌++◌, ◌+◌, length, drop, arith, inl, length-append, Option, Some, None, refl, sym, ap, ◌∙◌, subst}
+use Rattle.std.proofs.Common.{◌≡◌, ℕ, suc, ◌<◌, ◌≤◌, ◌-◌, Bool, true, false, List, [], ◌∷◌, ◌++◌, ◌+◌, length, drop, arith, inl, inr, length-append, Option, Some, None, refl, sym, ap, ◌∙◌, subst}
 use Rattle.std.specs.Prelude.{slice_get, slice_set}
 use Rattle.std.specs.Option.{option_map}
 use Rattle.std.proofs.Math.ListN.{length-set}
@@ -10,14 +10,14 @@ use Rattle.semantics.specs.declared.journal.Entry.{Entry}
 use Rattle.semantics.specs.declared.journal.Entry.TheVariants.{Step}
 use Rattle.semantics.specs.declared.printed.Printed.{Printed}
 use Rattle.semantics.specs.World.{World, loaded_objects}
-use Rattle.semantics.specs.State.{State, thread_at, set_thread, in_use, with_event}
+use Rattle.semantics.specs.State.{State, thread_at, set_thread, in_use, views, with_event}
 use Rattle.semantics.specs.State.{advanced as advanced_to}
 use Rattle.semantics.specs.Step.{can_step, is_blocked, is_unfinished, is_waiting, world_step}
 use Rattle.semantics.specs.ThreadStep.{thread_step}
 use Rattle.semantics.specs.Thread as source
 use Rattle.semantics.specs.Thread.{BuffersInUse, Shared}
 use Rattle.semantics.proofs.RunLaws.{replay_more, each-more}
-use Rattle.semantics.specs.Run.{Fits, FitsUnmarked, IsFairMarked, made, made_between}
+use Rattle.semantics.specs.Run.{Fits, FitsUnmarked, IsFair, IsFairMarked, made, made_between}
 use Rattle.semantics.specs.Object.{sizes}
 use Rattle.semantics.specs.Reachable.{live_size, Reachable}
 use Rattle.machine_calls.specs.HeapAgrees.{IsNamed}
@@ -36,17 +36,20 @@ use Rattle.machine_steps.specs.declared.thread.Thread.{Thread}
 use Rattle.machine.specs.declared.stop.Stop.{Stop}
 use Rattle.machine.specs.Stops.{stop_view, stop_after}
 use Rattle.machine_calls.specs.declared.store.Store.{Store}
-use Rattle.machine_steps.specs.Executes.{IsSteady, cells_made, event_view}
+use Rattle.machine_steps.specs.Executes.{IsSteady, cells_made, event_view, in_use_with}
+use Rattle.machine_calls.specs.Buffers.{Acquired, SameAcquired, acquired_by, beside}
 use Rattle.machine_calls.specs.StoreAgrees.{StoreAgrees}
 use Rattle.machine_steps.specs.ThreadAgrees.{ThreadAgrees, ThreadsAgree, ending_view}
 use Rattle.machine_steps.specs.Advances.{Advances}
 use Rattle.machine_steps.specs.declared.advance.Advanced.{Advanced}
 use Rattle.machine_steps.specs.declared.advance.Advanced.TheVariants as advanced
-use Rattle.machine.specs.Run.{Run, AdvancesAlways, Corresponds, CouldStep, HadNoRoom, LeavesAll, TurnHolds, entry_of, event_of, is_refused, printed_after, turn_after, HasEnded}
-use Rattle.machine.proofs.KeptThreads.{threads_stay}
-use Rattle.machine.proofs.OwnerSteps.{Found, changed, found, owner_elsewhere, owner_here, owners_stepped}
+use Rattle.machine.specs.Run.{Run, AdvancesAlways, HoldsAlways, acquired, Corresponds, CouldStep, HadNoRoom, LeavesAll, TurnHolds, entry_of, event_of, is_refused, printed_after, turn_after, HasEnded}
+use Rattle.machine.proofs.KeptThreads.{changed}
+use Rattle.machine.proofs.TakenBuffers.{in_use_same, joined, others, parted, taken}
+use Rattle.machine_steps.proofs.Acquisitions.{store_taken}
 use Rattle.semantics_typing.specs.Objects.{AreTypedVariables}
 use Rattle.semantics_typing.proofs.Lists.{all_get}
+use Rattle.machine.proofs.OwnerSteps.{Found, found, owner_elsewhere, owner_here, owners_stepped}
 use Rattle.semantics_safety.specs.Owners.{AllOwners, Owners, after_advance, owners_after, with_owners}
 
 -- ---- what a step changes
@@ -75,16 +78,14 @@ threads_next s k shared t event.Quiet = refl
 threads_next s k shared t (event.Printed z) = refl
 threads_next s k shared t (event.Trapped trap line) = refl
 
--- the thread took this step, whatever state it stands for
-abbrev pub StepsAlways : Lowered → World → (store store' : Store) → Thread → Thread → (refused : Bool) → Event → Type 0
-StepsAlways p w store store' t after refused e =
-    (in_use : BuffersInUse) (k : ℕ) (own : Owners) (shared : Shared) (s : source.Thread) → StoreAgrees p w store shared → ThreadAgrees p w.classes store.heap (length (loaded_objects w)) own shared t s → IsSteady w.classes own shared s
-    → Advances p w store.heap store' in_use k own shared s after refused e
+-- thread k took this step, whatever state it stands for
+abbrev pub StepsAlways : Lowered → World → (k : ℕ) → (store store' : Store) → Thread → Thread → (refused : Bool) → Event → Type 0
+StepsAlways p w k store store' t after refused e = HoldsAlways p w k store t (λ others own shared s. Advances p w store store' others k own shared s after refused e)
 
 -- ---- room
 
 -- a step that isn't refused has room beside what is reachable
-has_room : (p : Lowered) (w : World) (store : Store) (s next : State) (k : ℕ) → StoreAgrees p w store s.shared → ((n : ℕ) → Reachable w s n → IsNamed store.heap n) → sizes (drop (length s.shared.heap) next.shared.heap) ≤ left_of store.heap → world_step (unit_tree p.unit) w.classes s (entry_of k) ≡ Some next → Fits (unit_tree p.unit) w s k
+has_room : (p : Lowered) (w : World) (store : Store) (s next : State) (k : ℕ) → StoreAgrees p w store s.shared (acquired s) → ((n : ℕ) → Reachable w s n → IsNamed store.heap n) → sizes (drop (length s.shared.heap) next.shared.heap) ≤ left_of store.heap → world_step (unit_tree p.unit) w.classes s (entry_of k) ≡ Some next → Fits (unit_tree p.unit) w s k
 has_room p w store s next k shares named room step some =
     let made_now : made (unit_tree p.unit) w s k ≡ drop (length s.shared.heap) next.shared.heap = ap (made_between s) step in
     let live = live_below w s store.heap shares.heap.blocks shares.laid_out named in
@@ -115,8 +116,8 @@ module _ (p : Lowered) (world : World) (store : Store) (ts : List Thread) (print
   placed : k ≡ 1 + i
   placed = omega (arith, counted)
 
-  pub the_thread : Found p classes store.heap count_made c.state.shared (owners k) t c.state.threads i
-  the_thread = found p classes store.heap count_made c.state.shared owners 1 k ts c.state.threads i t placed c.threads_agree at
+  pub the_thread : Found p classes store.heap store.elements count_made c.state.shared k (owners k) t c.state.threads i
+  the_thread = found p classes store.heap store.elements count_made c.state.shared owners 1 k ts c.state.threads i t placed c.threads_agree at
 
   there : thread_at c.state k ≡ Some the_thread.source
   there = ap (thread_at c.state) counted ∙ the_thread.is
@@ -137,6 +138,20 @@ module _ (p : Lowered) (world : World) (store : Store) (ts : List Thread) (print
         declared = safe.declared;
         owned = safe.owned;
       }
+
+  -- what the buffers of the other threads take
+  abbrev pub rest : Acquired
+  rest = others c.state.threads i
+
+  -- what those of all do, by theirs and its own
+  all_taken : SameAcquired (acquired c.state) (beside rest (acquired_by the_thread.source))
+  all_taken = parted c.state.threads i the_thread.source the_thread.is
+
+  pub shared_agrees : StoreAgrees p world store c.state.shared (beside rest (acquired_by the_thread.source))
+  shared_agrees = store_taken p world store c.state.shared (acquired c.state) (beside rest (acquired_by the_thread.source)) all_taken c.store_agrees
+
+  used : in_use c.state ≡ in_use_with rest the_thread.source
+  used = in_use_same (acquired c.state) (beside rest (acquired_by the_thread.source)) all_taken
 
   -- the machine hasn't stopped
   running : stop ≡ None → c.state.stop ≡ None
@@ -165,37 +180,49 @@ module _ (p : Lowered) (world : World) (store : Store) (ts : List Thread) (print
   fits_entry false next room step = has_room p world store c.state next k c.store_agrees (reachable_there p world store ts printed stop journal c) room step
 
   -- a step that was refused had no room for what it would have made
-  no_room : (store' : Store) (after : Thread) → stop ≡ None → t.ending ≡ Unfinished → Free → StepsAlways p world store store' t after true event.Quiet → (left_of store.heap < sizes (made (unit_tree p.unit) world c.state k)) × (left_of store'.heap ≡ left_of store.heap)
+  no_room : (store' : Store) (after : Thread) → stop ≡ None → t.ending ≡ Unfinished → Free → StepsAlways p world k store store' t after true event.Quiet → (left_of store.heap < sizes (made (unit_tree p.unit) world c.state k)) × (left_of store'.heap ≡ left_of store.heap)
   no_room store' after goes live free advances =
       let f = the_thread in
-      let a = advances (in_use c.state) k (owners k) c.state.shared f.source c.store_agrees f.agrees steady in
+      let a = advances rest (owners k) c.state.shared f.source shared_agrees f.agrees steady in
       let short = a.short refl in
       let step = ap (made_between c.state) (step-thread (unit_tree p.unit) classes c.state k f.source false (steps_here goes live free)) in
-      let cells : sizes (made (unit_tree p.unit) world c.state k) ≡ cells_made c.state.shared (thread_step (unit_tree p.unit) classes (in_use c.state) k c.state.shared f.source false) =
-      ap sizes step ∙ made_cells c.state k (thread_step (unit_tree p.unit) classes (in_use c.state) k c.state.shared f.source false) in
+      let cells : sizes (made (unit_tree p.unit) world c.state k) ≡ cells_made c.state.shared (thread_step (unit_tree p.unit) classes (in_use_with rest f.source) k c.state.shared f.source false) =
+      ap sizes step ∙ made_cells c.state k (thread_step (unit_tree p.unit) classes (in_use c.state) k c.state.shared f.source false)
+      ∙ ap (λ (u : BuffersInUse). cells_made c.state.shared (thread_step (unit_tree p.unit) classes u k c.state.shared f.source false)) used in
       (omega (arith, short.0, cells), ap left_of short.1)
 
-  -- so it was fair, where all cells were left but those of what can be reached
-  fair_entry : (store' : Store) (after : Thread) (refused : Bool) (e : Event) → stop ≡ None → t.ending ≡ Unfinished → Free → StepsAlways p world store store' t after refused e → (refused ≡ true → e ≡ event.Quiet) → (refused ≡ true → left_of store.heap ≡ world.cells - live_size world c.state)
+  -- where nothing is viewed, all cells are left but those of what can be reached
+  abbrev AreLeft : Type 0
+  AreLeft = views c.state ≡ [] → left_of store.heap ≡ world.cells - live_size world c.state
+
+  -- so it was fair
+  fair_entry : (store' : Store) (after : Thread) (refused : Bool) (e : Event) → stop ≡ None → t.ending ≡ Unfinished → Free → StepsAlways p world k store store' t after refused e → (refused ≡ true → e ≡ event.Quiet) → (refused ≡ true → AreLeft)
       → IsFairMarked (unit_tree p.unit) world c.state (Step k refused)
   fair_entry store' after false e goes live free advances quiet left = tt
   fair_entry store' after true e goes live free advances quiet left =
-      let short = no_room store' after goes live free (subst (λ (x : Event). StepsAlways p world store store' t after true x) (quiet refl) advances) in
-      inl (omega (arith, short.0, left refl))
+      let short = no_room store' after goes live free (subst (λ (x : Event). StepsAlways p world k store store' t after true x) (quiet refl) advances) in
+      by_views (views c.state) refl short.0
+    where
+      by_views : (l : List ℕ) → views c.state ≡ l → left_of store.heap < sizes (made (unit_tree p.unit) world c.state k) → IsFair (unit_tree p.unit) world c.state k
+      by_views [] none short = inl (omega (arith, short, left refl none))
+      by_views (n ∷ l) some short = inr (λ none. let both : n ∷ l ≡ [] = sym some ∙ none in cc)
 
   -- the machine after the step
-  pub steps_on : (store' : Store) (after : Thread) (refused : Bool) (e : Event) → stop ≡ None → t.ending ≡ Unfinished → Free → StepsAlways p world store store' t after refused e → (refused ≡ true → e ≡ event.Quiet) → (refused ≡ true → left_of store.heap ≡ world.cells - live_size world c.state)
+  pub steps_on : (store' : Store) (after : Thread) (refused : Bool) (e : Event) → stop ≡ None → t.ending ≡ Unfinished → Free → StepsAlways p world k store store' t after refused e → (refused ≡ true → e ≡ event.Quiet) → (refused ≡ true → AreLeft)
       → Corresponds p world store' (slice_set ts i after) (printed_after printed k e) (stop_after stop k e) (journal ++ Step k refused ∷ [])
   steps_on store' after refused e goes live free advances quiet left =
       let f = the_thread in
       let entry : Entry = Step k refused in
-      let a = advances (in_use c.state) k (owners k) c.state.shared f.source c.store_agrees f.agrees steady in
+      let a = advances rest (owners k) c.state.shared f.source shared_agrees f.agrees steady in
       let next = next_state c.state k a.next_shared a.next e in
       let step : world_step (unit_tree p.unit) classes c.state entry ≡ Some next =
-      step-thread (unit_tree p.unit) classes c.state k f.source refused (steps_here goes live free) ∙ ap (advanced_to c.state k) a.steps in
+      step-thread (unit_tree p.unit) classes c.state k f.source refused (steps_here goes live free) ∙ ap (λ (u : BuffersInUse). advanced_to c.state k (thread_step (unit_tree p.unit) classes u k c.state.shared f.source refused)) used ∙ ap (advanced_to c.state k) a.steps in
       let shared_is : next.shared ≡ a.next_shared = shared_next c.state k a.next_shared a.next e in
-      let others = threads_stay p classes count_made store.heap store'.heap c.state.shared a.next_shared a.keeps owners 1 ts c.state.threads c.threads_agree in
-      let shares : StoreAgrees p world store' next.shared = subst (StoreAgrees p world store') (sym shared_is) a.store_agrees in
+      let threads_is : next.threads ≡ slice_set c.state.threads i a.next = threads_next c.state k a.next_shared a.next e ∙ ap (λ n. set_thread c.state.threads n a.next) counted in
+      let shares : StoreAgrees p world store' next.shared (acquired next) =
+      subst (λ (l : List source.Thread). StoreAgrees p world store' next.shared (taken l)) (sym threads_is)
+      (subst (λ (x : Shared). StoreAgrees p world store' x (taken (slice_set c.state.threads i a.next))) (sym shared_is)
+      (store_taken p world store' a.next_shared (beside rest (acquired_by a.next)) (taken (slice_set c.state.threads i a.next)) (joined c.state.threads i f.source a.next f.is) a.store_agrees)) in
       let room : sizes (drop (length c.state.shared.heap) next.shared.heap) ≤ left_of store.heap = subst (λ (x : Shared). sizes (drop (length c.state.shared.heap) x.heap) ≤ left_of store.heap) (sym shared_is) a.keeps.room in
       record {
         lowered = c.lowered;
@@ -207,12 +234,13 @@ module _ (p : Lowered) (world : World) (store : Store) (ts : List Thread) (print
         threads_agree =
             let own = after_advance c.state.shared f.source (owners k) (source.Advances a.next_shared a.next (event_view e)) in
             let now : AllOwners = with_owners owners k own in
-            subst (λ (o : AllOwners). ThreadsAgree p classes store'.heap count_made o 1 next.shared (slice_set ts i after) next.threads)
-            (sym (owners_stepped (unit_tree p.unit) world journal c.state k refused f.source (source.Advances a.next_shared a.next (event_view e)) c.replays there a.steps))
-            (subst (λ (x : Shared). ThreadsAgree p classes store'.heap count_made now 1 x (slice_set ts i after) next.threads) (sym shared_is)
-            (subst (ThreadsAgree p classes store'.heap count_made now 1 a.next_shared (slice_set ts i after)) (sym (threads_next c.state k a.next_shared a.next e ∙ ap (λ n. set_thread c.state.threads n a.next) counted))
-            (changed p classes store'.heap count_made a.next_shared owners now k (owner_elsewhere owners k own) 1 ts c.state.threads i after a.next placed others
-            (subst (λ (o : Owners). ThreadAgrees p classes store'.heap count_made o a.next_shared after a.next) (sym (owner_here owners k own)) a.agrees))));
+            subst (λ (o : AllOwners). ThreadsAgree p classes store'.heap store'.elements count_made o 1 next.shared (slice_set ts i after) next.threads)
+            (sym (owners_stepped (unit_tree p.unit) world journal c.state k refused f.source (source.Advances a.next_shared a.next (event_view e)) c.replays there
+            (ap (λ (u : BuffersInUse). thread_step (unit_tree p.unit) classes u k c.state.shared f.source refused) used ∙ a.steps)))
+            (subst (λ (x : Shared). ThreadsAgree p classes store'.heap store'.elements count_made now 1 x (slice_set ts i after) next.threads) (sym shared_is)
+            (subst (ThreadsAgree p classes store'.heap store'.elements count_made now 1 a.next_shared (slice_set ts i after)) (sym threads_is)
+            (changed p classes count_made k store.heap store'.heap store.elements store'.elements c.state.shared a.next_shared a.keeps a.keeps_copies owners now (owner_elsewhere owners k own) 1 ts c.state.threads i after a.next placed c.threads_agree
+            (subst (λ (o : Owners). ThreadAgrees p classes store'.heap store'.elements count_made k o a.next_shared after a.next) (sym (owner_here owners k own)) a.agrees))));
         same_printed = printed_next c.state k a.next_shared a.next e ∙ ap (λ l. printed_after l k e) c.same_printed;
         same_stop = stop_next c.state k a.next_shared a.next e stop c.same_stop;
         fits = each-more (unit_tree p.unit) world (FitsUnmarked (unit_tree p.unit) world) (Some (start (unit_tree p.unit) world)) journal entry c.fits
@@ -228,20 +256,20 @@ module _ (p : Lowered) (world : World) (store : Store) (ts : List Thread) (print
       }
 
   -- the same by what is told of the step
-  pub steps_by : (store' : Store) (after : Thread) (x : Advanced) → stop ≡ None → t.ending ≡ Unfinished → Free → AdvancesAlways p world store store' t after x → (x ≡ advanced.Refused → left_of store.heap ≡ world.cells - live_size world c.state)
+  pub steps_by : (store' : Store) (after : Thread) (x : Advanced) → stop ≡ None → t.ending ≡ Unfinished → Free → AdvancesAlways p world k store store' t after x → (x ≡ advanced.Refused → AreLeft)
       → Corresponds p world store' (slice_set ts i after) (printed_after printed k (event_of x)) (stop_after stop k (event_of x)) (journal ++ Step k (is_refused x) ∷ [])
   steps_by store' after (advanced.Did e) goes live free advances left = steps_on store' after false e goes live free advances (λ h. absurd (cc)) (λ h. absurd (cc))
   steps_by store' after advanced.Refused goes live free advances left = steps_on store' after true event.Quiet goes live free advances (λ h. refl) (λ h. left refl)
 
-  -- a step that was refused had no room, and left all cells but those of what can be reached
-  pub short_by : (store' : Store) (after : Thread) (x : Advanced) → stop ≡ None → t.ending ≡ Unfinished → Free → AdvancesAlways p world store store' t after x → (x ≡ advanced.Refused → left_of store.heap ≡ world.cells - live_size world c.state)
-      → x ≡ advanced.Refused → (left_of store'.heap < sizes (made (unit_tree p.unit) world c.state k)) × (left_of store'.heap ≡ world.cells - live_size world c.state)
+  -- a step that was refused had no room, and where nothing is viewed, it left all cells but those of what can be reached
+  pub short_by : (store' : Store) (after : Thread) (x : Advanced) → stop ≡ None → t.ending ≡ Unfinished → Free → AdvancesAlways p world k store store' t after x → (x ≡ advanced.Refused → AreLeft)
+      → x ≡ advanced.Refused → (left_of store'.heap < sizes (made (unit_tree p.unit) world c.state k)) × (views c.state ≡ [] → left_of store'.heap ≡ world.cells - live_size world c.state)
   short_by store' after (advanced.Did e) goes live free advances left is = absurd (cc)
   short_by store' after advanced.Refused goes live free advances left is =
       let short = no_room store' after goes live free advances in
       let first : left_of store.heap < sizes (made (unit_tree p.unit) world c.state k) = short.0 in
       let same : left_of store'.heap ≡ left_of store.heap = short.1 in
-      (omega (arith, first, same), same ∙ left refl)
+      (omega (arith, first, same), λ none. same ∙ left refl none)
 
 -- the turn was the step that the run has more
 pub turn_holds : (old : Run) (unit : List Item) (world : World) (before after : List Entry) (had left : ℕ) (k : ℕ) (x : Advanced) → record { unit = unit; world = world; journal = before; left = had } ≡ old → after ≡ before ++ Step k (is_refused x) ∷ []

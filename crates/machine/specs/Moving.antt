@@ -36,6 +36,8 @@ pub record IsMoved (f : ℕ → ℕ) (store : Store) (t : Space) (after : Store)
   pub births : after.births ≡ store.births
   pub statics : after.statics ≡ store.statics
   pub globals : after.globals ≡ moved_slots f store.globals
+  pub elements : after.elements ≡ store.elements
+  pub views : after.views ≡ store.views
 
 -- the roots have the new addresses, and nothing else has changed
 pub record AreMoved (f : ℕ → ℕ) (store : Store) (threads : List Thread) (after : Store) (later : List Thread) : Type 0 where
@@ -49,7 +51,8 @@ pub record AreReferred (store : Store) (threads : List Thread) : Type 0 where
   pub closed : IsClosed store.heap
   pub roots : ThreadsAreStacked threads → compact.AreAddresses store.heap (root_places store threads)
 
--- the blocks that roots lead to were moved together, and the roots follow
+-- The blocks that roots or views lead to were moved together, and the roots follow. What is viewed is pinned, and stays where it is, so
+-- slots have its address yet.
 pub record AreCollected (store : Store) (threads : List Thread) (after : Store) (later : List Thread) : Type 0 where
   pub to : ℕ → ℕ
   pub blocks : MovesBy (IsKept store.heap (root_places store threads)) to store.heap after.heap

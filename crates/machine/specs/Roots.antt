@@ -1,7 +1,7 @@
 -- The roots: what refers to objects from outside of the heap, place by place.
-use Rattle.std.specs.Prelude.{◌≡◌, ℕ, List, [], ◌∷◌, ◌++◌, flat_map, map, Option, Some, None, slice_get}
+use Rattle.std.specs.Prelude.{◌≡◌, ℕ, List, [], ◌∷◌, ◌++◌, flat_map, map, Option, Some, None, slice_get, nat_lt, if◌then◌else◌}
 use Rattle.std.specs.Option.{option_map, option_map_or, option_to_list}
-use Rattle.heap.specs.Heap.{Space, IsAddress, name_at}
+use Rattle.heap.specs.Heap.{Block, Space, IsAddress, name_at}
 use Rattle.machine_steps.specs.declared.thread.Thread.{Thread}
 use Rattle.tables.specs.Locals.{AreStacked}
 use Rattle.machine_calls.specs.declared.activation.Activation.{Activation}
@@ -32,6 +32,13 @@ thread_places t = slots_of t.call ++ t.pending ∷ []
 -- after them.
 abbrev pub root_places : Store → List Thread → List (Option ℕ)
 root_places store threads = loaded_places store.loaded.items ++ (store.globals ++ flat_map thread_places threads)
+
+-- ---- views
+
+-- the names of the objects whose blocks are pinned, as those that are viewed are
+abbrev pub pinned_names : List Block → List ℕ
+pinned_names [] = []
+pinned_names (b ∷ blocks) = let rest = pinned_names blocks in if nat_lt 0 b.pins then b.birth ∷ rest else rest
 
 -- ---- frames
 

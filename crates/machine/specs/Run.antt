@@ -1,5 +1,5 @@
 -- A run, as its program, its world, the steps taken and the room that is left.
-use Rattle.std.specs.Prelude.{◌≡◌, ◌≢◌, ℕ, ◌+◌, ◌-◌, ◌*◌, ◌<◌, ◌≤◌, ◌⊎◌, Bool, true, false, List, [], ◌∷◌, ◌++◌, length, map, slice_get, slice_set, Option, Some, None, Result, Ok, Err, IsSome, is_some, not, ◌||◌}
+use Rattle.std.specs.Prelude.{◌≡◌, ◌≢◌, ℕ, ◌+◌, ◌-◌, ◌*◌, ◌<◌, ◌≤◌, ◌⊎◌, Bool, true, false, List, [], ◌∷◌, ◌++◌, length, map, slice_get, slice_set, Option, Some, None, Result, Ok, Err, IsSome, is_some, not, ◌||◌, suc}
 use Rattle.std.specs.Option.{option_map}
 use Rattle.std.specs.List.{list_all, enumerate_from}
 use Rattle.syntax.specs.declared.unit.Item.{Item}
@@ -22,9 +22,10 @@ use Rattle.report_objects.specs.Rows.{AreReported}
 use Rattle.semantics.specs.Object.{sizes}
 use Rattle.semantics.specs.Reachable.{live_size}
 use Rattle.semantics.specs.Run.{replay, made, Follows, MarkedAreFair, UnmarkedFit}
-use Rattle.semantics.specs.State.{State, thread_at, views}
+use Rattle.semantics.specs.State.{State, copied, thread_at, views}
+use Rattle.semantics.specs.ThreadStep.{thread_step}
 use Rattle.semantics.specs.Step.{can_step, is_blocked, is_unfinished}
-use Rattle.semantics.specs.Thread.{BuffersInUse, Shared, Thread as SourceThread}
+use Rattle.semantics.specs.Thread.{Shared, Thread as SourceThread}
 use Rattle.semantics_safety.specs.Owners.{Owners, owners_after}
 use Rattle.semantics_safety.specs.StepSafe.{IsSafe}
 use Rattle.semantics_typing.specs.Law.{RunsTyped}
@@ -44,9 +45,10 @@ use Rattle.machine.specs.declared.turn.Turn.{Turn as Answer}
 use Rattle.machine.specs.declared.turn.Turn.TheVariants as turn
 use Rattle.machine.specs.declared.stop.Stop.{Stop}
 use Rattle.machine_calls.specs.declared.store.Store.{Store}
+use Rattle.machine_calls.specs.Buffers.{Acquired, acquired_by, beside}
 use Rattle.machine_calls.specs.StoreAgrees.{StoreAgrees}
 use Rattle.machine_steps.specs.Advances.{AdvancesBy}
-use Rattle.machine_steps.specs.Executes.{IsSteady}
+use Rattle.machine_steps.specs.Executes.{IsSteady, cells_made, in_use_with}
 use Rattle.machine_steps.specs.ThreadAgrees.{ThreadAgrees, ThreadsAgree}
 use Rattle.machine.specs.Moving.{AreCollected}
 use Rattle.machine.specs.Stops.{stop_view}
@@ -68,6 +70,10 @@ pub record IsUnstarted (unit : List Item) (world : World) (r : Run) : Type 0 whe
   pub on_world : r.world ≡ world
   pub unstarted : r.journal ≡ []
 
+-- what the buffers of all threads take
+abbrev pub acquired : State → Acquired
+acquired s = record { copied = copied s; viewed = views s }
+
 -- The machine stands for the state that its journal leads to.
 pub record Corresponds (p : Lowered) (world : World) (store : Store) (threads : List Thread) (printed : List Printed) (stop : Option Stop) (journal : List Entry) : Type 0 where
   pub lowered : IsLowered p
@@ -77,8 +83,8 @@ pub record Corresponds (p : Lowered) (world : World) (store : Store) (threads : 
   pub typed : RunsTyped (unit_tree p.unit) world
   pub state : State
   pub replays : replay (unit_tree p.unit) world journal ≡ Some state
-  pub store_agrees : StoreAgrees p world store state.shared
-  pub threads_agree : ThreadsAgree p world.classes store.heap (length (loaded_objects world)) (owners_after (unit_tree p.unit) world journal) 1 state.shared threads state.threads
+  pub store_agrees : StoreAgrees p world store state.shared (acquired state)
+  pub threads_agree : ThreadsAgree p world.classes store.heap store.elements (length (loaded_objects world)) (owners_after (unit_tree p.unit) world journal) 1 state.shared threads state.threads
   pub same_printed : state.printed ≡ printed
   pub same_stop : state.stop ≡ option_map stop_view stop
   -- fewer objects were made at load than a heap has cells, and each step makes two at most
@@ -100,11 +106,19 @@ abbrev pub event_of : Advanced → Event
 event_of (advanced.Did e) = e
 event_of advanced.Refused = event.Quiet
 
--- the thread took the step that the source's thread takes, whatever state it stands for
-abbrev pub AdvancesAlways : Lowered → World → (store after : Store) → Thread → Thread → Advanced → Type 0
-AdvancesAlways p w store after t t' x =
-    (in_use : BuffersInUse) (k : ℕ) (own : Owners) (shared : Shared) (s : SourceThread) → StoreAgrees p w store shared → ThreadAgrees p w.classes store.heap (length (loaded_objects w)) own shared t s → IsSteady w.classes own shared s
-    → AdvancesBy p w store.heap after in_use k own shared s t' x
+-- what holds of thread k with whatever state it stands for
+abbrev pub HoldsAlways : Lowered → World → (k : ℕ) → Store → Thread → (Acquired → Owners → Shared → SourceThread → Type 0) → Type 0
+HoldsAlways p w k store t Holds =
+    (others : Acquired) (own : Owners) (shared : Shared) (s : SourceThread) → StoreAgrees p w store shared (beside others (acquired_by s))
+    → ThreadAgrees p w.classes store.heap store.elements (length (loaded_objects w)) k own shared t s → IsSteady w.classes own shared s → Holds others own shared s
+
+-- it took the step that the source's thread takes
+abbrev pub AdvancesAlways : Lowered → World → (k : ℕ) → (store after : Store) → Thread → Thread → Advanced → Type 0
+AdvancesAlways p w k store after t t' x = HoldsAlways p w k store t (λ others own shared s. AdvancesBy p w store after others k own shared s t' x)
+
+-- its step makes objects, if nothing is refused
+abbrev pub MakesObjects : Lowered → World → (k : ℕ) → Store → Thread → Type 0
+MakesObjects p w k store t = HoldsAlways p w k store t (λ others own shared s. 0 < cells_made shared (thread_step (unit_tree p.unit) w.classes (in_use_with others s) k shared s false))
 
 -- The thread at a place hasn't ended, in a store and threads that stand for the state that a journal leads to.
 pub record CanAdvance (p : Lowered) (w : World) (store : Store) (threads : List Thread) (index : ℕ) : Type 0 where
@@ -128,7 +142,7 @@ pub record AdvancesFrom (p : Lowered) (w : World) (store : Store) (threads : Lis
   pub old : Thread
   pub new : Thread
   pub at : slice_get among index ≡ Some old
-  pub advances : AdvancesAlways p w between after old new x
+  pub advances : AdvancesAlways p w (suc index) between after old new x
   pub follow : later ≡ slice_set among index new
 
 -- whether its allocation was refused

@@ -1,6 +1,6 @@
 //! The machine.
 
-ghost use Rattle.std.specs.Prelude.{◌≡◌, ◌+◌, ◌-◌, ◌<◌, ◌≤◌, ◌^◌, [], ◌∷◌, ◌++◌, length, map, replicate, IfOk, IfErr, OnOk, OnErr, IfSome, IfNone, IsSome, Err, None, is_some, nat_le, vec_len, vec_capacity};
+ghost use Rattle.std.specs.Prelude.{◌≡◌, ◌+◌, ◌-◌, ◌<◌, ◌≤◌, ◌^◌, [], ◌∷◌, ◌++◌, length, map, replicate, slice_get, IfOk, IfErr, OnOk, OnErr, IfSome, IfNone, IsSome, Err, None, is_some, nat_le, vec_len, vec_capacity};
 ghost use Rattle.syntax.specs.Views.{unit_tree};
 ghost use Rattle.report.specs.Sink.{CanFail};
 ghost use Rattle.report.specs.ThreadStatus.{standing_view};
@@ -17,12 +17,12 @@ ghost use Rattle.machine_steps.specs.Executes.{IsSteady};
 ghost use Rattle.machine_steps.specs.Loading.{IsLoadFault};
 ghost use Rattle.machine_steps.specs.ThreadAgrees.{ThreadAgrees};
 ghost use Rattle.semantics.specs.declared.journal.Entry.TheVariants.{Step};
-ghost use Rattle.machine.specs.Run.{replay_of, AdvancesFrom, CanAdvance, Corresponds, EndsAt, IsCollected, IsUnstarted, CouldStep, TurnHolds, RunsAlong, RunsInto, PrintedBy, IsFinished, AllRest, Waits, has_ended, ReportsRun, AreShown, ShowsObjects, ShowsStandings, GivesNoStep, StoppedBy, event_of, is_refused, printed_after, turn_after, turn_at_rest};
+ghost use Rattle.machine.specs.Run.{replay_of, AdvancesFrom, CanAdvance, Corresponds, EndsAt, IsCollected, IsUnstarted, CouldStep, TurnHolds, RunsAlong, RunsInto, PrintedBy, IsFinished, AllRest, Waits, has_ended, ReportsRun, AreShown, ShowsObjects, ShowsStandings, GivesNoStep, MakesObjects, StoppedBy, event_of, is_refused, printed_after, turn_after, turn_at_rest};
 ghost use Rattle.machine.specs.Stops.{stop_after, standing_of, standing_by_ending};
 
 use crate::collecting::collect_blocks;
 use crate::fault::{ReportFault, RunFault};
-use crate::roots::{gather, root_names};
+use crate::roots::{gather, push_viewed, root_names};
 use crate::rows::{NamedBlocks, named_blocks};
 use crate::stop::Stop;
 use crate::turn::Turn;
@@ -159,7 +159,8 @@ impl<'a> Machine<'a> {
         &self.printed
     }
 
-    /// Moves the objects that can still be reached, and those that are viewed, together; the others are gone. It gives no entry.
+    /// Moves the objects that can still be reached together; the others are gone. What is viewed can be reached, and stays where it is,
+    /// so that a view shows the present elements of its array through any collection. It gives no entry.
     ///
     /// An `Err` says that host memory was refused. Nothing has moved then.
     pub fn collect(&mut self) -> Result<(), AllocError>
@@ -201,6 +202,7 @@ impl<'a> Machine<'a> {
             &mut self.store,
             &mut self.threads,
             index,
+            k,
         )?;
         Ok(write_step(
             &mut self.printed,
@@ -386,7 +388,8 @@ impl<'a> Machine<'a> {
         let heap = &self.store.heap;
         let objects = named_blocks(alloc, heap, self.store.births)?;
         let roots = gather(alloc, &self.store, &self.threads)?;
-        let names = root_names(alloc, heap, &roots)?;
+        let mut names = root_names(alloc, heap, &roots)?;
+        push_viewed(&mut names, heap)?;
         Ok((objects, names))
     }
 
@@ -459,9 +462,9 @@ fn make_room(printed: &mut Vec<Printed>, journal: &mut Vec<Entry>) -> Result<(),
     printed.reserve(1)
 }
 
-/// Takes one step of the thread at a place, which has not ended. Where what it makes has no room, which a step is asked for before
-/// anything has changed, there is a collection, one for all objects of the step, and then the allocation is refused where it has none
-/// still. Only a step that makes nothing takes host memory, so after the collection nothing can fail.
+/// Takes one step of thread `k`, which is at this place and has not ended. Where what it makes has no room, which a step is asked for
+/// before anything has changed, there is a collection, one for all objects of the step, and then the allocation is refused where it has
+/// none still. Only a step that makes nothing takes host memory, so after the collection nothing can fail.
 #[inline(always)]
 fn advance_or_collect(
     alloc: Global,
@@ -470,23 +473,47 @@ fn advance_or_collect(
     store: &mut Store,
     threads: &mut [Thread],
     index: usize,
+    k: u8,
 ) -> Result<Advanced, AllocError>
     requires few { store.old.births + 2 < 2 ^ 32 }
+    requires number { k ≡ index + 1 }
     requires stands { CanAdvance program.now world.now store.old threads.old index }
     ensures advances { IfOk result (AdvancesFrom program.now world.now store.old threads.old index store.new threads.new) }
     ensures store { OnErr result (store.new ≡ store.old) }
     ensures threads { OnErr result (threads.new ≡ threads.old) }
 {
-    match advance(program, world, store, &mut threads[index], false) {
+    match advance(program, world, store, &mut threads[index], k, false) {
         Ok(advanced) => Ok(advanced),
         Err(StepFault::Memory) => Err(AllocError),
         Err(StepFault::NoRoom) => {
-            collect_blocks(alloc, store, threads)?;
-            match advance(program, world, store, &mut threads[index], true) {
-                Ok(advanced) => Ok(advanced),
-                Err(_) => unreachable!(),
-            }
+            collect_and_advance(alloc, program, world, store, threads, index, k)
         }
+    }
+}
+
+/// The same step, of thread `k`, after a collection. It makes objects, so it takes no host memory.
+#[inline(never)]
+fn collect_and_advance(
+    alloc: Global,
+    program: &Program<'_>,
+    world: &World,
+    store: &mut Store,
+    threads: &mut [Thread],
+    index: usize,
+    k: u8,
+) -> Result<Advanced, AllocError>
+    requires few { store.old.births + 2 < 2 ^ 32 }
+    requires number { k ≡ index + 1 }
+    requires stands { CanAdvance program.now world.now store.old threads.old index }
+    requires makes { (t : Thread) → slice_get threads.old index ≡ Some t → MakesObjects program.now world.now k store.old t }
+    ensures advances { IfOk result (AdvancesFrom program.now world.now store.old threads.old index store.new threads.new) }
+    ensures store { OnErr result (store.new ≡ store.old) }
+    ensures threads { OnErr result (threads.new ≡ threads.old) }
+{
+    collect_blocks(alloc, store, threads)?;
+    match advance(program, world, store, &mut threads[index], k, true) {
+        Ok(advanced) => Ok(advanced),
+        Err(_) => unreachable!(),
     }
 }
 

@@ -1,5 +1,6 @@
 //! The roots: what refers to objects from outside of the heap. A report begins with them, a collection keeps what they name, and
-//! moves them along.
+//! moves them along. Views are no roots of a collection: what they are of is pinned, so it stays, and slots have its address yet. A report
+//! begins with them too.
 //!
 //! A kind of root has a line in `gather`, one in `put_back` and one in `root_places`, at the same place of each, and no other.
 
@@ -8,7 +9,7 @@ ghost use Rattle.std.specs.Option.{option_map};
 ghost use Rattle.tables.specs.Locals.{AreStacked};
 ghost use Rattle.tables.specs.References.{references_in};
 ghost use Rattle.machine.specs.Moving.{AreMoved, AreMovedAt, moved_call, moved_locals, moved_slots, moved_thread};
-ghost use Rattle.machine.specs.Roots.{AreAddresses, CallIsStacked, ReferenceIsThere, ThreadsAreStacked, loaded_places, name_of, reference_names, root_places, slots_of, thread_places};
+ghost use Rattle.machine.specs.Roots.{AreAddresses, CallIsStacked, ReferenceIsThere, ThreadsAreStacked, loaded_places, name_of, pinned_names, reference_names, root_places, slots_of, thread_places};
 
 use compact::Roots;
 use heap::{Addr, Heap};
@@ -75,6 +76,19 @@ pub fn root_names(alloc: Global, heap: &Heap, roots: &RootPlaces) -> Result<Vec<
         push_name(&mut names, heap, roots.root(place))?;
     }
     Ok(names)
+}
+
+/// Adds the names of the objects that are viewed, whose blocks are pinned.
+pub fn push_viewed(names: &mut Vec<usize>, heap: &Heap) -> Result<(), AllocError>
+    ensures { OnOk result (names.new.items ≡ names.old.items ++ pinned_names heap.now.blocks) }
+{
+    for place in 0..heap.count() {
+        let viewed = heap.address(place);
+        if heap.pins(viewed) > 0 {
+            names.push(heap.birth_of(viewed) as usize)?;
+        }
+    }
+    Ok(())
 }
 
 /// Adds the name of a root's object, if there is one.

@@ -16,10 +16,11 @@ use Rattle.code.specs.Effect.{truth_word, element_word}
 use Rattle.code.specs.declared.instr.Operand.{Operand}
 use Rattle.code.specs.declared.instr.Operand.TheVariants as operand
 use Rattle.heap.specs.Heap.{name_at, values_at}
-use Rattle.jni.specs.JniFunction.{JniFunction, FindClass, AllocObject, NewLocalRef, NewGlobalRef, DeleteLocalRef, DeleteGlobalRef, IsSameObject, EnsureLocalCapacity, PushLocalFrame, PopLocalFrame, GetFieldID, GetStaticFieldID, GetArrayLength, NewArray, NewObjectArray, GetObjectArrayElement, SetObjectArrayElement, NewStringUTF, GetStringLength, Throw, ThrowNew, ExceptionOccurred, ExceptionCheck, ExceptionClear, FatalError, GetSuperclass, GetObjectClass, IsInstanceOf, IsAssignableFrom, GetField, SetField, GetObjectField, SetObjectField, GetStaticField, SetStaticField, GetStaticObjectField, SetStaticObjectField, prototype, is_built_function, GetArrayRegion, SetArrayRegion, GetStringRegion}
-use Rattle.jni.specs.Prototype.{ArrayVariable, NumberArray, StringObject, ParameterKind, ClassObject, FieldID, IntNumber, NonNull, ObjectArray, TextBytes, NewLocal, GivesField, GivesInt, Nullable, GivesNothing}
-use Rattle.semantics.specs.Arguments.{Actual, variable_given, reference_given, object_given, name_or_zero, text_given, field_given, number_given}
-use Rattle.semantics.specs.CallEffects.{Halts, at_region, get_region_effect, local_array, set_region_effect, throw_new_effect, NoResult, ScalarResult, Leaves, ReferenceResult, Throws, at_index, new_array_effect, store_effect, string_object, delete_global_effect, delete_local_effect, ensure_effect, push_effect, found_class_effect, found_field_effect, heap_effect, same_reference, CallEffect, level_of}
+use Rattle.jni.specs.Access.{Access, ElementsCopy, ArrayView, CharsCopy, CharsView}
+use Rattle.jni.specs.JniFunction.{GetBuffer, ReleaseBuffer, JniFunction, FindClass, AllocObject, NewLocalRef, NewGlobalRef, DeleteLocalRef, DeleteGlobalRef, IsSameObject, EnsureLocalCapacity, PushLocalFrame, PopLocalFrame, GetFieldID, GetStaticFieldID, GetArrayLength, NewArray, NewObjectArray, GetObjectArrayElement, SetObjectArrayElement, NewStringUTF, GetStringLength, Throw, ThrowNew, ExceptionOccurred, ExceptionCheck, ExceptionClear, FatalError, GetSuperclass, GetObjectClass, IsInstanceOf, IsAssignableFrom, GetField, SetField, GetObjectField, SetObjectField, GetStaticField, SetStaticField, GetStaticObjectField, SetStaticObjectField, prototype, is_built_function, GetArrayRegion, SetArrayRegion, GetStringRegion}
+use Rattle.jni.specs.Prototype.{owner, BufferVariable, IsCopy, Mode, ArrayVariable, NumberArray, StringObject, ParameterKind, ClassObject, FieldID, IntNumber, NonNull, ObjectArray, TextBytes, NewLocal, GivesField, GivesInt, Nullable, GivesNothing}
+use Rattle.semantics.specs.Arguments.{ReleaseMode, FreeUncopied, mode_given, Actual, variable_given, reference_given, object_given, name_or_zero, text_given, field_given, number_given}
+use Rattle.semantics.specs.CallEffects.{copy_effect, view_effect, release_effect, Halts, at_region, get_region_effect, local_array, set_region_effect, throw_new_effect, NoResult, ScalarResult, Leaves, ReferenceResult, Throws, at_index, new_array_effect, store_effect, string_object, delete_global_effect, delete_local_effect, ensure_effect, push_effect, found_class_effect, found_field_effect, heap_effect, same_reference, CallEffect, level_of}
 use Rattle.semantics.specs.CallStep.{trap_of_call}
 use Rattle.semantics.specs.CallTable.{call_effect}
 use Rattle.semantics.specs.Heap.{class_of, fits_class, values_of, object_at, field_place, number_in, numbers_of, place_in, value_at, reference_in, static_place, with_value_at}
@@ -38,12 +39,21 @@ use Rattle.semantics.specs.Value as trap
 use Rattle.code_meaning.specs.Slots.{word_of}
 use Rattle.machine_calls.proofs.KeyLaws.{OwnKey}
 use Rattle.base.specs.Bytes.{Identifier, lookup}
-use Rattle.semantics.specs.Variable.{Variable}
+use Rattle.semantics.specs.Variable.{Variable, Elements, NoBuffer, Copy, View}
+use Rattle.semantics.specs.Variable as source
+use Rattle.semantics_safety.specs.StepSafe.{came_from}
+use Rattle.semantics_typing.proofs.Arguments.{variable_typed}
+use Rattle.code.specs.declared.instr.ReleaseMode.TheVariants as modes
+use Rattle.machine_calls.specs.declared.buffer.Buffer.{Buffer}
+use Rattle.machine_calls.specs.declared.buffer.Buffer.TheVariants as held
+use Rattle.machine_calls.proofs.BufferOperands.{GivenBuffer, given_buffer, given_mode, numbers_fit}
+use Rattle.machine_calls.proofs.HeldSums.{views_there}
 use Rattle.machine_calls.proofs.FieldValues.{word_there, reference_there, values_there, writes}
-use Rattle.code_meaning.specs.Coding.{element_of}
+use Rattle.code_meaning.specs.Coding.{element_of, mode_code}
 use Rattle.heap.specs.declared.value.Value.TheVariants as cell
 use Rattle.heap.specs.declared.value.Value.{Value}
 use Rattle.code_meaning.proofs.ElementWords.{convert_fits, element_words}
+use Rattle.machine_calls.specs.Buffers.{Acquired, IsCopyOf, acquired_by, beside, copies_back, in_use_of}
 use Rattle.machine_calls.specs.StoreAgrees.{StoreAgrees}
 use Rattle.machine_calls.proofs.Handles.{class_of_field, class_within}
 use Rattle.machine_calls.specs.declared.answer.Answer.{Answer}
@@ -54,18 +64,18 @@ use Rattle.machine_calls.specs.declared.trap.Trap.TheVariants.{OutOfRange}
 use Rattle.machine_calls.specs.Copies.{words_from}
 use Rattle.code.specs.declared.instr.LocalArray.{LocalArray as ArraySlots}
 use Rattle.semantics_typing.specs.Objects.{HasNumbers, element_type_of}
-use Rattle.machine_calls.proofs.RegionOperands.{GivenArray, TwoNumbers, array_numbers, numbers_alone, slots_there, two_numbers, words_brought, words_there, local_array as given_array}
+use Rattle.machine_calls.proofs.RegionOperands.{all_words, GivenArray, TwoNumbers, array_numbers, numbers_alone, slots_there, two_numbers, words_brought, words_there, local_array as given_array}
 use Rattle.std.proofs.lemmas.Bool.{leb-true}
 use Rattle.machine_calls.specs.declared.store.Store.{Store}
 use Rattle.machine_calls.specs.declared.activation.Activation.{Activation}
-use Rattle.machine_calls.specs.Answers.{AreWordsOf, Brought, HoldsObject, IsAnswer}
+use Rattle.machine_calls.specs.Answers.{IsCopyAcquired, IsViewAcquired, AreWordsOf, Brought, HoldsObject, IsAnswer}
 use Rattle.machine_calls.specs.NewObjects.{IsMakeable, text_in}
 use Rattle.machine_calls.specs.Asked.{IsAsked, brought_by, references_of, scene_of}
 use Rattle.machine_calls.specs.Statics.{References}
 use Rattle.machine_calls.specs.Checked.{some_misfit, some_missing, may_be_null}
 use Rattle.machine_calls.specs.Given.{HasElements, key_at, operand_at, operand_of, class_of_given, class_there, fits_there, name_there, field_at, field_there}
 use Rattle.machine_calls.specs.HeapAgrees.{HeapAgrees, ReferenceAgrees, ValueAgrees}
-use Rattle.machine_calls.specs.WorkedOut.{array_in, copies_in, copies_out, next_number, region_in, deletes, deletes_global, frame_for, class_object, found_class, IsFoundField, IsWorkedOut, place_there, value_there, word_in, address_in, held_reference, room_for, top_word, writes_there, count_there, element_there, index_there, new_array, stack_number, stores_there}
+use Rattle.machine_calls.specs.WorkedOut.{acquires, releases, array_in, copies_in, copies_out, next_number, region_in, deletes, deletes_global, frame_for, class_object, found_class, IsFoundField, IsWorkedOut, place_there, value_there, word_in, address_in, held_reference, room_for, top_word, writes_there, count_there, element_there, index_there, new_array, stack_number, stores_there}
 use Rattle.machine_calls.proofs.CallChecks.{class_given_is, class_is, field_at_place, fits_is, name_is, reference_at_place, handle_of}
 use Rattle.machine_calls.proofs.BlocksOfNames.{Named, named, name_within}
 use Rattle.machine_calls.proofs.CallTraps.{same_pending, has_passed, none_deleted, none_lacking, none_unfit, handles_there}
@@ -73,19 +83,26 @@ use Rattle.machine_calls.proofs.LongTables.{class_is_no_throwable, class_is_plai
 use Rattle.machine_calls.proofs.CallOperands.{GivenObject, IsWordless, is_number_array, OnTop, count_is, few_there, class_object_is, super_known, only_text, second_text, two_texts, object_at_place, on_top, is_class, second_field, only_static, own_making}
 
 -- a call that is asked and passed its checks
-module _ (p : Lowered) (w : World) (store : Store) (pending : Option ℕ) (call : Activation) (function : Call) (shared : Shared) (s : Thread) (sound : IsSound w) (in_use : BuffersInUse) (k : ℕ) (args : List Actual) where
+module _ (p : Lowered) (w : World) (store : Store) (pending : Option ℕ) (call : Activation) (function : Call) (others : Acquired) (k : ℕ) (shared : Shared) (s : Thread) (target : Target) (sound : IsSound w) (args : List Actual) where
   abbrev references : References
   references = references_of store call
 
   abbrev fields : List (Option FieldHandle)
   fields = call.slots.fields.items
 
+  -- what the buffers of all threads take
+  abbrev all : Acquired
+  all = beside others (acquired_by s)
+
+  abbrev in_use : BuffersInUse
+  in_use = in_use_of all
+
   abbrev brought : Brought
-  brought = brought_by call function args
+  brought = brought_by store call k in_use function args
 
   -- what is asked of function f
   abbrev Asked : JniFunction → Type 0
-  Asked f = IsAsked p w store pending call function shared s f args
+  Asked f = IsAsked p w store pending call function others k shared s target f args
 
   -- what is worked out for it
   abbrev Works : JniFunction → Answer → Type 0
@@ -123,11 +140,11 @@ module _ (p : Lowered) (w : World) (store : Store) (pending : Option ℕ) (call 
 
   -- the object of argument i
   object_given_at : (f : JniFunction) (before : List ParameterKind) (q : ParameterKind) (after : List ParameterKind) → IsReferenceKind q → may_be_null q ≡ false → (prototype f).parameters ≡ before ++ q ∷ after → Asked f
-      → (target : Target) → trap_of_call w.classes shared s target f args ≡ None → GivenObject w.classes store.heap references fields function.operands args (length before)
-  object_given_at f before q after kind never are h target free =
+      → trap_of_call w.classes shared s target f args ≡ None → GivenObject w.classes store.heap references fields function.operands args (length before)
+  object_given_at f before q after kind never are h free =
       object_at_place w.classes store.heap references fields before q after kind never function.operands args (subst (λ (l : List ParameterKind). AllZip OperandFits l function.operands) are h.kinds) h.given
-      (none_deleted p w store pending call function shared s f args h target free)
-      (subst (λ (l : List ParameterKind). some_missing references fields l function.operands ≡ false) are (none_lacking p w store pending call function shared s f args h target free))
+      (none_deleted p w store pending call function others k shared s target f args h free)
+      (subst (λ (l : List ParameterKind). some_missing references fields l function.operands ≡ false) are (none_lacking p w store pending call function others k shared s target f args h free))
 
   -- the number of an argument, which is the only one
   top_of : (f : JniFunction) (before after : List ParameterKind) → AllByRecursion (IsWordless w.classes store.heap references fields) before → AllByRecursion (IsWordless w.classes store.heap references fields) after
@@ -148,14 +165,14 @@ module _ (p : Lowered) (w : World) (store : Store) (pending : Option ℕ) (call 
     pub low : 0 < object_given args i
     pub high : object_given args i ≤ length w.classes
 
-  class_given : (f : JniFunction) (before after : List ParameterKind) → (prototype f).parameters ≡ before ++ ClassObject ∷ after → Asked f → (target : Target) → trap_of_call w.classes shared s target f args ≡ None → GivenClass (length before)
-  class_given f before after are h target free =
-      let given = object_given_at f before ClassObject after tt refl are h target free in
+  class_given : (f : JniFunction) (before after : List ParameterKind) → (prototype f).parameters ≡ before ++ ClassObject ∷ after → Asked f → trap_of_call w.classes shared s target f args ≡ None → GivenClass (length before)
+  class_given f before after are h free =
+      let given = object_given_at f before ClassObject after tt refl are h free in
       let object = object_of f h given.address given.name given.named in
       let class : class_of shared.heap given.name ≡ object.0.class = ap (λ (o : Option Object). option_map_or (λ (x : Object). x.class) o 0) object.1 in
       let of_class : class_there store.heap given.address ≡ class_class = is_class w.classes store.heap references fields before after function.operands given.address given.at
       (subst (λ (l : List ParameterKind). AllZip OperandFits l function.operands) are h.kinds)
-      (subst (λ (l : List ParameterKind). some_misfit w.classes store.heap references l function.operands ≡ false) are (none_unfit p w store pending call function shared s f args h target free)) in
+      (subst (λ (l : List ParameterKind). some_misfit w.classes store.heap references l function.operands ≡ false) are (none_unfit p w store pending call function others k shared s target f args h free)) in
       let same : object.0.class ≡ class_class = sym class ∙ sym (class_is w.classes store.heap references fields shared.heap h.store_agrees.heap.blocks given.address given.name given.named) ∙ of_class in
       let name : object_given args (length before) ≡ given.name = ap name_or_zero given.is in
       let low = low_name given.name object.0 object.1 in
@@ -289,10 +306,10 @@ module _ (p : Lowered) (w : World) (store : Store) (pending : Option ℕ) (call 
       by_super None e = tt
       by_super (Some c) e = let known = super_known w.classes (grown_is_ordered w.classes sound.grown) (object_given args 0) c e in table_of GetSuperclass h c known.0 known.1
 
-  answers_class : Asked GetObjectClass → (target : Target) → trap_of_call w.classes shared s target GetObjectClass args ≡ None → (answer : Answer) → Works GetObjectClass answer → Does GetObjectClass answer
+  answers_class : Asked GetObjectClass → trap_of_call w.classes shared s target GetObjectClass args ≡ None → (answer : Answer) → Works GetObjectClass answer → Does GetObjectClass answer
   unfolding call_effect
-  answers_class h target free answer is =
-      let first = object_given_at GetObjectClass [] NonNull [] tt refl refl h target free in
+  answers_class h free answer is =
+      let first = object_given_at GetObjectClass [] NonNull [] tt refl refl h free in
       let object = object_of GetObjectClass h first.address first.name first.named in
       let known = h.typed.objects first.name object.0 object.1 in
       let class : class_of shared.heap first.name ≡ object.0.class = ap (λ (o : Option Object). option_map_or (λ (x : Object). x.class) o 0) object.1 in
@@ -305,15 +322,15 @@ module _ (p : Lowered) (w : World) (store : Store) (pending : Option ℕ) (call 
             (subst (λ (c : ℕ). ReferenceAgrees store.heap (class_object store.loaded.items (Some object.0.class)) (Some c)) (sym given) (table_of GetObjectClass h object.0.class known.low known.high)),
       )
 
-  answers_alloc : Asked AllocObject → (target : Target) → trap_of_call w.classes shared s target AllocObject args ≡ None → (answer : Answer) → Works AllocObject answer → Does AllocObject answer
+  answers_alloc : Asked AllocObject → trap_of_call w.classes shared s target AllocObject args ≡ None → (answer : Answer) → Works AllocObject answer → Does AllocObject answer
   unfolding call_effect
-  answers_alloc h target free answer is =
-      let class = class_given AllocObject [] [] refl h target free in
+  answers_alloc h free answer is =
+      let class = class_given AllocObject [] [] refl h free in
       let name = name_of AllocObject h 0 in
       let makeable : IsMakeable w.classes (object_given args 0) = record {
         low = class.low;
         high = class.high;
-        no_class = own_making w.classes (object_given args 0) (ap (λ (n : ℕ). not (has_own_making w.classes n)) (sym name) ∙ has_passed p w store pending call function shared s AllocObject args h target free);
+        no_class = own_making w.classes (object_given args 0) (ap (λ (n : ℕ). not (has_own_making w.classes n)) (sym name) ∙ has_passed p w store pending call function others k shared s target AllocObject args h free);
       } in
       subst (λ (x : Answer). Does AllocObject x) (sym is)
       (refl, refl, refl, refl, record { object = ap (fresh_object w.classes) (sym name); makeable = subst (IsMakeable w.classes) (sym name) makeable })
@@ -384,26 +401,26 @@ module _ (p : Lowered) (w : World) (store : Store) (pending : Option ℕ) (call 
   source_place n = field_place w.classes shared.heap n (field_given args 1)
 
   -- a number of an object is read
-  number_read : (o : Option ℕ) (a n m i j : ℕ) → o ≡ Some a → name_at store.heap a ≡ Some n → m ≡ n → i ≡ j → StoreAgrees p w store shared → (word_in (value_there store.heap o i) ≡ word_of (Int (number_in (value_at shared.heap m j)))) × FitsSigned w32 (number_in (value_at shared.heap m j))
+  number_read : (o : Option ℕ) (a n m i j : ℕ) → o ≡ Some a → name_at store.heap a ≡ Some n → m ≡ n → i ≡ j → StoreAgrees p w store shared all → (word_in (value_there store.heap o i) ≡ word_of (Int (number_in (value_at shared.heap m j)))) × FitsSigned w32 (number_in (value_at shared.heap m j))
   number_read o a n m i j held there same place agree =
-      let word = word_there p w store shared agree a n j there in (
+      let word = word_there p w store shared all agree a n j there in (
         (λ k. word_in (value_there store.heap (held k) (place k))) ∙ word.word_is ∙ ap (λ (x : ℕ). word_of (Int (number_in (value_at shared.heap x j)))) (sym same),
         subst (λ (x : ℕ). FitsSigned w32 (number_in (value_at shared.heap x j))) (sym same) word.fits,
       )
 
   -- a reference of an object is read
-  reference_read : (o : Option ℕ) (a n m i j : ℕ) → o ≡ Some a → name_at store.heap a ≡ Some n → m ≡ n → i ≡ j → StoreAgrees p w store shared → ReferenceAgrees store.heap (address_in (value_there store.heap o i)) (reference_in (value_at shared.heap m j))
+  reference_read : (o : Option ℕ) (a n m i j : ℕ) → o ≡ Some a → name_at store.heap a ≡ Some n → m ≡ n → i ≡ j → StoreAgrees p w store shared all → ReferenceAgrees store.heap (address_in (value_there store.heap o i)) (reference_in (value_at shared.heap m j))
   reference_read o a n m i j held there same place agree =
       subst (λ (x : Option ℕ). ReferenceAgrees store.heap x (reference_in (value_at shared.heap m j))) (sym (λ k. address_in (value_there store.heap (held k) (place k))))
-      (subst (λ (x : ℕ). ReferenceAgrees store.heap (address_in (value_there store.heap (Some a) j)) (reference_in (value_at shared.heap x j))) (sym same) (reference_there p w store shared agree a n j there))
+      (subst (λ (x : ℕ). ReferenceAgrees store.heap (address_in (value_there store.heap (Some a) j)) (reference_in (value_at shared.heap x j))) (sym same) (reference_there p w store shared all agree a n j there))
 
   -- a value of an object is written
-  value_written : (o : Option ℕ) (a n m i j : ℕ) (v v' : Value) (u u' : ObjectValue) → o ≡ Some a → name_at store.heap a ≡ Some n → m ≡ n → i ≡ j → v ≡ v' → u ≡ u' → ValueAgrees store.heap v' u' → StoreAgrees p w store shared
+  value_written : (o : Option ℕ) (a n m i j : ℕ) (v v' : Value) (u u' : ObjectValue) → o ≡ Some a → name_at store.heap a ≡ Some n → m ≡ n → i ≡ j → v ≡ v' → u ≡ u' → ValueAgrees store.heap v' u' → StoreAgrees p w store shared all
       → IsAnswer w.classes brought store.heap call.locals GivesNothing shared s (writes_there store.heap o i v) (heap_effect shared s (with_value_at shared.heap m j u))
   value_written o a n m i j v v' u u' held there same place value is fits agree =
       subst (λ (x : Answer). IsAnswer w.classes brought store.heap call.locals GivesNothing shared s x (heap_effect shared s (with_value_at shared.heap m j u))) (sym (λ k. writes_there store.heap (held k) (place k) (value k)))
       (subst (λ (x : CallEffect). IsAnswer w.classes brought store.heap call.locals GivesNothing shared s (writes_there store.heap (Some a) j v') x) (sym (λ k. heap_effect shared s (with_value_at shared.heap (same k) j (is k))))
-      (writes p w store shared agree brought call.locals s a n j v' u' there fits))
+      (writes p w store shared all agree brought call.locals s a n j v' u' there fits))
 
   -- the number on top of the stack, as a cell of a type holds it
   record Kept (T : ElementType) : Type 0 where
@@ -427,20 +444,20 @@ module _ (p : Lowered) (w : World) (store : Store) (pending : Option ℕ) (call 
   held_agrees (Some a) None h = absurd h
   held_agrees (Some a) (Some n) h = h
 
-  answers_get : (T : ElementType) → Asked (GetField T) → (target : Target) → trap_of_call w.classes shared s target (GetField T) args ≡ None → (answer : Answer) → Works (GetField T) answer → Does (GetField T) answer
+  answers_get : (T : ElementType) → Asked (GetField T) → trap_of_call w.classes shared s target (GetField T) args ≡ None → (answer : Answer) → Works (GetField T) answer → Does (GetField T) answer
   unfolding call_effect
-  answers_get T h target free answer is =
-      let missing = none_lacking p w store pending call function shared s (GetField T) args h target free in
-      let first = object_given_at (GetField T) [] NonNull (FieldID ∷ []) tt refl refl h target free in
+  answers_get T h free answer is =
+      let missing = none_lacking p w store pending call function others k shared s target (GetField T) args h free in
+      let first = object_given_at (GetField T) [] NonNull (FieldID ∷ []) tt refl refl h free in
       let place = place_of (GetField T) h (fielded (GetField T) [] NonNull h refl refl missing) in
       let name : object_given args 0 ≡ first.name = ap name_or_zero first.is in
       subst (λ (x : Answer). Does (GetField T) x) (sym is) (refl, refl, number_read (at 0) first.address first.name (object_given args 0) memory_place (source_place (object_given args 0)) first.at first.named name place h.store_agrees)
 
-  answers_set : (T : ElementType) → Asked (SetField T) → (target : Target) → trap_of_call w.classes shared s target (SetField T) args ≡ None → (answer : Answer) → Works (SetField T) answer → Does (SetField T) answer
+  answers_set : (T : ElementType) → Asked (SetField T) → trap_of_call w.classes shared s target (SetField T) args ≡ None → (answer : Answer) → Works (SetField T) answer → Does (SetField T) answer
   unfolding call_effect
-  answers_set T h target free answer is =
-      let missing = none_lacking p w store pending call function shared s (SetField T) args h target free in
-      let first = object_given_at (SetField T) [] NonNull (FieldID ∷ IntNumber ∷ []) tt refl refl h target free in
+  answers_set T h free answer is =
+      let missing = none_lacking p w store pending call function others k shared s target (SetField T) args h free in
+      let first = object_given_at (SetField T) [] NonNull (FieldID ∷ IntNumber ∷ []) tt refl refl h free in
       let place = place_of (SetField T) h (fielded (SetField T) (IntNumber ∷ []) NonNull h refl refl missing) in
       let name : object_given args 0 ≡ first.name = ap name_or_zero first.is in
       let it = kept (SetField T) NonNull T tt refl h in
@@ -448,20 +465,20 @@ module _ (p : Lowered) (w : World) (store : Store) (pending : Option ℕ) (call 
       (value_written (at 0) first.address first.name (object_given args 0) memory_place (source_place (object_given args 0)) (cell.Number (element_word (element_of T) (top_word call.stack))) (cell.Number (cast_unsigned w32 (convert T it.number))) (Number (convert T (number_given args 2))) (Number (convert T it.number))
       first.at first.named name place (ap cell.Number it.word) (ap (λ (z : ℤ). Number (convert T z)) it.is) (convert_fits T it.number, refl) h.store_agrees)
 
-  answers_get_object : Asked GetObjectField → (target : Target) → trap_of_call w.classes shared s target GetObjectField args ≡ None → (answer : Answer) → Works GetObjectField answer → Does GetObjectField answer
+  answers_get_object : Asked GetObjectField → trap_of_call w.classes shared s target GetObjectField args ≡ None → (answer : Answer) → Works GetObjectField answer → Does GetObjectField answer
   unfolding call_effect
-  answers_get_object h target free answer is =
-      let missing = none_lacking p w store pending call function shared s GetObjectField args h target free in
-      let first = object_given_at GetObjectField [] NonNull (FieldID ∷ []) tt refl refl h target free in
+  answers_get_object h free answer is =
+      let missing = none_lacking p w store pending call function others k shared s target GetObjectField args h free in
+      let first = object_given_at GetObjectField [] NonNull (FieldID ∷ []) tt refl refl h free in
       let place = place_of GetObjectField h (fielded GetObjectField [] NonNull h refl refl missing) in
       let name : object_given args 0 ≡ first.name = ap name_or_zero first.is in
       subst (λ (x : Answer). Does GetObjectField x) (sym is) (refl, refl, reference_read (at 0) first.address first.name (object_given args 0) memory_place (source_place (object_given args 0)) first.at first.named name place h.store_agrees)
 
-  answers_set_object : Asked SetObjectField → (target : Target) → trap_of_call w.classes shared s target SetObjectField args ≡ None → (answer : Answer) → Works SetObjectField answer → Does SetObjectField answer
+  answers_set_object : Asked SetObjectField → trap_of_call w.classes shared s target SetObjectField args ≡ None → (answer : Answer) → Works SetObjectField answer → Does SetObjectField answer
   unfolding call_effect
-  answers_set_object h target free answer is =
-      let missing = none_lacking p w store pending call function shared s SetObjectField args h target free in
-      let first = object_given_at SetObjectField [] NonNull (FieldID ∷ Nullable ∷ []) tt refl refl h target free in
+  answers_set_object h free answer is =
+      let missing = none_lacking p w store pending call function others k shared s target SetObjectField args h free in
+      let first = object_given_at SetObjectField [] NonNull (FieldID ∷ Nullable ∷ []) tt refl refl h free in
       let place = place_of SetObjectField h (fielded SetObjectField (Nullable ∷ []) NonNull h refl refl missing) in
       let name : object_given args 0 ≡ first.name = ap name_or_zero first.is in
       subst (λ (x : Answer). Does SetObjectField x) (sym is)
@@ -479,7 +496,7 @@ module _ (p : Lowered) (w : World) (store : Store) (pending : Option ℕ) (call 
 
   holder : (f : JniFunction) → Asked f → Fielded f → Holder
   holder f h found =
-      let there = handle_of w.classes fields function.operands 1 (handles_there p w store pending call function shared s f args h) found.handle found.at_handle in
+      let there = handle_of w.classes fields function.operands 1 (handles_there p w store pending call function others k shared s target f args h) found.handle found.at_handle in
       let same : (field_there w.classes (field_at fields (operand_of function.operands 1))).class ≡ (field_given args 1).class = ap (λ (x : FieldId). x.class) (field_at_place w.classes store.heap references fields function.operands args 1 h.given) in
       let class : (field_given args 1).class ≡ found.handle.class = ap (λ (x : FieldId). x.class) (sym found.is_field) ∙ sym (class_of_field w.classes found.handle there) in
       let within = class_within w.classes found.handle there in
@@ -499,34 +516,34 @@ module _ (p : Lowered) (w : World) (store : Store) (pending : Option ℕ) (call 
         place = place;
       }
 
-  answers_get_static : (T : ElementType) → Asked (GetStaticField T) → (target : Target) → trap_of_call w.classes shared s target (GetStaticField T) args ≡ None → (answer : Answer) → Works (GetStaticField T) answer → Does (GetStaticField T) answer
+  answers_get_static : (T : ElementType) → Asked (GetStaticField T) → trap_of_call w.classes shared s target (GetStaticField T) args ≡ None → (answer : Answer) → Works (GetStaticField T) answer → Does (GetStaticField T) answer
   unfolding call_effect
-  answers_get_static T h target free answer is =
-      let missing = none_lacking p w store pending call function shared s (GetStaticField T) args h target free in
+  answers_get_static T h free answer is =
+      let missing = none_lacking p w store pending call function others k shared s target (GetStaticField T) args h free in
       let it = holder (GetStaticField T) h (fielded (GetStaticField T) [] ClassObject h refl refl missing) in
       subst (λ (x : Answer). Does (GetStaticField T) x) (sym is) (refl, refl, number_read (class_object store.loaded.items (Some (field_there w.classes (field_at fields (operand_of function.operands 1))).class)) it.address (field_given args 1).class (field_given args 1).class (place_there w.classes (field_at fields (operand_of function.operands 1)) (own_statics w.classes (field_there w.classes (field_at fields (operand_of function.operands 1))).class)) (static_place w.classes (field_given args 1)) it.at_holder it.named_holder refl it.place h.store_agrees)
 
-  answers_set_static : (T : ElementType) → Asked (SetStaticField T) → (target : Target) → trap_of_call w.classes shared s target (SetStaticField T) args ≡ None → (answer : Answer) → Works (SetStaticField T) answer → Does (SetStaticField T) answer
+  answers_set_static : (T : ElementType) → Asked (SetStaticField T) → trap_of_call w.classes shared s target (SetStaticField T) args ≡ None → (answer : Answer) → Works (SetStaticField T) answer → Does (SetStaticField T) answer
   unfolding call_effect
-  answers_set_static T h target free answer is =
-      let missing = none_lacking p w store pending call function shared s (SetStaticField T) args h target free in
+  answers_set_static T h free answer is =
+      let missing = none_lacking p w store pending call function others k shared s target (SetStaticField T) args h free in
       let it = holder (SetStaticField T) h (fielded (SetStaticField T) (IntNumber ∷ []) ClassObject h refl refl missing) in
       let number = kept (SetStaticField T) ClassObject T tt refl h in
       subst (λ (x : Answer). Does (SetStaticField T) x) (sym is)
       (value_written (class_object store.loaded.items (Some (field_there w.classes (field_at fields (operand_of function.operands 1))).class)) it.address (field_given args 1).class (field_given args 1).class (place_there w.classes (field_at fields (operand_of function.operands 1)) (own_statics w.classes (field_there w.classes (field_at fields (operand_of function.operands 1))).class)) (static_place w.classes (field_given args 1)) (cell.Number (element_word (element_of T) (top_word call.stack))) (cell.Number (cast_unsigned w32 (convert T number.number))) (Number (convert T (number_given args 2))) (Number (convert T number.number))
       it.at_holder it.named_holder refl it.place (ap cell.Number number.word) (ap (λ (z : ℤ). Number (convert T z)) number.is) (convert_fits T number.number, refl) h.store_agrees)
 
-  answers_get_static_object : Asked GetStaticObjectField → (target : Target) → trap_of_call w.classes shared s target GetStaticObjectField args ≡ None → (answer : Answer) → Works GetStaticObjectField answer → Does GetStaticObjectField answer
+  answers_get_static_object : Asked GetStaticObjectField → trap_of_call w.classes shared s target GetStaticObjectField args ≡ None → (answer : Answer) → Works GetStaticObjectField answer → Does GetStaticObjectField answer
   unfolding call_effect
-  answers_get_static_object h target free answer is =
-      let missing = none_lacking p w store pending call function shared s GetStaticObjectField args h target free in
+  answers_get_static_object h free answer is =
+      let missing = none_lacking p w store pending call function others k shared s target GetStaticObjectField args h free in
       let it = holder GetStaticObjectField h (fielded GetStaticObjectField [] ClassObject h refl refl missing) in
       subst (λ (x : Answer). Does GetStaticObjectField x) (sym is) (refl, refl, reference_read (class_object store.loaded.items (Some (field_there w.classes (field_at fields (operand_of function.operands 1))).class)) it.address (field_given args 1).class (field_given args 1).class (place_there w.classes (field_at fields (operand_of function.operands 1)) (own_statics w.classes (field_there w.classes (field_at fields (operand_of function.operands 1))).class)) (static_place w.classes (field_given args 1)) it.at_holder it.named_holder refl it.place h.store_agrees)
 
-  answers_set_static_object : Asked SetStaticObjectField → (target : Target) → trap_of_call w.classes shared s target SetStaticObjectField args ≡ None → (answer : Answer) → Works SetStaticObjectField answer → Does SetStaticObjectField answer
+  answers_set_static_object : Asked SetStaticObjectField → trap_of_call w.classes shared s target SetStaticObjectField args ≡ None → (answer : Answer) → Works SetStaticObjectField answer → Does SetStaticObjectField answer
   unfolding call_effect
-  answers_set_static_object h target free answer is =
-      let missing = none_lacking p w store pending call function shared s SetStaticObjectField args h target free in
+  answers_set_static_object h free answer is =
+      let missing = none_lacking p w store pending call function others k shared s target SetStaticObjectField args h free in
       let it = holder SetStaticObjectField h (fielded SetStaticObjectField (Nullable ∷ []) ClassObject h refl refl missing) in
       subst (λ (x : Answer). Does SetStaticObjectField x) (sym is)
       (value_written (class_object store.loaded.items (Some (field_there w.classes (field_at fields (operand_of function.operands 1))).class)) it.address (field_given args 1).class (field_given args 1).class (place_there w.classes (field_at fields (operand_of function.operands 1)) (own_statics w.classes (field_there w.classes (field_at fields (operand_of function.operands 1))).class)) (static_place w.classes (field_given args 1)) (held_reference (at 2)) (held_reference (at 2)) (Refers (reference_given args 2)) (Refers (reference_given args 2))
@@ -551,12 +568,12 @@ module _ (p : Lowered) (w : World) (store : Store) (pending : Option ℕ) (call 
       class_of_numbers JByte = built_in_class 20 (omega arith) (omega arith)
       class_of_numbers JChar = built_in_class 21 (omega arith) (omega arith)
 
-  answers_new_object_array : Asked NewObjectArray → (target : Target) → trap_of_call w.classes shared s target NewObjectArray args ≡ None → (answer : Answer) → Works NewObjectArray answer → Does NewObjectArray answer
+  answers_new_object_array : Asked NewObjectArray → trap_of_call w.classes shared s target NewObjectArray args ≡ None → (answer : Answer) → Works NewObjectArray answer → Does NewObjectArray answer
   unfolding call_effect
-  answers_new_object_array h target free answer is =
+  answers_new_object_array h free answer is =
       let name = name_of NewObjectArray h 1 in
-      let class = class_given NewObjectArray (IntNumber ∷ []) (Nullable ∷ []) refl h target free in
-      let passed = has_passed p w store pending call function shared s NewObjectArray args h target free in
+      let class = class_given NewObjectArray (IntNumber ∷ []) (Nullable ∷ []) refl h free in
+      let passed = has_passed p w store pending call function others k shared s target NewObjectArray args h free in
       let plain : is_plain (class_kind w.classes (object_given args 1)) ≡ true = ap (λ (c : ℕ). is_plain (class_kind w.classes c)) (sym name) ∙ first_true (is_plain (class_kind w.classes (name_there store.heap (at 1)))) (fits_there w.classes store.heap (at 2) (name_there store.heap (at 1))) passed in
       let array = sound.declares.arrays (object_given args 1) class.low class.high plain in
       let known = found_within w.classes (array_name (class_name w.classes (object_given args 1))) array.0 array.1 in
@@ -572,7 +589,7 @@ module _ (p : Lowered) (w : World) (store : Store) (pending : Option ℕ) (call 
       first_true false b e = absurd (cc)
 
   -- an array at an address, which has so many elements
-  module _ (a n m size : ℕ) (there : name_at store.heap a ≡ Some n) (same : m ≡ n) (count : length (values_at store.heap a) ≡ size) (agree : StoreAgrees p w store shared) where
+  module _ (a n m size : ℕ) (there : name_at store.heap a ≡ Some n) (same : m ≡ n) (count : length (values_at store.heap a) ≡ size) (agree : StoreAgrees p w store shared all) where
     out_of_bounds : IsMakeable w.classes array_index_out_of_bounds
     out_of_bounds = built_in_class array_index_out_of_bounds (omega arith) (omega arith)
 
@@ -609,18 +626,18 @@ module _ (p : Lowered) (w : World) (store : Store) (pending : Option ℕ) (call 
         by_test false true = (refl, built_in_class array_store_exception (omega arith) (omega arith))
         by_test true true = value_written (Some a) a n m i i v v (Refers q) (Refers q) refl there same refl refl refl fit agree
 
-  answers_element : Asked GetObjectArrayElement → (target : Target) → trap_of_call w.classes shared s target GetObjectArrayElement args ≡ None → (answer : Answer) → Works GetObjectArrayElement answer → Does GetObjectArrayElement answer
+  answers_element : Asked GetObjectArrayElement → trap_of_call w.classes shared s target GetObjectArrayElement args ≡ None → (answer : Answer) → Works GetObjectArrayElement answer → Does GetObjectArrayElement answer
   unfolding call_effect
-  answers_element h target free answer is =
-      let first = object_given_at GetObjectArrayElement [] ObjectArray (IntNumber ∷ []) tt refl refl h target free in
+  answers_element h free answer is =
+      let first = object_given_at GetObjectArrayElement [] ObjectArray (IntNumber ∷ []) tt refl refl h free in
       let number = number_of GetObjectArrayElement (ObjectArray ∷ []) [] (λ e. cc, tt) tt refl h in
       subst (λ (x : Answer). Does GetObjectArrayElement x) (sym (is ∙ (λ i. element_there store.heap (first.at i) (index_there store.heap (first.at i) (number i)))))
       (element_read first.address first.name (object_given args 0) (length (values_of shared.heap (object_given args 0))) first.named (ap name_or_zero first.is) (ap (count_there store.heap) (sym first.at) ∙ (counted GetObjectArrayElement h).0) h.store_agrees (number_given args 1))
 
-  answers_store : Asked SetObjectArrayElement → (target : Target) → trap_of_call w.classes shared s target SetObjectArrayElement args ≡ None → (answer : Answer) → Works SetObjectArrayElement answer → Does SetObjectArrayElement answer
+  answers_store : Asked SetObjectArrayElement → trap_of_call w.classes shared s target SetObjectArrayElement args ≡ None → (answer : Answer) → Works SetObjectArrayElement answer → Does SetObjectArrayElement answer
   unfolding call_effect
-  answers_store h target free answer is =
-      let first = object_given_at SetObjectArrayElement [] ObjectArray (IntNumber ∷ Nullable ∷ []) tt refl refl h target free in
+  answers_store h free answer is =
+      let first = object_given_at SetObjectArrayElement [] ObjectArray (IntNumber ∷ Nullable ∷ []) tt refl refl h free in
       let blocks = h.store_agrees.heap.blocks in
       let class = class_given_is w.classes store.heap references fields shared.heap blocks (at 0) (reference_given args 0) (agrees SetObjectArrayElement h 0) in
       let element = element_class (class_kind w.classes (class_of shared.heap (object_given args 0))) in
@@ -640,7 +657,7 @@ module _ (p : Lowered) (w : World) (store : Store) (pending : Option ℕ) (call 
   -- ---- regions
 
   -- a region of an object at an address, which has so many values, and the local array that the call names
-  module _ (exception a m size : ℕ) (makeable : IsMakeable w.classes exception) (there : name_at store.heap a ≡ Some m) (count : length (values_at store.heap a) ≡ size) (agree : StoreAgrees p w store shared) (array : ArraySlots) (x : Identifier) (given : brought.array ≡ Some (x, array)) (has : HasElements call.slots.numbers.items array (lookup x s.variables)) where
+  module _ (exception a m size : ℕ) (makeable : IsMakeable w.classes exception) (there : name_at store.heap a ≡ Some m) (count : length (values_at store.heap a) ≡ size) (agree : StoreAgrees p w store shared all) (array : ArraySlots) (x : Identifier) (given : brought.array ≡ Some (x, array)) (has : HasElements call.slots.numbers.items array (lookup x s.variables)) where
     abbrev Copies : Answer → CallEffect → Type 0
     Copies answer effect = IsAnswer w.classes brought store.heap call.locals GivesNothing shared s answer effect
 
@@ -694,7 +711,7 @@ module _ (p : Lowered) (w : World) (store : Store) (pending : Option ℕ) (call 
             slots = slots_within k (leb-true k array.len few);
             within = leb-true (i + k) (length (values_at store.heap a)) inside;
             numbers = take k (drop i (numbers_of shared.heap m));
-            words = words_there store.heap i k (values_at store.heap a) (values_of shared.heap m) (values_there p w store shared agree a m there);
+            words = words_there store.heap i k (values_at store.heap a) (values_of shared.heap m) (values_there p w store shared all agree a m there);
             is = refl;
           },
         )))
@@ -735,11 +752,11 @@ module _ (p : Lowered) (w : World) (store : Store) (pending : Option ℕ) (call 
     pub array : GivenArray call.slots.numbers.items s.variables function.operands args
     pub is : region_in store.heap (at 0) (next_number call.stack) (stack_number call.stack) (array_in (operand_of function.operands 3)) ≡ region_in store.heap (Some object.address) (number_given args 1) (number_given args 2) array.array
 
-  region_given : (f : JniFunction) (q : ParameterKind) (T : ElementType) → IsReferenceKind q → may_be_null q ≡ false → (prototype f).parameters ≡ q ∷ IntNumber ∷ IntNumber ∷ ArrayVariable T ∷ [] → Asked f → (target : Target) → trap_of_call w.classes shared s target f args ≡ None → GivenRegion
-  region_given f q T kind never are h target free =
+  region_given : (f : JniFunction) (q : ParameterKind) (T : ElementType) → IsReferenceKind q → may_be_null q ≡ false → (prototype f).parameters ≡ q ∷ IntNumber ∷ IntNumber ∷ ArrayVariable T ∷ [] → Asked f → trap_of_call w.classes shared s target f args ≡ None → GivenRegion
+  region_given f q T kind never are h free =
       let kinds = subst (λ (l : List ParameterKind). AllZip OperandFits l function.operands) are h.kinds in
       let fit = subst (λ (l : List ParameterKind). AllZip ActualFits l args) are h.fit in
-      let first = object_given_at f [] q (IntNumber ∷ IntNumber ∷ ArrayVariable T ∷ []) kind never are h target free in
+      let first = object_given_at f [] q (IntNumber ∷ IntNumber ∷ ArrayVariable T ∷ []) kind never are h free in
       let numbers = two_numbers w.classes store.heap references fields q (ArrayVariable T) (λ e. subst IsReferenceKind e kind) (λ e. cc) function.operands args kinds fit h.given in
       let given = given_array call.slots.numbers.items s.variables q IntNumber IntNumber T function.operands args kinds h.arrays in
       let start : next_number call.stack ≡ number_given args 1 = ap next_number (h.words ∙ numbers.words) ∙ to_z-of_z {w = w32} numbers.start_fits ∙ sym numbers.start_is in
@@ -753,39 +770,131 @@ module _ (p : Lowered) (w : World) (store : Store) (pending : Option ℕ) (call 
   object_long : (f : JniFunction) → Asked f → (g : GivenRegion) → length (values_at store.heap g.object.address) ≡ length (values_of shared.heap (object_given args 0))
   object_long f h g = ap (count_there store.heap) (sym g.object.at) ∙ (counted f h).0
 
-  answers_get_region : (T : ElementType) → Asked (GetArrayRegion T) → (target : Target) → trap_of_call w.classes shared s target (GetArrayRegion T) args ≡ None → (answer : Answer) → Works (GetArrayRegion T) answer → Does (GetArrayRegion T) answer
+  answers_get_region : (T : ElementType) → Asked (GetArrayRegion T) → trap_of_call w.classes shared s target (GetArrayRegion T) args ≡ None → (answer : Answer) → Works (GetArrayRegion T) answer → Does (GetArrayRegion T) answer
   unfolding call_effect
-  answers_get_region T h target free answer is =
-      let g = region_given (GetArrayRegion T) (NumberArray T) T tt refl refl h target free in
+  answers_get_region T h free answer is =
+      let g = region_given (GetArrayRegion T) (NumberArray T) T tt refl refl h free in
       subst (λ (x : Answer). Does (GetArrayRegion T) x) (sym (is ∙ (λ i. copies_out array_index_out_of_bounds (array_in (g.array.at i)) (g.is i))))
       (region_read array_index_out_of_bounds g.object.address (object_given args 0) _ (built_in_class array_index_out_of_bounds (omega arith) (omega arith)) (object_named g) (object_long (GetArrayRegion T) h g) h.store_agrees g.array.array (variable_given args 3) g.array.given g.array.has (number_given args 1) (number_given args 2))
 
-  answers_string_region : Asked GetStringRegion → (target : Target) → trap_of_call w.classes shared s target GetStringRegion args ≡ None → (answer : Answer) → Works GetStringRegion answer → Does GetStringRegion answer
+  answers_string_region : Asked GetStringRegion → trap_of_call w.classes shared s target GetStringRegion args ≡ None → (answer : Answer) → Works GetStringRegion answer → Does GetStringRegion answer
   unfolding call_effect
-  answers_string_region h target free answer is =
-      let g = region_given GetStringRegion StringObject JChar tt refl refl h target free in
+  answers_string_region h free answer is =
+      let g = region_given GetStringRegion StringObject JChar tt refl refl h free in
       subst (λ (x : Answer). Does GetStringRegion x) (sym (is ∙ (λ i. copies_out string_index_out_of_bounds (array_in (g.array.at i)) (g.is i))))
       (region_read string_index_out_of_bounds g.object.address (object_given args 0) _ (built_in_class string_index_out_of_bounds (omega arith) (omega arith)) (object_named g) (object_long GetStringRegion h g) h.store_agrees g.array.array (variable_given args 3) g.array.given g.array.has (number_given args 1) (number_given args 2))
 
   -- argument 0 is an array of numbers of a type
-  array_of_numbers : (T : ElementType) → Asked (SetArrayRegion T) → (target : Target) → trap_of_call w.classes shared s target (SetArrayRegion T) args ≡ None → (g : GivenRegion) → HasNumbers w.classes shared.heap T g.object.name
-  array_of_numbers T h target free g =
+  array_of_numbers : (T : ElementType) → Asked (SetArrayRegion T) → trap_of_call w.classes shared s target (SetArrayRegion T) args ≡ None → (g : GivenRegion) → HasNumbers w.classes shared.heap T g.object.name
+  array_of_numbers T h free g =
       let object = object_of (SetArrayRegion T) h g.object.address g.object.name g.object.named in
       let class : class_of shared.heap g.object.name ≡ object.0.class = ap (λ (o : Option Object). option_map_or (λ (x : Object). x.class) o 0) object.1 in
       let of_class : class_there store.heap g.object.address ≡ number_array T = is_number_array w.classes store.heap references fields T [] (IntNumber ∷ IntNumber ∷ ArrayVariable T ∷ []) function.operands g.object.address g.object.at
-      h.kinds (none_unfit p w store pending call function shared s (SetArrayRegion T) args h target free) in
+      h.kinds (none_unfit p w store pending call function others k shared s target (SetArrayRegion T) args h free) in
       let same : object.0.class ≡ number_array T = sym class ∙ sym (class_is w.classes store.heap references fields shared.heap h.store_agrees.heap.blocks g.object.address g.object.name g.object.named) ∙ of_class in
       (object.0, object.1, ap (element_type_of w.classes) same ∙ array_numbers w.classes sound.grown T)
 
-  answers_set_region : (T : ElementType) → Asked (SetArrayRegion T) → (target : Target) → trap_of_call w.classes shared s target (SetArrayRegion T) args ≡ None → (answer : Answer) → Works (SetArrayRegion T) answer → Does (SetArrayRegion T) answer
+  answers_set_region : (T : ElementType) → Asked (SetArrayRegion T) → trap_of_call w.classes shared s target (SetArrayRegion T) args ≡ None → (answer : Answer) → Works (SetArrayRegion T) answer → Does (SetArrayRegion T) answer
   unfolding call_effect
-  answers_set_region T h target free answer is =
-      let g = region_given (SetArrayRegion T) (NumberArray T) T tt refl refl h target free in
-      let alone = numbers_alone w.classes shared.heap h.typed g.object.name T (array_of_numbers T h target free g) in
+  answers_set_region T h free answer is =
+      let g = region_given (SetArrayRegion T) (NumberArray T) T tt refl refl h free in
+      let alone = numbers_alone w.classes shared.heap h.typed g.object.name T (array_of_numbers T h free g) in
       let name : g.object.name ≡ object_given args 0 = ap name_or_zero (sym g.object.is) in
       subst (λ (x : Answer). Does (SetArrayRegion T) x) (sym (is ∙ (λ i. copies_in array_index_out_of_bounds (array_in (g.array.at i)) (g.is i))))
       (region_written array_index_out_of_bounds g.object.address (object_given args 0) _ (built_in_class array_index_out_of_bounds (omega arith) (omega arith)) (object_named g) (object_long (SetArrayRegion T) h g) h.store_agrees g.array.array (variable_given args 3) g.array.given g.array.has
       (subst (λ (n : ℕ). values_of shared.heap n ≡ map Number (numbers_of shared.heap n)) name alone) (number_given args 1) (number_given args 2))
+
+  -- ---- buffers
+
+  -- the object of argument 0
+  module _ (f : JniFunction) (h : Asked f) (g : GivenObject w.classes store.heap references fields function.operands args 0) where
+    object_there : name_at store.heap g.address ≡ Some (object_given args 0)
+    object_there = g.named ∙ ap (λ (q : Reference). Some (name_or_zero q)) (sym g.is)
+
+    copy_acquired : IsCopyAcquired brought store.heap shared s g.address (copy_effect in_use shared s (object_given args 0) (numbers_of shared.heap (object_given args 0)))
+    copy_acquired = record {
+      name = object_given args 0;
+      there = object_there;
+      words = all_words store.heap (values_at store.heap g.address) (values_of shared.heap (object_given args 0)) (values_there p w store shared all h.store_agrees g.address (object_given args 0) object_there);
+      is = refl;
+    }
+
+    view_acquired : IsViewAcquired brought store.heap shared s g.address (view_effect in_use shared s (object_given args 0))
+    view_acquired = record { name = object_given args 0; there = object_there; is = refl }
+
+    -- the buffer of argument 1 is released
+    module _ (b : GivenBuffer store.heap brought.buffers s.variables function.operands args) where
+      released : (mode : ReleaseMode) → (copies_back (mode_code mode) ≡ true → IsCopyOf shared.heap (object_given args 0) b.holds.buffer)
+          → IsAnswer w.classes brought store.heap call.locals GivesNothing shared s (releases call.slots.buffers.items (Some g.address) (operand.Buffer b.slot) (mode_code mode)) (release_effect shared s (object_given args 0) (variable_given args 1) mode)
+      released mode copy = (
+        refl,
+        record {
+          variable = variable_given args 1;
+          holds = b.holds;
+          held = ap (λ (o : Option Buffer). unwrap_or o held.Null) b.holds.there;
+          name = object_given args 0;
+          there = object_there;
+          copy = copy;
+          mode = mode;
+          coded = refl;
+          is = refl;
+        },
+      )
+
+  answers_get_buffer : (access : Access) → Asked (GetBuffer access) → trap_of_call w.classes shared s target (GetBuffer access) args ≡ None → (answer : Answer) → Works (GetBuffer access) answer → Does (GetBuffer access) answer
+  unfolding call_effect
+  answers_get_buffer (ElementsCopy T) h free answer is =
+      let g = object_given_at (GetBuffer (ElementsCopy T)) [] (NumberArray T) (IsCopy ∷ []) tt refl refl h free in
+      subst (λ (x : Answer). Does (GetBuffer (ElementsCopy T)) x) (sym (is ∙ ap (acquires (ElementsCopy T)) g.at)) ((ElementsCopy T, refl), copy_acquired (GetBuffer (ElementsCopy T)) h g)
+  answers_get_buffer ArrayView h free answer is =
+      let g = object_given_at (GetBuffer ArrayView) [] NonNull (IsCopy ∷ []) tt refl refl h free in
+      subst (λ (x : Answer). Does (GetBuffer ArrayView) x) (sym (is ∙ ap (acquires ArrayView) g.at)) ((ArrayView, refl), view_acquired (GetBuffer ArrayView) h g)
+  answers_get_buffer CharsCopy h free answer is =
+      let g = object_given_at (GetBuffer CharsCopy) [] StringObject (IsCopy ∷ []) tt refl refl h free in
+      subst (λ (x : Answer). Does (GetBuffer CharsCopy) x) (sym (is ∙ ap (acquires CharsCopy) g.at)) ((CharsCopy, refl), copy_acquired (GetBuffer CharsCopy) h g)
+  answers_get_buffer CharsView h free answer is =
+      let g = object_given_at (GetBuffer CharsView) [] StringObject (IsCopy ∷ []) tt refl refl h free in
+      subst (λ (x : Answer). Does (GetBuffer CharsView) x) (sym (is ∙ ap (acquires CharsView) g.at)) ((CharsView, refl), view_acquired (GetBuffer CharsView) h g)
+
+  -- the buffer of elements that is released is a copy of the array
+  copy_there : (T : ElementType) → Asked (ReleaseBuffer (ElementsCopy T)) → (b : GivenBuffer store.heap brought.buffers s.variables function.operands args) → IsCopyOf shared.heap (object_given args 0) b.holds.buffer
+  copy_there T h b = by_buffer b.holds.type b.holds.buffer b.holds.is (ap came_from (sym b.holds.is) ∙ h.release (ElementsCopy T) refl)
+    where
+      by_buffer : (t : ElementType) (x : source.Buffer) → lookup (variable_given args 1) s.variables ≡ Some (Elements t x) → came_from (Some (Elements t x)) ≡ Some (object_given args 0) → IsCopyOf shared.heap (object_given args 0) x
+      by_buffer t NoBuffer there from = absurd (cc)
+      by_buffer t (View n) there from = absurd (let no : false ≡ true = h.critical (views_there s (variable_given args 1) t n there) in cc)
+      by_buffer t (Copy n zs) there from =
+          let same : n ≡ object_given args 0 = cc in
+          let typed = variable_typed w.classes shared.heap (variable_given args 1) s.variables (Elements t (Copy n zs)) h.typed_variables there in
+          (numbers_fit t zs typed.1, typed.2 ∙ ap (λ (m : ℕ). length (values_of shared.heap m)) same)
+
+  -- what is released
+  buffer_given : (access : Access) (more : List ParameterKind) → (prototype (ReleaseBuffer access)).parameters ≡ owner access ∷ BufferVariable access ∷ more → Asked (ReleaseBuffer access) → GivenBuffer store.heap brought.buffers s.variables function.operands args
+  buffer_given access more are h = given_buffer store.heap brought.buffers s.variables access (owner access) more function.operands args (subst (λ (l : List ParameterKind). AllZip OperandFits l function.operands) are h.kinds) h.buffers
+
+  answers_release : (access : Access) → Asked (ReleaseBuffer access) → trap_of_call w.classes shared s target (ReleaseBuffer access) args ≡ None → (answer : Answer) → Works (ReleaseBuffer access) answer → Does (ReleaseBuffer access) answer
+  unfolding call_effect
+  answers_release (ElementsCopy T) h free answer is =
+      let f = ReleaseBuffer (ElementsCopy T) in
+      let g = object_given_at f [] (NumberArray T) (BufferVariable (ElementsCopy T) ∷ Mode ∷ []) tt refl refl h free in
+      let b = buffer_given (ElementsCopy T) (Mode ∷ []) refl h in
+      let mode = given_mode w.classes store.heap references fields T (NumberArray T) (BufferVariable (ElementsCopy T)) function.operands args h.kinds h.given in
+      subst (λ (x : Answer). Does f x) (sym (is ∙ (λ i. releases call.slots.buffers.items (g.at i) (b.at i) (mode i)))) (released f h g b (mode_given args 2) (λ back. copy_there T h b))
+  answers_release ArrayView h free answer is =
+      let f = ReleaseBuffer ArrayView in
+      let g = object_given_at f [] NonNull (BufferVariable ArrayView ∷ Mode ∷ []) tt refl refl h free in
+      let b = buffer_given ArrayView (Mode ∷ []) refl h in
+      subst (λ (x : Answer). Does f x) (sym (is ∙ (λ i. releases call.slots.buffers.items (g.at i) (b.at i) modes.FreeUncopied))) (released f h g b FreeUncopied (λ back. absurd (cc)))
+  answers_release CharsCopy h free answer is =
+      let f = ReleaseBuffer CharsCopy in
+      let g = object_given_at f [] StringObject (BufferVariable CharsCopy ∷ []) tt refl refl h free in
+      let b = buffer_given CharsCopy [] refl h in
+      subst (λ (x : Answer). Does f x) (sym (is ∙ (λ i. releases call.slots.buffers.items (g.at i) (b.at i) modes.FreeUncopied))) (released f h g b FreeUncopied (λ back. absurd (cc)))
+  answers_release CharsView h free answer is =
+      let f = ReleaseBuffer CharsView in
+      let g = object_given_at f [] StringObject (BufferVariable CharsView ∷ []) tt refl refl h free in
+      let b = buffer_given CharsView [] refl h in
+      subst (λ (x : Answer). Does f x) (sym (is ∙ (λ i. releases call.slots.buffers.items (g.at i) (b.at i) modes.FreeUncopied))) (released f h g b FreeUncopied (λ back. absurd (cc)))
 
   -- ---- exceptions
 
@@ -793,13 +902,13 @@ module _ (p : Lowered) (w : World) (store : Store) (pending : Option ℕ) (call 
   unfolding call_effect
   answers_throw h answer is = subst (λ (x : Answer). Does Throw x) (sym is) (reference_given args 0, agrees Throw h 0, (ScalarResult (Int (pos 0)), (refl, record { sfits = omega arith }), refl))
 
-  answers_throw_new : Asked ThrowNew → (target : Target) → trap_of_call w.classes shared s target ThrowNew args ≡ None → (answer : Answer) → Works ThrowNew answer → Does ThrowNew answer
+  answers_throw_new : Asked ThrowNew → trap_of_call w.classes shared s target ThrowNew args ≡ None → (answer : Answer) → Works ThrowNew answer → Does ThrowNew answer
   unfolding call_effect
-  answers_throw_new h target free answer is =
-      let class = class_given ThrowNew [] (TextBytes ∷ []) refl h target free in
+  answers_throw_new h free answer is =
+      let class = class_given ThrowNew [] (TextBytes ∷ []) refl h free in
       let name = name_of ThrowNew h 0 in
       let text : text_in function.texts 0 ≡ text_given args 1 = ap (λ (l : List (List ℕ)). text_in l 0) h.texts ∙ second_text w.classes store.heap references fields function.operands args h.kinds h.given in
-      let passed = has_passed p w store pending call function shared s ThrowNew args h target free in
+      let passed = has_passed p w store pending call function others k shared s target ThrowNew args h free in
       let below : assignable w.classes (object_given args 0) throwable_class ≡ true = ap (λ (c : ℕ). assignable w.classes c throwable_class) (sym name) ∙ passed in
       let makeable : IsMakeable w.classes (object_given args 0) = record { low = class.low; high = class.high; no_class = λ e. absurd (let clash : false ≡ true = sym (class_is_no_throwable w.classes sound.grown) ∙ ap (λ (c : ℕ). assignable w.classes c throwable_class) (sym e) ∙ below in cc) } in
       subst (λ (x : Answer). Does ThrowNew x) (sym (is ∙ ap (λ (c : ℕ). Raises c 0) name))
@@ -822,45 +931,47 @@ module _ (p : Lowered) (w : World) (store : Store) (pending : Option ℕ) (call 
   answers_fatal answer is = subst (λ (x : Answer). Does FatalError x) (sym is) refl
 
   -- the answer is what the call does
-  pub answers : (f : JniFunction) → Asked f → (target : Target) → trap_of_call w.classes shared s target f args ≡ None → (answer : Answer) → Works f answer → HasKey f → IsHeld f → Does f answer
-  answers FindClass h target free answer is keyed held = answers_find h answer is
-  answers GetSuperclass h target free answer is keyed held = answers_superclass h answer is
-  answers GetObjectClass h target free answer is keyed held = answers_class h target free answer is
-  answers IsInstanceOf h target free answer is keyed held = answers_instance h answer is
-  answers IsAssignableFrom h target free answer is keyed held = answers_assignable h answer is
-  answers NewGlobalRef h target free answer is keyed held = answers_new_global h answer is
-  answers DeleteGlobalRef h target free answer is keyed held = answers_delete_global held h answer is
-  answers NewLocalRef h target free answer is keyed held = answers_new_local h answer is
-  answers IsSameObject h target free answer is keyed held = answers_same h answer is
-  answers EnsureLocalCapacity h target free answer is keyed held = answers_ensure h answer is
-  answers PushLocalFrame h target free answer is keyed held = answers_push h answer is
-  answers PopLocalFrame h target free answer is keyed held = answers_pop h answer is
-  answers DeleteLocalRef h target free answer is keyed held = answers_delete keyed answer is
-  answers AllocObject h target free answer is keyed held = answers_alloc h target free answer is
-  answers GetFieldID h target free answer is keyed held = answers_field h answer is
-  answers GetStaticFieldID h target free answer is keyed held = answers_static h answer is
-  answers (GetField T) h target free answer is keyed held = answers_get T h target free answer is
-  answers (SetField T) h target free answer is keyed held = answers_set T h target free answer is
-  answers GetObjectField h target free answer is keyed held = answers_get_object h target free answer is
-  answers SetObjectField h target free answer is keyed held = answers_set_object h target free answer is
-  answers (GetStaticField T) h target free answer is keyed held = answers_get_static T h target free answer is
-  answers (SetStaticField T) h target free answer is keyed held = answers_set_static T h target free answer is
-  answers GetStaticObjectField h target free answer is keyed held = answers_get_static_object h target free answer is
-  answers SetStaticObjectField h target free answer is keyed held = answers_set_static_object h target free answer is
-  answers GetArrayLength h target free answer is keyed held = answers_length h answer is
-  answers (NewArray T) h target free answer is keyed held = answers_new_array T h answer is
-  answers NewObjectArray h target free answer is keyed held = answers_new_object_array h target free answer is
-  answers GetObjectArrayElement h target free answer is keyed held = answers_element h target free answer is
-  answers SetObjectArrayElement h target free answer is keyed held = answers_store h target free answer is
-  answers NewStringUTF h target free answer is keyed held = answers_string h answer is
-  answers Throw h target free answer is keyed held = answers_throw h answer is
-  answers ThrowNew h target free answer is keyed held = answers_throw_new h target free answer is
-  answers ExceptionOccurred h target free answer is keyed held = answers_occurred h answer is
-  answers ExceptionCheck h target free answer is keyed held = answers_check h answer is
-  answers ExceptionClear h target free answer is keyed held = answers_clear answer is
-  answers FatalError h target free answer is keyed held = answers_fatal answer is
-  answers GetStringLength h target free answer is keyed held = answers_string_length h answer is
-  answers (GetArrayRegion T) h target free answer is keyed held = answers_get_region T h target free answer is
-  answers (SetArrayRegion T) h target free answer is keyed held = answers_set_region T h target free answer is
-  answers GetStringRegion h target free answer is keyed held = answers_string_region h target free answer is
-  answers f h target free answer is keyed held = absurd (let no : is_built_function f ≡ true = h.answered in cc)
+  pub answers : (f : JniFunction) → Asked f → trap_of_call w.classes shared s target f args ≡ None → (answer : Answer) → Works f answer → HasKey f → IsHeld f → Does f answer
+  answers FindClass h free answer is keyed held = answers_find h answer is
+  answers GetSuperclass h free answer is keyed held = answers_superclass h answer is
+  answers GetObjectClass h free answer is keyed held = answers_class h free answer is
+  answers IsInstanceOf h free answer is keyed held = answers_instance h answer is
+  answers IsAssignableFrom h free answer is keyed held = answers_assignable h answer is
+  answers NewGlobalRef h free answer is keyed held = answers_new_global h answer is
+  answers DeleteGlobalRef h free answer is keyed held = answers_delete_global held h answer is
+  answers NewLocalRef h free answer is keyed held = answers_new_local h answer is
+  answers IsSameObject h free answer is keyed held = answers_same h answer is
+  answers EnsureLocalCapacity h free answer is keyed held = answers_ensure h answer is
+  answers PushLocalFrame h free answer is keyed held = answers_push h answer is
+  answers PopLocalFrame h free answer is keyed held = answers_pop h answer is
+  answers DeleteLocalRef h free answer is keyed held = answers_delete keyed answer is
+  answers AllocObject h free answer is keyed held = answers_alloc h free answer is
+  answers GetFieldID h free answer is keyed held = answers_field h answer is
+  answers GetStaticFieldID h free answer is keyed held = answers_static h answer is
+  answers (GetField T) h free answer is keyed held = answers_get T h free answer is
+  answers (SetField T) h free answer is keyed held = answers_set T h free answer is
+  answers GetObjectField h free answer is keyed held = answers_get_object h free answer is
+  answers SetObjectField h free answer is keyed held = answers_set_object h free answer is
+  answers (GetStaticField T) h free answer is keyed held = answers_get_static T h free answer is
+  answers (SetStaticField T) h free answer is keyed held = answers_set_static T h free answer is
+  answers GetStaticObjectField h free answer is keyed held = answers_get_static_object h free answer is
+  answers SetStaticObjectField h free answer is keyed held = answers_set_static_object h free answer is
+  answers GetArrayLength h free answer is keyed held = answers_length h answer is
+  answers (NewArray T) h free answer is keyed held = answers_new_array T h answer is
+  answers NewObjectArray h free answer is keyed held = answers_new_object_array h free answer is
+  answers GetObjectArrayElement h free answer is keyed held = answers_element h free answer is
+  answers SetObjectArrayElement h free answer is keyed held = answers_store h free answer is
+  answers NewStringUTF h free answer is keyed held = answers_string h answer is
+  answers Throw h free answer is keyed held = answers_throw h answer is
+  answers ThrowNew h free answer is keyed held = answers_throw_new h free answer is
+  answers ExceptionOccurred h free answer is keyed held = answers_occurred h answer is
+  answers ExceptionCheck h free answer is keyed held = answers_check h answer is
+  answers ExceptionClear h free answer is keyed held = answers_clear answer is
+  answers FatalError h free answer is keyed held = answers_fatal answer is
+  answers GetStringLength h free answer is keyed held = answers_string_length h answer is
+  answers (GetArrayRegion T) h free answer is keyed held = answers_get_region T h free answer is
+  answers (SetArrayRegion T) h free answer is keyed held = answers_set_region T h free answer is
+  answers GetStringRegion h free answer is keyed held = answers_string_region h free answer is
+  answers (GetBuffer access) h free answer is keyed held = answers_get_buffer access h free answer is
+  answers (ReleaseBuffer access) h free answer is keyed held = answers_release access h free answer is
+  answers f h free answer is keyed held = absurd (let no : is_built_function f ≡ true = h.answered in cc)

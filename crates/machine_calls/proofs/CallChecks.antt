@@ -1,10 +1,10 @@
 -- The checks of a call in memory are those of the source.
 use Rattle.std.proofs.Common.{inl, inr, ◌≡◌, ℕ, ℤ, zero, suc, Bool, true, false, not, List, [], ◌∷◌, zip, Option, Some, None, is_none, slice_get, refl, sym, ap, ◌∙◌, subst}
-use Rattle.std.specs.Prelude.{◌&&◌, ◌||◌, unwrap_or, is_some, IsSome}
+use Rattle.std.specs.Prelude.{◌==◌, ◌&&◌, ◌||◌, unwrap_or, is_some, IsSome}
 use Rattle.std.specs.List.{AllZip, list_any}
 use Rattle.base.specs.Bytes.{Identifier}
 use Rattle.base.specs.Element.{ElementType}
-use Rattle.class_rules.specs.BuiltIns.{has_own_making, throwable_class}
+use Rattle.class_rules.specs.BuiltIns.{has_own_making, number_array, throwable_class}
 use Rattle.class_rules.specs.Class.{Classes, FieldType, NumberField, ReferenceField, assignable, class_kind, is_plain}
 use Rattle.class_rules.specs.Fields.{FieldId}
 use Rattle.classes.specs.FieldViews.{field_of}
@@ -13,7 +13,7 @@ use Rattle.code.specs.declared.instr.Operand.{Operand}
 use Rattle.code.specs.declared.instr.Operand.TheVariants as operand
 use Rattle.heap.specs.Heap.{Space, IsAddress}
 use Rattle.jni.specs.Access.{ArrayView}
-use Rattle.jni.specs.JniFunction.{JniFunction, is_allowed_pending, AllocObject, GetField, SetField, GetStaticField, SetStaticField, GetObjectField, SetObjectField, GetStaticObjectField, SetStaticObjectField, prototype, is_built_function, NewObjectArray, GetBuffer, Throw, ThrowNew}
+use Rattle.jni.specs.JniFunction.{JniFunction, is_allowed_pending, AllocObject, GetField, SetField, GetStaticField, SetStaticField, GetObjectField, SetObjectField, GetStaticObjectField, SetStaticObjectField, prototype, NewObjectArray, GetBuffer, Throw, ThrowNew}
 use Rattle.jni.specs.Prototype.{ParameterKind, Nullable, LocalVariable, StaticVariable, IsCopy, ClassObject, NumberArray, AnyArray, ObjectArray, StringObject, ResultKind, NewLocal}
 use Rattle.semantics.specs.CallTable.{go_together}
 use Rattle.semantics.specs.Arguments.{Actual, ReferenceActual, FieldActual, NumberActual, TextActual, VariableActual, ModeActual, NothingActual, ReleaseMode, reference_given, reference_in_actual, name_or_zero, field_given, field_in_actual}
@@ -26,6 +26,7 @@ use Rattle.semantics.specs.Thread.{Frame, Shared, Thread}
 use Rattle.semantics.specs.Value.{NullReference, ExceptionPending, WrongObject, DeletedReference, NoCapacity}
 use Rattle.semantics.specs.Variable.{StaticReference, Empty, Live, Deleted, as_static}
 use Rattle.code_meaning.specs.Does.{ActualFits}
+use Rattle.machine_calls.specs.declared.buffer.Buffer.{Buffer}
 use Rattle.machine_calls.specs.FieldIds.{FieldAgrees}
 use Rattle.machine_calls.specs.StoreAgrees.{HeldAgrees}
 use Rattle.machine_calls.specs.Statics.{References, held_address, holds_deleted, holds_null, static_at}
@@ -351,55 +352,55 @@ module _ (classes : Classes) (space : Space) (references : References) (fields :
     fits_type_is o q (NumberField T) h = refl
     fits_type_is o q (ReferenceField c) h = fits_is o q c h
 
-    together_is : (buffer : ElementType) (operands : List Operand) (args : List Actual) → AllZip (IsGiven classes space references fields) operands args → (f : JniFunction) → is_built_function f ≡ true
-        → fit_together classes space references fields operands f ≡ go_together classes heap buffer args f
+    together_is : (buffer : ElementType) (operands : List Operand) (args : List Actual) → AllZip (IsGiven classes space references fields) operands args → (f : JniFunction) → fit_together classes space references fields operands buffer f ≡ go_together classes heap buffer args f
     unfolding go_together
-    together_is buffer operands args h AllocObject e =
+    together_is buffer operands args h AllocObject =
         ap (λ (n : ℕ). not (has_own_making classes n)) (name_is (operand_at references (operand_of operands 0)) (reference_given args 0) (reference_at_place operands args 0 h))
-    together_is buffer operands args h (GetField T) e =
+    together_is buffer operands args h (GetField T) =
         let field = field_at_place operands args 1 h in
         let class = class_given_is (operand_at references (operand_of operands 0)) (reference_given args 0) (reference_at_place operands args 0 h) in
         λ i. (not (field i).is_static && assignable classes (class i) (field i).class) && holds_number T (field i).field.type
-    together_is buffer operands args h (SetField T) e =
+    together_is buffer operands args h (SetField T) =
         let field = field_at_place operands args 1 h in
         let class = class_given_is (operand_at references (operand_of operands 0)) (reference_given args 0) (reference_at_place operands args 0 h) in
         λ i. (not (field i).is_static && assignable classes (class i) (field i).class) && holds_number T (field i).field.type
-    together_is buffer operands args h GetObjectField e =
+    together_is buffer operands args h GetObjectField =
         let field = field_at_place operands args 1 h in
         let class = class_given_is (operand_at references (operand_of operands 0)) (reference_given args 0) (reference_at_place operands args 0 h) in
         λ i. (not (field i).is_static && assignable classes (class i) (field i).class) && holds_reference (field i).field.type
-    together_is buffer operands args h SetObjectField e =
+    together_is buffer operands args h SetObjectField =
         let field = field_at_place operands args 1 h in
         let class = class_given_is (operand_at references (operand_of operands 0)) (reference_given args 0) (reference_at_place operands args 0 h) in
         let fit = ap (fits_type_there classes space (operand_at references (operand_of operands 2))) (ap (λ (f : FieldId). f.field.type) field) ∙ fits_type_is (operand_at references (operand_of operands 2)) (reference_given args 2) (field_given args 1).field.type (reference_at_place operands args 2 h) in
         λ i. (not (field i).is_static && assignable classes (class i) (field i).class) && fit i
-    together_is buffer operands args h (GetStaticField T) e =
+    together_is buffer operands args h (GetStaticField T) =
         let field = field_at_place operands args 1 h in
         let name = name_is (operand_at references (operand_of operands 0)) (reference_given args 0) (reference_at_place operands args 0 h) in
         λ i. ((field i).is_static && assignable classes (name i) (field i).class) && holds_number T (field i).field.type
-    together_is buffer operands args h (SetStaticField T) e =
+    together_is buffer operands args h (SetStaticField T) =
         let field = field_at_place operands args 1 h in
         let name = name_is (operand_at references (operand_of operands 0)) (reference_given args 0) (reference_at_place operands args 0 h) in
         λ i. ((field i).is_static && assignable classes (name i) (field i).class) && holds_number T (field i).field.type
-    together_is buffer operands args h GetStaticObjectField e =
+    together_is buffer operands args h GetStaticObjectField =
         let field = field_at_place operands args 1 h in
         let name = name_is (operand_at references (operand_of operands 0)) (reference_given args 0) (reference_at_place operands args 0 h) in
         λ i. ((field i).is_static && assignable classes (name i) (field i).class) && holds_reference (field i).field.type
-    together_is buffer operands args h SetStaticObjectField e =
+    together_is buffer operands args h SetStaticObjectField =
         let field = field_at_place operands args 1 h in
         let name = name_is (operand_at references (operand_of operands 0)) (reference_given args 0) (reference_at_place operands args 0 h) in
         let fit = ap (fits_type_there classes space (operand_at references (operand_of operands 2))) (ap (λ (f : FieldId). f.field.type) field) ∙ fits_type_is (operand_at references (operand_of operands 2)) (reference_given args 2) (field_given args 1).field.type (reference_at_place operands args 2 h) in
         λ i. ((field i).is_static && assignable classes (name i) (field i).class) && fit i
-    together_is buffer operands args h NewObjectArray e =
+    together_is buffer operands args h NewObjectArray =
         let name = name_is (operand_at references (operand_of operands 1)) (reference_given args 1) (reference_at_place operands args 1 h) in
         let fit = ap (fits_there classes space (operand_at references (operand_of operands 2))) name ∙ fits_is (operand_at references (operand_of operands 2)) (reference_given args 2) (name_or_zero (reference_given args 1)) (reference_at_place operands args 2 h) in
         λ i. is_plain (class_kind classes (name i)) && fit i
-    together_is buffer operands args h (GetBuffer ArrayView) e = absurd (cc)
-    together_is buffer operands args h Throw e =
+    together_is buffer operands args h (GetBuffer ArrayView) =
+        ap (λ (c : ℕ). c == number_array buffer) (class_given_is (operand_at references (operand_of operands 0)) (reference_given args 0) (reference_at_place operands args 0 h))
+    together_is buffer operands args h Throw =
         ap (λ (c : ℕ). assignable classes c throwable_class) (class_given_is (operand_at references (operand_of operands 0)) (reference_given args 0) (reference_at_place operands args 0 h))
-    together_is buffer operands args h ThrowNew e =
+    together_is buffer operands args h ThrowNew =
         ap (λ (c : ℕ). assignable classes c throwable_class) (name_is (operand_at references (operand_of operands 0)) (reference_given args 0) (reference_at_place operands args 0 h))
-    together_is buffer operands args h f e = refl
+    together_is buffer operands args h f = refl
 
     -- ---- all of them
 
@@ -408,16 +409,16 @@ module _ (classes : Classes) (space : Space) (references : References) (fields :
     room_is kind has_room frame h = refl
 
     -- the trap that is found is the source's
-    pub found_is : (loaded stack : List ℕ) (pending : Option ℕ) (has_room : Bool) (f : JniFunction) (operands : List Operand) (args : List Actual) (s : Shared) (t : Thread) (target : Target) → is_built_function f ≡ true → s.heap ≡ heap → is_some pending ≡ is_some t.pending
+    pub found_is : (loaded stack : List ℕ) (buffers : List Buffer) (pending : Option ℕ) (has_room : Bool) (wanted : ElementType) (f : JniFunction) (operands : List Operand) (args : List Actual) (s : Shared) (t : Thread) (target : Target) → wanted ≡ target_element t.variables target → s.heap ≡ heap → is_some pending ≡ is_some t.pending
         → is_full (slice_get (frames_after f t.frames) 0) ≡ not has_room → AllZip ActualFits (prototype f).parameters args → AllZip (IsGiven classes space references fields) operands args
-        → trap_found (record { classes = classes; space = space; loaded = loaded; references = references; fields = fields; stack = stack; pending = pending }) has_room f operands ≡ trap_of_call classes s t target f args
+        → trap_found (record { classes = classes; space = space; loaded = loaded; references = references; fields = fields; buffers = buffers; stack = stack; pending = pending }) has_room wanted f operands ≡ trap_of_call classes s t target f args
     unfolding call_trap
-    found_is loaded stack exception has_room f operands args s t target built same pending room fit h =
+    found_is loaded stack buffers exception has_room wanted f operands args s t target wants same pending room fit h =
         let buffer = target_element t.variables target in
         let deleted = all_deleted operands args h in
         let missing = all_missing (prototype f).parameters operands args fit h in
         let misfit = all_misfit (prototype f).parameters operands args h in
-        let together = together_is buffer operands args h f built in
+        let together = ap (λ (T : ElementType). fit_together classes space references fields operands T f) wants ∙ together_is buffer operands args h f in
         let lacks = room_is (prototype f).result has_room (slice_get (frames_after f t.frames) 0) room in
         (λ i. first_trap ((pending i && not (is_allowed_pending f), ExceptionPending) ∷ (deleted i, DeletedReference) ∷ (missing i, NullReference) ∷ (misfit i || not (together i), WrongObject) ∷ (lacks i, NoCapacity) ∷ []))
         ∙ ap (λ g. call_trap classes g t buffer f args) (sym same)

@@ -30,7 +30,8 @@ use Rattle.machine_calls.specs.Asked.{IsAsked, references_of, scene_of}
 use Rattle.machine_calls.specs.Statics.{References, held_address, static_at}
 use Rattle.machine_calls.specs.declared.references.Held.{Held}
 use Rattle.machine_calls.specs.declared.references.Held.TheVariants as held
-use Rattle.machine_calls.specs.Checked.{fit_together, gives_deleted, some_missing, some_misfit, puts_local, trap_found}
+use Rattle.machine_calls.specs.Buffers.{Acquired}
+use Rattle.machine_calls.specs.Checked.{element_wanted, fit_together, gives_deleted, some_missing, some_misfit, puts_local, trap_found}
 use Rattle.machine_calls.specs.Locals.{locals_after}
 use Rattle.tables.specs.Locals.{has_room}
 use Rattle.machine_calls.specs.Given.{operand_at, field_at, AreAddresses, AreHandles, IsGiven}
@@ -139,29 +140,29 @@ same_pending space None (Some n) h = absurd h
 same_pending space (Some a) None h = absurd h
 same_pending space (Some a) (Some n) h = refl
 
-module _ (p : Lowered) (w : World) (store : Store) (pending : Option ℕ) (call : Activation) (function : Call) (shared : Shared) (s : Thread) (f : JniFunction) (args : List Actual) (h : IsAsked p w store pending call function shared s f args) where
+module _ (p : Lowered) (w : World) (store : Store) (pending : Option ℕ) (call : Activation) (function : Call) (others : Acquired) (k : ℕ) (shared : Shared) (s : Thread) (target : Target) (f : JniFunction) (args : List Actual) (h : IsAsked p w store pending call function others k shared s target f args) where
   pub objects_there : AreAddresses store.heap (references_of store call) function.operands
   objects_there = all_addresses w.classes store.heap (references_of store call) call.slots.fields.items function.operands args h.given
 
   pub handles_there : AreHandles w.classes call.slots.fields.items function.operands
   handles_there = all_handles w.classes store.heap (references_of store call) call.slots.fields.items function.operands args h.given
 
-  pub found_is : (target : Target) → trap_found (scene_of w.classes store call pending) (has_room (locals_after f call.locals)) f function.operands ≡ trap_of_call w.classes shared s target f args
-  found_is target =
-      checks.found_is w.classes store.heap (references_of store call) call.slots.fields.items shared.heap h.store_agrees.heap.blocks store.loaded.items call.stack pending (has_room (locals_after f call.locals)) f function.operands args shared s target h.answered refl
+  pub found_is : trap_found (scene_of w.classes store call pending) (has_room (locals_after f call.locals)) (element_wanted function.target) f function.operands ≡ trap_of_call w.classes shared s target f args
+  found_is =
+      checks.found_is w.classes store.heap (references_of store call) call.slots.fields.items shared.heap h.store_agrees.heap.blocks store.loaded.items call.stack call.slots.buffers.items pending (has_room (locals_after f call.locals)) (element_wanted function.target) f function.operands args shared s target h.wanted refl
       (same_pending store.heap pending s.pending h.pending_agrees) (full_where store.heap (locals_after f call.locals) (frames_after f s.frames) (frames_left store.heap f call.locals s.frames h.frames_agree)) h.fit h.given
 
-  module _ (target : Target) (free : trap_of_call w.classes shared s target f args ≡ None) where
+  module _ (free : trap_of_call w.classes shared s target f args ≡ None) where
     passed : Passed (is_some pending && not (is_allowed_pending f)) (list_any (gives_deleted (references_of store call)) function.operands) (some_missing (references_of store call) call.slots.fields.items (prototype f).parameters function.operands)
-        (some_misfit w.classes store.heap (references_of store call) (prototype f).parameters function.operands || not (fit_together w.classes store.heap (references_of store call) call.slots.fields.items function.operands f)) (puts_local (prototype f).result && not (has_room (locals_after f call.locals)))
+        (some_misfit w.classes store.heap (references_of store call) (prototype f).parameters function.operands || not (fit_together w.classes store.heap (references_of store call) call.slots.fields.items function.operands (element_wanted function.target) f)) (puts_local (prototype f).result && not (has_room (locals_after f call.locals)))
     passed = all_passed (is_some pending && not (is_allowed_pending f)) (list_any (gives_deleted (references_of store call)) function.operands) (some_missing (references_of store call) call.slots.fields.items (prototype f).parameters function.operands)
-        (some_misfit w.classes store.heap (references_of store call) (prototype f).parameters function.operands || not (fit_together w.classes store.heap (references_of store call) call.slots.fields.items function.operands f)) (puts_local (prototype f).result && not (has_room (locals_after f call.locals))) (found_is target ∙ free)
+        (some_misfit w.classes store.heap (references_of store call) (prototype f).parameters function.operands || not (fit_together w.classes store.heap (references_of store call) call.slots.fields.items function.operands (element_wanted function.target) f)) (puts_local (prototype f).result && not (has_room (locals_after f call.locals))) (found_is ∙ free)
 
-    fitting : (some_misfit w.classes store.heap (references_of store call) (prototype f).parameters function.operands ≡ false) × (fit_together w.classes store.heap (references_of store call) call.slots.fields.items function.operands f ≡ true)
-    fitting = neither (some_misfit w.classes store.heap (references_of store call) (prototype f).parameters function.operands) (fit_together w.classes store.heap (references_of store call) call.slots.fields.items function.operands f) passed.wrong
+    fitting : (some_misfit w.classes store.heap (references_of store call) (prototype f).parameters function.operands ≡ false) × (fit_together w.classes store.heap (references_of store call) call.slots.fields.items function.operands (element_wanted function.target) f ≡ true)
+    fitting = neither (some_misfit w.classes store.heap (references_of store call) (prototype f).parameters function.operands) (fit_together w.classes store.heap (references_of store call) call.slots.fields.items function.operands (element_wanted function.target) f) passed.wrong
 
     -- the arguments go together
-    pub has_passed : fit_together w.classes store.heap (references_of store call) call.slots.fields.items function.operands f ≡ true
+    pub has_passed : fit_together w.classes store.heap (references_of store call) call.slots.fields.items function.operands (element_wanted function.target) f ≡ true
     has_passed = fitting.1
 
     -- no operand gives a static that is marked as deleted

@@ -8,6 +8,7 @@ use Rattle.code_meaning.specs.Slots.{static_index}
 use Rattle.semantics.specs.CallEffects.{without_one}
 use Rattle.semantics.specs.Object.{Object, Reference, sizes}
 use Rattle.semantics.specs.Variable.{Empty, Live, Deleted, assign}
+use Rattle.semantics.specs.Variable as variable
 use Rattle.tables.specs.Globals.{without}
 use Rattle.tables.specs.References.{address_at}
 use Rattle.machine_calls.specs.declared.statics.StaticReference.{StaticReference}
@@ -21,7 +22,7 @@ use Rattle.class_rules.specs.Class.{Classes}
 use Rattle.heap.specs.Heap.{Space, left_of, with_value}
 use Rattle.heap.specs.declared.value.Value.{Value}
 use Rattle.jni.specs.Prototype.{ResultKind, NewLocal, NewGlobal, GivesFlag, GivesInt, GivesField, GivesNothing, GivesBuffer}
-use Rattle.semantics.specs.CallEffects.{overwritten, string_object, with_message, frames_effect, without_local, CallResult, Leaves, NoResult, ReferenceResult, ScalarResult, CallEffect, out_of_memory, refuses_frames, with_capacity}
+use Rattle.semantics.specs.CallEffects.{BufferResult, overwritten, string_object, with_message, frames_effect, without_local, CallResult, Leaves, NoResult, ReferenceResult, ScalarResult, CallEffect, out_of_memory, refuses_frames, with_capacity}
 use Rattle.semantics.specs.CallStep.{failure, makes_objects}
 use Rattle.semantics.specs.Heap.{Heap, next_name, numbers_of, with_numbers}
 use Rattle.semantics.specs.Thread as source
@@ -39,7 +40,10 @@ use Rattle.machine_calls.specs.declared.new_object.New.TheVariants.{Exception, F
 use Rattle.machine_calls.specs.declared.store.Store.{Store}
 use Rattle.machine_calls.specs.StoreAgrees.{HeldAgrees, StoreAgrees, Keeps}
 use Rattle.machine_calls.specs.Answers.{Brought, GivenAgrees, IsAnswer}
-use Rattle.machine_calls.specs.CarriedOut.{CarriesOut, IsFresh, IsLeft, IsPossible, ResultAgrees, can_fail, failed, made_by}
+use Rattle.machine_calls.specs.CarriedOut.{CarriesOut, IsFresh, IsLeft, IsPossible, ResultAgrees, acquired_with, failed, made_by}
+use Rattle.machine_calls.specs.Buffers.{Acquired, acquired_by, beside, nothing_acquired}
+use Rattle.machine_calls.proofs.BufferStores.{agrees_same}
+use Rattle.machine_calls.proofs.HeldSums.{beside_nothing, begun_same}
 use Rattle.machine_calls.specs.Locals.{FramesAgree, IsKeyOf}
 use Rattle.tables.specs.Locals as tables
 use Rattle.tables.specs.Locals.{Frame, LocalTable, capacities, popped}
@@ -59,48 +63,91 @@ use Rattle.machine_calls.specs.Copies.{space_with}
 use Rattle.machine_calls.specs.declared.array_region.ArrayRegion.{ArrayRegion}
 
 -- what is carried out, by the answer's case
-module _ (p : Lowered) (w : World) (space : Space) (before : LocalTable) (kind : ResultKind) (shared : Shared) (s : Thread) (effect : CallEffect) (brought : Brought) where
-  pub by_answer : (a b : Answer) → a ≡ b → (refused : Bool) (store : Store) (pending : Option ℕ) (locals : LocalTable) (g : Given) → (IsAnswer w.classes brought space before kind shared s b effect → CarriesOut p w space before b kind shared s effect refused store pending locals g)
-      → IsAnswer w.classes brought space before kind shared s a effect → CarriesOut p w space before a kind shared s effect refused store pending locals g
+module _ (p : Lowered) (w : World) (space : Space) (before : LocalTable) (kind : ResultKind) (others : Acquired) (k : ℕ) (shared : Shared) (s : Thread) (effect : CallEffect) (brought : Brought) where
+  pub by_answer : (a b : Answer) → a ≡ b → (refused : Bool) (store : Store) (pending : Option ℕ) (locals : LocalTable) (g : Given) → (IsAnswer w.classes brought space before kind shared s b effect → CarriesOut p w space before b kind others k shared s effect refused store pending locals g)
+      → IsAnswer w.classes brought space before kind shared s a effect → CarriesOut p w space before a kind others k shared s effect refused store pending locals g
   by_answer a b same refused store pending locals g f does =
-      subst (λ (x : Answer). CarriesOut p w space before x kind shared s effect refused store pending locals g) (sym same) (f (subst (λ (x : Answer). IsAnswer w.classes brought space before kind shared s x effect) same does))
+      subst (λ (x : Answer). CarriesOut p w space before x kind others k shared s effect refused store pending locals g) (sym same) (f (subst (λ (x : Answer). IsAnswer w.classes brought space before kind shared s x effect) same does))
 
 -- a call that fails gives what it gives in the source
-failed_agrees : (classes : Classes) (store : Store) (kind : ResultKind) → can_fail kind ≡ true → ResultAgrees classes store (failed kind) kind (failure kind)
-failed_agrees classes store NewLocal h = refl
-failed_agrees classes store NewGlobal h = (refl, (None, inr (refl, refl), tt, λ key e. absurd (cc)))
-failed_agrees classes store GivesField h = refl
-failed_agrees classes store GivesFlag h = refl
-failed_agrees classes store GivesInt h = (refl, record { sfits = omega arith })
-failed_agrees classes store GivesNothing h = tt
-failed_agrees classes store (GivesBuffer a) h = absurd (cc)
+failed_agrees : (classes : Classes) (store : Store) (k : ℕ) (kind : ResultKind) → ResultAgrees classes store k (failed kind) kind (failure kind)
+failed_agrees classes store k NewLocal = refl
+failed_agrees classes store k NewGlobal = (refl, (None, inr (refl, refl), tt, λ key e. absurd (cc)))
+failed_agrees classes store k GivesField = refl
+failed_agrees classes store k GivesFlag = refl
+failed_agrees classes store k GivesInt = (refl, record { sfits = omega arith })
+failed_agrees classes store k GivesNothing = tt
+failed_agrees classes store k (GivesBuffer access) = ((access, refl), refl)
 
--- what isn't for a static
-result_agrees : (classes : Classes) (store : Store) (kind : ResultKind) (g : Given) (c : CallResult) → GivenAgrees classes store.heap kind g c → ResultAgrees classes store g kind c
-result_agrees classes store kind given.Nothing c h = h
-result_agrees classes store kind (given.Number word) c h = h
-result_agrees classes store kind (given.Reference a) c h = h
-result_agrees classes store kind (given.FieldId f) c h = h
-result_agrees classes store NewLocal (given.Global s) c h = absurd h
-result_agrees classes store NewGlobal (given.Global s) c h = absurd h
-result_agrees classes store GivesFlag (given.Global s) c h = absurd h
-result_agrees classes store GivesInt (given.Global s) c h = absurd h
-result_agrees classes store GivesField (given.Global s) c h = absurd h
-result_agrees classes store GivesNothing (given.Global s) c h = absurd h
-result_agrees classes store (GivesBuffer a) (given.Global s) c h = absurd h
+-- which takes nothing
+failure_none : (kind : ResultKind) → acquired_with (failure kind) ≡ nothing_acquired
+failure_none NewLocal = refl
+failure_none NewGlobal = refl
+failure_none GivesField = refl
+failure_none GivesFlag = refl
+failure_none GivesInt = refl
+failure_none GivesNothing = refl
+failure_none (GivesBuffer access) = refl
+
+-- what is neither a buffer nor for a static
+result_agrees : (classes : Classes) (store : Store) (k : ℕ) (kind : ResultKind) (g : Given) (c : CallResult) → GivenAgrees classes store.heap kind g c → ResultAgrees classes store k g kind c
+result_agrees classes store k kind given.Nothing c h = h
+result_agrees classes store k kind (given.Number word) c h = h
+result_agrees classes store k kind (given.Reference a) c h = h
+result_agrees classes store k kind (given.FieldId f) c h = h
+result_agrees classes store k NewLocal (given.Global s) c h = absurd h
+result_agrees classes store k NewGlobal (given.Global s) c h = absurd h
+result_agrees classes store k GivesFlag (given.Global s) c h = absurd h
+result_agrees classes store k GivesInt (given.Global s) c h = absurd h
+result_agrees classes store k GivesField (given.Global s) c h = absurd h
+result_agrees classes store k GivesNothing (given.Global s) c h = absurd h
+result_agrees classes store k (GivesBuffer a) (given.Global s) c h = absurd h
+result_agrees classes store k NewLocal (given.Buffer b) c h = absurd h
+result_agrees classes store k NewGlobal (given.Buffer b) c h = absurd h
+result_agrees classes store k GivesFlag (given.Buffer b) c h = absurd h
+result_agrees classes store k GivesInt (given.Buffer b) c h = absurd h
+result_agrees classes store k GivesField (given.Buffer b) c h = absurd h
+result_agrees classes store k GivesNothing (given.Buffer b) c h = absurd h
+result_agrees classes store k (GivesBuffer a) (given.Buffer b) c h = absurd h
+
+-- what is no buffer takes nothing
+no_buffer : (classes : Classes) (space : Space) (kind : ResultKind) (g : Given) (b : variable.Buffer) → GivenAgrees classes space kind g (BufferResult b) → ⊥
+no_buffer classes space GivesNothing given.Nothing b h = h
+no_buffer classes space GivesInt (given.Number word) b h = h
+no_buffer classes space GivesFlag (given.Number word) b h = h
+no_buffer classes space NewLocal (given.Reference a) b h = h
+no_buffer classes space GivesField (given.FieldId f) b h = h
+no_buffer classes space kind g b h = h
+
+nothing_given : (classes : Classes) (space : Space) (kind : ResultKind) (g : Given) (c : CallResult) → GivenAgrees classes space kind g c → acquired_with c ≡ nothing_acquired
+nothing_given classes space kind g (BufferResult b) h = absurd (no_buffer classes space kind g b h)
+nothing_given classes space kind g c h = refl
 
 get_below : (xs : List ℕ) (i : ℕ) → i < length xs → (a : ℕ) × (slice_get xs i ≡ Some a)
 get_below [] i h = absurd (omega (arith, h))
 get_below (x ∷ xs) zero h = (x, refl)
 get_below (x ∷ xs) (suc i) h = get_below xs i (omega (arith, h))
 
-module _ (p : Lowered) (w : World) (store : Store) (pending : Option ℕ) (locals : LocalTable) (kind : ResultKind) (shared : Shared) (s : Thread) (h : IsPossible p w store pending locals kind shared s) (brought : Brought) where
+module _ (p : Lowered) (w : World) (store : Store) (pending : Option ℕ) (locals : LocalTable) (kind : ResultKind) (others : Acquired) (k : ℕ) (shared : Shared) (s : Thread) (h : IsPossible p w store pending locals others shared s) (brought : Brought) where
   abbrev texts : List (List ℕ)
   texts = brought.texts
 
   -- what is left of an effect, with the frames as they were
   abbrev Carries : Answer → CallEffect → Bool → Store → Option ℕ → Given → Type 0
-  Carries a effect refused after pending' g = CarriesOut p w store.heap locals a kind shared s effect refused after pending' locals g
+  Carries a effect refused after pending' g = CarriesOut p w store.heap locals a kind others k shared s effect refused after pending' locals g
+
+  -- what the buffers of all threads take
+  abbrev pub all : Acquired
+  all = beside others (acquired_by s)
+
+  -- and what they take with a result that takes nothing
+  abbrev all_with : CallResult → Acquired
+  all_with c = beside others (beside (acquired_by s) (acquired_with c))
+
+  takes_none : (after : Store) (s' : Shared) (c : CallResult) → acquired_with c ≡ nothing_acquired → StoreAgrees p w after s' all → StoreAgrees p w after s' (all_with c)
+  takes_none after s' c none agrees =
+      subst (λ (x : Acquired). StoreAgrees p w after s' (beside others (beside (acquired_by s) x))) (sym none)
+      (agrees_same p w after s' all agrees (beside others (beside (acquired_by s) nothing_acquired)) (beside_nothing others (acquired_by s)))
 
   -- the OutOfMemoryError object is there
   error_there : ReferenceAgrees store.heap (slice_get store.loaded.items (length w.classes)) (Some (out_of_memory w.classes))
@@ -113,12 +160,12 @@ module _ (p : Lowered) (w : World) (store : Store) (pending : Option ℕ) (local
   -- the allocation was refused
   refuses : (a : Answer) (effect : CallEffect) → makes_objects effect ≡ true → left_of store.heap < sizes (made_by w.classes effect) → Carries a effect true store (slice_get store.loaded.items (length w.classes)) (failed kind)
   refuses a effect makes short = record {
-    store_agrees = h.store_agrees;
+    store_agrees = takes_none store shared (failure kind) (failure_none kind) h.store_agrees;
     keeps = keeps_same store.heap shared;
     pending_agrees = error_there;
     frames_agree = h.frames_agree;
     left = λ key n level is left. is;
-    given_agrees = failed_agrees w.classes store kind h.fails;
+    given_agrees = failed_agrees w.classes store k kind;
     still = λ same. refl;
     could_refuse = λ e. makes;
     room = (short, refl);
@@ -141,16 +188,20 @@ module _ (p : Lowered) (w : World) (store : Store) (pending : Option ℕ) (local
   same_heap : (t : Shared) → record t { heap = t.heap ++ [] } ≡ t
   same_heap t = ap (λ (l : Heap). let r : Shared = record t { heap = l } in r) (append-nil t.heap)
 
+  -- so the store agrees yet, where the result takes nothing
+  agrees_yet : (after : Store) (s' : Shared) (c : CallResult) → acquired_with c ≡ nothing_acquired → StoreAgrees p w after s' all → StoreAgrees p w after (record s' { heap = s'.heap ++ [] }) (all_with c)
+  agrees_yet after s' c none agrees = subst (λ (x : Shared). StoreAgrees p w after x (all_with c)) (sym (same_heap s')) (takes_none after s' c none agrees)
+
   pub gives : (g : Given) (effect : CallEffect) → Does (answer.Gives g) effect → Carries (answer.Gives g) effect false store pending g
   gives g effect does =
       let it = gives_it w.classes brought store.heap locals kind shared s g effect does in
       subst (λ (e : CallEffect). Carries (answer.Gives g) e false store pending g) (sym it.is) (record {
-        store_agrees = subst (StoreAgrees p w store) (sym (same_heap shared)) h.store_agrees;
+        store_agrees = agrees_yet store shared it.gave (nothing_given w.classes store.heap kind g it.gave it.agrees) h.store_agrees;
         keeps = subst (Keeps store.heap shared store.heap) (sym (same_heap shared)) (keeps_same store.heap shared);
         pending_agrees = h.pending_agrees;
         frames_agree = h.frames_agree;
         left = λ key n level is left. is;
-        given_agrees = result_agrees w.classes store kind _ _ (it.agrees);
+        given_agrees = result_agrees w.classes store k kind _ _ (it.agrees);
         still = λ same. refl;
         could_refuse = λ e. absurd (cc);
         room = nothing_asked store.heap;
@@ -160,15 +211,15 @@ module _ (p : Lowered) (w : World) (store : Store) (pending : Option ℕ) (local
   writes a place v effect does =
       let it = writes_it w.classes brought store.heap locals kind shared s a place v effect does in
       let after : Store = record store { heap = with_value store.heap a place v } in
-      let agrees = writing.written_agrees p w store shared it.after a place v h.store_agrees it.writes in
-      let keeps = writing.written_keeps p w store shared it.after a place v h.store_agrees it.writes in
+      let agrees = writing.written_agrees p w store shared it.after a place v all h.store_agrees it.writes in
+      let keeps = writing.written_keeps p w store shared it.after a place v all h.store_agrees it.writes in
       subst (λ (e : CallEffect). Carries (answer.Writes a place v) e false after pending given.Nothing) (sym it.is) (record {
-        store_agrees = subst (StoreAgrees p w after) (sym (same_heap it.after)) agrees;
+        store_agrees = agrees_yet after it.after NoResult refl agrees;
         keeps = subst (Keeps store.heap shared after.heap) (sym (same_heap it.after)) keeps;
         pending_agrees = reference_stays store.heap after.heap keeps.names pending s.pending h.pending_agrees;
         frames_agree = frames_stay store.heap after.heap keeps.names locals s.frames h.frames_agree;
         left = λ key n level is left. key_stays store.heap after.heap keeps.names locals key n level is;
-        given_agrees = result_agrees w.classes after kind _ _ (subst (λ (k : ResultKind). GivenAgrees w.classes after.heap k given.Nothing NoResult) (sym it.kind_is) tt);
+        given_agrees = result_agrees w.classes after k kind _ _ (subst (λ (k : ResultKind). GivenAgrees w.classes after.heap k given.Nothing NoResult) (sym it.kind_is) tt);
         still = λ same. ap (λ (x : Shared). x.statics) it.writes.is;
         could_refuse = λ e. absurd (cc);
         room = nothing_asked store.heap;
@@ -178,12 +229,12 @@ module _ (p : Lowered) (w : World) (store : Store) (pending : Option ℕ) (local
   pub copies_out : (region : ArrayRegion) (effect : CallEffect) → Does (answer.CopiesOut region) effect → Carries (answer.CopiesOut region) effect false store pending given.Nothing
   copies_out region effect does =
       subst (λ (e : CallEffect). Carries (answer.CopiesOut region) e false store pending given.Nothing) (sym does.1.is) (record {
-        store_agrees = subst (StoreAgrees p w store) (sym (same_heap shared)) h.store_agrees;
+        store_agrees = subst (λ (x : Acquired). StoreAgrees p w store (record shared { heap = shared.heap ++ [] }) (beside others (beside x nothing_acquired))) (sym (begun_same s does.1.name does.1.numbers)) (agrees_yet store shared NoResult refl h.store_agrees);
         keeps = subst (Keeps store.heap shared store.heap) (sym (same_heap shared)) (keeps_same store.heap shared);
         pending_agrees = h.pending_agrees;
         frames_agree = h.frames_agree;
         left = λ key n level is left. is;
-        given_agrees = result_agrees w.classes store kind _ _ (subst (λ (k : ResultKind). GivenAgrees w.classes store.heap k given.Nothing NoResult) (sym does.0) tt);
+        given_agrees = result_agrees w.classes store k kind _ _ (subst (λ (k : ResultKind). GivenAgrees w.classes store.heap k given.Nothing NoResult) (sym does.0) tt);
         still = λ same. refl;
         could_refuse = λ e. absurd (cc);
         room = nothing_asked store.heap;
@@ -195,15 +246,15 @@ module _ (p : Lowered) (w : World) (store : Store) (pending : Option ℕ) (local
       let it = does.1 in
       let after : Store = record store { heap = space_with store.heap region brought.numbers } in
       let copied : Shared = record shared { heap = with_numbers shared.heap it.name (overwritten (numbers_of shared.heap it.name) region.start it.numbers) } in
-      let agrees = copying.copied_agrees p w store shared brought s region effect h.store_agrees it in
-      let keeps = copying.copied_keeps p w store shared brought s region effect h.store_agrees it in
+      let agrees = copying.copied_agrees p w store shared brought s region effect all h.store_agrees it in
+      let keeps = copying.copied_keeps p w store shared brought s region effect all h.store_agrees it in
       subst (λ (e : CallEffect). Carries (answer.CopiesIn region) e false after pending given.Nothing) (sym it.is) (record {
-        store_agrees = subst (StoreAgrees p w after) (sym (same_heap copied)) agrees;
+        store_agrees = agrees_yet after copied NoResult refl agrees;
         keeps = subst (Keeps store.heap shared after.heap) (sym (same_heap copied)) keeps;
         pending_agrees = reference_stays store.heap after.heap keeps.names pending s.pending h.pending_agrees;
         frames_agree = frames_stay store.heap after.heap keeps.names locals s.frames h.frames_agree;
         left = λ key n level is left. key_stays store.heap after.heap keeps.names locals key n level is;
-        given_agrees = result_agrees w.classes after kind _ _ (subst (λ (k : ResultKind). GivenAgrees w.classes after.heap k given.Nothing NoResult) (sym does.0) tt);
+        given_agrees = result_agrees w.classes after k kind _ _ (subst (λ (k : ResultKind). GivenAgrees w.classes after.heap k given.Nothing NoResult) (sym does.0) tt);
         still = λ same. refl;
         could_refuse = λ e. absurd (cc);
         room = nothing_asked store.heap;
@@ -213,12 +264,12 @@ module _ (p : Lowered) (w : World) (store : Store) (pending : Option ℕ) (local
   no_room : (a : Answer) → kind ≡ GivesInt → (effect : CallEffect) → effect ≡ refuses_frames w.classes shared s → Carries a effect false store (slice_get store.loaded.items (length w.classes)) (given.Number (2 ^ 32 - 4))
   no_room a int effect is =
       subst (λ (e : CallEffect). Carries a e false store (slice_get store.loaded.items (length w.classes)) (given.Number (2 ^ 32 - 4))) (sym is) (record {
-        store_agrees = subst (StoreAgrees p w store) (sym (same_heap shared)) h.store_agrees;
+        store_agrees = agrees_yet store shared (ScalarResult (Int (negsuc 3))) refl h.store_agrees;
         keeps = subst (Keeps store.heap shared store.heap) (sym (same_heap shared)) (keeps_same store.heap shared);
         pending_agrees = error_there;
         frames_agree = h.frames_agree;
         left = λ key n level is left. is;
-        given_agrees = result_agrees w.classes store kind _ _ (subst (λ (k : ResultKind). GivenAgrees w.classes store.heap k (given.Number (2 ^ 32 - 4)) (ScalarResult (Int (negsuc 3)))) (sym int) (refl, record { sfits = omega arith }));
+        given_agrees = result_agrees w.classes store k kind _ _ (subst (λ (k : ResultKind). GivenAgrees w.classes store.heap k (given.Number (2 ^ 32 - 4)) (ScalarResult (Int (negsuc 3)))) (sym int) (refl, record { sfits = omega arith }));
         still = λ same. refl;
         could_refuse = λ e. absurd (cc);
         room = nothing_asked store.heap;
@@ -233,15 +284,15 @@ module _ (p : Lowered) (w : World) (store : Store) (pending : Option ℕ) (local
 
   -- the frames become these, and nothing else changes
   framed : (a : Answer) (after : LocalTable) (gs : List source.Frame) (g : Given) (c : CallResult) (effect : CallEffect) → effect ≡ Leaves [] shared (record s { frames = gs }) c → FramesAgree store.heap after gs → Left a after → GivenAgrees w.classes store.heap kind g c
-      → CarriesOut p w store.heap locals a kind shared s effect false store pending after g
+      → CarriesOut p w store.heap locals a kind others k shared s effect false store pending after g
   framed a after gs g c effect is agree left given_agrees =
-      subst (λ (e : CallEffect). CarriesOut p w store.heap locals a kind shared s e false store pending after g) (sym is) (record {
-        store_agrees = subst (StoreAgrees p w store) (sym (same_heap shared)) h.store_agrees;
+      subst (λ (e : CallEffect). CarriesOut p w store.heap locals a kind others k shared s e false store pending after g) (sym is) (record {
+        store_agrees = agrees_yet store shared c (nothing_given w.classes store.heap kind g c given_agrees) h.store_agrees;
         keeps = subst (Keeps store.heap shared store.heap) (sym (same_heap shared)) (keeps_same store.heap shared);
         pending_agrees = h.pending_agrees;
         frames_agree = agree;
         left = left;
-        given_agrees = result_agrees w.classes store kind g c given_agrees;
+        given_agrees = result_agrees w.classes store k kind g c given_agrees;
         still = λ same. refl;
         could_refuse = λ e. absurd (cc);
         room = nothing_asked store.heap;
@@ -253,7 +304,7 @@ module _ (p : Lowered) (w : World) (store : Store) (pending : Option ℕ) (local
     decided b fits =
         is ∙ ap (λ (b : Bool). if b then Leaves [] shared (record s { frames = gs }) (ScalarResult (Int (pos 0))) else refuses_frames w.classes shared s) (sym (ap (λ (n : ℕ). nat_le n 1024) (same_capacities store.heap after gs agree)) ∙ fits)
 
-    had : Left a after → capacities after ≤ 1024 → CarriesOut p w store.heap locals a kind shared s effect false store pending after (given.Number 0)
+    had : Left a after → capacities after ≤ 1024 → CarriesOut p w store.heap locals a kind others k shared s effect false store pending after (given.Number 0)
     had left fits =
         framed a after gs (given.Number 0) (ScalarResult (Int (pos 0))) effect (decided true (le-leb (capacities after) 1024 fits)) agree left
         (subst (λ (k : ResultKind). GivenAgrees w.classes store.heap k (given.Number 0) (ScalarResult (Int (pos 0)))) (sym int) (refl, record { sfits = omega arith }))
@@ -266,7 +317,7 @@ module _ (p : Lowered) (w : World) (store : Store) (pending : Option ℕ) (local
         by_test false e = refl
 
   module _ (more : ℕ) (effect : CallEffect) (does : Does (answer.Ensures more) effect) where
-    pub ensures : 0 < length locals.frames → capacities (tables.ensured locals more) ≤ 1024 → CarriesOut p w store.heap locals (answer.Ensures more) kind shared s effect false store pending (tables.ensured locals more) (given.Number 0)
+    pub ensures : 0 < length locals.frames → capacities (tables.ensured locals more) ≤ 1024 → CarriesOut p w store.heap locals (answer.Ensures more) kind others k shared s effect false store pending (tables.ensured locals more) (given.Number 0)
     ensures there fits =
         had (answer.Ensures more) (tables.ensured locals more) (with_capacity more s.frames) (room_ensured store.heap locals s.frames more there h.frames_agree) does.0 effect does.1
         (λ key n level is left. key_ensured store.heap locals key n level is more there) fits
@@ -287,7 +338,7 @@ module _ (p : Lowered) (w : World) (store : Store) (pending : Option ℕ) (local
     abbrev new : List source.Frame
     new = record { capacity = capacity; references = [] } ∷ s.frames
 
-    pub pushes : capacities (tables.pushed locals capacity) ≤ 1024 → CarriesOut p w store.heap locals (answer.Pushes capacity) kind shared s effect false store pending (tables.pushed locals capacity) (given.Number 0)
+    pub pushes : capacities (tables.pushed locals capacity) ≤ 1024 → CarriesOut p w store.heap locals (answer.Pushes capacity) kind others k shared s effect false store pending (tables.pushed locals capacity) (given.Number 0)
     pushes fits =
         had (answer.Pushes capacity) (tables.pushed locals capacity) new (frame_made store.heap locals s.frames capacity h.frames_agree) does.0 effect does.1
         (λ key n level is left. key_pushed store.heap locals key n level is capacity) fits
@@ -297,12 +348,12 @@ module _ (p : Lowered) (w : World) (store : Store) (pending : Option ℕ) (local
 
   module _ (a : Option ℕ) (effect : CallEffect) (does : Does (answer.Pops a) effect) where
     -- what was given, where the frames become these
-    ended : (after : LocalTable) → FramesAgree store.heap after (drop 1 s.frames) → Left (answer.Pops a) after → CarriesOut p w store.heap locals (answer.Pops a) kind shared s effect false store pending after (given.Reference a)
+    ended : (after : LocalTable) → FramesAgree store.heap after (drop 1 s.frames) → Left (answer.Pops a) after → CarriesOut p w store.heap locals (answer.Pops a) kind others k shared s effect false store pending after (given.Reference a)
     ended after agree left =
         framed (answer.Pops a) after (drop 1 s.frames) (given.Reference a) (ReferenceResult does.1.0) effect does.1.2 agree left
         (subst (λ (k : ResultKind). GivenAgrees w.classes store.heap k (given.Reference a) (ReferenceResult does.1.0)) (sym does.0) does.1.1)
 
-    pub pops : CarriesOut p w store.heap locals (answer.Pops a) kind shared s effect false store pending (popped locals) (given.Reference a)
+    pub pops : CarriesOut p w store.heap locals (answer.Pops a) kind others k shared s effect false store pending (popped locals) (given.Reference a)
     pops = ended (popped locals) (frame_ended store.heap locals s.frames h.frames_agree) (λ key n level is apart. key_popped store.heap locals key n level is apart)
 
     -- without a frame there is none to end
@@ -311,7 +362,7 @@ module _ (p : Lowered) (w : World) (store : Store) (pending : Option ℕ) (local
         let no : s.frames ≡ [] = no_frames store.heap locals s.frames h.frames_agree none in
         ended locals (subst (FramesAgree store.heap locals) (no ∙ sym (ap (λ (gs : List source.Frame). drop 1 gs) no)) h.frames_agree) (λ key n level is apart. is)
 
-  pub deletes : (key : ℕ) (effect : CallEffect) → Does (answer.Deletes key) effect → CarriesOut p w store.heap locals (answer.Deletes key) kind shared s effect false store pending (tables.without locals key) given.Nothing
+  pub deletes : (key : ℕ) (effect : CallEffect) → Does (answer.Deletes key) effect → CarriesOut p w store.heap locals (answer.Deletes key) kind others k shared s effect false store pending (tables.without locals key) given.Nothing
   deletes key effect (nothing, (n, level, there, is)) =
       framed (answer.Deletes key) (tables.without locals key) (without_local level n s.frames) given.Nothing NoResult effect is
       (reference_deleted store.heap locals s.frames key n level there h.frames_agree)
@@ -325,7 +376,7 @@ module _ (p : Lowered) (w : World) (store : Store) (pending : Option ℕ) (local
   makes_global globals held effect (Some a) None global agrees is made = absurd agrees
   makes_global globals held effect None None global agrees is made =
       subst (λ (e : CallEffect). Carries (answer.MakesGlobal None) e false (record store { globals = globals }) pending (given.Global held)) (sym is) (record {
-        store_agrees = subst (StoreAgrees p w (record store { globals = globals })) (sym (same_heap shared)) (subst (λ (l : List (Option ℕ)). StoreAgrees p w (record store { globals = l }) shared) (sym made.0) h.store_agrees);
+        store_agrees = agrees_yet (record store { globals = globals }) shared (ReferenceResult None) refl (subst (λ (l : List (Option ℕ)). StoreAgrees p w (record store { globals = l }) shared all) (sym made.0) h.store_agrees);
         keeps = subst (Keeps store.heap shared store.heap) (sym (same_heap shared)) (keeps_same store.heap shared);
         pending_agrees = h.pending_agrees;
         frames_agree = h.frames_agree;
@@ -338,8 +389,8 @@ module _ (p : Lowered) (w : World) (store : Store) (pending : Option ℕ) (local
   makes_global globals held effect (Some a) (Some n) global agrees is made =
       let after : Shared = record shared { globals = n ∷ shared.globals } in
       subst (λ (e : CallEffect). Carries (answer.MakesGlobal (Some a)) e false (record store { globals = globals }) pending (given.Global held)) (sym is) (record {
-        store_agrees = subst (StoreAgrees p w (record store { globals = globals })) (sym (same_heap after)) (with_global p w store shared h.store_agrees globals made.0 a n made.2 agrees);
-        keeps = subst (Keeps store.heap shared store.heap) (sym (same_heap after)) (keeps_but_statics p w store shared h.store_agrees shared.statics (n ∷ shared.globals) (inl refl));
+        store_agrees = agrees_yet (record store { globals = globals }) after (ReferenceResult (Some n)) refl (with_global p w store shared all h.store_agrees globals made.0 a n made.2 agrees);
+        keeps = subst (Keeps store.heap shared store.heap) (sym (same_heap after)) (keeps_but_statics p w store shared all h.store_agrees shared.statics (n ∷ shared.globals) (inl refl));
         pending_agrees = h.pending_agrees;
         frames_agree = h.frames_agree;
         left = λ key n level is left. is;
@@ -349,7 +400,7 @@ module _ (p : Lowered) (w : World) (store : Store) (pending : Option ℕ) (local
             Some n,
             inl refl,
             subst (λ (x : StaticReference). HeldAgrees store.heap (held_of globals x) (Live n)) (sym made.1) (subst (λ (o : Option ℕ). HeldAgrees store.heap (held_at o) (Live n)) (sym made.2.has) agrees),
-            subst (IsFresh (record store { globals = globals })) (sym made.1) (fresh_global p w store shared h.store_agrees globals made.0 a made.2),
+            subst (IsFresh (record store { globals = globals })) (sym made.1) (fresh_global p w store shared all h.store_agrees globals made.0 a made.2),
           ),
         );
         still = λ same. refl;
@@ -365,8 +416,8 @@ module _ (p : Lowered) (w : World) (store : Store) (pending : Option ℕ) (local
       let marked_store : Store = record store { statics = statics; globals = without store.globals key } in
       let after : Shared = record shared { globals = without_one n shared.globals; statics = assign x Deleted shared.statics } in
       subst (λ (e : CallEffect). Carries (answer.DeletesGlobal i) e false marked_store pending given.Nothing) (sym is) (record {
-        store_agrees = subst (StoreAgrees p w marked_store) (sym (same_heap after)) (with_deleted p w store shared h.store_agrees statics x i key a n at address named place marked);
-        keeps = subst (Keeps store.heap shared store.heap) (sym (same_heap after)) (keeps_but_statics p w store shared h.store_agrees (assign x Deleted shared.statics) (without_one n shared.globals) (inr (x, Deleted, refl)));
+        store_agrees = agrees_yet marked_store after NoResult refl (with_deleted p w store shared all h.store_agrees statics x i key a n at address named place marked);
+        keeps = subst (Keeps store.heap shared store.heap) (sym (same_heap after)) (keeps_but_statics p w store shared all h.store_agrees (assign x Deleted shared.statics) (without_one n shared.globals) (inr (x, Deleted, refl)));
         pending_agrees = h.pending_agrees;
         frames_agree = h.frames_agree;
         left = λ key n level is left. is;
@@ -380,7 +431,7 @@ module _ (p : Lowered) (w : World) (store : Store) (pending : Option ℕ) (local
   pub deletes_static : (statics : Vec StaticReference) (globals : List (Option ℕ)) (i : ℕ) (effect : CallEffect) → Does (answer.DeletesGlobal i) effect → statics.items ≡ slice_set store.statics.items i static.Deleted → ((key : ℕ) → slice_get store.statics.items i ≡ Some (static.Live key) → globals ≡ without store.globals key)
       → Carries (answer.DeletesGlobal i) effect false (record store { statics = statics; globals = globals }) pending given.Nothing
   deletes_static statics globals i effect does marked gone =
-      let live = live_there p w store shared h.store_agrees does.1.0 i does.1.1 does.1.2.place does.1.2.there in
+      let live = live_there p w store shared all h.store_agrees does.1.0 i does.1.1 does.1.2.place does.1.2.there in
       subst (λ (l : List (Option ℕ)). Carries (answer.DeletesGlobal i) effect false (record store { statics = statics; globals = l }) pending given.Nothing) (sym (gone live.key live.at))
       (deletes_global statics effect does.1.0 i live.key live.address does.1.1 does.0 live.at live.held live.named does.1.2.place does.1.3 marked)
 
@@ -392,15 +443,15 @@ module _ (p : Lowered) (w : World) (store : Store) (pending : Option ℕ) (local
     pub makes : (effect : CallEffect) → Does (answer.Makes new) effect → Carries (answer.Makes new) effect false after pending (given.Reference (Some a))
     makes effect does =
         let it = makes_it w.classes brought store.heap locals kind shared s new effect does in
-        let names = making.names_stay p w texts store after shared new it.object a h.store_agrees made it.describes in
+        let names = making.names_stay p w texts store after shared new it.object a all h.store_agrees made it.describes in
         subst (λ (e : CallEffect). Carries (answer.Makes new) e false after pending (given.Reference (Some a))) (sym it.is) (record {
-          store_agrees = making.made_agrees p w texts store after shared new it.object a h.store_agrees made it.describes;
-          keeps = making.made_keeps p w texts store after shared new it.object a h.store_agrees made it.describes;
+          store_agrees = takes_none after (record shared { heap = shared.heap ++ it.object ∷ [] }) (ReferenceResult (Some (next_name shared.heap))) refl (making.made_agrees p w texts store after shared new it.object a all h.store_agrees made it.describes);
+          keeps = making.made_keeps p w texts store after shared new it.object a all h.store_agrees made it.describes;
           pending_agrees = reference_stays store.heap after.heap names pending s.pending h.pending_agrees;
           frames_agree = frames_stay store.heap after.heap names locals s.frames h.frames_agree;
           left = λ key n level is left. key_stays store.heap after.heap names locals key n level is;
-          given_agrees = result_agrees w.classes after kind _ _ (subst (λ (k : ResultKind). GivenAgrees w.classes after.heap k (given.Reference (Some a)) (ReferenceResult (Some (next_name shared.heap)))) (sym it.kind_is)
-              (making.made_named p w texts store after shared new it.object a h.store_agrees made it.describes));
+          given_agrees = result_agrees w.classes after k kind _ _ (subst (λ (k : ResultKind). GivenAgrees w.classes after.heap k (given.Reference (Some a)) (ReferenceResult (Some (next_name shared.heap)))) (sym it.kind_is)
+              (making.made_named p w texts store after shared new it.object a all h.store_agrees made it.describes));
           still = λ same. refl;
           could_refuse = λ e. absurd (cc);
           room = object_fits it.object it.describes;
@@ -413,14 +464,14 @@ module _ (p : Lowered) (w : World) (store : Store) (pending : Option ℕ) (local
         let it = throws_it w.classes brought store.heap locals kind shared s class effect does in
         let o = fresh_object w.classes class in
         let described : Describes w.classes texts store.heap (Fresh class) o = record { object = refl; makeable = it.makeable } in
-        let names = making.names_stay p w texts store after shared (Fresh class) o a h.store_agrees made described in
+        let names = making.names_stay p w texts store after shared (Fresh class) o a all h.store_agrees made described in
         subst (λ (e : CallEffect). Carries (answer.Throws class) e false after (Some a) (failed kind)) (sym it.is) (record {
-          store_agrees = making.made_agrees p w texts store after shared (Fresh class) o a h.store_agrees made described;
-          keeps = making.made_keeps p w texts store after shared (Fresh class) o a h.store_agrees made described;
-          pending_agrees = making.made_named p w texts store after shared (Fresh class) o a h.store_agrees made described;
+          store_agrees = takes_none after (record shared { heap = shared.heap ++ o ∷ [] }) (failure kind) (failure_none kind) (making.made_agrees p w texts store after shared (Fresh class) o a all h.store_agrees made described);
+          keeps = making.made_keeps p w texts store after shared (Fresh class) o a all h.store_agrees made described;
+          pending_agrees = making.made_named p w texts store after shared (Fresh class) o a all h.store_agrees made described;
           frames_agree = frames_stay store.heap after.heap names locals s.frames h.frames_agree;
           left = λ key n level is left. key_stays store.heap after.heap names locals key n level is;
-          given_agrees = failed_agrees w.classes after kind h.fails;
+          given_agrees = failed_agrees w.classes after k kind;
           still = λ same. refl;
           could_refuse = λ e. absurd (cc);
           room = object_fits after (Fresh class) a made o described;
@@ -447,16 +498,16 @@ module _ (p : Lowered) (w : World) (store : Store) (pending : Option ℕ) (local
       described : Describes w.classes texts store.heap (Text place) string
       described = record { object = refl; makeable = does.1 }
 
-      agrees : StoreAgrees p w between told
-      agrees = making.made_agrees p w texts store between shared (Text place) string message h.store_agrees first described
+      agrees : StoreAgrees p w between told all
+      agrees = making.made_agrees p w texts store between shared (Text place) string message all h.store_agrees first described
 
       described_so : Describes w.classes texts between.heap (Exception class message) exception
-      described_so = record { object = (next_name shared.heap, making.made_named p w texts store between shared (Text place) string message h.store_agrees first described, refl); makeable = does.2 }
+      described_so = record { object = (next_name shared.heap, making.made_named p w texts store between shared (Text place) string message all h.store_agrees first described, refl); makeable = does.2 }
 
       names : (x n : ℕ) → name_at store.heap x ≡ Some n → name_at after.heap x ≡ Some n
       names x n at =
-          making.names_stay p w texts between after told (Exception class message) exception a agrees second described_so x n
-          (making.names_stay p w texts store between shared (Text place) string message h.store_agrees first described x n at)
+          making.names_stay p w texts between after told (Exception class message) exception a all agrees second described_so x n
+          (making.names_stay p w texts store between shared (Text place) string message all h.store_agrees first described x n at)
 
       one_after : (shared.heap ++ string ∷ []) ++ exception ∷ [] ≡ shared.heap ++ string ∷ exception ∷ []
       one_after = append_assoc shared.heap (string ∷ []) (exception ∷ [])
@@ -469,7 +520,8 @@ module _ (p : Lowered) (w : World) (store : Store) (pending : Option ℕ) (local
       pub raises : Carries (answer.Raises class place) effect false after (Some a) (given.Number 0)
       raises =
           subst (λ (e : CallEffect). Carries (answer.Raises class place) e false after (Some a) (given.Number 0)) (sym does.3) (record {
-            store_agrees = subst (λ (l : Heap). StoreAgrees p w after (record shared { heap = l })) one_after (making.made_agrees p w texts between after told (Exception class message) exception a agrees second described_so);
+            store_agrees = takes_none after (record shared { heap = shared.heap ++ string ∷ exception ∷ [] }) (ScalarResult (Int (pos 0))) refl
+                (subst (λ (l : Heap). StoreAgrees p w after (record shared { heap = l }) all) one_after (making.made_agrees p w texts between after told (Exception class message) exception a all agrees second described_so));
             keeps = record {
               names = names;
               statics = inl refl;
@@ -478,11 +530,11 @@ module _ (p : Lowered) (w : World) (store : Store) (pending : Option ℕ) (local
               few = omega (arith, length-append shared.heap (string ∷ exception ∷ []));
             };
             pending_agrees =
-                making.made_named p w texts between after told (Exception class message) exception a agrees second described_so
+                making.made_named p w texts between after told (Exception class message) exception a all agrees second described_so
                 ∙ ap (λ (n : ℕ). Some (n + 1)) (length-append shared.heap (string ∷ []));
             frames_agree = frames_stay store.heap after.heap names locals s.frames h.frames_agree;
             left = λ key n level is left. key_stays store.heap after.heap names locals key n level is;
-            given_agrees = result_agrees w.classes after kind _ _ (subst (λ (k : ResultKind). GivenAgrees w.classes after.heap k (given.Number 0) (ScalarResult (Int (pos 0)))) (sym does.0) (refl, record { sfits = omega arith }));
+            given_agrees = result_agrees w.classes after k kind _ _ (subst (λ (k : ResultKind). GivenAgrees w.classes after.heap k (given.Number 0) (ScalarResult (Int (pos 0)))) (sym does.0) (refl, record { sfits = omega arith }));
             still = λ same. refl;
             could_refuse = λ e. absurd (cc);
             room = both_fit;
@@ -492,12 +544,12 @@ module _ (p : Lowered) (w : World) (store : Store) (pending : Option ℕ) (local
   pub pends : (a : Option ℕ) (g : Given) (effect : CallEffect) → Does (answer.Pends a g) effect → Carries (answer.Pends a g) effect false store a g
   pends a g effect (r, agrees, (c, given_agrees, is)) =
       subst (λ (e : CallEffect). Carries (answer.Pends a g) e false store a g) (sym is) (record {
-        store_agrees = subst (StoreAgrees p w store) (sym (same_heap shared)) h.store_agrees;
+        store_agrees = agrees_yet store shared c (nothing_given w.classes store.heap kind g c given_agrees) h.store_agrees;
         keeps = subst (Keeps store.heap shared store.heap) (sym (same_heap shared)) (keeps_same store.heap shared);
         pending_agrees = agrees;
         frames_agree = h.frames_agree;
         left = λ key n level is left. is;
-        given_agrees = result_agrees w.classes store kind g c given_agrees;
+        given_agrees = result_agrees w.classes store k kind g c given_agrees;
         still = λ same. refl;
         could_refuse = λ e. absurd (cc);
         room = nothing_asked store.heap;

@@ -7,7 +7,9 @@ use Rattle.std.proofs.lemmas.List.Sums.{sum_by-cons}
 use Rattle.class_rules.specs.Class.{Classes}
 use Rattle.heap.specs.Heap.{Space, left_of}
 use Rattle.jni.specs.Prototype.{ResultKind}
-use Rattle.semantics.specs.CallEffects.{string_object, with_message, CallEffect, frames_effect, refuses_frames, with_capacity}
+use Rattle.base.specs.Bytes.{Identifier}
+use Rattle.semantics.specs.Arguments.{ReleaseMode, CopyBackAndFree, CopyBack, FreeUncopied}
+use Rattle.semantics.specs.CallEffects.{release_effect, string_object, with_message, CallEffect, frames_effect, refuses_frames, with_capacity}
 use Rattle.semantics.specs.Heap.{next_name}
 use Rattle.semantics.specs.Object.{Object, Reference, Refers, size, sizes}
 use Rattle.semantics.specs.Thread as source
@@ -19,7 +21,7 @@ use Rattle.machine_calls.specs.declared.answer.Answer.TheVariants as answer
 use Rattle.machine_calls.specs.declared.new_object.New.{New}
 use Rattle.machine_calls.specs.declared.new_object.New.TheVariants.{Fresh, Text}
 use Rattle.machine_calls.specs.Answers.{Brought, IsAnswer}
-use Rattle.machine_calls.specs.CarriedOut.{is_of_references, made_by}
+use Rattle.machine_calls.specs.CarriedOut.{takes_memory, is_of_references, made_by}
 use Rattle.machine_calls.specs.Made.{cells_of}
 use Rattle.machine_calls.specs.NewObjects.{IsObject, cells_of_new, text_in, values_of_new}
 use Rattle.machine_calls.proofs.NewValues.{as_many}
@@ -62,11 +64,19 @@ module _ (classes : Classes) (brought : Brought) (space : Space) (locals : Local
   of_frames : (frames : List source.Frame) → Cells (frames_effect classes shared s frames) ≡ 0
   of_frames frames = cond_both (nat_le (source.capacities frames) 1024) _ (refuses_frames classes shared s) (λ (e : CallEffect). Cells e ≡ 0) (λ e. refl) (λ e. refl)
 
+  of_release : (s' : Shared) (n : ℕ) (x : Identifier) (mode : ReleaseMode) → Cells (release_effect s' s n x mode) ≡ 0
+  of_release s' n x CopyBackAndFree = refl
+  of_release s' n x CopyBack = refl
+  of_release s' n x FreeUncopied = refl
+
   pub cells_made : (a : Answer) (effect : CallEffect) → IsAnswer classes brought space locals kind shared s a effect → Cells effect ≡ cells_of classes brought.texts a
   cells_made (answer.Gives g) effect does = ap Cells (gives_it classes brought space locals kind shared s g effect does).is
   cells_made (answer.Writes a place v) effect does = ap Cells (writes_it classes brought space locals kind shared s a place v effect does).is
   cells_made (answer.CopiesOut region) effect does = ap Cells does.1.is
   cells_made (answer.CopiesIn region) effect does = ap Cells does.1.is
+  cells_made (answer.AcquiresCopy a) effect does = ap Cells does.1.is
+  cells_made (answer.AcquiresView a) effect does = ap Cells does.1.is
+  cells_made (answer.Releases r) effect does = ap Cells does.1.is ∙ of_release shared does.1.name does.1.variable does.1.mode
   cells_made (answer.Makes new) effect does =
       let it = makes_it classes brought space locals kind shared s new effect does in
       ap Cells it.is ∙ described_size classes brought.texts space new it.object it.describes.object
@@ -88,6 +98,9 @@ references_free classes texts (answer.Gives g) h = refl
 references_free classes texts (answer.Writes a place v) h = refl
 references_free classes texts (answer.CopiesOut region) h = refl
 references_free classes texts (answer.CopiesIn region) h = refl
+references_free classes texts (answer.AcquiresCopy a) h = refl
+references_free classes texts (answer.AcquiresView a) h = refl
+references_free classes texts (answer.Releases r) h = refl
 references_free classes texts (answer.Makes new) h = absurd (cc)
 references_free classes texts (answer.Throws class) h = absurd (cc)
 references_free classes texts (answer.Raises class place) h = absurd (cc)
@@ -100,3 +113,8 @@ references_free classes texts (answer.Pops a) h = refl
 references_free classes texts (answer.Deletes key) h = refl
 references_free classes texts (answer.MakesGlobal a) h = refl
 references_free classes texts (answer.DeletesGlobal i) h = refl
+
+-- nor does what takes host memory
+pub memory_free : (classes : Classes) (texts : List (List ℕ)) (a : Answer) → takes_memory a ≡ true → cells_of classes texts a ≡ 0
+memory_free classes texts (answer.AcquiresCopy a) h = refl
+memory_free classes texts a h = references_free classes texts a h

@@ -20,6 +20,7 @@ use Rattle.code_meaning.specs.Lowered.{Lowered}
 use Rattle.machine_calls.specs.declared.array_region.ArrayRegion.{ArrayRegion}
 use Rattle.machine_calls.specs.declared.store.Store.{Store}
 use Rattle.machine_calls.specs.Answers.{Brought, IsCopiedIn}
+use Rattle.machine_calls.specs.Buffers.{Acquired}
 use Rattle.machine_calls.specs.Copies.{overlaid, overlay, space_with, words_from}
 use Rattle.machine_calls.specs.HeapAgrees.{ValuesAgree}
 use Rattle.machine_calls.specs.StoreAgrees.{Keeps, StoreAgrees}
@@ -83,7 +84,7 @@ overlaid_count s a start words = by_part (block_at (with_changed s a (overlay st
 -- ---- values
 
 -- words are the numbers' cells
-words_agree : (space : Space) (zs : List ℤ) → AllByRecursion (FitsSigned w32) zs → ValuesAgree space (map value.Number (map (cast_unsigned w32) zs)) (map Number zs)
+pub words_agree : (space : Space) (zs : List ℤ) → AllByRecursion (FitsSigned w32) zs → ValuesAgree space (map value.Number (map (cast_unsigned w32) zs)) (map Number zs)
 words_agree space [] fit = tt
 words_agree space (z ∷ zs) fit = ((fit.0, refl), words_agree space zs fit.1)
 
@@ -102,7 +103,7 @@ overlaid_agree space (w ∷ ws) (u ∷ us) (suc i) new news h g = (h.0, overlaid
 
 -- ---- the store
 
-module _ (p : Lowered) (w : World) (store : Store) (shared : Shared) (brought : Brought) (s : Thread) (region : ArrayRegion) (effect : CallEffect) (h : StoreAgrees p w store shared) (it : IsCopiedIn brought store.heap shared s region effect) where
+module _ (p : Lowered) (w : World) (store : Store) (shared : Shared) (brought : Brought) (s : Thread) (region : ArrayRegion) (effect : CallEffect) (all : Acquired) (h : StoreAgrees p w store shared all) (it : IsCopiedIn brought store.heap shared s region effect) where
   abbrev words : List ℕ
   words = words_from brought.numbers region
 
@@ -148,8 +149,8 @@ module _ (p : Lowered) (w : World) (store : Store) (shared : Shared) (brought : 
       (overlaid_agree store.heap ws (map Number before) region.start (map value.Number words) (map Number it.numbers) (subst (λ (us : List ObjectValue). ValuesAgree store.heap ws us) it.all_numbers agree)
       (subst (λ (l : List ℕ). ValuesAgree store.heap (map value.Number l) (map Number it.numbers)) (sym it.words.same) (words_agree store.heap it.numbers it.words.fit)))
 
-  pub copied_agrees : StoreAgrees p w (record store { heap = space_with store.heap region brought.numbers }) (record shared { heap = with_numbers shared.heap it.name after })
-  copied_agrees = values_agree p w store shared region.object (λ ws. overlaid ws region.start (map value.Number words)) it.name (map Number after) h it.there keeps many agrees
+  pub copied_agrees : StoreAgrees p w (record store { heap = space_with store.heap region brought.numbers }) (record shared { heap = with_numbers shared.heap it.name after }) all
+  copied_agrees = values_agree p w store shared region.object (λ ws. overlaid ws region.start (map value.Number words)) it.name (map Number after) all h it.there keeps many agrees
 
   pub copied_keeps : Keeps store.heap shared (space_with store.heap region brought.numbers) (record shared { heap = with_numbers shared.heap it.name after })
-  copied_keeps = values_keep p w store shared region.object (λ ws. overlaid ws region.start (map value.Number words)) it.name (map Number after) h it.there keeps many
+  copied_keeps = values_keep p w store shared region.object (λ ws. overlaid ws region.start (map value.Number words)) it.name (map Number after) all h it.there keeps many

@@ -17,6 +17,7 @@ use Rattle.semantics.specs.World.{World}
 use Rattle.code_meaning.specs.Lowered.{Lowered}
 use Rattle.code_meaning.specs.Slots.{word_of}
 use Rattle.machine_calls.specs.declared.store.Store.{Store}
+use Rattle.machine_calls.specs.Buffers.{Acquired}
 use Rattle.machine_calls.specs.StoreAgrees.{StoreAgrees}
 use Rattle.machine_calls.specs.Answers.{Brought, IsAnswer}
 use Rattle.tables.specs.Locals.{LocalTable}
@@ -88,7 +89,7 @@ unchanged heap (suc m) i o u at past =
 
 -- ---- an object in memory
 
-module _ (p : Lowered) (w : World) (store : Store) (shared : Shared) (h : StoreAgrees p w store shared) where
+module _ (p : Lowered) (w : World) (store : Store) (shared : Shared) (all : Acquired) (h : StoreAgrees p w store shared all) where
   -- an object and its block
   record Stored (a n : ℕ) : Type 0 where
     pub object : Object

@@ -97,7 +97,6 @@ block_kept s heap more b c h = record {
   is = object_kept heap more c.birth h.object h.is;
   class = h.class;
   values = values_kept s b c.values h.object.values h.values;
-  unpinned = h.unpinned;
 }
 
 blocks_kept : (s : Space) (heap more : Heap) (b : Block) (bs : List Block) → BlocksAgree s heap bs → BlocksAgree (with_block s b) (heap ++ more) bs
@@ -145,7 +144,7 @@ pub record IsNext (s : Space) (heap : Heap) (b : Block) (o : Object) : Type 0 wh
 pub agrees_with_block : (s : Space) (heap : Heap) (b : Block) (o : Object) → HeapAgrees s heap → IsNext s heap b o → HeapAgrees (with_block s b) (heap ++ o ∷ [])
 agrees_with_block s heap b o h next = record {
   blocks = blocks_push (with_block s b) (heap ++ o ∷ []) s.blocks b (blocks_kept s heap (o ∷ []) b s.blocks h.blocks)
-      (record { object = o; is = object_new heap o b.birth next.birth; class = next.class; values = values_kept s b b.values o.values next.values; unpinned = next.unpinned });
+      (record { object = o; is = object_new heap o b.birth next.birth; class = next.class; values = values_kept s b b.values o.values next.values });
   unique = unique_push s heap s.blocks b h.blocks next.birth h.unique;
 }
 

@@ -1,6 +1,10 @@
 pub mod AnswerCases
 pub mod ArrayClasses
 pub mod BlocksOfNames
+pub mod BufferCarries
+pub mod BufferLaws
+pub mod BufferOperands
+pub mod BufferStores
 pub mod CallAnswers
 pub mod CallChecks
 pub mod CallOperands
@@ -14,6 +18,7 @@ pub mod FilledBlocks
 pub mod GlobalLaws
 pub mod Handles
 pub mod HeapLaws
+pub mod HeldSums
 pub mod HeldStatics
 pub mod Keeping
 pub mod KeyLaws
@@ -28,5 +33,6 @@ pub mod Overlays
 pub mod SetPlaces
 pub mod RegionOperands
 pub mod StaticStores
+pub mod Taken
 pub mod Unasked
 pub mod Writes

@@ -11,6 +11,7 @@ use Rattle.semantics.specs.Object.{Object, ObjectValue, size, sizes}
 use Rattle.semantics.specs.Heap.{Heap}
 use Rattle.machine_calls.specs.HeapAgrees.{ValuesAgree, IsTable, AreMade}
 use Rattle.machine_calls.proofs.HeapLaws.{IsNext, block_new, agrees_with_block, table_push}
+use Rattle.machine_calls.proofs.Taken.{unpinned_push}
 
 -- nothing has been made
 pub none_made : (cells : ℕ) → AreMade (record { cells = cells; blocks = [] }) [] []
@@ -19,6 +20,7 @@ none_made cells = record {
   table = record { counted = refl; named = λ i a at. absurd (cc) };
   laid_out = let low : 0 ≤ cells = omega arith in low;
   filled = refl;
+  unpinned = λ a. refl;
 }
 
 -- as many cells as values
@@ -43,6 +45,7 @@ made_more s addresses objects b o h next room =
       table = subst (IsTable (with_block s b) (addresses ++ b.address ∷ [])) (sym count) (table_push s b addresses (length objects) h.table h.laid_out after birth);
       laid_out = LieFrom-push 0 s.blocks b s.cells h.laid_out (omega arith) (omega arith);
       filled = end_from-push 0 s.blocks b ∙ omega arith;
+      unpinned = unpinned_push s b next.unpinned h.unpinned;
     }
 
 -- ---- a change of the highest block

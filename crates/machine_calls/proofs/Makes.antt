@@ -12,6 +12,7 @@ use Rattle.semantics.specs.World.{World, loaded_objects}
 use Rattle.code_meaning.specs.Lowered.{Lowered}
 use Rattle.machine_calls.specs.declared.store.Store.{Store}
 use Rattle.machine_calls.specs.HeapAgrees.{SlotsAgree}
+use Rattle.machine_calls.specs.Buffers.{Acquired}
 use Rattle.machine_calls.specs.StoreAgrees.{Keeps, StaticsAgree, StoreAgrees}
 use Rattle.machine_calls.specs.Statics.{HaveKeys, all_held}
 use Rattle.machine_calls.specs.declared.references.Held.{Held}
@@ -23,8 +24,9 @@ use Rattle.machine_calls.specs.NewObjects.{Describes, cells_of_new, values_of_ne
 use Rattle.machine_calls.proofs.HeapLaws.{IsNext, agrees_with_block, name_kept, name_new, object_kept, table_kept}
 use Rattle.machine_calls.proofs.Keeping.{more_made, slots_stay, statics_stay}
 use Rattle.machine_calls.proofs.NewValues.{as_many, new_agree, same_class}
+use Rattle.machine_calls.proofs.Taken.{taken_as, taken_push}
 
-module _ (p : Lowered) (w : World) (texts : List (List ℕ)) (store after : Store) (shared : Shared) (new : New) (o : Object) (a : ℕ) (h : StoreAgrees p w store shared) (made : HasMade w.classes texts store new after a) (d : Describes w.classes texts store.heap new o) where
+module _ (p : Lowered) (w : World) (texts : List (List ℕ)) (store after : Store) (shared : Shared) (new : New) (o : Object) (a : ℕ) (all : Acquired) (h : StoreAgrees p w store shared all) (made : HasMade w.classes texts store new after a) (d : Describes w.classes texts store.heap new o) where
   abbrev b : Block
   b = new_block w.classes texts store new
 
@@ -43,7 +45,7 @@ module _ (p : Lowered) (w : World) (texts : List (List ℕ)) (store after : Stor
   pub names_stay : (x n : ℕ) → name_at store.heap x ≡ Some n → name_at after.heap x ≡ Some n
   names_stay x n at = ap (λ (s : Space). name_at s x) made.heap ∙ name_kept store.heap b x n at
 
-  pub made_agrees : StoreAgrees p w after with_object
+  pub made_agrees : StoreAgrees p w after with_object all
   made_agrees =
       let count = length-append shared.heap (o ∷ []) in
       let long : length b.values ≡ length o.values = as_many w.classes texts store.heap new o d.object in
@@ -61,6 +63,8 @@ module _ (p : Lowered) (w : World) (texts : List (List ℕ)) (store after : Stor
         named = h.named;
         keys = subst (λ (globals : List (Option ℕ)). HaveKeys globals after.statics.items) (sym made.globals) (subst (λ (v : Vec StaticReference). HaveKeys store.globals v.items) (sym made.statics) h.keys);
         globals = subst (λ (globals : List (Option ℕ)). SlotsAgree after.heap globals shared.globals) (sym made.globals) (slots_stay store.heap after.heap names_stay store.globals shared.globals h.globals);
+        buffers = taken_as (with_block store.heap b) after.heap store.elements after.elements store.views after.views (length (shared.heap ++ o ∷ [])) all made.heap made.elements made.views
+            (taken_push store.heap b store.elements store.views (length shared.heap) (length (shared.heap ++ o ∷ [])) all h.buffers count next.birth refl);
         monitors = h.monitors;
       }
 

@@ -63,6 +63,13 @@ overlaid_is [] (suc i) new m e inside = absurd (omega (arith, e, inside))
 overlaid_is (x ∷ xs) (suc i) new zero e inside = absurd (omega (arith, e))
 overlaid_is (x ∷ xs) (suc i) new (suc m) e inside = ap (λ l. x ∷ l) (overlaid_is xs i new m (omega (arith, e)) (omega (arith, inside)))
 
+-- over a list that is as long
+pub overlaid_whole : {A : Type 0} (xs new : List A) → length new ≡ length xs → overlaid xs 0 new ≡ new
+overlaid_whole [] [] e = refl
+overlaid_whole [] (n ∷ new) e = absurd (omega (arith, e))
+overlaid_whole (x ∷ xs) [] e = absurd (omega (arith, e))
+overlaid_whole (x ∷ xs) (n ∷ new) e = ap (λ l. n ∷ l) (overlaid_whole xs new (omega (arith, e)))
+
 pub map_overlaid : {A B : Type 0} (f : A → B) (xs : List A) (i : ℕ) (new : List A) → map f (overlaid xs i new) ≡ overlaid (map f xs) i (map f new)
 map_overlaid f xs zero [] = refl
 map_overlaid f [] zero (n ∷ new) = refl

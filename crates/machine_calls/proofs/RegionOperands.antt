@@ -175,6 +175,16 @@ module _ (space : Space) where
       let here = one_word w u h.0 in
       record { fit = (here.0, later.fit); same = λ i. here.1 i ∷ later.same i }
 
+  -- the words of an object
+  pub all_words : (ws : List Value) (us : List ObjectValue) → ValuesAgree space ws us → AreWordsOf (map word_in_cell ws) (map number_in us)
+  all_words [] [] h = record { fit = tt; same = refl }
+  all_words [] (u ∷ us) h = absurd h
+  all_words (w ∷ ws) [] h = absurd h
+  all_words (w ∷ ws) (u ∷ us) h =
+      let later = all_words ws us h.1 in
+      let here = one_word w u h.0 in
+      record { fit = (here.0, later.fit); same = λ i. here.1 i ∷ later.same i }
+
   -- the words of a part of an object
   pub words_there : (start n : ℕ) (ws : List Value) (us : List ObjectValue) → ValuesAgree space ws us → AreWordsOf (map word_in_cell (take n (drop start ws))) (take n (drop start (map number_in us)))
   words_there start n ws us h =

@@ -26,16 +26,17 @@ use Rattle.machine_calls.specs.declared.references.Held.{Held}
 use Rattle.machine_calls.specs.declared.statics.StaticReference.{StaticReference as InMemory}
 use Rattle.machine_calls.specs.declared.statics.StaticReference.TheVariants as static
 use Rattle.machine_calls.specs.declared.store.Store.{Store}
+use Rattle.machine_calls.specs.Buffers.{Acquired}
 use Rattle.machine_calls.specs.HeapAgrees.{SlotsAgree}
 use Rattle.machine_calls.specs.StoreAgrees.{AreNamed, HeldAgrees, Keeps, MayChange, StaticsAgree, StoreAgrees}
 use Rattle.machine_calls.specs.Statics.{HaveKeys, all_held, held, held_at, held_or_null}
 use Rattle.machine_calls.proofs.Keeping.{none_made}
 use Rattle.machine_calls.proofs.HeldStatics.{held_set, same_names, static_put, static_there, statics_count}
 
-module _ (p : Lowered) (w : World) (store : Store) (shared : Shared) (h : StoreAgrees p w store shared) where
+module _ (p : Lowered) (w : World) (store : Store) (shared : Shared) (all : Acquired) (h : StoreAgrees p w store shared all) where
   -- other statics and other global references
   pub with_references : (statics : Vec InMemory) (globals : List (Option ℕ)) (names : Statics) (source_globals : List ℕ) → StaticsAgree store.heap (all_held globals statics.items) names → AreNamed p (record shared { statics = names }) → HaveKeys globals statics.items → SlotsAgree store.heap globals source_globals
-      → StoreAgrees p w (record store { statics = statics; globals = globals }) (record shared { statics = names; globals = source_globals })
+      → StoreAgrees p w (record store { statics = statics; globals = globals }) (record shared { statics = names; globals = source_globals }) all
   with_references statics globals names source_globals agree named keys same = record {
     heap = h.heap;
     laid_out = h.laid_out;
@@ -47,12 +48,13 @@ module _ (p : Lowered) (w : World) (store : Store) (shared : Shared) (h : StoreA
     named = named;
     keys = keys;
     globals = same;
+    buffers = h.buffers;
     monitors = h.monitors;
   }
 
   -- a static holds something else
   pub with_static : (statics : Vec InMemory) (x : Identifier) (i : ℕ) (s : InMemory) (r : StaticReference) → statics.items ≡ slice_set store.statics.items i s → static_index x shared.statics ≡ Some i → HeldAgrees store.heap (held store.globals s) r → HaveKeys store.globals (slice_set store.statics.items i s)
-      → StoreAgrees p w (record store { statics = statics }) (record shared { statics = assign x r shared.statics })
+      → StoreAgrees p w (record store { statics = statics }) (record shared { statics = assign x r shared.statics }) all
   with_static statics x i s r is place agrees keys =
       with_references statics store.globals (assign x r shared.statics) shared.globals
       (subst (λ (l : List Held). StaticsAgree store.heap l (assign x r shared.statics)) (sym (ap (all_held store.globals) is ∙ held_set store.globals store.statics.items i s))
@@ -69,12 +71,12 @@ module _ (p : Lowered) (w : World) (store : Store) (shared : Shared) (h : StoreA
   statics_long = sym (length-map store.statics.items (held store.globals)) ∙ statics_count store.heap (all_held store.globals store.statics.items) shared.statics h.statics ∙ shared_long
 
   -- the same statics
-  pub with_same : (statics : Vec InMemory) → statics.items ≡ store.statics.items → StoreAgrees p w (record store { statics = statics }) shared
+  pub with_same : (statics : Vec InMemory) → statics.items ≡ store.statics.items → StoreAgrees p w (record store { statics = statics }) shared all
   with_same statics is =
       with_references statics store.globals shared.statics shared.globals (subst (λ (l : List InMemory). StaticsAgree store.heap (all_held store.globals l) shared.statics) (sym is) h.statics) h.named (subst (HaveKeys store.globals) (sym is) h.keys) h.globals
 
   -- a global reference was made
-  pub with_global : (globals : List (Option ℕ)) (key a n : ℕ) → Gains store.globals key a globals → name_at store.heap a ≡ Some n → StoreAgrees p w (record store { globals = globals }) (record shared { globals = n ∷ shared.globals })
+  pub with_global : (globals : List (Option ℕ)) (key a n : ℕ) → Gains store.globals key a globals → name_at store.heap a ≡ Some n → StoreAgrees p w (record store { globals = globals }) (record shared { globals = n ∷ shared.globals }) all
   with_global globals key a n put named =
       with_references store.statics globals shared.statics (n ∷ shared.globals)
       (subst (λ (l : List Held). StaticsAgree store.heap l shared.statics) (sym (helds_kept store.globals globals key a store.statics.items put h.keys)) h.statics)
@@ -118,7 +120,7 @@ module _ (p : Lowered) (w : World) (store : Store) (shared : Shared) (h : StoreA
 
   -- the global reference of a static ended, and the static is marked
   pub with_deleted : (statics : Vec InMemory) (x : Identifier) (i key a n : ℕ) → slice_get store.statics.items i ≡ Some (static.Live key) → address_at store.globals key ≡ Some a → name_at store.heap a ≡ Some n → static_index x shared.statics ≡ Some i → statics.items ≡ slice_set store.statics.items i static.Deleted
-      → StoreAgrees p w (record store { statics = statics; globals = without store.globals key }) (record shared { statics = assign x Deleted shared.statics; globals = without_one n shared.globals })
+      → StoreAgrees p w (record store { statics = statics; globals = without store.globals key }) (record shared { statics = assign x Deleted shared.statics; globals = without_one n shared.globals }) all
   with_deleted statics x i key a n at address named place is =
       with_references statics (without store.globals key) (assign x Deleted shared.statics) (without_one n shared.globals)
       (subst (λ (l : List Held). StaticsAgree store.heap l (assign x Deleted shared.statics)) (sym (ap (all_held (without store.globals key)) is ∙ helds_marked store.globals key store.statics.items i at h.keys))

@@ -18,12 +18,14 @@ use Rattle.semantics.specs.Thread.{Shared}
 use Rattle.semantics.specs.World.{World, loaded_objects}
 use Rattle.code_meaning.specs.Lowered.{Lowered}
 use Rattle.machine_calls.specs.declared.store.Store.{Store}
+use Rattle.machine_calls.specs.Buffers.{Acquired}
 use Rattle.machine_calls.specs.StoreAgrees.{StoreAgrees, Keeps}
 use Rattle.machine_calls.specs.Statics.{all_held}
 use Rattle.machine_calls.specs.Answers.{WritesAt}
 use Rattle.machine_calls.specs.HeapAgrees.{BlockAgrees, BlocksAgree, ValueAgrees, ValuesAgree}
 use Rattle.machine_calls.proofs.BlocksOfNames.{Named, named}
 use Rattle.machine_calls.proofs.SetPlaces.{get_set_same, get_set_other}
+use Rattle.machine_calls.proofs.Taken.{taken_changed}
 use Rattle.machine_calls.proofs.Keeping.{none_made, slots_stay, reference_stays, statics_stay}
 
 -- ---- each block is found at its address
@@ -137,12 +139,11 @@ module _ (space : Space) (heap : Heap) (a : ℕ) (vs : List Value → List Value
           is = ap (object_at heap_after) birth ∙ object_here h.object is;
           class = h.class ∙ sym class;
           values = values_stay (vs b.values) us (agrees b.values (subst (λ (us : List ObjectValue). ValuesAgree space b.values us) (sym values) h.values));
-          unpinned = h.unpinned;
         }
 
     -- another block
     block_elsewhere : (b : Block) → b.birth ≢ name → BlockAgrees space heap b → BlockAgrees written heap_after b
-    block_elsewhere b other h = record { object = h.object; is = object_elsewhere b.birth h.object object_there.0 object_there.1 other h.is; class = h.class; values = values_stay b.values h.object.values h.values; unpinned = h.unpinned }
+    block_elsewhere b other h = record { object = h.object; is = object_elsewhere b.birth h.object object_there.0 object_there.1 other h.is; class = h.class; values = values_stay b.values h.object.values h.values }
 
     block_after : (b : Block) → block_at space b.address ≡ Some b → BlockAgrees space heap b → BlockAgrees written heap_after (changed a change b)
     block_after b found h =
@@ -165,7 +166,7 @@ module _ (space : Space) (heap : Heap) (a : ℕ) (vs : List Value → List Value
 blank : Block
 blank = record { address = 0; class = 0; birth = 0; values = []; pins = 0 }
 
-module _ (p : Lowered) (w : World) (store : Store) (shared : Shared) (a : ℕ) (vs : List Value → List Value) (name : ℕ) (us : List ObjectValue) (h : StoreAgrees p w store shared) (there : name_at store.heap a ≡ Some name) (keeps : (ws : List Value) → length (vs ws) ≡ length ws)
+module _ (p : Lowered) (w : World) (store : Store) (shared : Shared) (a : ℕ) (vs : List Value → List Value) (name : ℕ) (us : List ObjectValue) (all : Acquired) (h : StoreAgrees p w store shared all) (there : name_at store.heap a ≡ Some name) (keeps : (ws : List Value) → length (vs ws) ≡ length ws)
     (many : length us ≡ length (values_of shared.heap name)) where
   abbrev store_then : Store
   store_then = record store { heap = with_changed store.heap a (λ b. record b { values = vs b.values }) }
@@ -189,7 +190,7 @@ module _ (p : Lowered) (w : World) (store : Store) (shared : Shared) (a : ℕ) (
   stays : (x n : ℕ) → name_at store.heap x ≡ Some n → name_at store_then.heap x ≡ Some n
   stays = names_stay store.heap shared.heap a vs name us h.laid_out h.heap.unique there keeps
 
-  pub values_agree : ((ws : List Value) → ValuesAgree store.heap ws (values_of shared.heap name) → ValuesAgree store.heap (vs ws) us) → StoreAgrees p w store_then (record shared { heap = heap_then })
+  pub values_agree : ((ws : List Value) → ValuesAgree store.heap ws (values_of shared.heap name) → ValuesAgree store.heap (vs ws) us) → StoreAgrees p w store_then (record shared { heap = heap_then }) all
   values_agree agrees = record {
     heap = record {
       blocks = blocks_after store.heap shared.heap a vs name us h.laid_out h.heap.unique there keeps agrees object_is store.heap.blocks blank
@@ -205,6 +206,7 @@ module _ (p : Lowered) (w : World) (store : Store) (shared : Shared) (a : ℕ) (
     named = h.named;
     keys = h.keys;
     globals = slots_stay store.heap store_then.heap stays store.globals shared.globals h.globals;
+    buffers = taken_changed store.heap a (λ (b : Block). record b { values = vs b.values }) store.elements store.views (length shared.heap) (length heap_then) all leaving (λ b. refl) (λ b. refl) count h.buffers;
     monitors = h.monitors;
   }
 
@@ -227,20 +229,20 @@ module _ (space : Space) (v : Value) (value : ObjectValue) (agrees : ValueAgrees
   values_set (w ∷ ws) (u ∷ us) zero h = (agrees, h.1)
   values_set (w ∷ ws) (u ∷ us) (suc i) h = (h.0, values_set ws us i h.1)
 
-module _ (p : Lowered) (w : World) (store : Store) (shared after : Shared) (a place : ℕ) (v : Value) (h : StoreAgrees p w store shared) (writes : WritesAt store.heap shared after a place v) where
+module _ (p : Lowered) (w : World) (store : Store) (shared after : Shared) (a place : ℕ) (v : Value) (all : Acquired) (h : StoreAgrees p w store shared all) (writes : WritesAt store.heap shared after a place v) where
   abbrev pub store_after : Store
   store_after = record store { heap = with_value store.heap a place v }
 
   abbrev values_then : List ObjectValue
   values_then = slice_set (values_of shared.heap writes.name) place writes.value
 
-  pub written_agrees : StoreAgrees p w store_after after
+  pub written_agrees : StoreAgrees p w store_after after all
   written_agrees =
-      subst (StoreAgrees p w store_after) (sym writes.is)
-      (values_agree p w store shared a (λ ws. slice_set ws place v) writes.name values_then h writes.there (λ ws. length-set ws place v) (length-set (values_of shared.heap writes.name) place writes.value)
+      subst (λ (x : Shared). StoreAgrees p w store_after x all) (sym writes.is)
+      (values_agree p w store shared a (λ ws. slice_set ws place v) writes.name values_then all h writes.there (λ ws. length-set ws place v) (length-set (values_of shared.heap writes.name) place writes.value)
       (λ ws agree. values_set store.heap v writes.value writes.agrees ws (values_of shared.heap writes.name) place agree))
 
   pub written_keeps : Keeps store.heap shared store_after.heap after
   written_keeps =
       subst (λ (s : Shared). Keeps store.heap shared store_after.heap s) (sym writes.is)
-      (values_keep p w store shared a (λ ws. slice_set ws place v) writes.name values_then h writes.there (λ ws. length-set ws place v) (length-set (values_of shared.heap writes.name) place writes.value))
+      (values_keep p w store shared a (λ ws. slice_set ws place v) writes.name values_then all h writes.there (λ ws. length-set ws place v) (length-set (values_of shared.heap writes.name) place writes.value))

@@ -9,24 +9,28 @@ use Rattle.class_rules.specs.Class.{Classes}
 use Rattle.heap.specs.Heap.{Space, name_at, values_at}
 use Rattle.heap.specs.declared.value.Value.{Value}
 use Rattle.jni.specs.Prototype.{ResultKind, NewLocal, NewGlobal, GivesFlag, GivesInt, GivesField, GivesNothing}
-use Rattle.semantics.specs.CallEffects.{CallResult, NoResult, NullResult, ScalarResult, ReferenceResult, FieldResult, CallEffect, Halts, Leaves, Throws, throw_new_effect, delete_global_effect, frames_effect, refuses_frames, with_capacity, without_local, begun_with, heap_effect, overwritten}
+use Rattle.semantics.specs.CallEffects.{CallResult, NoResult, NullResult, ScalarResult, ReferenceResult, FieldResult, CallEffect, copy_effect, view_effect, release_effect, Halts, Leaves, Throws, throw_new_effect, delete_global_effect, frames_effect, refuses_frames, with_capacity, without_local, begun_with, heap_effect, overwritten}
 use Rattle.semantics.specs.Heap.{next_name, numbers_of, values_of, with_numbers, with_value_at}
 use Rattle.semantics.specs.Object.{ObjectValue, Number, Reference}
-use Rattle.semantics.specs.Thread.{Shared, Thread}
+use Rattle.semantics.specs.Thread.{BuffersInUse, Shared, Thread}
 use Rattle.semantics.specs.Value.{Int, Flag}
 use Rattle.semantics.specs.Variable.{Live, change}
-use Rattle.semantics.specs.Arguments.{Actual, VariableActual}
+use Rattle.semantics.specs.Arguments.{Actual, ReleaseMode, VariableActual}
 use Rattle.code.specs.declared.instr.LocalArray.{LocalArray}
 use Rattle.code.specs.declared.instr.Operand.{Operand}
 use Rattle.code.specs.declared.instr.Operand.TheVariants as operand
 use Rattle.tables.specs.Locals.{LocalTable}
+use Rattle.code_meaning.specs.Coding.{mode_code}
 use Rattle.code_meaning.specs.Slots.{word_of, static_index}
+use Rattle.code_meaning.specs.Stands.{IsBufferResult}
 use Rattle.machine_calls.specs.declared.answer.Given.{Given}
 use Rattle.machine_calls.specs.declared.answer.Given.TheVariants as given
 use Rattle.machine_calls.specs.declared.answer.Answer.{Answer}
 use Rattle.machine_calls.specs.declared.answer.Answer.TheVariants as answer
 use Rattle.machine_calls.specs.declared.array_region.ArrayRegion.{ArrayRegion}
-use Rattle.machine_calls.specs.Copies.{words_from, words_of}
+use Rattle.machine_calls.specs.declared.buffer.Release.{Release}
+use Rattle.machine_calls.specs.Buffers.{HeldBuffers, HoldsBuffer, IsCopyOf, copies_back}
+use Rattle.machine_calls.specs.Copies.{words_at, words_from, words_of}
 use Rattle.machine_calls.specs.FieldIds.{FieldAgrees}
 use Rattle.machine_calls.specs.HeapAgrees.{ReferenceAgrees, ValueAgrees}
 use Rattle.machine_calls.specs.Locals.{IsKeyOf}
@@ -65,15 +69,17 @@ pub record HoldsObject (s : Shared) (x : Identifier) (i n : ℕ) : Type 0 where
 
 -- ---- what a call brings
 
--- the texts of a call, the local array that it names, and what the number slots hold
+-- the texts of a call, the local array that it names, what the slots of numbers and of buffers hold, and what all buffers take
 pub record Brought : Type 0 where
   pub texts : List (List ℕ)
   pub array : Option (Identifier × LocalArray)
   pub numbers : List ℕ
+  pub buffers : HeldBuffers
+  pub in_use : BuffersInUse
 
--- what a call with these texts and number slots brings, which names this local array, or none
-abbrev pub bringing : (texts : List (List ℕ)) → (numbers : List ℕ) → Option (Identifier × LocalArray) → Brought
-bringing texts numbers array = record { texts = texts; array = array; numbers = numbers }
+-- what a call with these texts and slots brings, which names this local array, or none
+abbrev pub bringing : (texts : List (List ℕ)) → (numbers : List ℕ) → HeldBuffers → BuffersInUse → Option (Identifier × LocalArray) → Brought
+bringing texts numbers buffers in_use array = record { texts = texts; array = array; numbers = numbers; buffers = buffers; in_use = in_use }
 
 -- an operand is a local array, and the argument at its place its name
 abbrev pub named_array : Option Operand → Option Actual → Option (Identifier × LocalArray)
@@ -113,6 +119,33 @@ pub record IsCopiedIn (brought : Brought) (space : Space) (s : Shared) (t : Thre
   pub words : AreWordsOf (words_from brought.numbers r) numbers
   pub is : effect ≡ heap_effect s t (with_numbers s.heap name (overwritten (numbers_of s.heap name) r.start numbers))
 
+-- ---- buffers
+
+-- numbers of an object are copied into a buffer
+pub record IsCopyAcquired (brought : Brought) (space : Space) (s : Shared) (t : Thread) (a : ℕ) (effect : CallEffect) : Type 0 where
+  pub name : ℕ
+  pub there : name_at space a ≡ Some name
+  pub words : AreWordsOf (words_at space a) (numbers_of s.heap name)
+  pub is : effect ≡ copy_effect brought.in_use s t name (numbers_of s.heap name)
+
+-- a buffer is a view of an object
+pub record IsViewAcquired (brought : Brought) (space : Space) (s : Shared) (t : Thread) (a : ℕ) (effect : CallEffect) : Type 0 where
+  pub name : ℕ
+  pub there : name_at space a ≡ Some name
+  pub is : effect ≡ view_effect brought.in_use s t name
+
+-- the buffer that a variable is is released; numbers go back from a copy of the object alone
+pub record IsReleased (brought : Brought) (space : Space) (s : Shared) (t : Thread) (r : Release) (effect : CallEffect) : Type 0 where
+  pub variable : Identifier
+  pub holds : HoldsBuffer space brought.buffers r.slot (lookup variable t.variables)
+  pub held : r.held ≡ holds.held
+  pub name : ℕ
+  pub there : name_at space r.object ≡ Some name
+  pub copy : copies_back r.mode ≡ true → IsCopyOf s.heap name holds.buffer
+  pub mode : ReleaseMode
+  pub coded : r.mode ≡ mode_code mode
+  pub is : effect ≡ release_effect s t name variable mode
+
 -- ---- all answers
 
 -- The answer is what the call, which brings these, does to this state, all checks being passed.
@@ -137,5 +170,8 @@ IsAnswer classes brought space locals kind s t (answer.Deletes key) effect =
 IsAnswer classes brought space locals kind s t (answer.MakesGlobal a) effect =
     (kind ≡ NewGlobal) × ((r : Reference) × ReferenceAgrees space a r × (effect ≡ Leaves [] (record s { globals = option_to_list r ++ s.globals }) t (ReferenceResult r)))
 IsAnswer classes brought space locals kind s t (answer.DeletesGlobal i) effect = (kind ≡ GivesNothing) × ((x : Identifier) × (n : ℕ) × HoldsObject s x i n × (effect ≡ delete_global_effect s t x (Some n)))
+IsAnswer classes brought space locals kind s t (answer.AcquiresCopy a) effect = IsBufferResult kind × IsCopyAcquired brought space s t a effect
+IsAnswer classes brought space locals kind s t (answer.AcquiresView a) effect = IsBufferResult kind × IsViewAcquired brought space s t a effect
+IsAnswer classes brought space locals kind s t (answer.Releases r) effect = (kind ≡ GivesNothing) × IsReleased brought space s t r effect
 IsAnswer classes brought space locals kind s t answer.RefusesFrames effect = (kind ≡ GivesInt) × (effect ≡ refuses_frames classes s t)
 IsAnswer classes brought space locals kind s t answer effect = ⊥

@@ -1,6 +1,6 @@
 -- Functions by groups, as they are worked out. Private to the calls.
 use Rattle.std.specs.Prelude.{Bool, true, false}
-use Rattle.jni.specs.JniFunction.{JniFunction, NewLocalRef, NewGlobalRef, DeleteLocalRef, DeleteGlobalRef, IsSameObject, EnsureLocalCapacity, PushLocalFrame, PopLocalFrame, GetFieldID, GetStaticFieldID, GetField, SetField, GetStaticField, SetStaticField, GetObjectField, SetObjectField, GetStaticObjectField, SetStaticObjectField, GetArrayLength, GetStringLength, NewArray, NewObjectArray, GetObjectArrayElement, SetObjectArrayElement, NewStringUTF, Throw, ThrowNew, ExceptionOccurred, ExceptionCheck, ExceptionClear, FatalError, GetArrayRegion, SetArrayRegion, GetStringRegion}
+use Rattle.jni.specs.JniFunction.{GetBuffer, ReleaseBuffer, JniFunction, NewLocalRef, NewGlobalRef, DeleteLocalRef, DeleteGlobalRef, IsSameObject, EnsureLocalCapacity, PushLocalFrame, PopLocalFrame, GetFieldID, GetStaticFieldID, GetField, SetField, GetStaticField, SetStaticField, GetObjectField, SetObjectField, GetStaticObjectField, SetStaticObjectField, GetArrayLength, GetStringLength, NewArray, NewObjectArray, GetObjectArrayElement, SetObjectArrayElement, NewStringUTF, Throw, ThrowNew, ExceptionOccurred, ExceptionCheck, ExceptionClear, FatalError, GetArrayRegion, SetArrayRegion, GetStringRegion}
 
 -- a function of exceptions
 abbrev pub is_of_exceptions : JniFunction → Bool
@@ -19,6 +19,12 @@ is_of_regions (SetArrayRegion T) = true
 is_of_regions GetStringRegion = true
 is_of_regions f = false
 
+-- a function of buffers
+abbrev pub is_of_buffers : JniFunction → Bool
+is_of_buffers (GetBuffer access) = true
+is_of_buffers (ReleaseBuffer access) = true
+is_of_buffers f = false
+
 -- a function of arrays or strings
 abbrev pub is_of_arrays : JniFunction → Bool
 is_of_arrays GetArrayLength = true
@@ -28,6 +34,8 @@ is_of_arrays GetObjectArrayElement = true
 is_of_arrays SetObjectArrayElement = true
 is_of_arrays NewStringUTF = true
 is_of_arrays GetStringLength = true
+is_of_arrays (GetBuffer access) = true
+is_of_arrays (ReleaseBuffer access) = true
 is_of_arrays f = is_of_regions f
 
 -- a function of what objects hold: fields, statics, arrays and strings

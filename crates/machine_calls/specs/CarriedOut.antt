@@ -1,9 +1,9 @@
 -- What carrying out an answer leaves, by the effect of the source's call.
-use Rattle.std.specs.Prelude.{◌≡◌, ◌≢◌, ℕ, ◌-◌, ◌^◌, ◌<◌, ◌≤◌, Bool, true, false, List, [], ◌∷◌, ◌++◌, length, slice_get, ◌⊎◌, IsSome, Option, Some, None}
+use Rattle.std.specs.Prelude.{◌≡◌, ◌≢◌, ℕ, ◌-◌, ◌^◌, ◌<◌, ◌≤◌, Bool, true, false, if◌then◌else◌, List, [], ◌∷◌, ◌++◌, length, slice_get, slice_set, ◌⊎◌, IsSome, Option, Some, None}
 use Rattle.class_rules.specs.Class.{Classes}
 use Rattle.heap.specs.Heap.{Space, left_of}
-use Rattle.jni.specs.Prototype.{ResultKind, NewLocal, NewGlobal, GivesFlag, GivesInt, GivesField, GivesNothing}
-use Rattle.semantics.specs.CallEffects.{CallResult, NoResult, NullResult, ReferenceResult, CallEffect, Leaves, Throws, Halts, out_of_memory}
+use Rattle.jni.specs.Prototype.{ResultKind, NewLocal, NewGlobal, GivesFlag, GivesInt, GivesField, GivesBuffer}
+use Rattle.semantics.specs.CallEffects.{CallResult, NoResult, NullResult, ReferenceResult, BufferResult, CallEffect, Leaves, Throws, Halts, out_of_memory}
 use Rattle.semantics.specs.CallStep.{failure, makes_objects}
 use Rattle.semantics.specs.Heap.{next_name}
 use Rattle.semantics.specs.Object.{Object, Reference, sizes}
@@ -11,7 +11,12 @@ use Rattle.semantics.specs.Thread as source
 use Rattle.semantics.specs.Thread.{Shared, Thread}
 use Rattle.semantics.specs.World.{World, fresh_object}
 use Rattle.code_meaning.specs.Lowered.{Lowered}
-use Rattle.machine_calls.specs.declared.activation.Slots.{Slots}
+use Rattle.code_meaning.specs.Stands.{IsBufferResult}
+use Rattle.tables.specs.Elements.{OwnedNumbers}
+use Rattle.tables.specs.Keys.{value_at}
+use Rattle.machine_calls.specs.Buffers.{Acquired, BufferAgrees, acquired_by, acquired_of, beside, gives_up, nothing_acquired}
+use Rattle.machine_calls.specs.declared.buffer.Buffer.{Buffer}
+use Rattle.machine_calls.specs.declared.buffer.Buffer.TheVariants as buffer
 use Rattle.machine_calls.specs.declared.answer.Given.{Given}
 use Rattle.machine_calls.specs.declared.answer.Given.TheVariants as given
 use Rattle.machine_calls.specs.declared.store.Store.{Store}
@@ -43,19 +48,20 @@ pending_after classes false s t (Leaves made s' t' given) = t'.pending
 pending_after classes false s t (Throws c) = Some (next_name s.heap)
 pending_after classes false s t (Halts trap) = t.pending
 
--- the frames of the thread then, before a result is put into them
-abbrev pub frames_left : (refused : Bool) → Thread → CallEffect → List source.Frame
-frames_left true t effect = t.frames
-frames_left false t (Leaves made s' t' given) = t'.frames
-frames_left false t (Throws c) = t.frames
-frames_left false t (Halts trap) = t.frames
+-- the thread then, but for the exception that is pending, before a result is put into it
+abbrev pub thread_left : (refused : Bool) → Thread → CallEffect → Thread
+thread_left true t effect = t
+thread_left false t (Leaves made s' t' given) = t'
+thread_left false t (Throws c) = t
+thread_left false t (Halts trap) = t
 
--- its variables then, before a result is put into them
+-- its frames
+abbrev pub frames_left : (refused : Bool) → Thread → CallEffect → List source.Frame
+frames_left refused t effect = (thread_left refused t effect).frames
+
+-- its variables
 abbrev pub variables_left : (refused : Bool) → Thread → CallEffect → Variables
-variables_left true t effect = t.variables
-variables_left false t (Leaves made s' t' given) = t'.variables
-variables_left false t (Throws c) = t.variables
-variables_left false t (Halts trap) = t.variables
+variables_left refused t effect = (thread_left refused t effect).variables
 
 -- what a call of this kind of result gives
 abbrev pub result_after : ResultKind → (refused : Bool) → CallEffect → CallResult
@@ -63,6 +69,16 @@ result_after kind true effect = failure kind
 result_after kind false (Leaves made s' t' given) = given
 result_after kind false (Throws c) = failure kind
 result_after kind false (Halts trap) = NoResult
+
+-- what a result takes that is a buffer
+abbrev pub acquired_with : CallResult → Acquired
+acquired_with (BufferResult b) = acquired_of b
+acquired_with c = nothing_acquired
+
+-- what all buffers take then, with that of the result, where those of the other threads take this
+abbrev pub acquired_after : (others : Acquired) → ResultKind → (refused : Bool) → Thread → CallEffect → Acquired
+acquired_after others kind refused t effect =
+    beside others (beside (acquired_by (thread_left refused t effect)) (acquired_with (result_after kind refused effect)))
 
 -- the objects that a call of this effect makes, if nothing is refused
 abbrev pub made_by : Classes → CallEffect → List Object
@@ -83,20 +99,41 @@ GoesByRoom false cells old new = cells ≤ left_of old
 abbrev pub IsFresh : Store → StaticReference → Type 0
 IsFresh store s = (key : ℕ) → s ≡ static.Live key → IsSome (address_at store.globals key) × ((i : ℕ) → slice_get store.statics.items i ≡ Some (static.Live key) → ⊥)
 
--- what a function of this kind of result gives, where that may be for a static
-abbrev pub ResultAgrees : Classes → Store → Given → ResultKind → CallResult → Type 0
-ResultAgrees classes store (given.Global s) kind c = (kind ≡ NewGlobal) × ((r : Reference) × ((c ≡ ReferenceResult r) ⊎ ((c ≡ NullResult) × (r ≡ None))) × HeldAgrees store.heap (held store.globals s) (as_static r) × IsFresh store s)
-ResultAgrees classes store g kind c = GivenAgrees classes store.heap kind g c
+-- what thread k is given is the buffer of a result, or NULL
+abbrev pub BufferIsGiven : Store → (k : ℕ) → Buffer → CallResult → Type 0
+BufferIsGiven store k h (BufferResult b) = BufferAgrees store.heap store.elements k h b
+BufferIsGiven store k h NullResult = h ≡ buffer.Null
+BufferIsGiven store k h c = ⊥
+
+-- what a function of this kind of result gives to thread k, where that may be a buffer or for a static
+abbrev pub ResultAgrees : Classes → Store → (k : ℕ) → Given → ResultKind → CallResult → Type 0
+ResultAgrees classes store k (given.Buffer h) kind c = IsBufferResult kind × BufferIsGiven store k h c
+ResultAgrees classes store k (given.Global s) kind c = (kind ≡ NewGlobal) × ((r : Reference) × ((c ≡ ReferenceResult r) ⊎ ((c ≡ NullResult) × (r ≡ None))) × HeldAgrees store.heap (held store.globals s) (as_static r) × IsFresh store s)
+ResultAgrees classes store k g kind c = GivenAgrees classes store.heap kind g c
 
 -- the number slots once an answer is carried out
-abbrev pub numbers_after : Space → Answer → List ℕ → List ℕ
-numbers_after space (answer.CopiesOut region) numbers = numbers_with space region numbers
-numbers_after space a numbers = numbers
+abbrev pub slots_after : Space → Answer → List ℕ → List ℕ
+slots_after space (answer.CopiesOut region) numbers = numbers_with space region numbers
+slots_after space a numbers = numbers
 
--- the slots of before are left by an answer that was carried out, but for the numbers
-pub record LeavesSlots (space : Space) (answer : Answer) (before after : Slots) : Type 0 where
-  pub others : after ≡ record before { numbers = after.numbers }
-  pub numbers : after.numbers.items ≡ numbers_after space answer before.numbers.items
+-- the buffers in slots then
+abbrev pub buffers_after : Answer → List Buffer → List Buffer
+buffers_after (answer.Releases r) buffers = if gives_up r.mode then slice_set buffers r.slot buffer.Null else buffers
+buffers_after a buffers = buffers
+
+-- an answer leaves the copied list of a key
+abbrev pub LeavesCopy : Answer → (key : ℕ) → Type 0
+LeavesCopy (answer.Releases r) key = gives_up r.mode ≡ true → r.held ≢ buffer.Copy key
+LeavesCopy a key = Unit {0}
+
+-- the lists that it leaves are those that they were
+abbrev pub CopiesStay : Answer → (before after : List (Option OwnedNumbers)) → Type 0
+CopiesStay a before after = (key : ℕ) (c : OwnedNumbers) → value_at before key ≡ Some c → LeavesCopy a key → value_at after key ≡ Some c
+
+-- a copied list that is given has a key that had none
+abbrev pub IsNewCopy : (before : List (Option OwnedNumbers)) → Given → Type 0
+IsNewCopy before (given.Buffer (buffer.Copy key)) = value_at before key ≡ None
+IsNewCopy before g = Unit {0}
 
 -- an answer does nothing but to the frames
 abbrev pub is_of_frames : Answer → Bool
@@ -113,22 +150,34 @@ is_of_references (answer.MakesGlobal a) = true
 is_of_references (answer.DeletesGlobal slot) = true
 is_of_references a = is_of_frames a
 
+-- or to buffers
+abbrev pub is_of_buffers : Answer → Bool
+is_of_buffers (answer.AcquiresCopy a) = true
+is_of_buffers (answer.AcquiresView a) = true
+is_of_buffers (answer.Releases r) = true
+is_of_buffers a = is_of_references a
+
+-- what an answer does may take host memory
+abbrev pub takes_memory : Answer → Bool
+takes_memory (answer.AcquiresCopy a) = true
+takes_memory a = is_of_references a
+
 -- an answer leaves a key of this level as it is, where there were this number of frames
 abbrev pub IsLeft : Answer → (frames : ℕ) → (key level : ℕ) → Type 0
 IsLeft (answer.Deletes deleted) frames key level = key ≢ deleted
 IsLeft (answer.Pops a) frames key level = level ≢ frames
 IsLeft a frames key level = Unit {0}
 
--- The store, the frames and the exception that is pending are those that the effect leaves, and what is given is what the call
--- gives. Keys that the answer leaves are those of the same references. Only what makes objects can be refused, and only where they have
--- no room.
-pub record CarriesOut (p : Lowered) (w : World) (old : Space) (before : LocalTable) (answer : Answer) (kind : ResultKind) (shared : Shared) (s : Thread) (effect : CallEffect) (refused : Bool) (store : Store) (pending : Option ℕ) (locals : LocalTable) (given : Given) : Type 0 where
-  pub store_agrees : StoreAgrees p w store (shared_after w.classes refused shared effect)
+-- The store, the frames and the exception that is pending are those that the effect on thread k leaves, and what is given is what the
+-- call gives; the buffers of other threads take what they did. Keys that the answer leaves are those of the same references. Only what
+-- makes objects can be refused, and only where they have no room.
+pub record CarriesOut (p : Lowered) (w : World) (old : Space) (before : LocalTable) (answer : Answer) (kind : ResultKind) (others : Acquired) (k : ℕ) (shared : Shared) (s : Thread) (effect : CallEffect) (refused : Bool) (store : Store) (pending : Option ℕ) (locals : LocalTable) (given : Given) : Type 0 where
+  pub store_agrees : StoreAgrees p w store (shared_after w.classes refused shared effect) (acquired_after others kind refused s effect)
   pub keeps : Keeps old shared store.heap (shared_after w.classes refused shared effect)
   pub pending_agrees : ReferenceAgrees store.heap pending (pending_after w.classes refused shared s effect)
   pub frames_agree : FramesAgree store.heap locals (frames_left refused s effect)
   pub left : (key n level : ℕ) → IsKeyOf old before key n level → IsLeft answer (length before.frames) key level → IsKeyOf store.heap locals key n level
-  pub given_agrees : ResultAgrees w.classes store given kind (result_after kind refused effect)
+  pub given_agrees : ResultAgrees w.classes store k given kind (result_after kind refused effect)
   pub still : kind ≡ NewGlobal → (shared_after w.classes refused shared effect).statics ≡ shared.statics
   pub could_refuse : refused ≡ true → makes_objects effect ≡ true
   pub room : GoesByRoom refused (sizes (made_by w.classes effect)) old store.heap
@@ -140,22 +189,11 @@ failed NewGlobal = given.Global static.Empty
 failed GivesField = given.FieldId None
 failed GivesInt = given.Number (2 ^ 32 - 1)
 failed GivesFlag = given.Number 0
+failed (GivesBuffer access) = given.Buffer buffer.Null
 failed kind = given.Nothing
 
--- the kinds of results of the functions whose calls are worked out
-abbrev pub can_fail : ResultKind → Bool
-can_fail NewLocal = true
-can_fail NewGlobal = true
-can_fail GivesField = true
-can_fail GivesInt = true
-can_fail GivesFlag = true
-can_fail GivesNothing = true
-can_fail kind = false
-
--- A call of a function of this kind of result can be carried out: the store, the exception that is pending and the frames agree with
--- the source's.
-pub record IsPossible (p : Lowered) (w : World) (store : Store) (pending : Option ℕ) (locals : LocalTable) (kind : ResultKind) (shared : Shared) (s : Thread) : Type 0 where
-  pub store_agrees : StoreAgrees p w store shared
+-- A call can be carried out: the store, the exception that is pending and the frames agree with the source's.
+pub record IsPossible (p : Lowered) (w : World) (store : Store) (pending : Option ℕ) (locals : LocalTable) (others : Acquired) (shared : Shared) (s : Thread) : Type 0 where
+  pub store_agrees : StoreAgrees p w store shared (beside others (acquired_by s))
   pub pending_agrees : ReferenceAgrees store.heap pending s.pending
   pub frames_agree : FramesAgree store.heap locals s.frames
-  pub fails : can_fail kind ≡ true

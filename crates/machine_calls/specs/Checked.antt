@@ -1,14 +1,19 @@
 -- What is checked of a call before it does anything, by what is in memory.
 use Rattle.std.specs.Prelude.{ℕ, Bool, true, false, not, ◌&&◌, ◌||◌, ◌==◌, List, [], ◌∷◌, ◌++◌, is_none, is_some, Option, Some, None}
 use Rattle.std.specs.List.{list_any}
+use Rattle.base.specs.Element.{ElementType, JInt, JShort, JByte, JChar}
 use Rattle.class_rules.specs.BuiltIns.{class_class, has_own_making, string_class, throwable_class, number_array}
 use Rattle.class_rules.specs.Class.{Classes, FieldType, NumberField, ReferenceField, class_kind, is_plain, is_object_array, assignable}
 use Rattle.class_rules.specs.Fields.{FieldId}
 use Rattle.classes.specs.declared.class.FieldHandle.{FieldHandle}
 use Rattle.code.specs.declared.instr.Operand.{Operand}
 use Rattle.code.specs.declared.instr.Operand.TheVariants as operand
+use Rattle.code.specs.declared.instr.ElementType.TheVariants as element
+use Rattle.code.specs.declared.instr.Target.{Target}
+use Rattle.code.specs.declared.instr.Target.TheVariants.{Buffer}
 use Rattle.heap.specs.Heap.{Space}
-use Rattle.jni.specs.JniFunction.{is_allowed_pending, JniFunction, AllocObject, GetField, SetField, GetStaticField, SetStaticField, GetObjectField, SetObjectField, GetStaticObjectField, SetStaticObjectField, NewObjectArray, Throw, ThrowNew, prototype}
+use Rattle.jni.specs.Access.{ArrayView}
+use Rattle.jni.specs.JniFunction.{is_allowed_pending, JniFunction, GetBuffer, AllocObject, GetField, SetField, GetStaticField, SetStaticField, GetObjectField, SetObjectField, GetStaticObjectField, SetStaticObjectField, NewObjectArray, Throw, ThrowNew, prototype}
 use Rattle.jni.specs.Prototype.{ParameterKind, Nullable, ClassObject, AnyArray, ObjectArray, StringObject, NumberArray, LocalVariable, StaticVariable, IsCopy, ResultKind, NewLocal}
 use Rattle.semantics.specs.Checks.{first_trap}
 use Rattle.semantics.specs.Heap.{holds_number, holds_reference}
@@ -72,6 +77,14 @@ abbrev pub fits_type_there : Classes → Space → Option ℕ → FieldType → 
 fits_type_there classes space r (NumberField T) = false
 fits_type_there classes space r (ReferenceField c) = fits_there classes space r c
 
+-- the element type of the buffer that a call is to fill
+abbrev pub element_wanted : Target → ElementType
+element_wanted (Buffer element.Int i) = JInt
+element_wanted (Buffer element.Short i) = JShort
+element_wanted (Buffer element.Byte i) = JByte
+element_wanted (Buffer element.Char i) = JChar
+element_wanted target = JInt
+
 -- a call with these operands
 module _ (classes : Classes) (space : Space) (references : References) (fields : List (Option FieldHandle)) (operands : List Operand) where
   -- the reference of an operand
@@ -90,25 +103,26 @@ module _ (classes : Classes) (space : Space) (references : References) (fields :
   abbrev pub has_static : Bool
   has_static = field.is_static && assignable classes (name_there space (reference 0)) field.class
 
-  -- the arguments of a function, each of its kind, go together
-  abbrev pub fit_together : JniFunction → Bool
-  fit_together AllocObject = not (has_own_making classes (name_there space (reference 0)))
-  fit_together (GetField T) = has_field && holds_number T field.field.type
-  fit_together (SetField T) = has_field && holds_number T field.field.type
-  fit_together GetObjectField = has_field && holds_reference field.field.type
-  fit_together SetObjectField = has_field && fits_type_there classes space (reference 2) field.field.type
-  fit_together (GetStaticField T) = has_static && holds_number T field.field.type
-  fit_together (SetStaticField T) = has_static && holds_number T field.field.type
-  fit_together GetStaticObjectField = has_static && holds_reference field.field.type
-  fit_together SetStaticObjectField = has_static && fits_type_there classes space (reference 2) field.field.type
-  fit_together NewObjectArray = is_plain (class_kind classes (name_there space (reference 1))) && fits_there classes space (reference 2) (name_there space (reference 1))
-  fit_together Throw = assignable classes (class_of_given space (reference 0)) throwable_class
-  fit_together ThrowNew = assignable classes (name_there space (reference 0)) throwable_class
-  fit_together f = true
+  -- the arguments of a function, each of its kind, go together; a critical buffer has the element type of its variable
+  abbrev pub fit_together : (wanted : ElementType) → JniFunction → Bool
+  fit_together wanted AllocObject = not (has_own_making classes (name_there space (reference 0)))
+  fit_together wanted (GetField T) = has_field && holds_number T field.field.type
+  fit_together wanted (SetField T) = has_field && holds_number T field.field.type
+  fit_together wanted GetObjectField = has_field && holds_reference field.field.type
+  fit_together wanted SetObjectField = has_field && fits_type_there classes space (reference 2) field.field.type
+  fit_together wanted (GetStaticField T) = has_static && holds_number T field.field.type
+  fit_together wanted (SetStaticField T) = has_static && holds_number T field.field.type
+  fit_together wanted GetStaticObjectField = has_static && holds_reference field.field.type
+  fit_together wanted SetStaticObjectField = has_static && fits_type_there classes space (reference 2) field.field.type
+  fit_together wanted NewObjectArray = is_plain (class_kind classes (name_there space (reference 1))) && fits_there classes space (reference 2) (name_there space (reference 1))
+  fit_together wanted (GetBuffer ArrayView) = class_of_given space (reference 0) == number_array wanted
+  fit_together wanted Throw = assignable classes (class_of_given space (reference 0)) throwable_class
+  fit_together wanted ThrowNew = assignable classes (name_there space (reference 0)) throwable_class
+  fit_together wanted f = true
 
 -- the arguments of a call that sees this go together
-abbrev pub arguments_fit : Scene → List Operand → JniFunction → Bool
-arguments_fit scene operands f = fit_together scene.classes scene.space scene.references scene.fields operands f
+abbrev pub arguments_fit : Scene → List Operand → (wanted : ElementType) → JniFunction → Bool
+arguments_fit scene operands wanted f = fit_together scene.classes scene.space scene.references scene.fields operands wanted f
 
 -- a call of this kind of result puts a local reference into the frame
 abbrev pub puts_local : ResultKind → Bool
@@ -116,18 +130,18 @@ puts_local NewLocal = true
 puts_local kind = false
 
 -- what is asked of a call's arguments, in this order, each with the trap where it isn't so
-abbrev pub arguments_asked : Classes → Space → References → List (Option FieldHandle) → JniFunction → List Operand → List (Bool × Trap)
-arguments_asked classes space references fields f operands =
+abbrev pub arguments_asked : Classes → Space → References → List (Option FieldHandle) → (wanted : ElementType) → JniFunction → List Operand → List (Bool × Trap)
+arguments_asked classes space references fields wanted f operands =
     (list_any (gives_deleted references) operands, DeletedReference)
     ∷ (some_missing references fields (prototype f).parameters operands, NullReference)
-    ∷ (some_misfit classes space references (prototype f).parameters operands || not (fit_together classes space references fields operands f), WrongObject)
+    ∷ (some_misfit classes space references (prototype f).parameters operands || not (fit_together classes space references fields operands wanted f), WrongObject)
     ∷ []
 
--- the trap of a call that sees this, before it does anything
-abbrev pub trap_found : Scene → (has_room : Bool) → JniFunction → List Operand → Option Trap
-trap_found scene has_room f operands =
+-- the trap of a call that sees this, before it does anything; a buffer that it fills has elements of this type
+abbrev pub trap_found : Scene → (has_room : Bool) → (wanted : ElementType) → JniFunction → List Operand → Option Trap
+trap_found scene has_room wanted f operands =
     first_trap (
     (is_some scene.pending && not (is_allowed_pending f), ExceptionPending)
-    ∷ arguments_asked scene.classes scene.space scene.references scene.fields f operands
+    ∷ arguments_asked scene.classes scene.space scene.references scene.fields wanted f operands
     ++ (puts_local (prototype f).result && not has_room, NoCapacity)
     ∷ [])

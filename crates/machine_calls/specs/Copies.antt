@@ -18,6 +18,10 @@ abbrev pub word_of : Value → ℕ
 word_of (value.Number word) = word
 word_of v = 0
 
+-- the words of an object
+abbrev pub words_at : Space → ℕ → List ℕ
+words_at space a = map word_of (values_at space a)
+
 -- the words of a region of an object
 abbrev pub words_of : Space → ArrayRegion → List ℕ
 words_of space r = map word_of (take r.count (drop r.start (values_at space r.object)))

@@ -15,6 +15,7 @@ use Rattle.heap.specs.Heap.{Space, IsAddress, class_at, name_at}
 use Rattle.semantics.specs.Arguments.{Actual, ReferenceActual, FieldActual, NumberActual, TextActual, VariableActual, ModeActual, NothingActual, ReleaseMode}
 use Rattle.semantics.specs.Object.{Reference}
 use Rattle.semantics.specs.Variable.{Variable, LocalArray, Variables, StaticReference, as_static}
+use Rattle.machine_calls.specs.Buffers.{HeldBuffers, HoldsBuffer}
 use Rattle.machine_calls.specs.FieldIds.{FieldAgrees}
 use Rattle.machine_calls.specs.StoreAgrees.{HeldAgrees}
 use Rattle.machine_calls.specs.HeapAgrees.{ReferenceAgrees}
@@ -89,6 +90,11 @@ pub record HasElements (numbers : List ℕ) (array : ArraySlots) (v : Option Var
 abbrev pub HasArray : (numbers : List ℕ) → Variables → Operand → Actual → Type 0
 HasArray numbers vs (operand.Array array) actual = (x : Identifier) × (actual ≡ VariableActual x) × HasElements numbers array (lookup x vs)
 HasArray numbers vs o actual = Unit {0}
+
+-- an operand that is a buffer stands for the variable that is named
+abbrev pub HasBuffer : Space → HeldBuffers → Variables → Operand → Actual → Type 0
+HasBuffer space buffers vs (operand.Buffer i) actual = (x : Identifier) × (actual ≡ VariableActual x) × HoldsBuffer space buffers i (lookup x vs)
+HasBuffer space buffers vs o actual = Unit {0}
 
 -- each operand is NULL or the address of a block
 abbrev pub AreAddresses : Space → References → List Operand → Type 0

@@ -3,7 +3,7 @@ use Rattle.std.specs.Prelude.{◌≡◌, ℕ, suc, ◌+◌, ◌==◌, if◌then�
 use Rattle.std.specs.Int.{w32, cast_unsigned}
 use Rattle.heap.specs.declared.value.Value.{Value}
 use Rattle.heap.specs.declared.value.Value.TheVariants.{Number as Word, Null, Block as Address}
-use Rattle.heap.specs.Heap.{Block, Space, IsLaidOut, end_of, name_at, AreNamesUnique}
+use Rattle.heap.specs.Heap.{Block, Space, IsLaidOut, end_of, name_at, pins_at, AreNamesUnique}
 use Rattle.semantics.specs.Object.{Object, ObjectValue, Number, Refers, Reference, sizes}
 use Rattle.semantics.specs.Heap.{Heap, object_at}
 use Rattle.tables.specs.References.{references_in}
@@ -59,8 +59,6 @@ pub record BlockAgrees (space : Space) (heap : Heap) (b : Block) : Type 0 where
   pub is : object_at heap b.birth ≡ Some object
   pub class : b.class ≡ object.class
   pub values : ValuesAgree space b.values object.values
-  -- no function that gives a view can be called yet
-  pub unpinned : b.pins ≡ 0
 
 -- block by block
 abbrev pub BlocksAgree : Space → Heap → List Block → Type 0
@@ -90,3 +88,4 @@ pub record AreMade (space : Space) (addresses : List ℕ) (objects : Heap) : Typ
   pub table : IsTable space addresses (length objects)
   pub laid_out : IsLaidOut space
   pub filled : end_of space ≡ sizes objects
+  pub unpinned : (a : ℕ) → pins_at space a ≡ 0

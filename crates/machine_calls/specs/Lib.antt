@@ -1,6 +1,7 @@
 pub mod HeapAgrees
 pub mod Locals
 pub mod Statics
+pub mod Buffers
 pub mod StoreAgrees
 pub mod FieldIds
 pub mod Scenes
@@ -10,6 +11,7 @@ pub mod Asked
 pub mod WorkedOut
 pub mod CallGroups
 pub mod Copies
+pub mod BufferChanges
 pub mod NewObjects
 pub mod Answers
 pub mod Made

@@ -37,6 +37,8 @@ pub record HasMade (classes : Classes) (texts : List (List ℕ)) (before : Store
   pub births : after.births ≡ before.births + 1
   pub statics : after.statics ≡ before.statics
   pub globals : after.globals ≡ before.globals
+  pub elements : after.elements ≡ before.elements
+  pub views : after.views ≡ before.views
 
 -- a new object, where it has room, and else the store as it was
 abbrev pub Makes : Classes → (texts : List (List ℕ)) → Store → New → Store → Option ℕ → Type 0

@@ -12,6 +12,7 @@ use Rattle.semantics.specs.Thread.{Shared}
 use Rattle.semantics.specs.Variable.{StaticReference, Empty, Live, Deleted, Statics, assign}
 use Rattle.code_meaning.specs.Lowered.{Lowered}
 use Rattle.machine_calls.specs.declared.store.Store.{Store}
+use Rattle.machine_calls.specs.Buffers.{Acquired, IsTaken}
 use Rattle.machine_calls.specs.HeapAgrees.{HeapAgrees, IsTable, SlotsAgree}
 use Rattle.machine_calls.specs.Statics.{HaveKeys, all_held}
 use Rattle.machine_calls.specs.declared.references.Held.{Held}
@@ -39,8 +40,8 @@ AreNamed p shared = map (λ (s : Identifier × StaticReference). s.0) shared.sta
 
 -- ---- what all threads share
 
--- The store stands for the shared state of the source.
-pub record StoreAgrees (p : Lowered) (w : World) (store : Store) (shared : Shared) : Type 0 where
+-- The store stands for the shared state of the source, where the buffers of all threads take this.
+pub record StoreAgrees (p : Lowered) (w : World) (store : Store) (shared : Shared) (all : Acquired) : Type 0 where
   -- blocks of objects that can't be reached any more may be gone
   pub heap : HeapAgrees store.heap shared.heap
   pub laid_out : IsLaidOut store.heap
@@ -53,6 +54,7 @@ pub record StoreAgrees (p : Lowered) (w : World) (store : Store) (shared : Share
   pub named : AreNamed p shared
   pub keys : HaveKeys store.globals store.statics.items
   pub globals : SlotsAgree store.heap store.globals shared.globals
+  pub buffers : IsTaken store.heap store.elements store.views (length shared.heap) all
   -- no call that can be made yet changes these
   pub monitors : shared.monitors ≡ []
 

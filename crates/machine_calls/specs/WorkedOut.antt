@@ -12,16 +12,21 @@ use Rattle.code.specs.Effect.{element_word, truth_word}
 use Rattle.code.specs.declared.instr.LocalArray.{LocalArray}
 use Rattle.code.specs.declared.instr.Operand.{Operand}
 use Rattle.code.specs.declared.instr.Operand.TheVariants as operand
+use Rattle.code.specs.declared.instr.ReleaseMode.{ReleaseMode}
+use Rattle.code.specs.declared.instr.ReleaseMode.TheVariants.{CopyBackAndFree, FreeUncopied}
 use Rattle.code_meaning.specs.Coding.{element_of}
 use Rattle.heap.specs.Heap.{Space, values_at}
 use Rattle.heap.specs.declared.value.Value.{Value}
 use Rattle.heap.specs.declared.value.Value.TheVariants as value
-use Rattle.jni.specs.JniFunction.{JniFunction, FindClass, GetSuperclass, GetObjectClass, IsInstanceOf, IsAssignableFrom, AllocObject, NewLocalRef, NewGlobalRef, DeleteLocalRef, DeleteGlobalRef, IsSameObject, EnsureLocalCapacity, PushLocalFrame, PopLocalFrame, GetFieldID, GetStaticFieldID, GetField, SetField, GetStaticField, SetStaticField, GetObjectField, SetObjectField, GetStaticObjectField, SetStaticObjectField, GetArrayLength, GetStringLength, NewArray, NewObjectArray, GetObjectArrayElement, SetObjectArrayElement, NewStringUTF, Throw, ThrowNew, ExceptionOccurred, ExceptionCheck, ExceptionClear, FatalError, GetArrayRegion, SetArrayRegion, GetStringRegion}
+use Rattle.jni.specs.Access.{Access, ElementsCopy, is_critical}
+use Rattle.jni.specs.JniFunction.{GetBuffer, ReleaseBuffer, JniFunction, FindClass, GetSuperclass, GetObjectClass, IsInstanceOf, IsAssignableFrom, AllocObject, NewLocalRef, NewGlobalRef, DeleteLocalRef, DeleteGlobalRef, IsSameObject, EnsureLocalCapacity, PushLocalFrame, PopLocalFrame, GetFieldID, GetStaticFieldID, GetField, SetField, GetStaticField, SetStaticField, GetObjectField, SetObjectField, GetStaticObjectField, SetStaticObjectField, GetArrayLength, GetStringLength, NewArray, NewObjectArray, GetObjectArrayElement, SetObjectArrayElement, NewStringUTF, Throw, ThrowNew, ExceptionOccurred, ExceptionCheck, ExceptionClear, FatalError, GetArrayRegion, SetArrayRegion, GetStringRegion}
 use Rattle.machine_calls.specs.declared.answer.Given.TheVariants.{Nothing, Number, Reference}
 use Rattle.machine_calls.specs.declared.answer.Given.TheVariants as given
 use Rattle.machine_calls.specs.declared.answer.Answer.{Answer}
-use Rattle.machine_calls.specs.declared.answer.Answer.TheVariants.{Gives, Writes, Makes, Throws, Raises, Pends, Halts, Ensures, Pushes, RefusesFrames, Pops, Deletes, MakesGlobal, DeletesGlobal, CopiesOut, CopiesIn}
+use Rattle.machine_calls.specs.declared.answer.Answer.TheVariants.{Gives, Writes, Makes, Throws, Raises, Pends, Halts, Ensures, Pushes, RefusesFrames, Pops, Deletes, MakesGlobal, DeletesGlobal, CopiesOut, CopiesIn, AcquiresCopy, AcquiresView, Releases}
 use Rattle.machine_calls.specs.declared.array_region.ArrayRegion.{ArrayRegion}
+use Rattle.machine_calls.specs.declared.buffer.Buffer.{Buffer}
+use Rattle.machine_calls.specs.declared.buffer.Buffer.TheVariants as buffer
 use Rattle.machine_calls.specs.declared.new_object.New.TheVariants.{Fresh, Array, Text}
 use Rattle.machine_calls.specs.Scenes.{Scene}
 use Rattle.machine_calls.specs.declared.trap.Trap.TheVariants.{Fatal, OutOfRange}
@@ -160,6 +165,33 @@ abbrev pub copies_in : (exception : ℕ) → LocalArray → Option ArrayRegion �
 copies_in exception array None = Throws exception
 copies_in exception array (Some r) = if nat_le r.count array.len then CopiesIn r else Halts OutOfRange
 
+-- ---- buffers
+
+-- a copy or a view of an object is acquired, and NULL given where there is none
+abbrev pub acquires : Access → Option ℕ → Answer
+acquires access None = Gives (given.Buffer buffer.Null)
+acquires access (Some a) = if is_critical access then AcquiresView a else AcquiresCopy a
+
+-- the slot of an operand that is a buffer
+abbrev pub slot_of : Operand → ℕ
+slot_of (operand.Buffer i) = i
+slot_of o = 0
+
+-- what it holds, and NULL where there is none
+abbrev pub buffer_there : List Buffer → (slot : ℕ) → Buffer
+buffer_there buffers slot = unwrap_or (slice_get buffers slot) buffer.Null
+
+-- the mode of a release: that of this operand for elements of an array; nothing else is copied back
+abbrev pub mode_of : Access → Operand → ReleaseMode
+mode_of (ElementsCopy T) (operand.Mode mode) = mode
+mode_of (ElementsCopy T) o = CopyBackAndFree
+mode_of access o = FreeUncopied
+
+-- the buffer of an operand is released
+abbrev pub releases : List Buffer → (object : Option ℕ) → Operand → ReleaseMode → Answer
+releases buffers None o mode = Gives Nothing
+releases buffers (Some a) o mode = Releases (record { object = a; slot = slot_of o; held = buffer_there buffers (slot_of o); mode = mode })
+
 -- ---- what a function does
 
 -- A call that sees this.
@@ -242,6 +274,8 @@ module _ (scene : Scene) (call : Call) where
   worked_out (GetArrayRegion T) = copies_out array_index_out_of_bounds local_array region
   worked_out (SetArrayRegion T) = copies_in array_index_out_of_bounds local_array region
   worked_out GetStringRegion = copies_out string_index_out_of_bounds local_array region
+  worked_out (GetBuffer access) = acquires access (reference 0)
+  worked_out (ReleaseBuffer access) = releases scene.buffers (reference 0) (operand_of call.operands 1) (mode_of access (operand_of call.operands 2))
   worked_out Throw = Pends (reference 0) (Number 0)
   worked_out ThrowNew = Raises (name_there scene.space (reference 0)) 0
   worked_out ExceptionOccurred = Gives (Reference scene.pending)

@@ -1,5 +1,6 @@
 //! A call in progress.
 
+use crate::buffer::Buffer;
 use classes::class::FieldHandle;
 use code::stack::Stack;
 use tables::{Local, Locals};
@@ -12,6 +13,7 @@ pub struct Slots {
     pub references: Vec<Option<Local>>,
     /// Field IDs; none for NULL.
     pub fields: Vec<Option<FieldHandle>>,
+    pub buffers: Vec<Buffer>,
 }
 
 // Written out, and not derived, so that crates above needn't prove it again.
@@ -21,10 +23,12 @@ impl Drop for Slots {
             numbers,
             references,
             fields,
+            buffers,
         } = self;
         drop(numbers);
         drop(references);
         drop(fields);
+        drop(buffers);
     }
 }
 

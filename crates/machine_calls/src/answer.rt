@@ -11,7 +11,7 @@ ghost use Rattle.heap.specs.Heap.{IsAddress};
 ghost use Rattle.jni.specs.JniFunction.{is_built_function};
 ghost use Rattle.jni.specs.Table.{function_value};
 ghost use Rattle.machine_calls.specs.CallGroups.{is_further, is_of_objects};
-ghost use Rattle.machine_calls.specs.Checked.{arguments_fit};
+ghost use Rattle.machine_calls.specs.Checked.{arguments_fit, element_wanted};
 ghost use Rattle.machine_calls.specs.Given.{class_of_given, field_at, field_there, name_there, operand_at, operand_of, AreAddresses, AreHandles};
 ghost use Rattle.machine_calls.specs.Scenes.{scene_view};
 ghost use Rattle.machine_calls.specs.WorkedOut.{address_in, class_object, count_there, deletes, deletes_global, found_class, frame_for, held_reference, place_there, room_for, top_word, value_there, word_in, writes_there, IsFoundField, IsWorkedOut};
@@ -19,6 +19,7 @@ ghost use Rattle.syntax.specs.Views.{element_tree};
 
 use crate::array_region::ArrayRegion;
 use crate::arrays::{stack_number, work_out_array};
+use crate::buffer::{Buffer, Release};
 use crate::exceptions::work_out_exception;
 use crate::new_object::{New, text_at};
 use crate::operands::{
@@ -48,6 +49,8 @@ pub enum Given {
     FieldId(Option<FieldHandle>),
     /// What a static comes to hold.
     Global(StaticReference),
+    /// What the slot of a buffer comes to hold.
+    Buffer(Buffer),
 }
 
 /// What a call does. A new object and an exception can be refused where the heap has no room.
@@ -61,6 +64,12 @@ pub enum Answer {
     CopiesOut(ArrayRegion),
     /// What number slots hold goes into an object.
     CopiesIn(ArrayRegion),
+    /// A copy of the numbers of the object at this address is given, or NULL where all copies together would be too long.
+    AcquiresCopy(Addr),
+    /// A view of the object at this address is given, or NULL where there are as many views as may be.
+    AcquiresView(Addr),
+    /// A buffer is released.
+    Releases(Release),
     /// An object is made, and given.
     Makes(New),
     /// An exception of the class of this number is made and is pending.
@@ -97,7 +106,7 @@ pub fn work_out(scene: &Scene<'_>, function: &Call) -> Answer
     requires objects { AreAddresses scene.now.heap.now scene.now.references function.now.operands.items }
     requires handles { AreHandles scene.now.classes.now scene.now.fields.now function.now.operands.items }
     requires answered { is_built_function (function_value function.now.function) ≡ true }
-    requires passed { arguments_fit (scene_view scene.now) function.now.operands.items (function_value function.now.function) ≡ true }
+    requires passed { arguments_fit (scene_view scene.now) function.now.operands.items (element_wanted function.now.target) (function_value function.now.function) ≡ true }
     ensures { IsWorkedOut (scene_view scene.now) (call_view function.now) (function_value function.now.function) result }
 {
     match function.function {
@@ -149,7 +158,7 @@ fn work_out_further(scene: &Scene<'_>, function: &Call) -> Answer
     requires objects { AreAddresses scene.now.heap.now scene.now.references function.now.operands.items }
     requires handles { AreHandles scene.now.classes.now scene.now.fields.now function.now.operands.items }
     requires further { is_further (function_value function.now.function) ≡ true }
-    requires passed { arguments_fit (scene_view scene.now) function.now.operands.items (function_value function.now.function) ≡ true }
+    requires passed { arguments_fit (scene_view scene.now) function.now.operands.items (element_wanted function.now.target) (function_value function.now.function) ≡ true }
     ensures { IsWorkedOut (scene_view scene.now) (call_view function.now) (function_value function.now.function) result }
 {
     match function.function {
@@ -194,7 +203,7 @@ fn work_out_field(scene: &Scene<'_>, function: &Call) -> Answer
     requires objects { AreAddresses scene.now.heap.now scene.now.references function.now.operands.items }
     requires handles { AreHandles scene.now.classes.now scene.now.fields.now function.now.operands.items }
     requires of_objects { is_of_objects (function_value function.now.function) ≡ true }
-    requires passed { arguments_fit (scene_view scene.now) function.now.operands.items (function_value function.now.function) ≡ true }
+    requires passed { arguments_fit (scene_view scene.now) function.now.operands.items (element_wanted function.now.target) (function_value function.now.function) ≡ true }
     ensures { IsWorkedOut (scene_view scene.now) (call_view function.now) (function_value function.now.function) result }
 {
     match function.function {

@@ -15,6 +15,7 @@ use crate::answer::{
     value_there, writes_there,
 };
 use crate::array_class::array_class_of;
+use crate::buffers::work_out_buffer;
 use crate::copies::work_out_region;
 use crate::new_object::{New, NewArray};
 use crate::operands::{class_of_given, element_type, fits_there};
@@ -66,6 +67,9 @@ pub(crate) fn work_out_array(scene: &Scene<'_>, function: &Call) -> Answer
             stores_there(scene.heap, array, fits, stack_number(scene.stack), element)
         }
         JniFunction::NewStringUTF => Answer::Makes(New::Text(0)),
+        JniFunction::GetBuffer(_) | JniFunction::ReleaseBuffer(_) => {
+            work_out_buffer(scene, function)
+        }
         _ => work_out_region(scene, function),
     }
 }

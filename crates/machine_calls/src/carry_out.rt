@@ -9,16 +9,19 @@ ghost use Rattle.jni.specs.Table.{result_value};
 ghost use Rattle.semantics.specs.CallEffects.{CallEffect};
 ghost use Rattle.semantics.specs.Thread.{Shared, Thread as SourceThread};
 ghost use Rattle.code_meaning.specs.Lowered.{Lowered};
+ghost use Rattle.tables.specs.Elements.{OwnedNumbers};
 ghost use Rattle.tables.specs.declared.locals.TheConstants.{MOST_LOCALS};
 ghost use Rattle.tables.specs.Locals.{capacities, ensured, popped};
 ghost use Rattle.machine_calls.specs.Answers.{Brought, bringing, IsAnswer, is_halt};
-ghost use Rattle.machine_calls.specs.CarriedOut.{CarriesOut, IsPossible, failed, is_of_frames, is_of_references, LeavesSlots};
+ghost use Rattle.machine_calls.specs.Buffers.{Acquired, acquired_by, beside, holding, in_use_of};
+ghost use Rattle.machine_calls.specs.CarriedOut.{CarriesOut, CopiesStay, IsNewCopy, IsPossible, buffers_after, failed, is_of_buffers, is_of_frames, is_of_references, slots_after, takes_memory};
 ghost use Rattle.machine_calls.specs.Made.{cells_of};
 ghost use Rattle.machine_calls.specs.NewObjects.{texts_in};
 ghost use Rattle.machine_calls.specs.declared.answer.Given.TheVariants.{Number};
 
-use crate::activation::Slots;
 use crate::answer::{Answer, Given};
+use crate::buffer::Buffer;
+use crate::buffers::{acquire_copy, acquire_view, release};
 use crate::copies::{copy_in, copy_out};
 use crate::make::{can_raise, make, raise};
 use crate::new_object::New;
@@ -50,33 +53,40 @@ pub fn has_room(classes: &ClassTable, texts: &[Vec<u8>], heap: &Heap, answer: &A
     }
 }
 
-/// Does to the store and to a call's frames what a function of this kind of result answers, whose call has these texts. An object or an exception is refused
-/// exactly where it has no room in the heap: then the OutOfMemoryError object is pending, and the call fails. Local arrays are in the slots.
+/// Does to the store and to a call's frames and slots what a function of this kind of result answers, whose call has these texts, in a thread
+/// of this number. An object or an exception is refused exactly where it has no room in the heap: then the OutOfMemoryError object is
+/// pending, and the call fails. Local arrays are in the number slots.
 ///
-/// An error says that host memory for a frame or a global reference was refused; then all is as before.
+/// An error says that host memory for a frame, a global reference or a copy of elements was refused; then all is as before.
 pub fn carry_out(
     world: &World,
     store: &mut Store,
     pending: &mut Option<Addr>,
     locals: &mut Locals,
-    slots: &mut Slots,
+    numbers: &mut [u32],
+    buffers: &mut [Buffer],
+    thread: u8,
     kind: ResultKind,
     texts: &[Vec<u8>],
     answer: Answer,
 ) -> Result<Carried, AllocError>
-    requires possible { (p : Lowered) × (array : Option (Identifier × LocalArray)) × (shared : Shared) × (s : SourceThread) × (effect : CallEffect) × IsPossible p world.now store.old pending.old locals.old (result_value kind) shared s
-        × IsAnswer world.now.classes (bringing (texts_in texts.now) slots.old.numbers.items array) store.old.heap locals.old (result_value kind) shared s answer effect }
+    requires possible { (p : Lowered) × (array : Option (Identifier × LocalArray)) × (others : Acquired) × (shared : Shared) × (s : SourceThread) × (effect : CallEffect) × IsPossible p world.now store.old pending.old locals.old others shared s
+        × IsAnswer world.now.classes (bringing (texts_in texts.now) numbers.old (holding buffers.old store.old.elements thread) (in_use_of (beside others (acquired_by s))) array) store.old.heap locals.old (result_value kind) shared s answer effect }
     requires few { store.old.births + 2 < 2 ^ 32 }
     requires runs { is_halt answer ≡ false }
-    ensures carried { IfOk result (λ carried. (p : Lowered) (array : Option (Identifier × LocalArray)) (shared : Shared) (s : SourceThread) (effect : CallEffect) → IsPossible p world.now store.old pending.old locals.old (result_value kind) shared s
-        → IsAnswer world.now.classes (bringing (texts_in texts.now) slots.old.numbers.items array) store.old.heap locals.old (result_value kind) shared s answer effect
-        → CarriesOut p world.now store.old.heap locals.old answer (result_value kind) shared s effect carried.refused store.new pending.new locals.new carried.given) }
-    ensures left { IfOk result (λ carried. LeavesSlots store.old.heap answer slots.old slots.new) }
+    ensures carried { IfOk result (λ carried. (p : Lowered) (array : Option (Identifier × LocalArray)) (others : Acquired) (shared : Shared) (s : SourceThread) (effect : CallEffect) → IsPossible p world.now store.old pending.old locals.old others shared s
+        → IsAnswer world.now.classes (bringing (texts_in texts.now) numbers.old (holding buffers.old store.old.elements thread) (in_use_of (beside others (acquired_by s))) array) store.old.heap locals.old (result_value kind) shared s answer effect
+        → CarriesOut p world.now store.old.heap locals.old answer (result_value kind) others thread shared s effect carried.refused store.new pending.new locals.new carried.given) }
+    ensures slots { IfOk result (λ carried. numbers.new ≡ slots_after store.old.heap answer numbers.old) }
+    ensures buffer_slots { IfOk result (λ carried. buffers.new ≡ buffers_after answer buffers.old) }
+    ensures copies { IfOk result (λ carried. CopiesStay answer store.old.elements store.new.elements) }
+    ensures new_copy { IfOk result (λ carried. IsNewCopy store.old.elements carried.given) }
     ensures store { OnErr result (store.new ≡ store.old) }
     ensures pending { OnErr result (pending.new ≡ pending.old) }
     ensures locals { OnErr result (locals.new ≡ locals.old) }
-    ensures slots { OnErr result (slots.new ≡ slots.old) }
-    ensures of_references { OnErr result (is_of_references answer ≡ true) }
+    ensures numbers { OnErr result (numbers.new ≡ numbers.old) }
+    ensures buffers { OnErr result (buffers.new ≡ buffers.old) }
+    ensures memory { OnErr result (takes_memory answer ≡ true) }
 {
     // Here the proof takes up what is known of a world.
     let _ = world.threads();
@@ -122,14 +132,14 @@ pub fn carry_out(
             }
         }
         Answer::CopiesOut(region) => {
-            copy_out(&store.heap, &mut slots.numbers, &region);
+            copy_out(&store.heap, numbers, &region);
             Ok(Carried {
                 given: Given::Nothing,
                 refused: false,
             })
         }
         Answer::CopiesIn(region) => {
-            copy_in(&mut store.heap, &slots.numbers, &region);
+            copy_in(&mut store.heap, numbers, &region);
             Ok(Carried {
                 given: Given::Nothing,
                 refused: false,
@@ -139,6 +149,65 @@ pub fn carry_out(
             *pending = exception;
             Ok(Carried {
                 given,
+                refused: false,
+            })
+        }
+        _ => carry_out_buffers(world, store, pending, locals, buffers, thread, answer),
+    }
+}
+
+/// Does to buffers, of a thread of this number, and to references what an answer of buffers, of references or of frames says.
+#[inline(always)]
+fn carry_out_buffers(
+    world: &World,
+    store: &mut Store,
+    pending: &mut Option<Addr>,
+    locals: &mut Locals,
+    buffers: &mut [Buffer],
+    thread: u8,
+    answer: Answer,
+) -> Result<Carried, AllocError>
+    requires of_buffers { is_of_buffers answer ≡ true }
+    requires possible { (p : Lowered) × (kind : SourceKind) × (brought : Brought) × (others : Acquired) × (shared : Shared) × (s : SourceThread) × (effect : CallEffect) × IsPossible p world.now store.old pending.old locals.old others shared s
+        × IsAnswer world.now.classes brought store.old.heap locals.old kind shared s answer effect × (brought.buffers ≡ holding buffers.old store.old.elements thread) × (brought.in_use ≡ in_use_of (beside others (acquired_by s))) }
+    ensures carried { IfOk result (λ carried. (p : Lowered) (kind : SourceKind) (brought : Brought) (others : Acquired) (shared : Shared) (s : SourceThread) (effect : CallEffect) → IsPossible p world.now store.old pending.old locals.old others shared s
+        → IsAnswer world.now.classes brought store.old.heap locals.old kind shared s answer effect → brought.buffers ≡ holding buffers.old store.old.elements thread → brought.in_use ≡ in_use_of (beside others (acquired_by s))
+        → CarriesOut p world.now store.old.heap locals.old answer kind others thread shared s effect carried.refused store.new pending.new locals.new carried.given) }
+    ensures slots { IfOk result (λ carried. buffers.new ≡ buffers_after answer buffers.old) }
+    ensures copies { IfOk result (λ carried. CopiesStay answer store.old.elements store.new.elements) }
+    ensures new_copy { IfOk result (λ carried. IsNewCopy store.old.elements carried.given) }
+    ensures store { OnErr result (store.new ≡ store.old) }
+    ensures pending { OnErr result (pending.new ≡ pending.old) }
+    ensures locals { OnErr result (locals.new ≡ locals.old) }
+    ensures buffers { OnErr result (buffers.new ≡ buffers.old) }
+    ensures memory { OnErr result (takes_memory answer ≡ true) }
+{
+    match answer {
+        Answer::AcquiresCopy(object) => {
+            let alloc = *store.loaded.allocator();
+            let buffer = acquire_copy(alloc, &store.heap, &mut store.elements, thread, object)?;
+            Ok(Carried {
+                given: Given::Buffer(buffer),
+                refused: false,
+            })
+        }
+        Answer::AcquiresView(object) => {
+            let buffer = acquire_view(&mut store.heap, &mut store.views, object);
+            Ok(Carried {
+                given: Given::Buffer(buffer),
+                refused: false,
+            })
+        }
+        Answer::Releases(released) => {
+            release(
+                &mut store.heap,
+                &mut store.elements,
+                &mut store.views,
+                buffers,
+                &released,
+            );
+            Ok(Carried {
+                given: Given::Nothing,
                 refused: false,
             })
         }
@@ -156,11 +225,13 @@ fn carry_out_references(
     answer: Answer,
 ) -> Result<Carried, AllocError>
     requires of_references { is_of_references answer ≡ true }
-    requires possible { (p : Lowered) × (kind : SourceKind) × (brought : Brought) × (shared : Shared) × (s : SourceThread) × (effect : CallEffect) × IsPossible p world.now store.old pending.old locals.old kind shared s
+    requires possible { (p : Lowered) × (kind : SourceKind) × (brought : Brought) × (others : Acquired) × (shared : Shared) × (s : SourceThread) × (effect : CallEffect) × IsPossible p world.now store.old pending.old locals.old others shared s
         × IsAnswer world.now.classes brought store.old.heap locals.old kind shared s answer effect }
-    ensures carried { IfOk result (λ carried. (p : Lowered) (kind : SourceKind) (brought : Brought) (shared : Shared) (s : SourceThread) (effect : CallEffect) → IsPossible p world.now store.old pending.old locals.old kind shared s
+    ensures carried { IfOk result (λ carried. (p : Lowered) (kind : SourceKind) (brought : Brought) (others : Acquired) (k : ℕ) (shared : Shared) (s : SourceThread) (effect : CallEffect) → IsPossible p world.now store.old pending.old locals.old others shared s
         → IsAnswer world.now.classes brought store.old.heap locals.old kind shared s answer effect
-        → CarriesOut p world.now store.old.heap locals.old answer kind shared s effect carried.refused store.new pending.new locals.new carried.given) }
+        → CarriesOut p world.now store.old.heap locals.old answer kind others k shared s effect carried.refused store.new pending.new locals.new carried.given) }
+    ensures elements { store.new.elements ≡ store.old.elements }
+    ensures new_copy { IfOk result (λ carried. (copies : List (Option OwnedNumbers)) → IsNewCopy copies carried.given) }
     ensures store { OnErr result (store.new ≡ store.old) }
     ensures pending { OnErr result (pending.new ≡ pending.old) }
     ensures locals { OnErr result (locals.new ≡ locals.old) }
@@ -201,9 +272,10 @@ fn carry_out_frames(
     answer: Answer,
 ) -> Result<Carried, AllocError>
     requires { is_of_frames answer ≡ true }
-    ensures carried { IfOk result (λ carried. (p : Lowered) (kind : SourceKind) (brought : Brought) (shared : Shared) (s : SourceThread) (effect : CallEffect) → IsPossible p world.now store.now pending.old locals.old kind shared s
+    ensures carried { IfOk result (λ carried. (p : Lowered) (kind : SourceKind) (brought : Brought) (others : Acquired) (k : ℕ) (shared : Shared) (s : SourceThread) (effect : CallEffect) → IsPossible p world.now store.now pending.old locals.old others shared s
         → IsAnswer world.now.classes brought store.now.heap locals.old kind shared s answer effect
-        → CarriesOut p world.now store.now.heap locals.old answer kind shared s effect carried.refused store.now pending.new locals.new carried.given) }
+        → CarriesOut p world.now store.now.heap locals.old answer kind others k shared s effect carried.refused store.now pending.new locals.new carried.given) }
+    ensures new_copy { IfOk result (λ carried. (copies : List (Option OwnedNumbers)) → IsNewCopy copies carried.given) }
     ensures pending { OnErr result (pending.new ≡ pending.old) }
     ensures locals { OnErr result (locals.new ≡ locals.old) }
 {
@@ -307,6 +379,7 @@ fn failed(kind: ResultKind) -> Given
         ResultKind::GivesField => Given::FieldId(None),
         ResultKind::GivesInt => Given::Number(u32::MAX),
         ResultKind::GivesFlag => Given::Number(0),
-        _ => Given::Nothing,
+        ResultKind::GivesBuffer(_) => Given::Buffer(Buffer::Null),
+        ResultKind::GivesNothing => Given::Nothing,
     }
 }

@@ -12,7 +12,7 @@ ghost use Rattle.jni.specs.Table.{function_value, parameter_value, result_value}
 ghost use Rattle.machine_calls.specs.Given.{field_at, field_there, operand_at, operand_of, AreAddresses, AreHandles};
 ghost use Rattle.machine_calls.specs.Locals.{locals_after};
 ghost use Rattle.tables.specs.Locals.{has_room};
-ghost use Rattle.machine_calls.specs.Checked.{arguments_asked, has_field, has_static, gives_null, gives_deleted, may_be_null, some_missing, class_misfits, misfits, some_misfit, fits_type_there, fit_together, puts_local, trap_found};
+ghost use Rattle.machine_calls.specs.Checked.{arguments_asked, element_wanted, has_field, has_static, gives_null, gives_deleted, may_be_null, some_missing, class_misfits, misfits, some_misfit, fits_type_there, fit_together, puts_local, trap_found};
 ghost use Rattle.machine_calls.specs.Scenes.{scene_view};
 ghost use Rattle.machine_calls.specs.Traps.{trap_view};
 ghost use Rattle.semantics.specs.Checks.{first_trap};
@@ -29,9 +29,10 @@ use crate::trap::Trap;
 use classes::built_ins::{CLASS, STRING, THROWABLE, number_array};
 use classes::class::{ClassKind, ElementType, FieldHandle, FieldType};
 use classes::table::ClassTable;
-use code::instr::{Call, Operand};
+use code::instr;
+use code::instr::{Call, Operand, Target};
 use heap::{Addr, Heap};
-use jni::{JniFunction, ParameterKind, ResultKind};
+use jni::{Access, JniFunction, ParameterKind, ResultKind};
 use tables::Locals;
 
 /// Whether an operand gives NULL.
@@ -267,10 +268,11 @@ fn fit_together(
     fields: &[Option<FieldHandle>],
     function: JniFunction,
     operands: &[Operand],
+    target: Target,
 ) -> bool
     requires objects { AreAddresses heap.now references.now operands.now }
     requires handles { AreHandles classes.now fields.now operands.now }
-    ensures { result ≡ fit_together classes.now heap.now references.now fields.now operands.now (function_value function) }
+    ensures { result ≡ fit_together classes.now heap.now references.now fields.now operands.now (element_wanted target) (function_value function) }
 {
     match function {
         JniFunction::AllocObject => {
@@ -308,6 +310,10 @@ fn fit_together(
             let element = reference_at(heap, references, operands, 2);
             !classes.is_array(class) && fits_there(classes, heap, element, class)
         }
+        JniFunction::GetBuffer(Access::ArrayView) => {
+            let array = reference_at(heap, references, operands, 0);
+            class_of_given(heap, array) == number_array(element_wanted(target))
+        }
         JniFunction::Throw => {
             let exception = reference_at(heap, references, operands, 0);
             classes.assignable(class_of_given(heap, exception), THROWABLE)
@@ -317,6 +323,21 @@ fn fit_together(
             classes.assignable(class, THROWABLE)
         }
         _ => true,
+    }
+}
+
+/// The element type of the buffer that a call is to fill.
+fn element_wanted(target: Target) -> ElementType
+    ensures { element_view result ≡ element_wanted target }
+{
+    match target {
+        Target::Buffer(element, _) => match element {
+            instr::ElementType::Int => ElementType::Int,
+            instr::ElementType::Short => ElementType::Short,
+            instr::ElementType::Byte => ElementType::Byte,
+            instr::ElementType::Char => ElementType::Char,
+        },
+        _ => ElementType::Int,
     }
 }
 
@@ -331,8 +352,8 @@ fn check_arguments(
 ) -> Option<Trap>
     requires objects { AreAddresses heap.now references.now function.now.operands.items }
     requires handles { AreHandles classes.now fields.now function.now.operands.items }
-    ensures some { IfSome result (λ t. (rest : List (Bool × SourceTrap)) → first_trap (arguments_asked classes.now heap.now references.now fields.now (function_value function.now.function) function.now.operands.items ++ rest) ≡ Some (trap_view t)) }
-    ensures none { IfNone result ((rest : List (Bool × SourceTrap)) → first_trap (arguments_asked classes.now heap.now references.now fields.now (function_value function.now.function) function.now.operands.items ++ rest) ≡ first_trap rest) }
+    ensures some { IfSome result (λ t. (rest : List (Bool × SourceTrap)) → first_trap (arguments_asked classes.now heap.now references.now fields.now (element_wanted function.now.target) (function_value function.now.function) function.now.operands.items ++ rest) ≡ Some (trap_view t)) }
+    ensures none { IfNone result ((rest : List (Bool × SourceTrap)) → first_trap (arguments_asked classes.now heap.now references.now fields.now (element_wanted function.now.target) (function_value function.now.function) function.now.operands.items ++ rest) ≡ first_trap rest) }
 {
     let operands = &function.operands;
     let parameters = function.function.prototype().parameters;
@@ -350,6 +371,7 @@ fn check_arguments(
             fields,
             function.function,
             operands,
+            function.target,
         )
     {
         return Some(Trap::WrongObject);
@@ -369,8 +391,8 @@ fn argument_trap(
     requires prepared { IsPrepared function.now }
     requires objects { AreAddresses heap.now references.now function.now.operands.items }
     requires handles { AreHandles classes.now fields.now function.now.operands.items }
-    ensures some { IfSome result (λ t. (rest : List (Bool × SourceTrap)) → first_trap (arguments_asked classes.now heap.now references.now fields.now (function_value function.now.function) function.now.operands.items ++ rest) ≡ Some (trap_view t)) }
-    ensures none { IfNone result ((rest : List (Bool × SourceTrap)) → first_trap (arguments_asked classes.now heap.now references.now fields.now (function_value function.now.function) function.now.operands.items ++ rest) ≡ first_trap rest) }
+    ensures some { IfSome result (λ t. (rest : List (Bool × SourceTrap)) → first_trap (arguments_asked classes.now heap.now references.now fields.now (element_wanted function.now.target) (function_value function.now.function) function.now.operands.items ++ rest) ≡ Some (trap_view t)) }
+    ensures none { IfNone result ((rest : List (Bool × SourceTrap)) → first_trap (arguments_asked classes.now heap.now references.now fields.now (element_wanted function.now.target) (function_value function.now.function) function.now.operands.items ++ rest) ≡ first_trap rest) }
 {
     if function.asks {
         check_arguments(classes, heap, references, fields, function)
@@ -399,7 +421,7 @@ pub fn check(scene: &Scene<'_>, locals: &Locals, function: &Call) -> Option<Trap
     requires prepared { IsPrepared function.now }
     requires objects { AreAddresses scene.now.heap.now scene.now.references function.now.operands.items }
     requires handles { AreHandles scene.now.classes.now scene.now.fields.now function.now.operands.items }
-    ensures { option_map trap_view result ≡ trap_found (scene_view scene.now) (has_room (locals_after (function_value function.now.function) locals.now)) (function_value function.now.function) function.now.operands.items }
+    ensures { option_map trap_view result ≡ trap_found (scene_view scene.now) (has_room (locals_after (function_value function.now.function) locals.now)) (element_wanted function.now.target) (function_value function.now.function) function.now.operands.items }
 {
     if is_kept_off(scene.pending, function.function) {
         return Some(Trap::ExceptionPending);

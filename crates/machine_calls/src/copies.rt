@@ -179,7 +179,7 @@ pub(crate) fn copy_in(heap: &mut Heap, numbers: &[u32], region: &ArrayRegion)
 }
 
 /// The word in a cell, and 0 where it holds no number.
-fn word_of(value: Value) -> u32
+pub(crate) fn word_of(value: Value) -> u32
     ensures { result ≡ word_of value }
 {
     match value {

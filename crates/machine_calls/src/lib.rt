@@ -7,6 +7,8 @@ pub mod answer;
 mod array_class;
 pub mod array_region;
 mod arrays;
+pub mod buffer;
+mod buffers;
 pub mod carry_out;
 pub mod check;
 mod copies;

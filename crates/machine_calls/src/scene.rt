@@ -1,5 +1,6 @@
 //! What a call sees.
 
+use crate::buffer::Buffer;
 use crate::references::References;
 use classes::class::FieldHandle;
 use classes::table::ClassTable;
@@ -16,6 +17,8 @@ pub struct Scene<'a> {
     pub references: References<'a>,
     /// The field IDs in the slots of variables.
     pub fields: &'a [Option<FieldHandle>],
+    /// The buffers in the slots of variables.
+    pub buffers: &'a [Buffer],
     pub stack: &'a Stack,
     /// The exception that is pending.
     pub pending: Option<Addr>,

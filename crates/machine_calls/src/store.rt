@@ -2,7 +2,7 @@
 
 use crate::statics::StaticReference;
 use heap::{Addr, Heap};
-use tables::Globals;
+use tables::{Elements, Globals};
 
 /// The objects, and what else all threads share.
 pub struct Store {
@@ -15,6 +15,10 @@ pub struct Store {
     pub statics: Vec<StaticReference>,
     /// The global references, of which a static that is live has one of its own.
     pub globals: Globals,
+    /// The copied lists of all threads' buffers, each with its thread's number as its owner.
+    pub elements: Elements,
+    /// How many buffers of all threads are views, at most 64.
+    pub views: u32,
 }
 
 // Written out, and not derived, so that crates above needn't prove it again.
@@ -26,10 +30,13 @@ impl Drop for Store {
             births: _,
             statics,
             globals,
+            elements,
+            views: _,
         } = self;
         drop(heap);
         drop(loaded);
         drop(statics);
         drop(globals);
+        drop(elements);
     }
 }

@@ -27,58 +27,62 @@ use Rattle.machine_calls.specs.Made.{cells_of}
 use Rattle.machine_calls.specs.NewObjects.{texts_in}
 use Rattle.machine_calls.specs.WorkedOut.{IsWorkedOut}
 use Rattle.semantics_safety.specs.Owners.{Owners}
-use Rattle.machine_steps.specs.Executes.{cells_made}
+use Rattle.machine_steps.specs.Executes.{cells_made, in_use_with}
+use Rattle.machine_calls.specs.Buffers.{Acquired}
 use Rattle.machine_steps.specs.Invoked.{AtCall, IsAnswered}
 use Rattle.machine_calls.proofs.CallAnswers.{answers}
 use Rattle.machine_calls.proofs.CellsMade.{cells_made as cells_answered}
-use Rattle.machine_steps.proofs.CallInstructions.{CalledAs, called, effect_is, cells_wanted, r, held, possible, owned_key, trap_is}
+use Rattle.machine_steps.proofs.AskedCalls.{CalledAs, called, effect_is, cells_wanted, r, held, possible, owned_key, trap_is}
 
 -- the machine is at a call that no check stops
-module _ (p : Lowered) (w : World) (store : Store) (pending : Option ℕ) (call : Activation) (function : Call) (own : Owners) (shared : Shared) (s : Thread) (task : Task) (rest : List Task) (h : AtCall p w store pending call function own shared s task rest) (answer : Answer) (given : IsAnswered w store pending call function answer) where
-  abbrev pub it : CalledAs p w store pending call h.code (call_view function) own shared s task rest (r p w store pending call function own shared s task rest h) (effect_of (sight_of shared s) task)
-  it = called p w store pending call function own shared s task rest h
+module _ (p : Lowered) (w : World) (store : Store) (pending : Option ℕ) (call : Activation) (function : Call) (others : Acquired) (k : ℕ) (own : Owners) (shared : Shared) (s : Thread) (task : Task) (rest : List Task) (h : AtCall p w store pending call function others k own shared s task rest) (answer : Answer) (given : IsAnswered w store pending call function answer) where
+  abbrev pub it : CalledAs p w store pending call h.code (call_view function) others k own shared s task rest (r p w store pending call function others k own shared s task rest h) (effect_of (sight_of shared s) task)
+  it = called p w store pending call function others k own shared s task rest h
+
+  abbrev in_use : BuffersInUse
+  in_use = in_use_with others s
 
   -- what it brings
   abbrev pub brings : Brought
-  brings = brought_by call (call_view function) it.args
+  brings = brought_by store call k in_use (call_view function) it.args
 
   -- no check stops the source's
   pub free : trap_of_call w.classes shared s it.target it.f it.args ≡ None
-  free = sym (trap_is p w store pending call function own shared s task rest h) ∙ given.free
+  free = sym (trap_is p w store pending call function others k own shared s task rest h) ∙ given.free
 
   pub worked : IsWorkedOut (scene_of w.classes store call pending) (call_view function) it.f answer
   worked = subst (λ (x : JniFunction). IsWorkedOut (scene_of w.classes store call pending) (call_view function) x answer) it.asked.same_function given.works
 
   -- the effect of the source's call
-  abbrev pub does : BuffersInUse → ℕ → CallEffect
-  does in_use k = call_effect w.classes in_use k shared s it.args it.f
+  abbrev pub does : CallEffect
+  does = call_effect w.classes in_use k shared s it.args it.f
 
   -- the kind of its result
   module _ (kind : ResultKind) (same : kind ≡ (prototype (function_value function.function)).result) where
     pub kind_is : kind ≡ (prototype it.f).result
     kind_is = same ∙ ap (λ (f : JniFunction). (prototype f).result) it.asked.same_function
 
-    pub answered : (in_use : BuffersInUse) (k : ℕ) → IsAnswer w.classes brings store.heap call.locals kind shared s answer (does in_use k)
-    answered in_use k =
-        subst (λ (x : ResultKind). IsAnswer w.classes brings store.heap call.locals x shared s answer (does in_use k)) (sym kind_is)
-        (answers p w store pending call (call_view function) shared s given.sound in_use k it.args it.f it.asked it.target free answer worked
-        (owned_key p w store pending call function own shared s task rest h) (held p w store pending call function own shared s task rest h))
+    pub answered : IsAnswer w.classes brings store.heap call.locals kind shared s answer does
+    answered =
+        subst (λ (x : ResultKind). IsAnswer w.classes brings store.heap call.locals x shared s answer does) (sym kind_is)
+        (answers p w store pending call (call_view function) others k shared s it.target given.sound it.args it.f it.asked free answer worked
+        (owned_key p w store pending call function others k own shared s task rest h) (held p w store pending call function others k own shared s task rest h))
 
-    pub can_carry : IsPossible p w store pending call.locals kind shared s
-    can_carry = subst (λ (x : ResultKind). IsPossible p w store pending call.locals x shared s) (sym kind_is) (possible p w store pending call function own shared s task rest h)
+    pub can_carry : IsPossible p w store pending call.locals others shared s
+    can_carry = possible p w store pending call function others k own shared s task rest h
 
     -- its step makes what the answer makes
-    pub cells_asked : (in_use : BuffersInUse) (k : ℕ) → cells_made shared (after_effect w.classes in_use k shared s rest (effect_of (sight_of shared s) task)) ≡ cells_of w.classes (texts_in function.texts.items) answer
-    cells_asked in_use k =
+    pub cells_asked : cells_made shared (after_effect w.classes in_use k shared s rest (effect_of (sight_of shared s) task)) ≡ cells_of w.classes (texts_in function.texts.items) answer
+    cells_asked =
         ap (λ (e : Effect). cells_made shared (after_effect w.classes in_use k shared s rest e)) it.is
-        ∙ cells_wanted p w store pending call function own shared s task rest h in_use k free
-        ∙ cells_answered w.classes brings store.heap call.locals kind shared s answer (does in_use k) (answered in_use k)
+        ∙ cells_wanted p w store pending call function others k own shared s task rest h free
+        ∙ cells_answered w.classes brings store.heap call.locals kind shared s answer does answered
 
 -- the machine is at a call that stops it, all checks being passed
-module _ (p : Lowered) (w : World) (store : Store) (pending : Option ℕ) (call : Activation) (function : Call) (own : Owners) (shared : Shared) (s : Thread) (task : Task) (rest : List Task) (h : AtCall p w store pending call function own shared s task rest) (trap : Trap) (halted : IsAnswered w store pending call function (answer.Halts trap)) where
+module _ (p : Lowered) (w : World) (store : Store) (pending : Option ℕ) (call : Activation) (function : Call) (others : Acquired) (k : ℕ) (own : Owners) (shared : Shared) (s : Thread) (task : Task) (rest : List Task) (h : AtCall p w store pending call function others k own shared s task rest) (trap : Trap) (halted : IsAnswered w store pending call function (answer.Halts trap)) where
   -- so does the source's
-  pub halts : (in_use : BuffersInUse) (k : ℕ) → let it = called p w store pending call function own shared s task rest h in effect_of_call w.classes in_use k shared s it.line it.target it.f it.args rest ≡ Halts (trap_view trap)
-  halts in_use k =
-      let it = called p w store pending call function own shared s task rest h in
-      effect_is p w store pending call function own shared s task rest h (free p w store pending call function own shared s task rest h (answer.Halts trap) halted) in_use k
-      ∙ answered p w store pending call function own shared s task rest h (answer.Halts trap) halted (prototype it.f).result (ap (λ (f : JniFunction). (prototype f).result) (sym it.asked.same_function)) in_use k
+  pub halts : let it = called p w store pending call function others k own shared s task rest h in effect_of_call w.classes (in_use_with others s) k shared s it.line it.target it.f it.args rest ≡ Halts (trap_view trap)
+  halts =
+      let it = called p w store pending call function others k own shared s task rest h in
+      effect_is p w store pending call function others k own shared s task rest h (free p w store pending call function others k own shared s task rest h (answer.Halts trap) halted)
+      ∙ answered p w store pending call function others k own shared s task rest h (answer.Halts trap) halted (prototype it.f).result (ap (λ (f : JniFunction). (prototype f).result) (sym it.asked.same_function))

@@ -22,6 +22,7 @@ use Rattle.class_rules.specs.Fields.{FieldId}
 use Rattle.classes.specs.declared.class.FieldHandle.{FieldHandle}
 use Rattle.type_rules.specs.Sorts.{Ref, Global}
 use Rattle.type_rules.specs.Sorts as sort
+use Rattle.tables.specs.Elements.{OwnedNumbers}
 use Rattle.heap.specs.Heap.{Space}
 use Rattle.semantics.specs.Object.{Reference}
 use Rattle.semantics.specs.Arguments.{Actual, ReferenceActual, FieldActual}
@@ -61,7 +62,7 @@ abbrev pub HasOwner : List Reference → (owners : List (Option ℕ)) → Operan
 HasOwner references owners (operand.Local i) = (n : ℕ) → slice_get references i ≡ Some (Some n) → (level : ℕ) × (slice_get owners i ≡ Some (Some level))
 HasOwner references owners o = Unit {0}
 
-module _ (p : Lowered) (classes : Classes) (space : Space) (call : Activation) (code : Listing) (visible : Visible) (frames : List Frame) (task : Task) (rest : List Task) (r : Ready p classes space call code visible frames task rest) (helds : List Held) (statics : StaticsAgree space helds visible.statics) where
+module _ (p : Lowered) (classes : Classes) (space : Space) (copies : List (Option OwnedNumbers)) (owner : ℕ) (call : Activation) (code : Listing) (visible : Visible) (frames : List Frame) (task : Task) (rest : List Task) (r : Ready p classes space copies owner call code visible frames task rest) (helds : List Held) (statics : StaticsAgree space helds visible.statics) where
   abbrev references : References
   references = record { keys = call.slots.references.items; locals = call.locals; statics = helds }
 

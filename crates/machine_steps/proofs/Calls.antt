@@ -1,5 +1,5 @@
 -- What the instruction at the place of a call does.
-use Rattle.std.proofs.Common.{◌≡◌, ℕ, ℤ, zero, suc, ◌+◌, ◌<◌, Bool, List, [], ◌∷◌, ◌++◌, length, Option, Some, None, refl, sym, ap, ◌∙◌, subst, arith, Bor}
+use Rattle.std.proofs.Common.{◌≡◌, ◌≢◌, ⊎_elim, ℕ, ℤ, zero, suc, ◌+◌, ◌<◌, Bool, List, [], ◌∷◌, ◌++◌, length, Option, Some, None, refl, sym, ap, ◌∙◌, subst, arith, Bor}
 use Rattle.std.specs.Prelude.{slice_get, IsSome}
 use Rattle.std.specs.Option.{option_copied}
 use Rattle.base.specs.Bytes.{Identifier}
@@ -21,16 +21,19 @@ use Rattle.semantics.specs.Effect.{Effect, Becomes, Sets, SetsNull, SetsElement,
 use Rattle.semantics.specs.Task.{Task, Target}
 use Rattle.semantics.specs.Value.{Value, Trap}
 use Rattle.code_meaning.specs.Layout.{Known, with_static}
-use Rattle.code_meaning.specs.Slots.{Visible, Slots, Shows, IsSet, IsMade, IsElementSet}
+use Rattle.code_meaning.specs.Slots.{Visible, Slots, Shows, SeesBuffers, IsSet, IsMade, IsElementSet}
 use Rattle.code_meaning.specs.Stands.{StandsFor}
-use Rattle.code_meaning.specs.Does.{DoesEffect, GoesOn, Writes, StoresNull, PrintsTop, CallsFunction, LeavesCall, Stops, Works, IsReturn}
+use Rattle.code_meaning.specs.Does.{DoesEffect, GoesOn, Writes, WritesBuffer, StoresNull, PrintsTop, CallsFunction, LeavesCall, Stops, Works, IsReturn}
 use Rattle.code_meaning.specs.Lowered.{Lowered, IsLowered, IsCodeOf, AreCodesOf}
 use Rattle.machine_calls.specs.declared.activation.Activation.{Activation}
 use Rattle.class_rules.specs.Class.{Classes}
 use Rattle.class_rules.specs.Fields.{FieldId}
 use Rattle.classes.specs.declared.class.FieldHandle.{FieldHandle}
 use Rattle.semantics.specs.Thread.{Frame}
+use Rattle.tables.specs.Elements.{OwnedNumbers}
 use Rattle.tables.specs.Locals.{LocalTable}
+use Rattle.machine_calls.specs.Buffers.{BuffersAgree}
+use Rattle.machine_calls.specs.declared.buffer.Buffer.{Buffer as HeldBuffer}
 use Rattle.machine_calls.specs.Locals.{FramesAgree, KeysAgree}
 use Rattle.machine_steps.specs.Executes.{CallStands}
 use Rattle.machine_steps.specs.SlotsHold.{Meant, SlotValues, SlotsHold, slots_of, values_in}
@@ -56,22 +59,24 @@ module _ (code : Listing) (known : Known) (place : ℕ) (stack : List ℕ) (slot
       → ((x : Identifier) (v : Value) → Writes code known place stack slots visible (IsSet visible x v) rest → P (Sets x v))
       → ((target : Target) → StoresNull code known place stack slots visible target rest → P (SetsNull target))
       → ((x : Identifier) (i : ℕ) (z : ℤ) (t : ElementType) → visible.array_type x ≡ Some t → Writes code known place stack slots visible (IsElementSet visible t x i z) rest → P (SetsElement x i z))
+      → ((x : Identifier) (i : ℕ) (z : ℤ) → WritesBuffer code known place stack slots visible x i z rest → P (SetsElement x i z))
       → ((t : ElementType) (x : Identifier) (size : ℕ) → Writes code known place stack slots visible (IsMade visible t x size) rest → P (MakesArray t x size))
       → ((z : ℤ) → PrintsTop code known place stack slots visible z rest → P (Prints z))
       → ((line : ℕ) (target : Target) (f : JniFunction) (args : List Actual) → CallsFunction code known place stack slots visible line target f args rest → P (Calls line target f args))
       → (LeavesCall code known place stack slots visible → P Returns)
       → ((trap : Trap) (line : ℕ) → Stops code known place stack slots visible trap line → P (TrapsAt trap line))
+      → P NoEffect
       → (e : Effect) → DoesEffect code known place stack slots visible rest e → P e
-  does_cases becomes sets nulls element array prints calls returns traps (Becomes tasks) h = becomes tasks h
-  does_cases becomes sets nulls element array prints calls returns traps (Sets x v) h = sets x v h
-  does_cases becomes sets nulls element array prints calls returns traps (SetsNull target) h = nulls target h
-  does_cases becomes sets nulls element array prints calls returns traps (SetsElement x i z) h = element x i z h.0 h.1 h.2
-  does_cases becomes sets nulls element array prints calls returns traps (MakesArray t x size) h = array t x size h
-  does_cases becomes sets nulls element array prints calls returns traps (Prints z) h = prints z h
-  does_cases becomes sets nulls element array prints calls returns traps (Calls line target f args) h = calls line target f args h
-  does_cases becomes sets nulls element array prints calls returns traps Returns h = returns h
-  does_cases becomes sets nulls element array prints calls returns traps (TrapsAt trap line) h = traps trap line h
-  does_cases becomes sets nulls element array prints calls returns traps NoEffect h = absurd h
+  does_cases becomes sets nulls element buffer array prints calls returns traps nothing (Becomes tasks) h = becomes tasks h
+  does_cases becomes sets nulls element buffer array prints calls returns traps nothing (Sets x v) h = sets x v h
+  does_cases becomes sets nulls element buffer array prints calls returns traps nothing (SetsNull target) h = nulls target h
+  does_cases becomes sets nulls element buffer array prints calls returns traps nothing (SetsElement x i z) h = ⊎_elim (λ e. element x i z e.0 e.1 e.2) (λ b. buffer x i z b) h
+  does_cases becomes sets nulls element buffer array prints calls returns traps nothing (MakesArray t x size) h = array t x size h
+  does_cases becomes sets nulls element buffer array prints calls returns traps nothing (Prints z) h = prints z h
+  does_cases becomes sets nulls element buffer array prints calls returns traps nothing (Calls line target f args) h = calls line target f args h
+  does_cases becomes sets nulls element buffer array prints calls returns traps nothing Returns h = returns h
+  does_cases becomes sets nulls element buffer array prints calls returns traps nothing (TrapsAt trap line) h = traps trap line h
+  does_cases becomes sets nulls element buffer array prints calls returns traps nothing NoEffect h = nothing
 
 -- what has an effect on the stack and the number slots alone is plain
 pub plain_instr : (i : Instr) (s m : List ℕ) (x : Plain × List ℕ × List ℕ) → plain_of i s m ≡ Some x → IsPlain i
@@ -79,6 +84,8 @@ plain_instr (instr.TestNull variable equal) s m x h = absurd (cc)
 plain_instr (instr.StoreNull variable) s m x h = absurd (cc)
 plain_instr instr.PutJint s m x h = absurd (cc)
 plain_instr (instr.Call call) s m x h = absurd (cc)
+plain_instr (instr.LoadBuffer slot line) s m x h = absurd (cc)
+plain_instr (instr.StoreBuffer type slot line) s m x h = absurd (cc)
 plain_instr instr.Return s m x h = absurd (cc)
 plain_instr instr.ReturnJint s m x h = absurd (cc)
 plain_instr (instr.ReturnReference operand) s m x h = absurd (cc)
@@ -87,12 +94,16 @@ plain_instr i s m x h = tt
 -- a plain instruction works on the stack
 pub plain_works : (visible : Visible) (slots : Slots) (i : Instr) (stack : List ℕ) (way : Plain) (after : List ℕ) → IsPlain i → Works visible slots i stack way after → plain_of i stack slots.numbers ≡ Some (way, after, slots.numbers)
 plain_works visible slots (instr.TestNull variable equal) stack way after p h = absurd p
+plain_works visible slots (instr.LoadBuffer slot line) stack way after p h = absurd p
+plain_works visible slots (instr.StoreBuffer type slot line) stack way after p h = absurd p
 plain_works visible slots i stack way after p h = h
 
--- what works on the stack is plain, or a test of NULL
-abbrev pub IsNullTest : Instr → Type 0
-IsNullTest (instr.TestNull variable equal) = Unit {0}
-IsNullTest i = ⊥
+-- what works on the stack is plain, or looks at what slots hold
+abbrev pub LooksAtSlots : Instr → Type 0
+LooksAtSlots (instr.TestNull variable equal) = Unit {0}
+LooksAtSlots (instr.LoadBuffer slot line) = Unit {0}
+LooksAtSlots (instr.StoreBuffer type slot line) = Unit {0}
+LooksAtSlots i = ⊥
 
 pub no_return : (i : Instr) → IsReturn i → IsPlain i → ⊥
 no_return instr.Return r h = h
@@ -101,33 +112,35 @@ no_return (instr.ReturnReference operand) r h = h
 no_return i r h = r
 
 -- what is none of the others is plain
-pub plain_else : (i : Instr) → ((v : _) (equal : Bool) → i ≡ instr.TestNull v equal → ⊥) → ((v : _) → i ≡ instr.StoreNull v → ⊥) → (i ≡ instr.PutJint → ⊥) → ((call : Call) → i ≡ instr.Call call → ⊥)
+pub plain_else : (i : Instr) → ((v : _) (equal : Bool) → i ≡ instr.TestNull v equal → ⊥) → ((v : _) → i ≡ instr.StoreNull v → ⊥) → ((slot line : ℕ) → i ≡ instr.LoadBuffer slot line → ⊥) → ((type : _) (slot line : ℕ) → i ≡ instr.StoreBuffer type slot line → ⊥) → (i ≡ instr.PutJint → ⊥) → ((call : Call) → i ≡ instr.Call call → ⊥)
     → (i ≡ instr.Return → ⊥) → (i ≡ instr.ReturnJint → ⊥) → ((o : _) → i ≡ instr.ReturnReference o → ⊥) → IsPlain i
-plain_else (instr.TestNull v equal) test store put call return return_jint return_reference = test v equal refl
-plain_else (instr.StoreNull v) test store put call return return_jint return_reference = store v refl
-plain_else instr.PutJint test store put call return return_jint return_reference = put refl
-plain_else (instr.Call c) test store put call return return_jint return_reference = call c refl
-plain_else instr.Return test store put call return return_jint return_reference = return refl
-plain_else instr.ReturnJint test store put call return return_jint return_reference = return_jint refl
-plain_else (instr.ReturnReference o) test store put call return return_jint return_reference = return_reference o refl
-plain_else i test store put call return return_jint return_reference = tt
+plain_else (instr.TestNull v equal) test store load_buffer store_buffer put call return return_jint return_reference = test v equal refl
+plain_else (instr.StoreNull v) test store load_buffer store_buffer put call return return_jint return_reference = store v refl
+plain_else (instr.LoadBuffer slot line) test store load_buffer store_buffer put call return return_jint return_reference = load_buffer slot line refl
+plain_else (instr.StoreBuffer type slot line) test store load_buffer store_buffer put call return return_jint return_reference = store_buffer type slot line refl
+plain_else instr.PutJint test store load_buffer store_buffer put call return return_jint return_reference = put refl
+plain_else (instr.Call c) test store load_buffer store_buffer put call return return_jint return_reference = call c refl
+plain_else instr.Return test store load_buffer store_buffer put call return return_jint return_reference = return refl
+plain_else instr.ReturnJint test store load_buffer store_buffer put call return return_jint return_reference = return_jint refl
+plain_else (instr.ReturnReference o) test store load_buffer store_buffer put call return return_jint return_reference = return_reference o refl
+plain_else i test store load_buffer store_buffer put call return return_jint return_reference = tt
 
 -- ---- what is known of the instruction at a call's place
 
-pub record Ready (p : Lowered) (classes : Classes) (space : Space) (call : Activation) (code : Listing) (visible : Visible) (frames : List Frame) (task : Task) (rest : List Task) : Type 0 where
+pub record Ready (p : Lowered) (classes : Classes) (space : Space) (copies : List (Option OwnedNumbers)) (k : ℕ) (call : Activation) (code : Listing) (visible : Visible) (frames : List Frame) (task : Task) (rest : List Task) : Type 0 where
   pub of_function : slice_get p.codes call.function ≡ Some code
   pub valid : IsValid code
   pub known : Known
   pub meant : Meant
-  pub holds : SlotsHold classes space call.locals (values_in call) meant
+  pub holds : SlotsHold classes space copies k call.locals (values_in call) meant
   pub frames_agree : FramesAgree space call.locals frames
   pub shows : Shows code known visible (slots_of call meant)
   pub stands : StandsFor code known call.place call.stack (task ∷ rest)
   pub does : DoesEffect code known call.place call.stack (slots_of call meant) visible rest (effect_of visible.sight task)
   pub depth : depth_at code.instrs call.place ≡ Some (length call.stack)
 
-pub ready : (p : Lowered) (classes : Classes) (space : Space) (call : Activation) (code : Listing) (visible : Visible) (frames : List Frame) (task : Task) (rest : List Task) → IsLowered p → slice_get p.codes call.function ≡ Some code → CallStands p classes space call visible frames (task ∷ rest) → Ready p classes space call code visible frames task rest
-ready p classes space call code visible frames task rest lowered at h =
+pub ready : (p : Lowered) (classes : Classes) (space : Space) (copies : List (Option OwnedNumbers)) (k : ℕ) (call : Activation) (code : Listing) (visible : Visible) (frames : List Frame) (task : Task) (rest : List Task) → IsLowered p → slice_get p.codes call.function ≡ Some code → (h : CallStands p classes space copies k call visible frames (task ∷ rest)) → SeesBuffers visible h.meant.buffers → Ready p classes space copies k call code visible frames task rest
+ready p classes space copies k call code visible frames task rest lowered at h sees =
     let same : h.code ≡ code = cc (h.of_function) in
     let found = code_lowered [] (unit_tree p.unit).items p.codes call.function code lowered at in
     let shows = subst (λ (k : Listing). Shows k h.known visible (slots_of call h.meant)) same h.shows in
@@ -141,21 +154,21 @@ ready p classes space call code visible frames task rest lowered at h =
       frames_agree = h.frames_agree;
       shows = shows;
       stands = stands;
-      does = found.2.steps visible h.known (slots_of call h.meant) call.place call.stack task rest shows stands;
+      does = found.2.steps visible h.known (slots_of call h.meant) call.place call.stack task rest shows sees stands;
       depth = subst (λ (k : Listing). depth_at k.instrs call.place ≡ Some (length call.stack)) same h.depth;
     }
 
 -- the owners are those of the call
-pub ready_owners : (p : Lowered) (classes : Classes) (space : Space) (call : Activation) (code : Listing) (visible : Visible) (frames : List Frame) (task : Task) (rest : List Task) (lowered : IsLowered p) (at : slice_get p.codes call.function ≡ Some code) (h : CallStands p classes space call visible frames (task ∷ rest))
-    → (ready p classes space call code visible frames task rest lowered at h).meant.owners ≡ h.meant.owners
+pub ready_owners : (p : Lowered) (classes : Classes) (space : Space) (copies : List (Option OwnedNumbers)) (k : ℕ) (call : Activation) (code : Listing) (visible : Visible) (frames : List Frame) (task : Task) (rest : List Task) (lowered : IsLowered p) (at : slice_get p.codes call.function ≡ Some code) (h : CallStands p classes space copies k call visible frames (task ∷ rest)) (sees : SeesBuffers visible h.meant.buffers)
+    → (ready p classes space copies k call code visible frames task rest lowered at h sees).meant.owners ≡ h.meant.owners
 unfolding ready
-ready_owners p classes space call code visible frames task rest lowered at h = refl
+ready_owners p classes space copies k call code visible frames task rest lowered at h sees = refl
 
 -- and so are the names
-pub ready_known : (p : Lowered) (classes : Classes) (space : Space) (call : Activation) (code : Listing) (visible : Visible) (frames : List Frame) (task : Task) (rest : List Task) (lowered : IsLowered p) (at : slice_get p.codes call.function ≡ Some code) (h : CallStands p classes space call visible frames (task ∷ rest))
-    → (ready p classes space call code visible frames task rest lowered at h).known ≡ h.known
+pub ready_known : (p : Lowered) (classes : Classes) (space : Space) (copies : List (Option OwnedNumbers)) (k : ℕ) (call : Activation) (code : Listing) (visible : Visible) (frames : List Frame) (task : Task) (rest : List Task) (lowered : IsLowered p) (at : slice_get p.codes call.function ≡ Some code) (h : CallStands p classes space copies k call visible frames (task ∷ rest)) (sees : SeesBuffers visible h.meant.buffers)
+    → (ready p classes space copies k call code visible frames task rest lowered at h sees).known ≡ h.known
 unfolding ready
-ready_known p classes space call code visible frames task rest lowered at h = refl
+ready_known p classes space copies k call code visible frames task rest lowered at h sees = refl
 
 -- as many field IDs as handles
 pub fields_count : (classes : Classes) (handles : List (Option FieldHandle)) (fields : List (Option FieldId)) → FieldsAgree classes handles fields → length fields ≡ length handles
@@ -172,20 +185,20 @@ some_has : {A : Type 0} (o : Option A) → IsSome o → (x : A) × (o ≡ Some x
 some_has None h = absurd (cc)
 some_has (Some x) h = (x, refl)
 
-module _ (p : Lowered) (classes : Classes) (space : Space) (call : Activation) (code : Listing) (visible : Visible) (frames : List Frame) (task : Task) (rest : List Task) (r : Ready p classes space call code visible frames task rest) where
+module _ (p : Lowered) (classes : Classes) (space : Space) (copies : List (Option OwnedNumbers)) (k : ℕ) (call : Activation) (code : Listing) (visible : Visible) (frames : List Frame) (task : Task) (rest : List Task) (r : Ready p classes space copies k call code visible frames task rest) where
   -- there is an instruction
-  pub here : (i : Instr) × (slice_get code.instrs call.place ≡ Some i)
-  here =
-      does_cases code r.known call.place call.stack (slots_of call r.meant) visible rest (λ e. (i : Instr) × (slice_get code.instrs call.place ≡ Some i))
-      (λ tasks g. (g.here, g.at)) (λ x v g. (g.here, g.at)) (λ target g. (instr.StoreNull g.variable, g.at)) (λ x i z t a g. (g.here, g.at)) (λ t x n g. (g.here, g.at))
-      (λ z g. (instr.PutJint, g.at)) (λ line target f args g. (instr.Call g.call, g.at)) (λ g. (g.here, g.at)) (λ trap line g. (g.here, g.at))
-      (effect_of visible.sight task) r.does
+  pub here : effect_of visible.sight task ≢ NoEffect → (i : Instr) × (slice_get code.instrs call.place ≡ Some i)
+  here possible =
+      does_cases code r.known call.place call.stack (slots_of call r.meant) visible rest (λ e. e ≢ NoEffect → (i : Instr) × (slice_get code.instrs call.place ≡ Some i))
+      (λ tasks g some. (g.here, g.at)) (λ x v g some. (g.here, g.at)) (λ target g some. (instr.StoreNull g.variable, g.at)) (λ x i z t a g some. (g.here, g.at)) (λ x i z g some. (_, g.at)) (λ t x n g some. (g.here, g.at))
+      (λ z g some. (instr.PutJint, g.at)) (λ line target f args g some. (instr.Call g.call, g.at)) (λ g some. (g.here, g.at)) (λ trap line g some. (g.here, g.at)) (λ some. absurd (some refl))
+      (effect_of visible.sight task) r.does possible
 
-  -- the call stands for tasks at another place
-  pub stands_at : (after : Activation) (to : ℕ) (stack : List ℕ) (slots : SlotValues) (meant : Meant) (names : Known) (visible' : Visible) (tasks : List Task)
-      → depth_at code.instrs to ≡ Some (length stack) → HasMoved call after to stack slots → SlotsHold classes space call.locals slots meant → StandsFor code names to stack tasks
-      → Shows code names visible' (record (slots_of call meant) { numbers = slots.numbers }) → CallStands p classes space after visible' frames tasks
-  stands_at after to stack slots meant names visible' tasks d m holds stands shows = record {
+  -- the call stands for tasks at another place, where the heap and the copied lists may be others
+  pub stands_in : (space' : Space) (copies' : List (Option OwnedNumbers)) (after : Activation) (to : ℕ) (stack : List ℕ) (slots : SlotValues) (meant : Meant) (names : Known) (visible' : Visible) (tasks : List Task)
+      → depth_at code.instrs to ≡ Some (length stack) → HasMoved call after to stack slots → FramesAgree space' call.locals frames → SlotsHold classes space' copies' k call.locals slots meant → StandsFor code names to stack tasks
+      → Shows code names visible' (record (slots_of call meant) { numbers = slots.numbers }) → CallStands p classes space' copies' k after visible' frames tasks
+  stands_in space' copies' after to stack slots meant names visible' tasks d m framed holds stands shows = record {
     code = code;
     of_function = ap (slice_get p.codes) m.function ∙ r.of_function;
     known = names;
@@ -193,14 +206,26 @@ module _ (p : Lowered) (classes : Classes) (space : Space) (call : Activation) (
     meant = meant;
     holds = record {
       keys =
-          subst (λ (t : LocalTable). KeysAgree space t after.slots.references.items meant.references meant.owners) (sym m.locals)
-          (subst (λ (l : List (Option ℕ)). KeysAgree space call.locals l meant.references meant.owners) (sym m.references) holds.keys);
+          subst (λ (t : LocalTable). KeysAgree space' t after.slots.references.items meant.references meant.owners) (sym m.locals)
+          (subst (λ (l : List (Option ℕ)). KeysAgree space' call.locals l meant.references meant.owners) (sym m.references) holds.keys);
       fields = subst (λ (l : List (Option FieldHandle)). FieldsAgree classes l meant.fields) (sym m.fields) holds.fields;
+      buffers = subst (λ (l : List HeldBuffer). BuffersAgree space' copies' k l meant.buffers) (sym m.buffers) holds.buffers;
+      small = holds.small;
     };
     shows = subst (λ (ns : List ℕ). Shows code names visible' (record (slots_of call meant) { numbers = ns })) (sym m.numbers) shows;
     depth = ap (depth_at code.instrs) m.place ∙ d ∙ ap (λ (s : List ℕ). Some (length s)) (sym m.stack);
-    frames_agree = subst (λ (t : LocalTable). FramesAgree space t frames) (sym m.locals) r.frames_agree;
+    frames_agree = subst (λ (t : LocalTable). FramesAgree space' t frames) (sym m.locals) framed;
   }
+
+  -- the same with those of before
+  pub stands_at : (after : Activation) (to : ℕ) (stack : List ℕ) (slots : SlotValues) (meant : Meant) (names : Known) (visible' : Visible) (tasks : List Task)
+      → depth_at code.instrs to ≡ Some (length stack) → HasMoved call after to stack slots → SlotsHold classes space copies k call.locals slots meant → StandsFor code names to stack tasks
+      → Shows code names visible' (record (slots_of call meant) { numbers = slots.numbers }) → CallStands p classes space copies k after visible' frames tasks
+  stands_at after to stack slots meant names visible' tasks d m holds stands shows = stands_in space copies after to stack slots meant names visible' tasks d m r.frames_agree holds stands shows
+
+  -- other numbers in slots
+  pub holds_with : (numbers : List ℕ) → SlotsHold classes space copies k call.locals (record (values_in call) { numbers = numbers }) r.meant
+  holds_with numbers = record { keys = r.holds.keys; fields = r.holds.fields; buffers = r.holds.buffers; small = r.holds.small }
 
   module _ (i : Instr) (at : slice_get code.instrs call.place ≡ Some i) where
     pub runs : RunsAt code call.place i
@@ -231,3 +256,13 @@ is_there (Some r) x h = refl
 pub positive : (n : ℕ) → IsSome (depth_after instr.PutJint n) → 0 < n
 positive zero h = absurd (cc (h))
 positive (suc n) h = omega arith
+
+pub one_word : (slot line n : ℕ) → IsSome (depth_after (instr.LoadBuffer slot line) n) → 0 < n
+one_word slot line zero h = absurd (cc (h))
+one_word slot line (suc n) h = omega arith
+
+-- two are
+pub two_words : (type : _) (slot line n : ℕ) → IsSome (depth_after (instr.StoreBuffer type slot line) n) → 1 < n
+two_words type slot line zero h = absurd (cc (h))
+two_words type slot line (suc zero) h = absurd (cc (h))
+two_words type slot line (suc (suc n)) h = omega arith

@@ -9,14 +9,15 @@ use Rattle.base.specs.Bytes.{Identifier, ByName, lookup}
 use Rattle.base.specs.Element.{ElementType}
 use Rattle.class_rules.specs.Fields.{FieldId}
 use Rattle.semantics.specs.Object.{Reference}
-use Rattle.semantics.specs.Sight.{scalar, holds_null, elements_of, in_range, held_reference, held_field}
+use Rattle.semantics.specs.Sight.{scalar, holds_null, variable_is_null, elements_of, in_range, held_reference, held_field}
 use Rattle.semantics.specs.Thread as source
 use Rattle.semantics.specs.Thread.{Shared}
 use Rattle.semantics.specs.Value.{Value, Gives, Stuck, outcome_then, convert}
-use Rattle.semantics.specs.Variable.{Variable, Scalar, LocalRef, FieldHandle, Elements, LocalArray, Empty, Variables, assign, change}
-use Rattle.semantics.specs.Task.{VariableKind, ScalarKind, ReferenceKind, FieldKind}
+use Rattle.semantics.specs.Variable as variable
+use Rattle.semantics.specs.Variable.{Variable, Scalar, LocalRef, FieldHandle, Elements, LocalArray, NoBuffer, Copy, View, Empty, Variables, assign, change}
+use Rattle.semantics.specs.Task.{VariableKind, ScalarKind, ReferenceKind, FieldKind, BufferKind}
 use Rattle.semantics_safety.specs.Owners.{Owners}
-use Rattle.code_meaning.specs.Slots.{visible_to, type_of_array, kind_of_variable, OthersStay, IsSet, IsNulled, IsReferred, IsFieldSet, IsMade, IsElementSet}
+use Rattle.code_meaning.specs.Slots.{visible_to, type_of_array, kind_of_variable, held_buffer, is_no_buffer, OthersStay, IsSet, IsNulled, IsReferred, IsFieldSet, IsBufferSet, IsMade, IsElementSet}
 use Rattle.machine_calls.proofs.SetPlaces.{get_set_same, get_set_other}
 
 -- ---- lists by name
@@ -125,6 +126,14 @@ field_by_kind (Some (FieldHandle f)) h = (f, refl)
 field_by_kind (Some (Elements t b)) h = absurd (cc)
 field_by_kind (Some (LocalArray t zs)) h = absurd (cc)
 
+pub buffer_by_kind : (o : Option Variable) (t : ElementType) → kind_of_variable o ≡ Some (BufferKind t) → (b : variable.Buffer) × (o ≡ Some (Elements t b))
+buffer_by_kind None t h = absurd (cc)
+buffer_by_kind (Some (Scalar v)) t h = absurd (cc)
+buffer_by_kind (Some (LocalRef level r)) t h = absurd (cc)
+buffer_by_kind (Some (FieldHandle f)) t h = absurd (cc)
+buffer_by_kind (Some (Elements u b)) t h = (b, let same : u ≡ t = cc in ap (λ (e : ElementType). Some (Elements e b)) same)
+buffer_by_kind (Some (LocalArray u zs)) t h = absurd (cc)
+
 -- ---- a variable is set
 
 -- the other variables' own references are what they were
@@ -142,9 +151,10 @@ module _ (own own' : Owners) (shared : Shared) (s t : source.Thread) (x : Identi
       record {
         number = ap scalar same;
         is_null = ap (λ (o : Option Variable). holds_null o (lookup y shared.statics)) same;
-        element = λ i. ap (λ (o : Option Variable). outcome_then (λ (zs : List ℤ). in_range (slice_get zs i)) (elements_of shared.heap o)) same;
+        element = λ u i array. ap (λ (o : Option Variable). outcome_then (λ (zs : List ℤ). in_range (slice_get zs i)) (elements_of shared.heap o)) same;
         reference = ap (λ (o : Option Variable). held_reference o (lookup y shared.statics)) same;
         field = ap held_field same;
+        buffer = ap held_buffer same;
         array_type = ap type_of_array same;
         kind = ap kind_of_variable same;
         owner = stay y other;
@@ -154,13 +164,14 @@ module _ (own own' : Owners) (shared : Shared) (s t : source.Thread) (x : Identi
   element_of i = ap (λ (o : Option Variable). outcome_then (λ (zs : List ℤ). in_range (slice_get zs i)) (elements_of shared.heap o)) found
 
   -- a variable that is NULL
-  pub is_nulled : (kind : VariableKind) → scalar (Some v) ≡ Stuck → holds_null (Some v) (lookup x shared.statics) ≡ Gives true → held_reference (Some v) (lookup x shared.statics) ≡ Empty → held_field (Some v) ≡ None → type_of_array (Some v) ≡ None → kind_of_variable (Some v) ≡ Some kind
+  pub is_nulled : (kind : VariableKind) → scalar (Some v) ≡ Stuck → holds_null (Some v) (lookup x shared.statics) ≡ Gives true → held_reference (Some v) (lookup x shared.statics) ≡ Empty → held_field (Some v) ≡ None → held_buffer (Some v) ≡ NoBuffer → type_of_array (Some v) ≡ None → kind_of_variable (Some v) ≡ Some kind
       → IsNulled (visible_to own shared s) (Some kind) x (visible_to own' shared t)
-  is_nulled kind number null reference field no_array same_kind = record {
+  is_nulled kind number null reference field no_buffer no_array same_kind = record {
     number = ap scalar found ∙ number;
     is_null = ap (λ (o : Option Variable). holds_null o (lookup x shared.statics)) found ∙ null;
     reference = ap (λ (o : Option Variable). held_reference o (lookup x shared.statics)) found ∙ reference;
     field = ap held_field found ∙ field;
+    buffer = ap held_buffer found ∙ no_buffer;
     array_type = ap type_of_array found ∙ no_array;
     same_kind = ap kind_of_variable found ∙ same_kind;
     statics = refl;
@@ -195,6 +206,23 @@ is_field_set own own' shared s t x stay f e =
       kind = ap kind_of_variable is;
       statics = refl;
       others = others own own' shared s t x stay (FieldHandle f) e;
+    }
+
+-- a buffer
+buffer_null : (type : ElementType) (b : variable.Buffer) → variable_is_null (Elements type b) ≡ Gives (is_no_buffer b)
+buffer_null type NoBuffer = refl
+buffer_null type (Copy n zs) = refl
+buffer_null type (View n) = refl
+
+pub is_buffer_set : (own own' : Owners) (shared : Shared) (s t : source.Thread) (x : Identifier) → OthersOwn own own' x → (type : ElementType) (b : variable.Buffer) → t.variables ≡ assign x (Elements type b) s.variables → IsBufferSet (visible_to own shared s) type x b (visible_to own' shared t)
+is_buffer_set own own' shared s t x stay type b e =
+    let is = found own own' shared s t x stay (Elements type b) e in
+    record {
+      buffer = ap held_buffer is;
+      is_null = ap (λ (o : Option Variable). holds_null o (lookup x shared.statics)) is ∙ buffer_null type b;
+      kind = ap kind_of_variable is;
+      statics = refl;
+      others = others own own' shared s t x stay (Elements type b) e;
     }
 
 -- a new array

@@ -1,6 +1,6 @@
 -- What the slots show once numbers have gone into a local array.
 use Rattle.std.proofs.Common.{◌≡◌, ◌⊎◌, inl, inr, ℕ, ℤ, zero, suc, ◌+◌, ◌<◌, ◌≤◌, false, List, [], ◌∷◌, length, Option, Some, refl, sym, ap, ◌∙◌, subst, arith}
-use Rattle.std.specs.Prelude.{slice_get, nat_le, FitsSigned}
+use Rattle.std.specs.Prelude.{slice_get, slice_set, nat_le, FitsSigned, if◌then◌else◌}
 use Rattle.std.specs.Int.{w32, cast_unsigned}
 use Rattle.std.specs.List.{AllByRecursion, AllZip}
 use Rattle.std.specs.Option.{option_map}
@@ -28,20 +28,24 @@ use Rattle.semantics.specs.CallEffects.{CallEffect, begun_with, frames_effect, o
 use Rattle.semantics.specs.Sight.{in_range}
 use Rattle.semantics.specs.Thread as source
 use Rattle.semantics.specs.Thread.{Shared, viewed_by}
-use Rattle.semantics.specs.Variable.{Variable, LocalArray, Variables, assign, change}
+use Rattle.semantics.specs.Variable as source_variable
+use Rattle.semantics.specs.Variable.{Variable, LocalArray, NoBuffer, Variables, assign, change}
 use Rattle.semantics_safety.specs.Owners.{Owners}
 use Rattle.tables.specs.Locals.{LocalTable}
 use Rattle.machine_calls.specs.declared.answer.Answer.{Answer}
 use Rattle.machine_calls.specs.declared.answer.Answer.TheVariants as answers
 use Rattle.machine_calls.specs.declared.array_region.ArrayRegion.{ArrayRegion}
-use Rattle.machine_calls.specs.Answers.{AreWordsOf, Brought, IsAnswer, IsCopiedOut, array_given, is_halt, named_array}
-use Rattle.machine_calls.specs.CarriedOut.{numbers_after, variables_left}
+use Rattle.machine_calls.specs.Answers.{AreWordsOf, Brought, IsAnswer, IsCopiedOut, IsReleased, array_given, is_halt, named_array}
+use Rattle.machine_calls.specs.Buffers.{gives_up}
+use Rattle.machine_calls.specs.CarriedOut.{buffers_after, slots_after, variables_left}
+use Rattle.machine_calls.specs.declared.buffer.Buffer.{Buffer}
+use Rattle.machine_calls.specs.declared.buffer.Release.{Release}
 use Rattle.machine_calls.specs.Copies.{overlaid}
 use Rattle.machine_calls.proofs.AnswerCases.{gives_it, makes_it, throws_it, writes_it}
 use Rattle.machine_calls.proofs.Overlays.{get_outside, get_within, length_overlaid, overlaid_is}
 use Rattle.machine_steps.proofs.Arguments.{array_held}
 use Rattle.machine_steps.proofs.Changes.{change_is, element_of, found, others}
-use Rattle.machine_steps.proofs.Views.{assigned_viewless}
+use Rattle.machine_steps.proofs.Acquisitions.{assigned_same, copied_there, taken_by, viewed_there}
 
 -- ---- the elements of the array
 
@@ -90,11 +94,13 @@ module _ (code : Listing) (known : Known) (own : Owners) (shared : Shared) (s : 
   abbrev begun : source.Thread
   begun = record s { variables = change x (begun_with zs) s.variables }
 
-  pub copied_viewless : viewed_by s ≡ [] → viewed_by begun ≡ []
-  copied_viewless none =
+  -- its buffers take what they did
+  pub copied_taken : taken_by begun.variables ≡ taken_by s.variables
+  copied_taken =
       let held = array_held code known 0 [] slots own shared s shows x t array at in
-      subst (λ (vs : Variables). viewed_by (record s { variables = vs }) ≡ []) (sym (change_is x (begun_with zs) (LocalArray held.type held.elements) s.variables held.is))
-      (assigned_viewless x (LocalArray held.type (overwritten held.elements 0 zs)) s.variables refl none)
+      let new : Variable = LocalArray held.type (overwritten held.elements 0 zs) in
+      ap taken_by (change_is x (begun_with zs) (LocalArray held.type held.elements) s.variables held.is)
+      ∙ assigned_same x new s.variables (sym (ap copied_there held.is)) (sym (ap viewed_there held.is))
 
   pub shows_copied : HaveOwnSlots known → Shows code known (visible_to own shared begun) (record slots { numbers = overlaid slots.numbers array.start words })
   shows_copied owned =
@@ -112,7 +118,7 @@ module _ (code : Listing) (known : Known) (own : Owners) (shared : Shared) (s : 
       (others own own shared s begun x (λ y other. refl) new set) (λ y other. statics_stay shared.statics shared.statics refl y)
       (length_overlaid slots.numbers array.start words) refl refl refl
       (λ k outside. get_outside slots.numbers array.start words k (λ j small e. outside (omega (arith, e), omega (arith, e, small, few))))
-      (λ i other. (refl, refl)) (λ i other. refl)
+      (λ i other. (refl, refl)) (λ i other. refl) refl (λ i other. refl)
       (record {
         few = shown.few;
         array_type = ap type_of_array (found own own shared s begun x (λ y other. refl) new set) ∙ sym (ap type_of_array held.is) ∙ shown.array_type;
@@ -149,6 +155,11 @@ array_known code known place stack slots visible operands args name array h give
 
 -- ---- which answers change variables
 
+-- what buffers in slots stand for once an answer is carried out
+abbrev pub meant_after : Answer → List source_variable.Buffer → List source_variable.Buffer
+meant_after (answers.Releases r) buffers = if gives_up r.mode then slice_set buffers r.slot NoBuffer else buffers
+meant_after a buffers = buffers
+
 module _ (classes : Classes) (brought : Brought) (space : Space) (locals : LocalTable) (kind : ResultKind) (shared : Shared) (s : source.Thread) where
   -- numbers were copied into the array that the call names
   pub record Copied (answer : Answer) (effect : CallEffect) : Type 0 where
@@ -157,27 +168,38 @@ module _ (classes : Classes) (brought : Brought) (space : Space) (locals : Local
     pub nothing : kind ≡ GivesNothing
     pub copied : IsCopiedOut brought space shared s region effect
 
-  -- or the variables and the number slots are as they were
+  -- a buffer is released
+  pub record Released (answer : Answer) (effect : CallEffect) : Type 0 where
+    pub release : Release
+    pub is : answer ≡ answers.Releases release
+    pub nothing : kind ≡ GivesNothing
+    pub released : IsReleased brought space shared s release effect
+
+  -- or the variables, the number slots and the buffers are as they were
   abbrev pub AreKept : Answer → CallEffect → Type 0
-  AreKept answer effect = (variables_left false s effect ≡ s.variables) × ((numbers : List ℕ) → numbers_after space answer numbers ≡ numbers)
+  AreKept answer effect =
+      (variables_left false s effect ≡ s.variables) × ((numbers : List ℕ) → slots_after space answer numbers ≡ numbers) × ((buffers : List Buffer) → buffers_after answer buffers ≡ buffers) × ((buffers : List source_variable.Buffer) → meant_after answer buffers ≡ buffers)
 
   of_frames : (frames : List source.Frame) → variables_left false s (frames_effect classes shared s frames) ≡ s.variables
   of_frames frames = cond_both (nat_le (source.capacities frames) 1024) _ (refuses_frames classes shared s) (λ (e : CallEffect). variables_left false s e ≡ s.variables) (λ e. refl) (λ e. refl)
 
-  pub kept_or_copied : (answer : Answer) (effect : CallEffect) → is_halt answer ≡ false → IsAnswer classes brought space locals kind shared s answer effect → AreKept answer effect ⊎ Copied answer effect
-  kept_or_copied (answers.Gives g) effect runs h = inl (ap (variables_left false s) (gives_it classes brought space locals kind shared s g effect h).is, λ numbers. refl)
-  kept_or_copied (answers.Writes a place v) effect runs h = inl (ap (variables_left false s) (writes_it classes brought space locals kind shared s a place v effect h).is, λ numbers. refl)
-  kept_or_copied (answers.CopiesOut region) effect runs h = inr (record { region = region; is = refl; nothing = h.0; copied = h.1 })
-  kept_or_copied (answers.CopiesIn region) effect runs h = inl (ap (variables_left false s) h.1.is, λ numbers. refl)
-  kept_or_copied (answers.Makes new) effect runs h = inl (ap (variables_left false s) (makes_it classes brought space locals kind shared s new effect h).is, λ numbers. refl)
-  kept_or_copied (answers.Throws class) effect runs h = inl (ap (variables_left false s) (throws_it classes brought space locals kind shared s class effect h).is, λ numbers. refl)
-  kept_or_copied (answers.Raises class place) effect runs h = inl (ap (variables_left false s) h.3, λ numbers. refl)
-  kept_or_copied (answers.Pends a g) effect runs h = inl (ap (variables_left false s) h.2.2, λ numbers. refl)
+  pub kept_or_copied : (answer : Answer) (effect : CallEffect) → is_halt answer ≡ false → IsAnswer classes brought space locals kind shared s answer effect → AreKept answer effect ⊎ (Copied answer effect ⊎ Released answer effect)
+  kept_or_copied (answers.Gives g) effect runs h = inl (ap (variables_left false s) (gives_it classes brought space locals kind shared s g effect h).is, λ numbers. refl, λ buffers. refl, λ buffers. refl)
+  kept_or_copied (answers.Writes a place v) effect runs h = inl (ap (variables_left false s) (writes_it classes brought space locals kind shared s a place v effect h).is, λ numbers. refl, λ buffers. refl, λ buffers. refl)
+  kept_or_copied (answers.CopiesOut region) effect runs h = inr (inl (record { region = region; is = refl; nothing = h.0; copied = h.1 }))
+  kept_or_copied (answers.CopiesIn region) effect runs h = inl (ap (variables_left false s) h.1.is, λ numbers. refl, λ buffers. refl, λ buffers. refl)
+  kept_or_copied (answers.Makes new) effect runs h = inl (ap (variables_left false s) (makes_it classes brought space locals kind shared s new effect h).is, λ numbers. refl, λ buffers. refl, λ buffers. refl)
+  kept_or_copied (answers.Throws class) effect runs h = inl (ap (variables_left false s) (throws_it classes brought space locals kind shared s class effect h).is, λ numbers. refl, λ buffers. refl, λ buffers. refl)
+  kept_or_copied (answers.Raises class place) effect runs h = inl (ap (variables_left false s) h.3, λ numbers. refl, λ buffers. refl, λ buffers. refl)
+  kept_or_copied (answers.Pends a g) effect runs h = inl (ap (variables_left false s) h.2.2, λ numbers. refl, λ buffers. refl, λ buffers. refl)
   kept_or_copied (answers.Halts trap) effect runs h = absurd (cc (runs))
-  kept_or_copied (answers.Ensures more) effect runs h = inl (ap (variables_left false s) h.1 ∙ of_frames (with_capacity more s.frames), λ numbers. refl)
-  kept_or_copied (answers.Pushes capacity) effect runs h = inl (ap (variables_left false s) h.1 ∙ of_frames (record { capacity = capacity; references = [] } ∷ s.frames), λ numbers. refl)
-  kept_or_copied answers.RefusesFrames effect runs h = inl (ap (variables_left false s) h.1, λ numbers. refl)
-  kept_or_copied (answers.Pops a) effect runs h = inl (ap (variables_left false s) h.1.2, λ numbers. refl)
-  kept_or_copied (answers.Deletes key) effect runs h = inl (ap (variables_left false s) h.1.3, λ numbers. refl)
-  kept_or_copied (answers.MakesGlobal a) effect runs h = inl (ap (variables_left false s) h.1.2, λ numbers. refl)
-  kept_or_copied (answers.DeletesGlobal i) effect runs h = inl (ap (variables_left false s) h.1.3, λ numbers. refl)
+  kept_or_copied (answers.Ensures more) effect runs h = inl (ap (variables_left false s) h.1 ∙ of_frames (with_capacity more s.frames), λ numbers. refl, λ buffers. refl, λ buffers. refl)
+  kept_or_copied (answers.Pushes capacity) effect runs h = inl (ap (variables_left false s) h.1 ∙ of_frames (record { capacity = capacity; references = [] } ∷ s.frames), λ numbers. refl, λ buffers. refl, λ buffers. refl)
+  kept_or_copied answers.RefusesFrames effect runs h = inl (ap (variables_left false s) h.1, λ numbers. refl, λ buffers. refl, λ buffers. refl)
+  kept_or_copied (answers.Pops a) effect runs h = inl (ap (variables_left false s) h.1.2, λ numbers. refl, λ buffers. refl, λ buffers. refl)
+  kept_or_copied (answers.Deletes key) effect runs h = inl (ap (variables_left false s) h.1.3, λ numbers. refl, λ buffers. refl, λ buffers. refl)
+  kept_or_copied (answers.MakesGlobal a) effect runs h = inl (ap (variables_left false s) h.1.2, λ numbers. refl, λ buffers. refl, λ buffers. refl)
+  kept_or_copied (answers.DeletesGlobal i) effect runs h = inl (ap (variables_left false s) h.1.3, λ numbers. refl, λ buffers. refl, λ buffers. refl)
+  kept_or_copied (answers.AcquiresCopy a) effect runs h = inl (ap (variables_left false s) h.1.is, λ numbers. refl, λ buffers. refl, λ buffers. refl)
+  kept_or_copied (answers.AcquiresView a) effect runs h = inl (ap (variables_left false s) h.1.is, λ numbers. refl, λ buffers. refl, λ buffers. refl)
+  kept_or_copied (answers.Releases r) effect runs h = inr (inr (record { release = r; is = refl; nothing = h.0; released = h.1 }))

@@ -24,9 +24,9 @@ use Rattle.code.specs.Depth.{Listing, depth_at}
 use Rattle.semantics.specs.Activation.{enter, entered, entered_function, entry_advance, entry_frame, named_object, parameter_variables}
 use Rattle.semantics.specs.Task.{Task, tasks_of}
 use Rattle.semantics.specs.Thread as source
-use Rattle.semantics.specs.Thread.{BuffersInUse, Shared}
+use Rattle.semantics.specs.Thread.{Shared}
 use Rattle.semantics.specs.Value.{Int}
-use Rattle.semantics.specs.Variable.{StaticReference, Variable, Scalar, LocalRef, Variables}
+use Rattle.semantics.specs.Variable.{Buffer, NoBuffer, StaticReference, Variable, Scalar, LocalRef, Variables}
 use Rattle.semantics.specs.ThreadStep.{step_within}
 use Rattle.semantics_safety.specs.Owners.{Owners, after_tasks, holders, level_held}
 use Rattle.code_meaning.specs.Layout.{Slot, Known, with_static, entry_layout}
@@ -40,12 +40,18 @@ use Rattle.machine_calls.specs.declared.activation.Activation.{Activation}
 use Rattle.machine_calls.specs.declared.store.Store.{Store}
 use Rattle.machine_calls.specs.StoreAgrees.{AreNamed, StoreAgrees}
 use Rattle.machine_calls.specs.FieldIds.{FieldsAgree}
-use Rattle.machine_steps.specs.SlotsHold.{slots_of}
-use Rattle.machine_steps.specs.ThreadAgrees.{CallAgrees, CallsAgree, ThreadAgrees, ending_view}
+use Rattle.machine_steps.specs.ThreadAgrees.{CallAgrees, CallsAgree, ThreadAgrees, buffers_of, ending_view}
 use Rattle.machine_steps.specs.Advances.{Advances}
-use Rattle.machine_steps.specs.Executes.{CallStands, WorkAgrees}
+use Rattle.machine_calls.specs.Buffers.{Acquired, AreViewed, BuffersAgree, acquired_by, beside}
+use Rattle.machine_calls.specs.HeapAgrees.{times}
+use Rattle.machine_steps.proofs.ViewCounts.{none_viewed}
+use Rattle.machine_calls.specs.declared.buffer.Buffer.{Buffer as HeldBuffer}
+use Rattle.tables.specs.Elements.{OwnedNumbers}
+use Rattle.machine_steps.specs.SlotsHold.{slots_of}
+use Rattle.machine_steps.specs.Executes.{CallStands, WorkAgrees, in_use_with}
 use Rattle.machine_calls.specs.Locals.{FramesAgree, KeysAgree}
-use Rattle.machine_steps.proofs.Views.{parameters_viewless}
+use Rattle.machine_steps.proofs.Acquisitions.{entered_nothing, store_same, taken_by}
+use Rattle.machine_steps.proofs.SlotBuffers.{no_buffers, none_small}
 use Rattle.machine_calls.proofs.Keeping.{keeps_same}
 use Rattle.machine_calls.proofs.HeldStatics.{held_there, index_is, name_place, other_after, place_after, place_in_front}
 use Rattle.machine_steps.specs.Entry.{argument_address, keys_from, Begins, IsReady}
@@ -246,9 +252,9 @@ abbrev owned_at : source.Thread → List Invocation → Function → (class : �
 owned_at s rest f class arguments = holders (entered s rest f class arguments).variables
 
 -- the call stands for the function's statements
-begun : (p : Lowered) (classes : Classes) (space : Space) (loaded : List ℕ) (made : ℕ) (shared : Shared) (s : source.Thread) (rest : List Invocation) (n : PendingCall) (c : Invocation) (call : Activation) → IsLowered p → IsTable space loaded made → AreNamed p shared → (f : CallAgrees p classes made n c) → Begins p loaded n call
-    → CallStands p classes space call (visible_to (owned_at s rest f.function n.class c.arguments) shared (entered s rest f.function n.class c.arguments)) (entry_frame (n.class ∷ filter_map named_object c.arguments) ∷ []) (tasks_of f.function.body)
-begun p classes space loaded made shared s rest n c call lowered table statics f b =
+begun : (p : Lowered) (classes : Classes) (space : Space) (copies : List (Option OwnedNumbers)) (k : ℕ) (loaded : List ℕ) (made : ℕ) (shared : Shared) (s : source.Thread) (rest : List Invocation) (n : PendingCall) (c : Invocation) (call : Activation) → IsLowered p → IsTable space loaded made → AreNamed p shared → (f : CallAgrees p classes made n c) → Begins p loaded n call
+    → CallStands p classes space copies k call (visible_to (owned_at s rest f.function n.class c.arguments) shared (entered s rest f.function n.class c.arguments)) (entry_frame (n.class ∷ filter_map named_object c.arguments) ∷ []) (tasks_of f.function.body)
+begun p classes space copies k loaded made shared s rest n c call lowered table statics f b =
     let found = code_of p n.function f.function lowered f.numbered in
     let same : found.code ≡ b.code = cc (found.at, b.of_function) in
     let is_code = subst (λ (k : Listing). IsCodeOf found.statics f.function k) same found.is in
@@ -258,6 +264,7 @@ begun p classes space loaded made shared s rest n c call lowered table statics f
     let fields : List (Option FieldId) = replicate b.code.slots.field_ids None in
     let references : List Reference = Some n.class ∷ filter_map argument_reference c.arguments ++ replicate slots.more None in
     let owners : List (Option ℕ) = replicate b.code.slots.references (Some 1) in
+    let buffers : List Buffer = replicate b.code.slots.buffers NoBuffer in
     let given : begins.addresses ≡ slice_get loaded (n.class - 1) ∷ filter_map (argument_address loaded) c.arguments ++ replicate slots.more None =
     slots.given ∙ ap (λ (vs : List ObjectValue). slice_get loaded (n.class - 1) ∷ filter_map (argument_address loaded) vs ++ replicate slots.more None) f.arguments in
     let agree : AddressesAgree space begins.addresses references =
@@ -265,9 +272,10 @@ begun p classes space loaded made shared s rest n c call lowered table statics f
     let keys : KeysAgree space call.locals call.slots.references.items references owners =
     subst (λ (l : List (Option ℕ)). KeysAgree space call.locals l references owners) (sym begins.references)
     (subst (λ (t : LocalTable). KeysAgree space t (keys_from 0 begins.addresses) references owners) (sym begins.locals) (entry_keys space begins.addresses references b.code.slots.references agree)) in
-    let entry : EntrySlots b.code n.class c.arguments (slots_of call (record { references = references; owners = owners; fields = fields })) =
+    let entry : EntrySlots b.code n.class c.arguments (slots_of call (record { references = references; owners = owners; fields = fields; buffers = buffers })) =
     record {
       fields = length-replicate {A = Option FieldId} b.code.slots.field_ids None;
+      buffers = length-replicate {A = Buffer} b.code.slots.buffers NoBuffer;
       numbers = words.counted;
       more_numbers = words.more;
       words = words.given ∙ ap (λ (vs : List ObjectValue). filter_map argument_word vs ++ words.more) f.arguments;
@@ -282,18 +290,23 @@ begun p classes space loaded made shared s rest n c call lowered table statics f
       known = (entry_layout found.statics f.function).known;
       stands = subst (λ (m : ℕ). StandsFor b.code (entry_layout found.statics f.function).known m call.stack (tasks_of f.function.body)) (sym begins.place)
           (subst (λ (st : List ℕ). StandsFor b.code (entry_layout found.statics f.function).known 0 st (tasks_of f.function.body)) (sym begins.stack) is_code.begins);
-      meant = record { references = references; owners = owners; fields = fields };
-      holds = record { keys = keys; fields = subst (λ (l : List (Option FieldHandle)). FieldsAgree classes l fields) (sym begins.fields) (no_fields classes b.code.slots.field_ids) };
+      meant = record { references = references; owners = owners; fields = fields; buffers = buffers };
+      holds = record {
+        keys = keys;
+        fields = subst (λ (l : List (Option FieldHandle)). FieldsAgree classes l fields) (sym begins.fields) (no_fields classes b.code.slots.field_ids);
+        buffers = subst (λ (l : List HeldBuffer). BuffersAgree space copies k l buffers) (sym begins.buffers) (no_buffers space copies k b.code.slots.buffers);
+        small = none_small b.code.slots.buffers;
+      };
       frames_agree = subst (λ (t : LocalTable). FramesAgree space t (entry_frame (n.class ∷ filter_map named_object c.arguments) ∷ [])) (sym begins.locals)
           (entry_frames space n.class c.arguments slots.more begins.addresses agree);
-      shows = is_code.shows (owned_at s rest f.function n.class c.arguments) shared s rest n.class c.arguments (slots_of call (record { references = references; owners = owners; fields = fields }))
+      shows = is_code.shows (owned_at s rest f.function n.class c.arguments) shared s rest n.class c.arguments (slots_of call (record { references = references; owners = owners; fields = fields; buffers = buffers }))
           f.fit entry (statics_shared shared (statics_of (unit_tree p.unit)) p.codes n.function f.function found statics) (entered_lowest s rest f.function n.class c.arguments);
       depth = ap (depth_at b.code.instrs) begins.place ∙ ap (λ (st : List ℕ). Some (length st)) (sym begins.stack);
     }
 
-pub enters : (p : Lowered) (w : World) (store : Store) (in_use : BuffersInUse) (k : ℕ) (own : Owners) (shared : Shared) (t after : Thread) (s : source.Thread) (n : PendingCall) (call : Activation) → IsLowered p → StoreAgrees p w store shared → ThreadAgrees p w.classes store.heap (length (loaded_objects w)) own shared t s
-    → t.call ≡ None → t.calls.items ≡ n ∷ after.calls.items → after.call ≡ Some call → Begins p store.loaded.items n call → after.pending ≡ t.pending → after.ending ≡ t.ending → Advances p w store.heap store in_use k own shared s after false event.Quiet
-enters p w store in_use k own shared t after s n call lowered shares h none calls is begins pending ending =
+pub enters : (p : Lowered) (w : World) (store : Store) (others : Acquired) (k : ℕ) (own : Owners) (shared : Shared) (t after : Thread) (s : source.Thread) (n : PendingCall) (call : Activation) → IsLowered p → StoreAgrees p w store shared (beside others (acquired_by s)) → ThreadAgrees p w.classes store.heap store.elements (length (loaded_objects w)) k own shared t s
+    → t.call ≡ None → t.calls.items ≡ n ∷ after.calls.items → after.call ≡ Some call → Begins p store.loaded.items n call → after.pending ≡ t.pending → after.ending ≡ t.ending → Advances p w store store others k own shared s after false event.Quiet
+enters p w store others k own shared t after s n call lowered shares h none calls is begins pending ending =
     let classes : Classes = w.classes in
     let space : Space = store.heap in
     let made : ℕ = length (loaded_objects w) in
@@ -305,21 +318,25 @@ enters p w store in_use k own shared t after s n call lowered shares h none call
     ap (enter (unit_tree p.unit) classes s) c.is
     ∙ ap (entered_function classes s c.call c.rest) f.named
     ∙ ap (option_map (λ d. entered s c.rest f.function d c.call.arguments)) f.of_class in
-    let rests : s.tasks ≡ None = resting p classes space (visible_to own shared s) s.frames t.call s.tasks h.work none in
+    let rests : s.tasks ≡ None = resting p classes space store.elements k (visible_to own shared s) s.frames t.call s.tasks h.work none in
     record {
       next_shared = shared;
       next = next;
-      steps = ap (step_within (unit_tree p.unit) classes in_use k shared s false) rests ∙ ap (entry_advance shared) found;
-      store_agrees = shares;
+      steps = ap (step_within (unit_tree p.unit) classes (in_use_with others s) k shared s false) rests ∙ ap (entry_advance shared) found;
+      store_agrees = store_same p w store shared others s.variables next.variables (entered_nothing f.function.class_name 1 n.class (zip f.function.parameters c.call.arguments) ∙ sym (ap taken_by (h.idle rests))) shares;
       keeps = keeps_same space shared;
-      agrees = subst (λ (o : Owners). ThreadAgrees p classes space made o shared after next) (sym (ap (λ (o : Option (List Task)). after_tasks shared s o own source.Quiet next.variables) rests)) (record {
+      keeps_copies = λ key c there other. there;
+      agrees = subst (λ (o : Owners). ThreadAgrees p classes space store.elements made k o shared after next) (sym (ap (λ (o : Option (List Task)). after_tasks shared s o own source.Quiet next.variables) rests)) (record {
         calls = c.agrees;
-        work = subst (λ a. WorkAgrees p classes space (visible_to now shared next) a next.frames (Some (tasks_of f.function.body))) (sym is) (begun p classes space store.loaded.items made shared s c.rest n c.call call lowered shares.table shares.named f begins);
+        work = subst (λ a. WorkAgrees p classes space store.elements k (visible_to now shared next) a next.frames (Some (tasks_of f.function.body))) (sym is) (begun p classes space store.elements k store.loaded.items made shared s c.rest n c.call call lowered shares.table shares.named f begins);
         pending = subst (λ (a : Option ℕ). ReferenceAgrees space a s.pending) (sym pending) h.pending;
         ending = h.ending ∙ ap ending_view (sym ending);
         busy = λ a b d. cc;
         caught = λ b. absurd (cc);
-        viewless = parameters_viewless (zip f.function.parameters c.call.arguments);
+        idle = λ b. absurd (cc);
+        views = subst (λ (a : Option Activation). AreViewed space (buffers_of a) next) (sym is)
+            (subst (λ (l : List HeldBuffer). AreViewed space l next) (sym begins.begins.buffers)
+            (λ m. omega (arith, ap (times m) (none_viewed space begins.code.slots.buffers))));
       });
       short = λ e. absurd (cc);
     }

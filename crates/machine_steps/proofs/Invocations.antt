@@ -14,20 +14,20 @@ use Rattle.class_rules.specs.Fields.{FieldId}
 use Rattle.classes.specs.declared.class.FieldHandle.{FieldHandle as Handle}
 use Rattle.heap.specs.Heap.{Space}
 use Rattle.jni.specs.JniFunction.{JniFunction, prototype}
-use Rattle.jni.specs.Prototype.{ResultKind, NewLocal, NewGlobal, GivesFlag, GivesInt, GivesField}
+use Rattle.jni.specs.Prototype.{ResultKind, NewLocal, NewGlobal, GivesFlag, GivesInt, GivesField, GivesBuffer}
 use Rattle.type_rules.specs.Sorts.{Sort, Jint}
 use Rattle.type_rules.specs.Sorts as sort
-use Rattle.semantics.specs.Arguments.{Actual, variable_given}
+use Rattle.semantics.specs.Arguments.{Actual, address_given}
 use Rattle.semantics.specs.CallEffects.{CallResult, NoResult, NullResult, ScalarResult, ReferenceResult, FieldResult, BufferResult}
 use Rattle.semantics.specs.CallStep.{blank, filled, is_zero, put, put_assigned, static_result, received, tell_copy}
 use Rattle.semantics.specs.Effect.{tasks_after}
 use Rattle.semantics.specs.Object.{Reference}
 use Rattle.semantics.specs.Term.{Done}
-use Rattle.semantics.specs.Task.{Task, Branch, Target, VariableKind, ScalarKind, ReferenceKind, FieldKind, Declared, Assigned, Tested, Dropped}
+use Rattle.semantics.specs.Task.{Task, Branch, Target, VariableKind, ScalarKind, ReferenceKind, FieldKind, BufferKind, Declared, Assigned, Tested, Dropped}
 use Rattle.semantics.specs.Thread as source
-use Rattle.semantics.specs.Thread.{Shared, viewed_by}
+use Rattle.semantics.specs.Thread.{Shared}
 use Rattle.semantics.specs.Value.{Value, Word, Int, Flag, Truth}
-use Rattle.semantics.specs.Variable.{StaticReference, Variable, Variables, Scalar, LocalRef, FieldHandle, Elements, LocalArray, as_static, assign}
+use Rattle.semantics.specs.Variable.{Buffer, NoBuffer, StaticReference, Variable, Variables, Scalar, LocalRef, FieldHandle, Elements, LocalArray, as_static, assign}
 use Rattle.semantics.specs.World.{World}
 use Rattle.code.specs.Call.{Call}
 use Rattle.code.specs.Depth.{Listing, depth_at, with_fewer, with_result, words_taken}
@@ -35,10 +35,15 @@ use Rattle.code.specs.declared.instr.Instr.TheVariants as instr
 use Rattle.code.specs.declared.instr.Target.{Target as Destination}
 use Rattle.code.specs.declared.instr.Target.TheVariants as destination
 use Rattle.code_meaning.specs.Layout.{Known}
-use Rattle.code_meaning.specs.Does.{GoesInto, TakesStatic, TakesTest, TakesField, TakesNumber, TakesReference, TakesResult}
+use Rattle.code_meaning.specs.Does.{GoesInto, TakesBuffer, TakesStatic, TakesTest, TakesField, TakesNumber, TakesReference, TakesResult}
 use Rattle.code_meaning.specs.Lowered.{Lowered}
 use Rattle.code_meaning.specs.Slots.{Visible, Shows, Slots, ValueHasSort, kind_of_variable, static_index, type_of_array, visible_to, word_of}
-use Rattle.code_meaning.specs.Stands.{StandsFor, number_sort}
+use Rattle.code_meaning.specs.Stands.{IsBufferResult, StandsFor, number_sort}
+use Rattle.type_rules.specs.SortRules.{is_droppable}
+use Rattle.base.specs.Element.{ElementType}
+use Rattle.code.specs.declared.instr.ElementType.{ElementType as ElementOfCode}
+use Rattle.jni.specs.Access.{Access}
+use Rattle.semantics_safety.specs.StepSafe.{HoldsNoBuffer}
 use Rattle.machine_calls.specs.declared.answer.Given.{Given}
 use Rattle.machine_calls.specs.declared.answer.Given.TheVariants as given
 use Rattle.machine_calls.specs.declared.activation.Activation.{Activation}
@@ -51,7 +56,11 @@ use Rattle.semantics_safety.specs.Owners.{Owners, is_target, level_held}
 use Rattle.std.specs.Str.{bytes_eq}
 use Rattle.std.proofs.lemmas.Slice.Eq.{bytes_eq-Decides}
 use Rattle.machine_calls.specs.Answers.{GivenAgrees}
-use Rattle.machine_calls.specs.CarriedOut.{IsFresh, ResultAgrees}
+use Rattle.machine_calls.specs.CarriedOut.{IsFresh, ResultAgrees, acquired_with}
+use Rattle.machine_calls.specs.Buffers.{Acquired, AreViewed, BufferAgrees, BuffersAgree, acquired_of, beside, nothing_acquired}
+use Rattle.machine_calls.specs.declared.buffer.Buffer.{Buffer as HeldBuffer}
+use Rattle.machine_calls.specs.declared.buffer.Buffer.TheVariants as held_as
+use Rattle.tables.specs.Elements.{OwnedNumbers}
 use Rattle.machine_calls.specs.Statics.{held as held_of}
 use Rattle.machine_calls.specs.declared.statics.StaticReference.{StaticReference as InMemory}
 use Rattle.machine_calls.specs.declared.store.Store.{Store}
@@ -60,45 +69,52 @@ use Rattle.code_meaning.proofs.OwnerLaws.{fewer_owners}
 use Rattle.machine_calls.proofs.HeldStatics.{keys_put}
 use Rattle.machine_calls.proofs.StaticStores.{with_same, with_static}
 use Rattle.machine_calls.specs.HeapAgrees.{ReferenceAgrees}
-use Rattle.machine_steps.specs.Received.{HasRoom, MakesLocal, Receives, fields_with, numbers_with, stack_with, statics_with}
+use Rattle.machine_steps.specs.Received.{HasRoom, MakesLocal, Receives, buffers_with, fields_with, numbers_with, stack_with, statics_with}
 use Rattle.machine_steps.proofs.Calls.{Ready, depth_behind}
-use Rattle.machine_steps.specs.SlotsHold.{Meant, SlotsHold, slots_of, values_in}
-use Rattle.machine_steps.proofs.Changes.{OthersOwn, lookup_same, field_by_kind, is_field_set, is_referred, is_set, local_by_kind, scalar_by_kind}
+use Rattle.machine_steps.specs.SlotsHold.{IsSmallCopy, Meant, SlotsHold, slots_of, values_in}
+use Rattle.machine_steps.proofs.Changes.{OthersOwn, lookup_same, buffer_by_kind, field_by_kind, is_buffer_set, is_field_set, is_referred, is_set, local_by_kind, scalar_by_kind}
 use Rattle.machine_steps.proofs.StillShown.{shows_stay}
 use Rattle.machine_calls.proofs.KeyLaws.{key_put, keys_left, live_there}
 use Rattle.machine_steps.proofs.MadeKeys.{made_left, made_new, room_frame}
 use Rattle.machine_calls.proofs.LocalFrames.{as_many_frames}
-use Rattle.machine_steps.proofs.Receives.{received_count, IsNoBuffer, field_put, frames_agree, frames_received, no_buffer, nothing_told, received_is}
-use Rattle.machine_steps.proofs.Views.{assigned_viewless}
+use Rattle.machine_steps.proofs.Receives.{received_count, IsNoBuffer, field_put, frames_agree, frames_received, no_buffer, received_is}
+use Rattle.machine_steps.proofs.Acquisitions.{assigned_buffer, assigned_nothing, nothing_more, store_taken, taken_by}
+use Rattle.machine_steps.proofs.SlotBuffers.{all_put}
+use Rattle.machine_steps.proofs.ViewCounts.{views_same, views_taken}
+use Rattle.machine_calls.proofs.BufferLaws.{buffer_put}
+
+-- a variable is its own target
+same_target : (x : Identifier) → bytes_eq x x ≡ true
+same_target x = (bytes_eq-Decides x x).1 refl
 
 -- ---- the source's thread
 
 -- the thread of a call of function f, with these frames, this exception pending and this given
 module _ (line : ℕ) (f : JniFunction) (args : List Actual) (rest : List Task) (s : source.Thread) (left : List source.Frame) (q : Reference) (c : CallResult) where
-  -- before what was given goes to its target
-  abbrev pub resumption : Target → source.Thread
-  resumption target = record (received (prototype f).result c (record s { frames = left; pending = q })) { tasks = Some (tasks_after line target (is_zero c) ++ rest); variables = tell_copy (variable_given args 1) c s.variables }
+  -- before what was given goes to its target, where `isCopy` is still to be told
+  abbrev pub resumption : Variables → Target → source.Thread
+  resumption untold target = record (received (prototype f).result c (record s { variables = untold; frames = left; pending = q })) { tasks = Some (tasks_after line target (is_zero c) ++ rest); variables = tell_copy (address_given args 1) c untold }
 
   -- and afterwards, with these variables
   abbrev pub going : Variables → source.Thread
   going vs = record s { tasks = Some rest; variables = vs; frames = frames_received (prototype f).result c left; pending = q }
 
-  module _ (plain : IsNoBuffer c) where
-    resumed_is : (target : Target) → resumption target ≡ record (going s.variables) { tasks = Some (tasks_after line target (is_zero c) ++ rest) }
+  module _ (untold : Variables) (told : tell_copy (address_given args 1) c untold ≡ s.variables) where
+    resumed_is : (target : Target) → resumption untold target ≡ record (going s.variables) { tasks = Some (tasks_after line target (is_zero c) ++ rest) }
     resumed_is target =
-        ap (λ (t : source.Thread). let r : source.Thread = record t { tasks = Some (tasks_after line target (is_zero c) ++ rest); variables = tell_copy (variable_given args 1) c s.variables } in r) (received_is (prototype f).result c (record s { frames = left; pending = q }))
-        ∙ ap (λ (vs : Variables). let r : source.Thread = record (going vs) { tasks = Some (tasks_after line target (is_zero c) ++ rest) } in r) (nothing_told (variable_given args 1) c s.variables plain)
+        ap (λ (t : source.Thread). let r : source.Thread = record t { tasks = Some (tasks_after line target (is_zero c) ++ rest); variables = tell_copy (address_given args 1) c untold } in r) (received_is (prototype f).result c (record s { variables = untold; frames = left; pending = q }))
+        ∙ ap (λ (vs : Variables). let r : source.Thread = record (going vs) { tasks = Some (tasks_after line target (is_zero c) ++ rest) } in r) told
 
     module _ (next : Shared) where
-      dropped_is : put Dropped c next (resumption Dropped) ≡ source.Advances next (going s.variables) source.Quiet
+      dropped_is : put Dropped c next (resumption untold Dropped) ≡ source.Advances next (going s.variables) source.Quiet
       dropped_is = ap (put Dropped c next) (resumed_is Dropped)
 
       declared_is : (kind : VariableKind) (x : Identifier) (v : Variable) → filled (blank kind (length (frames_received (prototype f).result c left))) c ≡ v
-          → put (Declared kind x) c next (resumption (Declared kind x)) ≡ source.Advances next (going (assign x v s.variables)) source.Quiet
+          → put (Declared kind x) c next (resumption untold (Declared kind x)) ≡ source.Advances next (going (assign x v s.variables)) source.Quiet
       declared_is kind x v is = ap (put (Declared kind x) c next) (resumed_is (Declared kind x)) ∙ ap (λ (w : Variable). source.Advances next (going (assign x w s.variables)) source.Quiet) is
 
       assigned_is : (x : Identifier) (old v : Variable) → lookup x s.variables ≡ Some old → filled old c ≡ v
-          → put (Assigned x) c next (resumption (Assigned x)) ≡ source.Advances next (going (assign x v s.variables)) source.Quiet
+          → put (Assigned x) c next (resumption untold (Assigned x)) ≡ source.Advances next (going (assign x v s.variables)) source.Quiet
       assigned_is x old v at is =
           ap (put (Assigned x) c next) (resumed_is (Assigned x))
           ∙ ap (put_assigned x c next (going s.variables)) at
@@ -143,6 +159,7 @@ number_given classes space GivesInt given.Nothing c of h e = absurd h
 number_given classes space GivesInt (given.Reference a) c of h e = absurd h
 number_given classes space GivesInt (given.FieldId a) c of h e = absurd h
 number_given classes space GivesInt (given.Global s) c of h e = absurd h
+number_given classes space GivesInt (given.Buffer b) c of h e = absurd h
 number_given classes space GivesFlag (given.Number word) (ScalarResult (Flag b)) of h e = record { value = Flag b; gave = refl; same = ap given.Number h; sorted = let same : sort.Flag ≡ of = cc in sym same }
 number_given classes space GivesFlag (given.Number word) (ScalarResult (Word n)) of h e = absurd h
 number_given classes space GivesFlag (given.Number word) (ScalarResult (Int z)) of h e = absurd h
@@ -156,6 +173,7 @@ number_given classes space GivesFlag given.Nothing c of h e = absurd h
 number_given classes space GivesFlag (given.Reference a) c of h e = absurd h
 number_given classes space GivesFlag (given.FieldId a) c of h e = absurd h
 number_given classes space GivesFlag (given.Global s) c of h e = absurd h
+number_given classes space GivesFlag (given.Buffer b) c of h e = absurd h
 number_given classes space kind g c of h e = absurd (cc)
 
 reference_given : (classes : Classes) (space : Space) (g : Given) (c : CallResult) → GivenAgrees classes space NewLocal g c → IsReference space g c
@@ -169,6 +187,7 @@ reference_given classes space given.Nothing c h = absurd h
 reference_given classes space (given.Number word) c h = absurd h
 reference_given classes space (given.FieldId a) c h = absurd h
 reference_given classes space (given.Global s) c h = absurd h
+reference_given classes space (given.Buffer b) c h = absurd h
 
 field_given : (classes : Classes) (space : Space) (g : Given) (c : CallResult) → GivenAgrees classes space GivesField g c → IsField classes g c
 field_given classes space (given.FieldId a) (FieldResult f) h = record { handle = a; field = f; same = refl; agrees = h; fills = λ old. refl }
@@ -181,6 +200,7 @@ field_given classes space given.Nothing c h = absurd h
 field_given classes space (given.Number word) c h = absurd h
 field_given classes space (given.Reference a) c h = absurd h
 field_given classes space (given.Global s) c h = absurd h
+field_given classes space (given.Buffer b) c h = absurd h
 
 -- what a static takes
 record IsGlobal (store : Store) (g : Given) (c : CallResult) : Type 0 where
@@ -191,36 +211,76 @@ record IsGlobal (store : Store) (g : Given) (c : CallResult) : Type 0 where
   pub agrees : HeldAgrees store.heap (held_of store.globals held) (as_static reference)
   pub fresh : IsFresh store held
 
-global_given : (classes : Classes) (store : Store) (g : Given) (c : CallResult) → ResultAgrees classes store g NewGlobal c → IsGlobal store g c
-global_given classes store (given.Global s) c h = record { held = s; reference = h.1.0; same = refl; gave = ⊎_elim (λ e. ap static_result e) (λ e. ap static_result e.0 ∙ ap as_static (sym e.1)) h.1.1; agrees = h.1.2; fresh = h.1.3 }
-global_given classes store given.Nothing c h = absurd h
-global_given classes store (given.Number word) c h = absurd h
-global_given classes store (given.Reference a) c h = absurd h
-global_given classes store (given.FieldId f) c h = absurd h
+global_given : (classes : Classes) (store : Store) (k : ℕ) (g : Given) (c : CallResult) → ResultAgrees classes store k g NewGlobal c → IsGlobal store g c
+global_given classes store k (given.Global s) c h = record { held = s; reference = h.1.0; same = refl; gave = ⊎_elim (λ e. ap static_result e) (λ e. ap static_result e.0 ∙ ap as_static (sym e.1)) h.1.1; agrees = h.1.2; fresh = h.1.3 }
+global_given classes store k given.Nothing c h = absurd h
+global_given classes store k (given.Number word) c h = absurd h
+global_given classes store k (given.Reference a) c h = absurd h
+global_given classes store k (given.FieldId f) c h = absurd h
+global_given classes store k (given.Buffer b) c h = absurd (let e = h.0.1 in cc)
 
 -- what any other target takes
-other_given : (classes : Classes) (store : Store) (kind : ResultKind) (g : Given) (c : CallResult) → (kind ≡ NewGlobal → ⊥) → ResultAgrees classes store g kind c → GivenAgrees classes store.heap kind g c
-other_given classes store kind given.Nothing c other h = h
-other_given classes store kind (given.Number word) c other h = h
-other_given classes store kind (given.Reference a) c other h = h
-other_given classes store kind (given.FieldId f) c other h = h
-other_given classes store kind (given.Global s) c other h = absurd (other h.0)
+other_given : (classes : Classes) (store : Store) (k : ℕ) (kind : ResultKind) (g : Given) (c : CallResult) → (kind ≡ NewGlobal → ⊥) → (IsBufferResult kind → ⊥) → ResultAgrees classes store k g kind c → GivenAgrees classes store.heap kind g c
+other_given classes store k kind given.Nothing c other no_buffer h = h
+other_given classes store k kind (given.Number word) c other no_buffer h = h
+other_given classes store k kind (given.Reference a) c other no_buffer h = h
+other_given classes store k kind (given.FieldId f) c other no_buffer h = h
+other_given classes store k kind (given.Global s) c other no_buffer h = absurd (other h.0)
+other_given classes store k kind (given.Buffer b) c other no_buffer h = absurd (no_buffer h.0)
 
-plain_result : (classes : Classes) (store : Store) (kind : ResultKind) (g : Given) (c : CallResult) → ResultAgrees classes store g kind c → IsNoBuffer c
-plain_result classes store kind given.Nothing c h = no_buffer classes store.heap kind given.Nothing c h
-plain_result classes store kind (given.Number word) c h = no_buffer classes store.heap kind (given.Number word) c h
-plain_result classes store kind (given.Reference a) c h = no_buffer classes store.heap kind (given.Reference a) c h
-plain_result classes store kind (given.FieldId f) c h = no_buffer classes store.heap kind (given.FieldId f) c h
-plain_result classes store kind (given.Global s) c h = ⊎_elim (λ e. subst IsNoBuffer (sym e) tt) (λ e. subst IsNoBuffer (sym e.0) tt) h.1.1
+-- what is no buffer
+pub plain_result : (classes : Classes) (store : Store) (k : ℕ) (kind : ResultKind) (g : Given) (c : CallResult) → (IsBufferResult kind → ⊥) → ResultAgrees classes store k g kind c → IsNoBuffer c
+plain_result classes store k kind given.Nothing c other h = no_buffer classes store.heap kind given.Nothing c h
+plain_result classes store k kind (given.Number word) c other h = no_buffer classes store.heap kind (given.Number word) c h
+plain_result classes store k kind (given.Reference a) c other h = no_buffer classes store.heap kind (given.Reference a) c h
+plain_result classes store k kind (given.FieldId f) c other h = no_buffer classes store.heap kind (given.FieldId f) c h
+plain_result classes store k kind (given.Global s) c other h = ⊎_elim (λ e. subst IsNoBuffer (sym e) tt) (λ e. subst IsNoBuffer (sym e.0) tt) h.1.1
+plain_result classes store k kind (given.Buffer b) c other h = absurd (other h.0)
 
-frames_result : (classes : Classes) (store : Store) (kind : ResultKind) (g : Given) (c : CallResult) (locals after : LocalTable) (key : Option ℕ) (gs : List source.Frame) → AreStacked locals → ResultAgrees classes store g kind c → MakesLocal kind g locals key after → FramesAgree store.heap locals gs → FramesAgree store.heap after (frames_received kind c gs)
-frames_result classes store kind given.Nothing c locals after key gs stacked h makes agree = frames_agree store.heap classes kind given.Nothing c locals key after gs stacked h makes agree
-frames_result classes store kind (given.Number word) c locals after key gs stacked h makes agree = frames_agree store.heap classes kind (given.Number word) c locals key after gs stacked h makes agree
-frames_result classes store kind (given.Reference a) c locals after key gs stacked h makes agree = frames_agree store.heap classes kind (given.Reference a) c locals key after gs stacked h makes agree
-frames_result classes store kind (given.FieldId f) c locals after key gs stacked h makes agree = frames_agree store.heap classes kind (given.FieldId f) c locals key after gs stacked h makes agree
-frames_result classes store kind (given.Global s) c locals after key gs stacked h makes agree =
+-- it takes nothing
+nothing_with : (c : CallResult) → IsNoBuffer c → acquired_with c ≡ nothing_acquired
+nothing_with NoResult h = refl
+nothing_with NullResult h = refl
+nothing_with (ScalarResult v) h = refl
+nothing_with (ReferenceResult r) h = refl
+nothing_with (FieldResult f) h = refl
+nothing_with (BufferResult b) h = absurd h
+
+-- a buffer
+record IsBuffer (store : Store) (k : ℕ) (g : Given) (c : CallResult) : Type 0 where
+  pub held : HeldBuffer
+  pub buffer : Buffer
+  pub same : g ≡ given.Buffer held
+  pub agrees : BufferAgrees store.heap store.elements k held buffer
+  pub fills : (t : ElementType) (old : Buffer) → filled (Elements t old) c ≡ Elements t buffer
+  pub takes : acquired_with c ≡ acquired_of buffer
+  pub small : IsSmallCopy buffer
+
+buffer_given : (classes : Classes) (store : Store) (k : ℕ) (access : Access) (g : Given) (c : CallResult) → ((b : Buffer) → c ≡ BufferResult b → IsSmallCopy b) → ResultAgrees classes store k g (GivesBuffer access) c → IsBuffer store k g c
+buffer_given classes store k access (given.Buffer h) (BufferResult b) small agrees = record { held = h; buffer = b; same = refl; agrees = agrees.1; fills = λ t old. refl; takes = refl; small = small b refl }
+buffer_given classes store k access (given.Buffer h) NullResult small agrees =
+    record { held = h; buffer = NoBuffer; same = refl; agrees = subst (λ (y : HeldBuffer). BufferAgrees store.heap store.elements k y NoBuffer) (sym agrees.1) tt; fills = λ t old. refl; takes = refl; small = tt }
+buffer_given classes store k access (given.Buffer h) NoResult small agrees = absurd agrees.1
+buffer_given classes store k access (given.Buffer h) (ScalarResult v) small agrees = absurd agrees.1
+buffer_given classes store k access (given.Buffer h) (ReferenceResult r) small agrees = absurd agrees.1
+buffer_given classes store k access (given.Buffer h) (FieldResult f) small agrees = absurd agrees.1
+buffer_given classes store k access given.Nothing c small agrees = absurd agrees
+buffer_given classes store k access (given.Number word) c small agrees = absurd agrees
+buffer_given classes store k access (given.Reference a) c small agrees = absurd agrees
+buffer_given classes store k access (given.FieldId f) c small agrees = absurd agrees
+buffer_given classes store k access (given.Global s) c small agrees = absurd (let e = agrees.0 in cc)
+
+frames_result : (classes : Classes) (store : Store) (k : ℕ) (kind : ResultKind) (g : Given) (c : CallResult) (locals after : LocalTable) (key : Option ℕ) (gs : List source.Frame) → AreStacked locals → ResultAgrees classes store k g kind c → MakesLocal kind g locals key after → FramesAgree store.heap locals gs → FramesAgree store.heap after (frames_received kind c gs)
+frames_result classes store k kind given.Nothing c locals after key gs stacked h makes agree = frames_agree store.heap classes kind given.Nothing c locals key after gs stacked h makes agree
+frames_result classes store k kind (given.Number word) c locals after key gs stacked h makes agree = frames_agree store.heap classes kind (given.Number word) c locals key after gs stacked h makes agree
+frames_result classes store k kind (given.Reference a) c locals after key gs stacked h makes agree = frames_agree store.heap classes kind (given.Reference a) c locals key after gs stacked h makes agree
+frames_result classes store k kind (given.FieldId f) c locals after key gs stacked h makes agree = frames_agree store.heap classes kind (given.FieldId f) c locals key after gs stacked h makes agree
+frames_result classes store k kind (given.Global s) c locals after key gs stacked h makes agree =
     subst (λ (k : ResultKind). FramesAgree store.heap after (frames_received k c gs)) (sym h.0)
     (subst (λ (t : LocalTable). FramesAgree store.heap t gs) (sym (subst (λ (k : ResultKind). MakesLocal k (given.Global s) locals key after) h.0 makes).1) agree)
+frames_result classes store k kind (given.Buffer b) c locals after key gs stacked h makes agree =
+    subst (λ (k : ResultKind). FramesAgree store.heap after (frames_received k c gs)) (sym h.0.1)
+    (subst (λ (t : LocalTable). FramesAgree store.heap t gs) (sym (subst (λ (k : ResultKind). MakesLocal k (given.Buffer b) locals key after) h.0.1 makes).1) agree)
 
 -- ---- owners
 
@@ -262,9 +322,9 @@ put_here : (kind : VariableKind) (x : Identifier) (v : Variable) (own : Owners) 
 put_here kind x v own vs = ap (λ (b : Bool). if b then level_held (lookup x (assign x v vs)) else own x) ((bytes_eq-Decides x x).1 refl) ∙ ap level_held (lookup_same x v vs)
 
 -- a call stands for its tasks also where fewer references are variables' own
-fewer_stands : (p : Lowered) (classes : Classes) (space : Space) (call : Activation) (own own' : Owners) (shared : Shared) (s : source.Thread) (frames : List source.Frame) (tasks : List Task) → ((x : Identifier) (level : ℕ) → own' x ≡ Some level → own x ≡ Some level)
-    → CallStands p classes space call (visible_to own shared s) frames tasks → CallStands p classes space call (visible_to own' shared s) frames tasks
-fewer_stands p classes space call own own' shared s frames tasks among h = record {
+fewer_stands : (p : Lowered) (classes : Classes) (space : Space) (copies : List (Option OwnedNumbers)) (k : ℕ) (call : Activation) (own own' : Owners) (shared : Shared) (s : source.Thread) (frames : List source.Frame) (tasks : List Task) → ((x : Identifier) (level : ℕ) → own' x ≡ Some level → own x ≡ Some level)
+    → CallStands p classes space copies k call (visible_to own shared s) frames tasks → CallStands p classes space copies k call (visible_to own' shared s) frames tasks
+fewer_stands p classes space copies k call own own' shared s frames tasks among h = record {
   code = h.code;
   of_function = h.of_function;
   known = h.known;
@@ -305,18 +365,20 @@ zero_word (Int z) h =
 -- ---- the end of a call
 
 -- the thread goes on with these tasks, and the machine's call stands for it
-pub record Finishes (p : Lowered) (w : World) (old : Space) (shared : Shared) (store : Store) (statics : Vec InMemory) (next : Shared) (line : ℕ) (target : Target) (f : JniFunction) (args : List Actual) (rest : List Task) (s : source.Thread) (left : List source.Frame) (q : Reference) (c : CallResult) (own : Owners) (after : Activation) : Type 0 where
+pub record Finishes (p : Lowered) (w : World) (old : Space) (shared : Shared) (store : Store) (statics : Vec InMemory) (next : Shared) (line : ℕ) (target : Target) (f : JniFunction) (args : List Actual) (rest : List Task) (s : source.Thread) (left : List source.Frame) (q : Reference) (c : CallResult) (untold : Variables) (others : Acquired) (k : ℕ) (own : Owners) (after : Activation) : Type 0 where
   pub now : Shared
   pub variables : Variables
   pub tasks : List Task
-  pub steps : put target c next (resumption line f args rest s left q c target) ≡ source.Advances now (going line f args tasks s left q c variables) source.Quiet
-  pub store_agrees : StoreAgrees p w (record store { statics = statics }) now
+  pub steps : put target c next (resumption line f args rest s left q c untold target) ≡ source.Advances now (going line f args tasks s left q c variables) source.Quiet
+  pub store_agrees : StoreAgrees p w (record store { statics = statics }) now (beside others (taken_by variables))
   pub keeps : Keeps old shared store.heap now
-  pub stands : CallStands p w.classes store.heap after (visible_to (put_owners target own variables) now (going line f args tasks s left q c variables)) (frames_received (prototype f).result c left) tasks
-  pub viewless : viewed_by (going line f args tasks s left q c variables) ≡ []
+  pub views : AreViewed store.heap after.slots.buffers.items (going line f args tasks s left q c variables)
+  pub stands : CallStands p w.classes store.heap store.elements k after (visible_to (put_owners target own variables) now (going line f args tasks s left q c variables)) (frames_received (prototype f).result c left) tasks
 
-module _ (p : Lowered) (w : World) (old : Space) (store : Store) (own : Owners) (shared next : Shared) (shares : StoreAgrees p w store next) (keeps : Keeps old shared store.heap next) (s : source.Thread) (none : viewed_by s ≡ []) (call : Activation) (code : Listing) (task : Task) (rest : List Task)
-    (r : Ready p w.classes old call code (visible_to own shared s) s.frames task rest) (line : ℕ) (f : JniFunction) (args : List Actual) (locals : LocalTable) (stacked : AreStacked locals) (room : HasRoom (prototype f).result locals) (keyed : KeysAgree store.heap locals call.slots.references.items r.meant.references r.meant.owners) (left : List source.Frame) (framed : FramesAgree store.heap locals left) (q : Reference) (g : Given) (c : CallResult) (agrees : ResultAgrees w.classes store g (prototype f).result c)
+module _ (p : Lowered) (w : World) (old : Space) (old_copies : List (Option OwnedNumbers)) (store : Store) (others : Acquired) (k : ℕ) (own : Owners) (shared next : Shared) (keeps : Keeps old shared store.heap next) (s : source.Thread) (call : Activation) (code : Listing) (task : Task) (rest : List Task)
+    (r : Ready p w.classes old old_copies k call code (visible_to own shared s) s.frames task rest) (line : ℕ) (f : JniFunction) (args : List Actual) (locals : LocalTable) (stacked : AreStacked locals) (room : HasRoom (prototype f).result locals) (keyed : KeysAgree store.heap locals call.slots.references.items r.meant.references r.meant.owners)
+    (buffered : BuffersAgree store.heap store.elements k call.slots.buffers.items r.meant.buffers) (viewed : AreViewed store.heap call.slots.buffers.items s) (left : List source.Frame) (framed : FramesAgree store.heap locals left) (q : Reference) (g : Given) (c : CallResult) (untold : Variables) (told : tell_copy (address_given args 1) c untold ≡ s.variables) (told_taken : taken_by s.variables ≡ taken_by untold)
+    (shares : StoreAgrees p w store next (beside others (beside (taken_by untold) (acquired_with c)))) (agrees : ResultAgrees w.classes store k g (prototype f).result c) (small : (b : Buffer) → c ≡ BufferResult b → IsSmallCopy b) (apart : (b : HeldBuffer) (j key : ℕ) → g ≡ given.Buffer b → b ≡ held_as.Copy key → slice_get call.slots.buffers.items j ≡ Some (held_as.Copy key) → ⊥)
     (still : (prototype f).result ≡ NewGlobal → next.statics ≡ shared.statics) (function : Call) (at : slice_get code.instrs call.place ≡ Some (instr.Call function)) (none_left : with_fewer (words_taken function.operands) (length call.stack) ≡ Some 0) (after : Activation) (statics : Vec InMemory) where
   abbrev space : Space
   space = store.heap
@@ -328,31 +390,45 @@ module _ (p : Lowered) (w : World) (old : Space) (store : Store) (own : Owners) 
   abbrev pub carried : Activation
   carried = record call { locals = locals }
 
-  plain : IsNoBuffer c
-  plain = plain_result w.classes store kind g c agrees
+  -- what buffers take once a result that is none is in its variable
+  plain_shares : IsNoBuffer c → (vs : Variables) → taken_by vs ≡ taken_by s.variables → StoreAgrees p w store next (beside others (taken_by vs))
+  plain_shares plain vs same =
+      subst (λ (a : Acquired). StoreAgrees p w store next (beside others a)) (sym (same ∙ told_taken))
+      (store_taken p w store next (beside others (beside (taken_by untold) nothing_acquired)) (beside others (taken_by untold)) (nothing_more others (taken_by untold))
+      (subst (λ (a : Acquired). StoreAgrees p w store next (beside others (beside (taken_by untold) a))) (nothing_with c plain) shares))
+
+  -- a variable that a target is holds no buffer before
+  abbrev pub IsFree : Target → Type 0
+  IsFree target = (x : Identifier) → is_target target x ≡ true → HoldsNoBuffer (lookup x s.variables)
 
   abbrev resuming : Variables → source.Thread
   resuming vs = going line f args rest s left q c vs
+
+  -- what slots view once a result that is no buffer is in its variable
+  plain_views : (vs : Variables) → after.slots.buffers.items ≡ call.slots.buffers.items → taken_by vs ≡ taken_by s.variables → AreViewed space after.slots.buffers.items (resuming vs)
+  plain_views vs slots same = views_same space call.slots.buffers.items after.slots.buffers.items s (resuming vs) slots same viewed
 
   abbrev held : Slots
   held = slots_of call r.meant
 
   abbrev Ends : Target → Type 0
-  Ends target = Finishes p w old shared store statics next line target f args rest s left q c own after
+  Ends target = Finishes p w old shared store statics next line target f args rest s left q c untold others k own after
 
   -- the keys once a result is made a local reference
-  kept_keys : (d : Destination) → Receives d kind g carried after → KeysAgree space after.locals call.slots.references.items r.meant.references r.meant.owners
+  kept_keys : (d : Destination) → Receives d kind None g carried after → KeysAgree space after.locals call.slots.references.items r.meant.references r.meant.owners
   kept_keys d receives = keys_left space space locals after.locals call.slots.references.items r.meant.references r.meant.owners keyed (λ i key n level at_key owned h. made_left space kind g locals after.locals receives.key stacked receives.makes key n level h)
 
   -- the slots hold what they did, where a result has gone elsewhere
-  still_held : (d : Destination) → Receives d kind g carried after → after.slots.references.items ≡ call.slots.references.items → after.slots.fields.items ≡ call.slots.fields.items → SlotsHold w.classes space after.locals (values_in after) r.meant
-  still_held d receives keys fields = record {
+  still_held : (d : Destination) → Receives d kind None g carried after → after.slots.references.items ≡ call.slots.references.items → after.slots.fields.items ≡ call.slots.fields.items → after.slots.buffers.items ≡ call.slots.buffers.items → SlotsHold w.classes space store.elements k after.locals (values_in after) r.meant
+  still_held d receives keys fields same_buffers = record {
     keys = subst (λ (l : List (Option ℕ)). KeysAgree space after.locals l r.meant.references r.meant.owners) (sym keys) (kept_keys d receives);
     fields = subst (λ (l : List (Option Handle)). FieldsAgree w.classes l r.meant.fields) (sym fields) r.holds.fields;
+    buffers = subst (λ (l : List HeldBuffer). BuffersAgree space store.elements k l r.meant.buffers) (sym same_buffers) buffered;
+    small = r.holds.small;
   }
 
-  frames_after : (d : Destination) → Receives d kind g carried after → FramesAgree space after.locals (frames_received kind c left)
-  frames_after d receives = frames_result w.classes store kind g c locals after.locals receives.key left stacked agrees receives.makes framed
+  frames_after : (d : Destination) → Receives d kind None g carried after → FramesAgree space after.locals (frames_received kind c left)
+  frames_after d receives = frames_result w.classes store k kind g c locals after.locals receives.key left stacked agrees receives.makes framed
 
   -- the statics hold what they did
   abbrev SameStatics : Type 0
@@ -363,10 +439,10 @@ module _ (p : Lowered) (w : World) (old : Space) (store : Store) (own : Owners) 
   HasNoWord = with_result function.target 0 ≡ Some 0
 
   -- with these words on the stack it stands for these tasks
-  stands_with : (words : List ℕ) (tasks : List Task) → with_result function.target 0 ≡ Some (length words) → (d : Destination) → Receives d kind g carried after → stack_with d g ≡ words
-      → (now : Owners) (names : Known) (vs : Variables) (meant : Meant) → SlotsHold w.classes space after.locals (values_in after) meant
+  stands_with : (words : List ℕ) (tasks : List Task) → with_result function.target 0 ≡ Some (length words) → (d : Destination) → Receives d kind None g carried after → stack_with d g ≡ words
+      → (now : Owners) (names : Known) (vs : Variables) (meant : Meant) → SlotsHold w.classes space store.elements k after.locals (values_in after) meant
       → StandsFor code names (call.place + 1) words tasks → Shows code names (visible_to now shared (resuming vs)) (slots_of after meant)
-      → CallStands p w.classes space after (visible_to now next (resuming vs)) (frames_received kind c left) tasks
+      → CallStands p w.classes space store.elements k after (visible_to now next (resuming vs)) (frames_received kind c left) tasks
   stands_with words tasks count d receives put now names vs meant holds stands shows = record {
     code = code;
     of_function = ap (slice_get p.codes) receives.function ∙ r.of_function;
@@ -377,7 +453,7 @@ module _ (p : Lowered) (w : World) (old : Space) (store : Store) (own : Owners) 
     shows = shows_stay now shared next keeps.statics (resuming vs) code names (slots_of after meant) shows;
     depth =
         ap (depth_at code.instrs) receives.place
-        ∙ depth_behind p w.classes old call code (visible_to own shared s) s.frames task rest r (instr.Call function) at (length words) (λ leaves. leaves) (ap (option_and_then (with_result function.target)) none_left ∙ count)
+        ∙ depth_behind p w.classes old old_copies k call code (visible_to own shared s) s.frames task rest r (instr.Call function) at (length words) (λ leaves. leaves) (ap (option_and_then (with_result function.target)) none_left ∙ count)
         ∙ ap (λ (l : List ℕ). Some (length l)) (sym (receives.stack ∙ put));
     frames_agree = frames_after d receives;
   }
@@ -391,55 +467,52 @@ module _ (p : Lowered) (w : World) (old : Space) (store : Store) (own : Owners) 
   frames_count : length locals.frames ≡ length left
   frames_count = as_many_frames space locals left framed
 
-  stands_after : HasNoWord → (d : Destination) → stack_with d g ≡ [] → Receives d kind g carried after → (now : Owners) (names : Known) (vs : Variables) (meant : Meant) → SlotsHold w.classes space after.locals (values_in after) meant
+  stands_after : HasNoWord → (d : Destination) → stack_with d g ≡ [] → Receives d kind None g carried after → (now : Owners) (names : Known) (vs : Variables) (meant : Meant) → SlotsHold w.classes space store.elements k after.locals (values_in after) meant
       → StandsFor code names (call.place + 1) [] rest → Shows code names (visible_to now shared (resuming vs)) (slots_of after meant)
-      → CallStands p w.classes space after (visible_to now next (resuming vs)) (frames_received kind c left) rest
+      → CallStands p w.classes space store.elements k after (visible_to now next (resuming vs)) (frames_received kind c left) rest
   stands_after no_word d empty receives = stands_with [] rest no_word d receives empty
 
   -- ---- a number
 
-  module _ (no_word : HasNoWord) (i : ℕ) (receives : Receives (destination.Number i) kind g carried after) (of : Sort) (x : Identifier) (takes : TakesNumber code r.known call.place call.stack held (visible_to own shared s) of i x rest) (n : IsNumber g c of) where
-    number_stands : CallStands p w.classes space after (visible_to own next (resuming (assign x (Scalar n.value) s.variables))) (frames_received kind c left) rest
+  module _ (no_word : HasNoWord) (i : ℕ) (receives : Receives (destination.Number i) kind None g carried after) (of : Sort) (x : Identifier) (takes : TakesNumber code r.known call.place call.stack held (visible_to own shared s) of i x rest) (n : IsNumber g c of) where
+    number_stands : CallStands p w.classes space store.elements k after (visible_to own next (resuming (assign x (Scalar n.value) s.variables))) (frames_received kind c left) rest
     number_stands =
         let vs = assign x (Scalar n.value) s.variables in
         let numbers : after.slots.numbers.items ≡ slice_set call.slots.numbers.items i (word_of n.value) = receives.numbers ∙ ap (λ (h : Given). numbers_with (destination.Number i) h call.slots.numbers.items) n.same in
-        stands_after no_word (destination.Number i) refl receives own takes.names vs r.meant (still_held (destination.Number i) receives receives.references receives.fields) takes.stands
+        stands_after no_word (destination.Number i) refl receives own takes.names vs r.meant (still_held (destination.Number i) receives receives.references receives.fields receives.buffers) takes.stands
         (shown takes.names (visible_to own shared (resuming vs)) r.meant numbers
         (takes.shows n.value (visible_to own shared (resuming vs)) n.sorted (is_set own own shared s (resuming vs) x (λ y other. refl) n.value refl)))
 
-    number_viewless : viewed_by (resuming (assign x (Scalar n.value) s.variables)) ≡ []
-    number_viewless = assigned_viewless x (Scalar n.value) s.variables refl none
-
-  number_finishes : SameStatics → HasNoWord → (i : ℕ) (target : Target) → Receives (destination.Number i) kind g carried after → (of : Sort) → IsNumber g c of → GoesInto code r.known call.place call.stack held (visible_to own shared s) ScalarKind target (λ x. TakesNumber code r.known call.place call.stack held (visible_to own shared s) of i x rest) → Ends target
-  number_finishes same_statics no_word i (Declared declared x) receives of n goes = record {
+  number_finishes : SameStatics → HasNoWord → (i : ℕ) (target : Target) → IsFree target → Receives (destination.Number i) kind None g carried after → (of : Sort) → IsNumber g c of → GoesInto code r.known call.place call.stack held (visible_to own shared s) ScalarKind target (λ x. TakesNumber code r.known call.place call.stack held (visible_to own shared s) of i x rest) → Ends target
+  number_finishes same_statics no_word i (Declared declared x) free receives of n goes = record {
     now = next;
     tasks = rest;
-    store_agrees = with_same p w store next shares statics same_statics;
+    store_agrees = with_same p w store next (beside others (taken_by (assign x (Scalar n.value) s.variables))) (plain_shares (subst IsNoBuffer (sym n.gave) tt) (assign x (Scalar n.value) s.variables) (assigned_nothing x (Scalar n.value) s.variables refl refl (free x (same_target x)))) statics same_statics;
     keeps = keeps;
+    views = plain_views (assign x (Scalar n.value) s.variables) receives.buffers (assigned_nothing x (Scalar n.value) s.variables refl refl (free x (same_target x)));
     variables = assign x (Scalar n.value) s.variables;
-    steps = declared_is line f args rest s left q c plain next declared x (Scalar n.value) (ap (λ (k : VariableKind). filled (blank k (length (frames_received kind c left))) c) goes.0 ∙ ap (filled (blank ScalarKind 0)) n.gave);
-    stands = fewer_stands p w.classes space after own (put_owners (Declared declared x) own (assign x (Scalar n.value) s.variables)) next (resuming (assign x (Scalar n.value) s.variables)) (frames_received kind c left) rest (fewer_put declared x (Scalar n.value) own s.variables refl) (number_stands no_word i receives of x goes.1 n);
-    viewless = number_viewless no_word i receives of x goes.1 n;
+    steps = declared_is line f args rest s left q c untold told next declared x (Scalar n.value) (ap (λ (k : VariableKind). filled (blank k (length (frames_received kind c left))) c) goes.0 ∙ ap (filled (blank ScalarKind 0)) n.gave);
+    stands = fewer_stands p w.classes space store.elements k after own (put_owners (Declared declared x) own (assign x (Scalar n.value) s.variables)) next (resuming (assign x (Scalar n.value) s.variables)) (frames_received kind c left) rest (fewer_put declared x (Scalar n.value) own s.variables refl) (number_stands no_word i receives of x goes.1 n);
   }
-  number_finishes same_statics no_word i (Assigned x) receives of n goes =
+  number_finishes same_statics no_word i (Assigned x) free receives of n goes =
       let old = scalar_by_kind (lookup x s.variables) goes.0 in
       record {
         now = next;
         tasks = rest;
-        store_agrees = with_same p w store next shares statics same_statics;
+        store_agrees = with_same p w store next (beside others (taken_by (assign x (Scalar n.value) s.variables))) (plain_shares (subst IsNoBuffer (sym n.gave) tt) (assign x (Scalar n.value) s.variables) (assigned_nothing x (Scalar n.value) s.variables refl refl (free x (same_target x)))) statics same_statics;
         keeps = keeps;
+        views = plain_views (assign x (Scalar n.value) s.variables) receives.buffers (assigned_nothing x (Scalar n.value) s.variables refl refl (free x (same_target x)));
         variables = assign x (Scalar n.value) s.variables;
-        steps = assigned_is line f args rest s left q c plain next x (Scalar old.0) (Scalar n.value) old.1 (ap (filled (Scalar old.0)) n.gave);
-        stands = fewer_stands p w.classes space after own (put_owners (Assigned x) own (assign x (Scalar n.value) s.variables)) next (resuming (assign x (Scalar n.value) s.variables)) (frames_received kind c left) rest (fewer_put ScalarKind x (Scalar n.value) own s.variables refl) (number_stands no_word i receives of x goes.1 n);
-        viewless = number_viewless no_word i receives of x goes.1 n;
+        steps = assigned_is line f args rest s left q c untold told next x (Scalar old.0) (Scalar n.value) old.1 (ap (filled (Scalar old.0)) n.gave);
+        stands = fewer_stands p w.classes space store.elements k after own (put_owners (Assigned x) own (assign x (Scalar n.value) s.variables)) next (resuming (assign x (Scalar n.value) s.variables)) (frames_received kind c left) rest (fewer_put ScalarKind x (Scalar n.value) own s.variables refl) (number_stands no_word i receives of x goes.1 n);
       }
-  number_finishes same_statics no_word i (Tested a b) receives of n goes = absurd goes
-  number_finishes same_statics no_word i Dropped receives of n goes = absurd goes
+  number_finishes same_statics no_word i (Tested a b) free receives of n goes = absurd goes
+  number_finishes same_statics no_word i Dropped free receives of n goes = absurd goes
 
   -- ---- a reference
 
-  module _ (no_word : HasNoWord) (i : ℕ) (receives : Receives (destination.Local i) kind g carried after) (x : Identifier) (takes : TakesReference code r.known call.place call.stack held (visible_to own shared s) i x rest) (n : IsReference space g c) (level : ℕ) (counted : length locals.frames ≡ level) (new : Owners) (stay : OthersOwn own new x) (here : new x ≡ level_held (Some (LocalRef level n.reference))) (local : kind ≡ NewLocal) where
-    reference_stands : CallStands p w.classes space after (visible_to new next (resuming (assign x (LocalRef level n.reference) s.variables))) (frames_received kind c left) rest
+  module _ (no_word : HasNoWord) (i : ℕ) (receives : Receives (destination.Local i) kind None g carried after) (x : Identifier) (takes : TakesReference code r.known call.place call.stack held (visible_to own shared s) i x rest) (n : IsReference space g c) (level : ℕ) (counted : length locals.frames ≡ level) (new : Owners) (stay : OthersOwn own new x) (here : new x ≡ level_held (Some (LocalRef level n.reference))) (local : kind ≡ NewLocal) where
+    reference_stands : CallStands p w.classes space store.elements k after (visible_to new next (resuming (assign x (LocalRef level n.reference) s.variables))) (frames_received kind c left) rest
     reference_stands =
         let vs = assign x (LocalRef level n.reference) s.variables in
         let made = made_new space g n.address n.reference locals after.locals receives.key stacked (room_frame locals (subst (λ (k : ResultKind). HasRoom k locals) local room)) n.same n.agrees (subst (λ (k : ResultKind). MakesLocal k g locals receives.key after.locals) local receives.makes) in
@@ -454,6 +527,8 @@ module _ (p : Lowered) (w : World) (old : Space) (store : Store) (own : Owners) 
               subst (IsKeyOf space after.locals place m) (counted ∙ same) (made.key_of place m at named))
               (λ j place own_level at found owned. let live = live_there space locals call.slots.references.items r.meant.references r.meant.owners j place own_level keyed found owned in let clash : None ≡ Some live.0 = sym (made.fresh place at) ∙ live.1 in cc));
           fields = subst (λ (l : List (Option Handle)). FieldsAgree w.classes l r.meant.fields) (sym receives.fields) r.holds.fields;
+          buffers = subst (λ (l : List HeldBuffer). BuffersAgree space store.elements k l r.meant.buffers) (sym receives.buffers) buffered;
+          small = r.holds.small;
         }) takes.stands
         (shown takes.names (visible_to new shared (resuming vs)) meant receives.numbers
         (takes.shows n.reference (visible_to new shared (resuming vs)) (is_referred own new shared s (resuming vs) x stay level n.reference refl)))
@@ -462,40 +537,40 @@ module _ (p : Lowered) (w : World) (old : Space) (store : Store) (own : Owners) 
   abbrev pub IsDeclaredThere : Target → Type 0
   IsDeclaredThere target = (x : Identifier) (level : ℕ) (old : Reference) → target ≡ Assigned x → lookup x s.variables ≡ Some (LocalRef level old) → level ≡ length left
 
-  reference_finishes : kind ≡ NewLocal → SameStatics → HasNoWord → (i : ℕ) (target : Target) → IsDeclaredThere target → Receives (destination.Local i) kind g carried after → IsReference space g c → GoesInto code r.known call.place call.stack held (visible_to own shared s) ReferenceKind target (λ x. TakesReference code r.known call.place call.stack held (visible_to own shared s) i x rest) → Ends target
-  reference_finishes local same_statics no_word i (Declared declared x) there receives n goes =
+  reference_finishes : IsNoBuffer c → kind ≡ NewLocal → SameStatics → HasNoWord → (i : ℕ) (target : Target) → IsFree target → IsDeclaredThere target → Receives (destination.Local i) kind None g carried after → IsReference space g c → GoesInto code r.known call.place call.stack held (visible_to own shared s) ReferenceKind target (λ x. TakesReference code r.known call.place call.stack held (visible_to own shared s) i x rest) → Ends target
+  reference_finishes plain local same_statics no_word i (Declared declared x) free there receives n goes =
       let level = length (frames_received kind c left) in
       let counted : length locals.frames ≡ level = frames_count ∙ sym (received_count kind c left) in
       record {
         now = next;
         tasks = rest;
-        store_agrees = with_same p w store next shares statics same_statics;
+        store_agrees = with_same p w store next (beside others (taken_by (assign x (LocalRef level n.reference) s.variables))) (plain_shares plain (assign x (LocalRef level n.reference) s.variables) (assigned_nothing x (LocalRef level n.reference) s.variables refl refl (free x (same_target x)))) statics same_statics;
         keeps = keeps;
+        views = plain_views (assign x (LocalRef level n.reference) s.variables) receives.buffers (assigned_nothing x (LocalRef level n.reference) s.variables refl refl (free x (same_target x)));
         variables = assign x (LocalRef level n.reference) s.variables;
-        steps = declared_is line f args rest s left q c plain next declared x (LocalRef level n.reference) (ap (λ (k : VariableKind). filled (blank k level) c) goes.0 ∙ n.fills level None);
+        steps = declared_is line f args rest s left q c untold told next declared x (LocalRef level n.reference) (ap (λ (k : VariableKind). filled (blank k level) c) goes.0 ∙ n.fills level None);
         stands = reference_stands no_word i receives x goes.1 n level counted (put_owners (Declared declared x) own (assign x (LocalRef level n.reference) s.variables)) (others_put declared x own (assign x (LocalRef level n.reference) s.variables)) (put_here declared x (LocalRef level n.reference) own s.variables) local;
-        viewless = assigned_viewless x (LocalRef level n.reference) s.variables refl none;
       }
-  reference_finishes local same_statics no_word i (Assigned x) there receives n goes =
+  reference_finishes plain local same_statics no_word i (Assigned x) free there receives n goes =
       let old = local_by_kind (lookup x s.variables) goes.0 in
       let counted : length locals.frames ≡ old.0 = frames_count ∙ sym (there x old.0 old.1 refl old.2) in
       record {
         now = next;
         tasks = rest;
-        store_agrees = with_same p w store next shares statics same_statics;
+        store_agrees = with_same p w store next (beside others (taken_by (assign x (LocalRef old.0 n.reference) s.variables))) (plain_shares plain (assign x (LocalRef old.0 n.reference) s.variables) (assigned_nothing x (LocalRef old.0 n.reference) s.variables refl refl (free x (same_target x)))) statics same_statics;
         keeps = keeps;
+        views = plain_views (assign x (LocalRef old.0 n.reference) s.variables) receives.buffers (assigned_nothing x (LocalRef old.0 n.reference) s.variables refl refl (free x (same_target x)));
         variables = assign x (LocalRef old.0 n.reference) s.variables;
-        steps = assigned_is line f args rest s left q c plain next x (LocalRef old.0 old.1) (LocalRef old.0 n.reference) old.2 (n.fills old.0 old.1);
+        steps = assigned_is line f args rest s left q c untold told next x (LocalRef old.0 old.1) (LocalRef old.0 n.reference) old.2 (n.fills old.0 old.1);
         stands = reference_stands no_word i receives x goes.1 n old.0 counted (put_owners (Assigned x) own (assign x (LocalRef old.0 n.reference) s.variables)) (others_put ReferenceKind x own (assign x (LocalRef old.0 n.reference) s.variables)) (put_here ReferenceKind x (LocalRef old.0 n.reference) own s.variables) local;
-        viewless = assigned_viewless x (LocalRef old.0 n.reference) s.variables refl none;
       }
-  reference_finishes local same_statics no_word i (Tested a b) there receives n goes = absurd goes
-  reference_finishes local same_statics no_word i Dropped there receives n goes = absurd goes
+  reference_finishes plain local same_statics no_word i (Tested a b) free there receives n goes = absurd goes
+  reference_finishes plain local same_statics no_word i Dropped free there receives n goes = absurd goes
 
   -- ---- a field ID
 
-  module _ (no_word : HasNoWord) (i : ℕ) (receives : Receives (destination.FieldId i) kind g carried after) (x : Identifier) (takes : TakesField code r.known call.place call.stack held (visible_to own shared s) i x rest) (n : IsField w.classes g c) where
-    field_stands : CallStands p w.classes space after (visible_to own next (resuming (assign x (FieldHandle n.field) s.variables))) (frames_received kind c left) rest
+  module _ (no_word : HasNoWord) (i : ℕ) (receives : Receives (destination.FieldId i) kind None g carried after) (x : Identifier) (takes : TakesField code r.known call.place call.stack held (visible_to own shared s) i x rest) (n : IsField w.classes g c) where
+    field_stands : CallStands p w.classes space store.elements k after (visible_to own next (resuming (assign x (FieldHandle n.field) s.variables))) (frames_received kind c left) rest
     field_stands =
         let vs = assign x (FieldHandle n.field) s.variables in
         let fields : after.slots.fields.items ≡ slice_set call.slots.fields.items i n.handle = receives.fields ∙ ap (λ (h : Given). fields_with (destination.FieldId i) h call.slots.fields.items) n.same in
@@ -504,44 +579,43 @@ module _ (p : Lowered) (w : World) (old : Space) (store : Store) (own : Owners) 
         (record {
           keys = subst (λ (l : List (Option ℕ)). KeysAgree space after.locals l r.meant.references r.meant.owners) (sym receives.references) (kept_keys (destination.FieldId i) receives);
           fields = subst (λ (l : List (Option Handle)). FieldsAgree w.classes l meant.fields) (sym fields) (field_put w.classes call.slots.fields.items r.meant.fields i n.handle n.field r.holds.fields n.agrees);
+          buffers = subst (λ (l : List HeldBuffer). BuffersAgree space store.elements k l r.meant.buffers) (sym receives.buffers) buffered;
+          small = r.holds.small;
         }) takes.stands
         (shown takes.names (visible_to own shared (resuming vs)) meant receives.numbers
         (takes.shows n.field (visible_to own shared (resuming vs)) (is_field_set own own shared s (resuming vs) x (λ y other. refl) n.field refl)))
 
-    field_viewless : viewed_by (resuming (assign x (FieldHandle n.field) s.variables)) ≡ []
-    field_viewless = assigned_viewless x (FieldHandle n.field) s.variables refl none
-
-  field_finishes : SameStatics → HasNoWord → (i : ℕ) (target : Target) → Receives (destination.FieldId i) kind g carried after → IsField w.classes g c → GoesInto code r.known call.place call.stack held (visible_to own shared s) FieldKind target (λ x. TakesField code r.known call.place call.stack held (visible_to own shared s) i x rest) → Ends target
-  field_finishes same_statics no_word i (Declared declared x) receives n goes = record {
+  field_finishes : IsNoBuffer c → SameStatics → HasNoWord → (i : ℕ) (target : Target) → IsFree target → Receives (destination.FieldId i) kind None g carried after → IsField w.classes g c → GoesInto code r.known call.place call.stack held (visible_to own shared s) FieldKind target (λ x. TakesField code r.known call.place call.stack held (visible_to own shared s) i x rest) → Ends target
+  field_finishes plain same_statics no_word i (Declared declared x) free receives n goes = record {
     now = next;
     tasks = rest;
-    store_agrees = with_same p w store next shares statics same_statics;
+    store_agrees = with_same p w store next (beside others (taken_by (assign x (FieldHandle n.field) s.variables))) (plain_shares plain (assign x (FieldHandle n.field) s.variables) (assigned_nothing x (FieldHandle n.field) s.variables refl refl (free x (same_target x)))) statics same_statics;
     keeps = keeps;
+    views = plain_views (assign x (FieldHandle n.field) s.variables) receives.buffers (assigned_nothing x (FieldHandle n.field) s.variables refl refl (free x (same_target x)));
     variables = assign x (FieldHandle n.field) s.variables;
-    steps = declared_is line f args rest s left q c plain next declared x (FieldHandle n.field) (ap (λ (k : VariableKind). filled (blank k (length (frames_received kind c left))) c) goes.0 ∙ n.fills None);
-    stands = fewer_stands p w.classes space after own (put_owners (Declared declared x) own (assign x (FieldHandle n.field) s.variables)) next (resuming (assign x (FieldHandle n.field) s.variables)) (frames_received kind c left) rest (fewer_put declared x (FieldHandle n.field) own s.variables refl) (field_stands no_word i receives x goes.1 n);
-    viewless = field_viewless no_word i receives x goes.1 n;
+    steps = declared_is line f args rest s left q c untold told next declared x (FieldHandle n.field) (ap (λ (k : VariableKind). filled (blank k (length (frames_received kind c left))) c) goes.0 ∙ n.fills None);
+    stands = fewer_stands p w.classes space store.elements k after own (put_owners (Declared declared x) own (assign x (FieldHandle n.field) s.variables)) next (resuming (assign x (FieldHandle n.field) s.variables)) (frames_received kind c left) rest (fewer_put declared x (FieldHandle n.field) own s.variables refl) (field_stands no_word i receives x goes.1 n);
   }
-  field_finishes same_statics no_word i (Assigned x) receives n goes =
+  field_finishes plain same_statics no_word i (Assigned x) free receives n goes =
       let old = field_by_kind (lookup x s.variables) goes.0 in
       record {
         now = next;
         tasks = rest;
-        store_agrees = with_same p w store next shares statics same_statics;
+        store_agrees = with_same p w store next (beside others (taken_by (assign x (FieldHandle n.field) s.variables))) (plain_shares plain (assign x (FieldHandle n.field) s.variables) (assigned_nothing x (FieldHandle n.field) s.variables refl refl (free x (same_target x)))) statics same_statics;
         keeps = keeps;
+        views = plain_views (assign x (FieldHandle n.field) s.variables) receives.buffers (assigned_nothing x (FieldHandle n.field) s.variables refl refl (free x (same_target x)));
         variables = assign x (FieldHandle n.field) s.variables;
-        steps = assigned_is line f args rest s left q c plain next x (FieldHandle old.0) (FieldHandle n.field) old.1 (n.fills old.0);
-        stands = fewer_stands p w.classes space after own (put_owners (Assigned x) own (assign x (FieldHandle n.field) s.variables)) next (resuming (assign x (FieldHandle n.field) s.variables)) (frames_received kind c left) rest (fewer_put FieldKind x (FieldHandle n.field) own s.variables refl) (field_stands no_word i receives x goes.1 n);
-        viewless = field_viewless no_word i receives x goes.1 n;
+        steps = assigned_is line f args rest s left q c untold told next x (FieldHandle old.0) (FieldHandle n.field) old.1 (n.fills old.0);
+        stands = fewer_stands p w.classes space store.elements k after own (put_owners (Assigned x) own (assign x (FieldHandle n.field) s.variables)) next (resuming (assign x (FieldHandle n.field) s.variables)) (frames_received kind c left) rest (fewer_put FieldKind x (FieldHandle n.field) own s.variables refl) (field_stands no_word i receives x goes.1 n);
       }
-  field_finishes same_statics no_word i (Tested a b) receives n goes = absurd goes
-  field_finishes same_statics no_word i Dropped receives n goes = absurd goes
+  field_finishes plain same_statics no_word i (Tested a b) free receives n goes = absurd goes
+  field_finishes plain same_statics no_word i Dropped free receives n goes = absurd goes
 
   -- ---- a global reference
 
-  static_finishes : (i : ℕ) (x : Identifier) → HasNoWord → Receives (destination.Static i) kind g carried after → kind ≡ NewGlobal → statics.items ≡ statics_with (destination.Static i) g store.statics.items → IsGlobal store g c
+  static_finishes : IsNoBuffer c → (i : ℕ) (x : Identifier) → HasNoWord → Receives (destination.Static i) kind None g carried after → kind ≡ NewGlobal → statics.items ≡ statics_with (destination.Static i) g store.statics.items → IsGlobal store g c
       → TakesStatic code r.known call.place call.stack held (visible_to own shared s) i x rest → Ends (Assigned x)
-  static_finishes i x no_word receives global same_statics n takes =
+  static_finishes plain i x no_word receives global same_statics n takes =
       let h : StaticReference = as_static n.reference in
       let now : Shared = record next { statics = assign x h next.statics } in
       let seen : Shared = record shared { statics = assign x h shared.statics } in
@@ -554,33 +628,33 @@ module _ (p : Lowered) (w : World) (old : Space) (store : Store) (own : Owners) 
         variables = s.variables;
         tasks = rest;
         steps =
-            ap (put (Assigned x) c next) (resumed_is line f args rest s left q c plain (Assigned x))
+            ap (put (Assigned x) c next) (resumed_is line f args rest s left q c untold told (Assigned x))
             ∙ ap (put_assigned x c next (resuming s.variables)) unnamed
             ∙ ap (λ (v : StaticReference). source.Advances (record next { statics = assign x v next.statics }) (resuming s.variables) source.Quiet) n.gave;
-        store_agrees = with_static p w store next shares statics x i n.held h assigned place n.agrees (keys_put store.globals store.statics.items i n.held n.fresh shares.keys);
+        store_agrees = with_static p w store next (beside others (taken_by s.variables)) (plain_shares plain s.variables refl) statics x i n.held h assigned place n.agrees (keys_put store.globals store.statics.items i n.held n.fresh shares.keys);
         keeps = record { names = keeps.names; statics = inr (x, h, now_statics); shapes = keeps.shapes; room = keeps.room; few = keeps.few };
-        stands = fewer_stands p w.classes space after own (put_owners (Assigned x) own s.variables) now (resuming s.variables) (frames_received kind c left) rest (fewer_static x own s.variables unnamed) (record {
+        views = plain_views s.variables receives.buffers refl;
+        stands = fewer_stands p w.classes space store.elements k after own (put_owners (Assigned x) own s.variables) now (resuming s.variables) (frames_received kind c left) rest (fewer_static x own s.variables unnamed) (record {
           code = code;
           of_function = ap (slice_get p.codes) receives.function ∙ r.of_function;
           known = takes.names;
           stands = subst (λ (m : ℕ). StandsFor code takes.names m after.stack rest) (sym receives.place) (subst (λ (l : List ℕ). StandsFor code takes.names (call.place + 1) l rest) (sym receives.stack) takes.stands);
           meant = r.meant;
-          holds = still_held (destination.Static i) receives receives.references receives.fields;
+          holds = still_held (destination.Static i) receives receives.references receives.fields receives.buffers;
           shows = shows_stay own seen now (inl now_statics) (resuming s.variables) code takes.names (slots_of after r.meant)
               (shown takes.names (visible_to own seen (resuming s.variables)) r.meant receives.numbers
               (takes.shows h (visible_to own seen (resuming s.variables)) (is_held own shared s x h unnamed)));
           depth =
               ap (depth_at code.instrs) receives.place
-              ∙ depth_behind p w.classes old call code (visible_to own shared s) s.frames task rest r (instr.Call function) at 0 (λ leaves. leaves) (ap (option_and_then (with_result function.target)) none_left ∙ no_word)
+              ∙ depth_behind p w.classes old old_copies k call code (visible_to own shared s) s.frames task rest r (instr.Call function) at 0 (λ leaves. leaves) (ap (option_and_then (with_result function.target)) none_left ∙ no_word)
               ∙ ap (λ (l : List ℕ). Some (length l)) (sym receives.stack);
           frames_agree = frames_after (destination.Static i) receives;
         });
-        viewless = none;
       }
 
   -- ---- the test of an `if`
 
-  test_finishes : SameStatics → (target : Target) → with_result function.target 0 ≡ Some 1 → Receives destination.Test kind g carried after → IsNumber g c Jint → TakesTest code r.known call.place call.stack held (visible_to own shared s) line target rest → Ends target
+  test_finishes : SameStatics → (target : Target) → with_result function.target 0 ≡ Some 1 → Receives destination.Test kind None g carried after → IsNumber g c Jint → TakesTest code r.known call.place call.stack held (visible_to own shared s) line target rest → Ends target
   test_finishes same_statics target count receives n takes =
       let word : stack_with destination.Test g ≡ truth_word (is_zero c) ∷ [] =
       ap (stack_with destination.Test) n.same ∙ ap (λ (b : Bool). truth_word b ∷ []) (zero_word n.value n.sorted ∙ sym (ap is_zero n.gave)) in
@@ -588,37 +662,101 @@ module _ (p : Lowered) (w : World) (old : Space) (store : Store) (own : Owners) 
       subst Ends (sym takes.is) (record {
         now = next;
         tasks = tasks;
-        store_agrees = with_same p w store next shares statics same_statics;
+        store_agrees = with_same p w store next (beside others (taken_by (s.variables))) (plain_shares (subst IsNoBuffer (sym n.gave) tt) (s.variables) refl) statics same_statics;
         keeps = keeps;
+        views = plain_views s.variables receives.buffers refl;
         variables = s.variables;
-        steps = ap (put (Tested takes.then' takes.else') c next) (resumed_is line f args rest s left q c plain (Tested takes.then' takes.else'));
-        stands = stands_with (truth_word (is_zero c) ∷ []) tasks count destination.Test receives word own r.known s.variables r.meant (still_held destination.Test receives receives.references receives.fields) (takes.stands (is_zero c))
+        steps = ap (put (Tested takes.then' takes.else') c next) (resumed_is line f args rest s left q c untold told (Tested takes.then' takes.else'));
+        stands = stands_with (truth_word (is_zero c) ∷ []) tasks count destination.Test receives word own r.known s.variables r.meant (still_held destination.Test receives receives.references receives.fields receives.buffers) (takes.stands (is_zero c))
             (shown r.known (visible_to own shared (resuming s.variables)) r.meant receives.numbers r.shows);
-        viewless = none;
       })
+
+  -- ---- a buffer
+
+  module _ (no_word : HasNoWord) (element : ElementOfCode) (i : ℕ) (receives : Receives (destination.Buffer element i) kind None g carried after) (t : ElementType) (x : Identifier) (takes : TakesBuffer code r.known call.place call.stack held (visible_to own shared s) t i x rest) (n : IsBuffer store k g c) where
+    buffer_stands : CallStands p w.classes space store.elements k after (visible_to own next (resuming (assign x (Elements t n.buffer) s.variables))) (frames_received kind c left) rest
+    buffer_stands =
+        let vs = assign x (Elements t n.buffer) s.variables in
+        let meant : Meant = record r.meant { buffers = slice_set r.meant.buffers i n.buffer } in
+        let buffers : after.slots.buffers.items ≡ slice_set call.slots.buffers.items i n.held = receives.buffers ∙ ap (λ (h : Given). buffers_with (destination.Buffer element i) h call.slots.buffers.items) n.same in
+        stands_after no_word (destination.Buffer element i) refl receives own takes.names vs meant
+        (record {
+          keys = subst (λ (l : List (Option ℕ)). KeysAgree space after.locals l r.meant.references r.meant.owners) (sym receives.references) (kept_keys (destination.Buffer element i) receives);
+          fields = subst (λ (l : List (Option Handle)). FieldsAgree w.classes l r.meant.fields) (sym receives.fields) r.holds.fields;
+          buffers = subst (λ (l : List HeldBuffer). BuffersAgree space store.elements k l meant.buffers) (sym buffers) (buffer_put space store.elements k call.slots.buffers.items r.meant.buffers i n.held n.buffer buffered n.agrees (λ j key is at_key. apart n.held j key n.same is at_key));
+          small = all_put IsSmallCopy r.meant.buffers i n.buffer r.holds.small n.small;
+        }) takes.stands
+        (shown takes.names (visible_to own shared (resuming vs)) meant receives.numbers
+        (takes.shows (visible_to own shared s) (visible_to own shared (resuming vs)) held n.buffer r.shows (is_buffer_set own own shared s (resuming vs) x (λ y other. refl) t n.buffer refl)))
+
+    buffer_views : HoldsNoBuffer (lookup x s.variables) → AreViewed space after.slots.buffers.items (resuming (assign x (Elements t n.buffer) s.variables))
+    buffer_views none =
+        let next : source.Thread = resuming (assign x (Elements t n.buffer) s.variables) in
+        let buffers : after.slots.buffers.items ≡ slice_set call.slots.buffers.items i n.held = receives.buffers ∙ ap (λ (h : Given). buffers_with (destination.Buffer element i) h call.slots.buffers.items) n.same in
+        subst (λ (l : List HeldBuffer). AreViewed space l next) (sym buffers) (views_taken space store.elements k call.slots.buffers.items i n.held x t n.buffer s next n.agrees none refl viewed)
+
+    buffer_shares : HoldsNoBuffer (lookup x s.variables) → StoreAgrees p w store next (beside others (taken_by (assign x (Elements t n.buffer) s.variables)))
+    buffer_shares none =
+        store_taken p w store next (beside others (beside (taken_by s.variables) (acquired_of n.buffer))) (beside others (taken_by (assign x (Elements t n.buffer) s.variables))) (assigned_buffer others x t n.buffer s.variables none)
+        (subst (λ (a : Acquired). StoreAgrees p w store next (beside others (beside a (acquired_of n.buffer)))) (sym told_taken)
+        (subst (λ (a : Acquired). StoreAgrees p w store next (beside others (beside (taken_by untold) a))) n.takes shares))
+
+  buffer_finishes : SameStatics → HasNoWord → (element : ElementOfCode) (i : ℕ) (target : Target) → IsFree target → Receives (destination.Buffer element i) kind None g carried after → (t : ElementType) → IsBuffer store k g c
+      → GoesInto code r.known call.place call.stack held (visible_to own shared s) (BufferKind t) target (λ x. TakesBuffer code r.known call.place call.stack held (visible_to own shared s) t i x rest) → Ends target
+  buffer_finishes same_statics no_word element i (Declared declared x) free receives t n goes = record {
+    now = next;
+    tasks = rest;
+    store_agrees = with_same p w store next (beside others (taken_by (assign x (Elements t n.buffer) s.variables))) (buffer_shares no_word element i receives t x goes.1 n (free x (same_target x))) statics same_statics;
+    keeps = keeps;
+    views = buffer_views no_word element i receives t x goes.1 n (free x (same_target x));
+    variables = assign x (Elements t n.buffer) s.variables;
+    steps = declared_is line f args rest s left q c untold told next declared x (Elements t n.buffer) (ap (λ (k : VariableKind). filled (blank k (length (frames_received kind c left))) c) goes.0 ∙ n.fills t NoBuffer);
+    stands = fewer_stands p w.classes space store.elements k after own (put_owners (Declared declared x) own (assign x (Elements t n.buffer) s.variables)) next (resuming (assign x (Elements t n.buffer) s.variables)) (frames_received kind c left) rest (fewer_put declared x (Elements t n.buffer) own s.variables refl) (buffer_stands no_word element i receives t x goes.1 n);
+  }
+  buffer_finishes same_statics no_word element i (Assigned x) free receives t n goes =
+      let old = buffer_by_kind (lookup x s.variables) t goes.0 in
+      record {
+        now = next;
+        tasks = rest;
+        store_agrees = with_same p w store next (beside others (taken_by (assign x (Elements t n.buffer) s.variables))) (buffer_shares no_word element i receives t x goes.1 n (free x (same_target x))) statics same_statics;
+        keeps = keeps;
+        views = buffer_views no_word element i receives t x goes.1 n (free x (same_target x));
+        variables = assign x (Elements t n.buffer) s.variables;
+        steps = assigned_is line f args rest s left q c untold told next x (Elements t old.0) (Elements t n.buffer) old.1 (n.fills t old.0);
+        stands = fewer_stands p w.classes space store.elements k after own (put_owners (Assigned x) own (assign x (Elements t n.buffer) s.variables)) next (resuming (assign x (Elements t n.buffer) s.variables)) (frames_received kind c left) rest (fewer_put (BufferKind t) x (Elements t n.buffer) own s.variables refl) (buffer_stands no_word element i receives t x goes.1 n);
+      }
+  buffer_finishes same_statics no_word element i (Tested a b) free receives t n goes = absurd goes
+  buffer_finishes same_statics no_word element i Dropped free receives t n goes = absurd goes
 
   -- ---- by where it goes
 
-  pub finishes : (d : Destination) (target : Target) → (kind ≡ NewLocal → IsDeclaredThere target) → function.target ≡ d → TakesResult code r.known call.place call.stack held (visible_to own shared s) line d kind target rest → Receives d kind g carried after → statics.items ≡ statics_with d g store.statics.items → Ends target
-  finishes (destination.Number i) target there same goes receives same_statics = number_finishes same_statics (ap (λ (d : Destination). with_result d 0) same) i target receives goes.0 (number_given w.classes space kind g c goes.0 (other_given w.classes store kind g c (λ e. let clash : None ≡ Some goes.0 = sym (ap number_sort e) ∙ goes.1 in cc) agrees) goes.1) goes.2
-  finishes (destination.Local i) target there same goes receives same_statics =
-      reference_finishes goes.0 same_statics (ap (λ (d : Destination). with_result d 0) same) i target (there goes.0) receives (reference_given w.classes space g c (subst (λ (k : ResultKind). GivenAgrees w.classes space k g c) goes.0 (other_given w.classes store kind g c (λ e. let clash : NewLocal ≡ NewGlobal = sym goes.0 ∙ e in cc) agrees))) goes.1
-  finishes (destination.FieldId i) target there same goes receives same_statics =
-      field_finishes same_statics (ap (λ (d : Destination). with_result d 0) same) i target receives (field_given w.classes space g c (subst (λ (k : ResultKind). GivenAgrees w.classes space k g c) goes.0 (other_given w.classes store kind g c (λ e. let clash : GivesField ≡ NewGlobal = sym goes.0 ∙ e in cc) agrees))) goes.1
-  finishes (destination.Static i) target there same goes receives same_statics =
-      subst Ends (sym goes.1.1) (static_finishes i goes.1.0 (ap (λ (d : Destination). with_result d 0) same) receives goes.0 same_statics (global_given w.classes store g c (subst (λ (k : ResultKind). ResultAgrees w.classes store g k c) goes.0 agrees)) goes.1.2)
-  finishes (destination.Buffer i) target there same goes receives same_statics = absurd goes
-  finishes destination.Test target there same goes receives same_statics =
-      test_finishes same_statics target (ap (λ (d : Destination). with_result d 0) same) receives (number_given w.classes space kind g c Jint (other_given w.classes store kind g c (λ e. let clash : GivesInt ≡ NewGlobal = sym goes.0 ∙ e in cc) agrees) (ap number_sort goes.0)) goes.1
-  finishes destination.Dropped target there same goes receives same_statics =
+  pub finishes : (d : Destination) (target : Target) → (kind ≡ NewLocal → IsDeclaredThere target) → IsFree target → function.target ≡ d → TakesResult code r.known call.place call.stack held (visible_to own shared s) line d kind target rest → Receives d kind None g carried after → statics.items ≡ statics_with d g store.statics.items → Ends target
+  finishes (destination.Number i) target there free same goes receives same_statics =
+      number_finishes same_statics (ap (λ (d : Destination). with_result d 0) same) i target free receives goes.0
+      (number_given w.classes space kind g c goes.0 (other_given w.classes store k kind g c (λ e. let clash : None ≡ Some goes.0 = sym (ap number_sort e) ∙ goes.1 in cc) (λ b. let clash : None ≡ Some goes.0 = sym (ap number_sort b.1) ∙ goes.1 in cc) agrees) goes.1) goes.2
+  finishes (destination.Local i) target there free same goes receives same_statics =
+      let given = subst (λ (k : ResultKind). GivenAgrees w.classes space k g c) goes.0 (other_given w.classes store k kind g c (λ e. let clash : NewLocal ≡ NewGlobal = sym goes.0 ∙ e in cc) (λ b. let clash : NewLocal ≡ GivesBuffer b.0 = sym goes.0 ∙ b.1 in cc) agrees) in
+      reference_finishes (no_buffer w.classes space NewLocal g c given) goes.0 same_statics (ap (λ (d : Destination). with_result d 0) same) i target free (there goes.0) receives (reference_given w.classes space g c given) goes.1
+  finishes (destination.FieldId i) target there free same goes receives same_statics =
+      let given = subst (λ (k : ResultKind). GivenAgrees w.classes space k g c) goes.0 (other_given w.classes store k kind g c (λ e. let clash : GivesField ≡ NewGlobal = sym goes.0 ∙ e in cc) (λ b. let clash : GivesField ≡ GivesBuffer b.0 = sym goes.0 ∙ b.1 in cc) agrees) in
+      field_finishes (no_buffer w.classes space GivesField g c given) same_statics (ap (λ (d : Destination). with_result d 0) same) i target free receives (field_given w.classes space g c given) goes.1
+  finishes (destination.Static i) target there free same goes receives same_statics =
+      subst Ends (sym goes.1.1)
+      (static_finishes (plain_result w.classes store k kind g c (λ b. let clash : NewGlobal ≡ GivesBuffer b.0 = sym goes.0 ∙ b.1 in cc) agrees) i goes.1.0 (ap (λ (d : Destination). with_result d 0) same) receives goes.0 same_statics (global_given w.classes store k g c (subst (λ (x : ResultKind). ResultAgrees w.classes store k g x c) goes.0 agrees)) goes.1.2)
+  finishes (destination.Buffer element i) target there free same goes receives same_statics =
+      buffer_finishes same_statics (ap (λ (d : Destination). with_result d 0) same) element i target free receives goes.1.0 (buffer_given w.classes store k goes.0.0 g c small (subst (λ (x : ResultKind). ResultAgrees w.classes store k g x c) goes.0.1 agrees)) goes.1.2
+  finishes destination.Test target there free same goes receives same_statics =
+      test_finishes same_statics target (ap (λ (d : Destination). with_result d 0) same) receives
+      (number_given w.classes space kind g c Jint (other_given w.classes store k kind g c (λ e. let clash : GivesInt ≡ NewGlobal = sym goes.0 ∙ e in cc) (λ b. let clash : GivesInt ≡ GivesBuffer b.0 = sym goes.0 ∙ b.1 in cc) agrees) (ap number_sort goes.0)) goes.1
+  finishes destination.Dropped target there free same goes receives same_statics =
       subst Ends (sym goes.0) (record {
         now = next;
         tasks = rest;
-        store_agrees = with_same p w store next shares statics same_statics;
+        store_agrees = with_same p w store next (beside others (taken_by s.variables)) (plain_shares (plain_result w.classes store k kind g c (λ b. let clash : false ≡ true = sym (ap is_droppable b.1) ∙ goes.1 in cc) agrees) s.variables refl) statics same_statics;
         keeps = keeps;
+        views = plain_views s.variables receives.buffers refl;
         variables = s.variables;
-        steps = dropped_is line f args rest s left q c plain next;
-        stands = stands_after (ap (λ (d : Destination). with_result d 0) same) destination.Dropped refl receives own r.known s.variables r.meant (still_held destination.Dropped receives receives.references receives.fields) goes.1
+        steps = dropped_is line f args rest s left q c untold told next;
+        stands = stands_after (ap (λ (d : Destination). with_result d 0) same) destination.Dropped refl receives own r.known s.variables r.meant (still_held destination.Dropped receives receives.references receives.fields receives.buffers) goes.2
             (shown r.known (visible_to own shared (resuming s.variables)) r.meant receives.numbers r.shows);
-        viewless = none;
       })

@@ -13,7 +13,10 @@ use Rattle.code.specs.declared.instr.Operand.{Operand}
 use Rattle.code.specs.declared.instr.Operand.TheVariants as operand
 use Rattle.heap.specs.Heap.{Space, values_at}
 use Rattle.heap.specs.declared.value.Value.{Value}
-use Rattle.jni.specs.JniFunction.{JniFunction, FindClass, DeleteLocalRef, DeleteGlobalRef, EnsureLocalCapacity, PushLocalFrame, PopLocalFrame, GetFieldID, GetStaticFieldID, SetField, SetStaticField, SetObjectField, SetStaticObjectField, NewArray, NewObjectArray, GetObjectArrayElement, SetObjectArrayElement, GetArrayRegion, SetArrayRegion, GetStringRegion}
+use Rattle.jni.specs.Access.{Access, is_critical}
+use Rattle.code.specs.declared.instr.ReleaseMode.{ReleaseMode}
+use Rattle.machine_calls.specs.declared.buffer.Buffer.{Buffer}
+use Rattle.jni.specs.JniFunction.{GetBuffer, ReleaseBuffer, JniFunction, FindClass, DeleteLocalRef, DeleteGlobalRef, EnsureLocalCapacity, PushLocalFrame, PopLocalFrame, GetFieldID, GetStaticFieldID, SetField, SetStaticField, SetObjectField, SetStaticObjectField, NewArray, NewObjectArray, GetObjectArrayElement, SetObjectArrayElement, GetArrayRegion, SetArrayRegion, GetStringRegion}
 use Rattle.semantics_safety.specs.Owners.{other_than}
 use Rattle.code.specs.declared.instr.LocalArray.{LocalArray}
 use Rattle.machine_calls.specs.declared.array_region.ArrayRegion.{ArrayRegion}
@@ -23,7 +26,7 @@ use Rattle.machine_calls.specs.declared.answer.Given.TheVariants.{Nothing}
 use Rattle.machine_calls.specs.declared.answer.Answer.TheVariants as answer
 use Rattle.machine_calls.specs.CarriedOut.{IsLeft}
 use Rattle.machine_calls.specs.Scenes.{Scene}
-use Rattle.machine_calls.specs.WorkedOut.{IsFoundField, IsWorkedOut, copies_in, copies_out, local_array, region, deletes_global, element_there, found_class, frame_for, new_array, room_for, stores_there, writes_there}
+use Rattle.machine_calls.specs.WorkedOut.{acquires, releases, IsFoundField, IsWorkedOut, copies_in, copies_out, local_array, region, deletes_global, element_there, found_class, frame_for, new_array, room_for, stores_there, writes_there}
 
 -- ---- answers that end no local reference
 
@@ -82,6 +85,18 @@ none_copied_in : (exception : ℕ) (array : LocalArray) (r : Option ArrayRegion)
 none_copied_in exception array None = refl
 none_copied_in exception array (Some r) = cond_both (nat_le r.count array.len) (answer.CopiesIn r) (answer.Halts OutOfRange) (λ (a : Answer). ends_none a ≡ true) (λ e. refl) (λ e. refl)
 
+none_acquired : (access : Access) (r : Option ℕ) → ends_none (acquires access r) ≡ true
+none_acquired access None = refl
+none_acquired access (Some a) = by_test (is_critical access)
+  where
+    by_test : (b : Bool) → ends_none (if b then answer.AcquiresView a else answer.AcquiresCopy a) ≡ true
+    by_test true = refl
+    by_test false = refl
+
+none_released : (buffers : List Buffer) (r : Option ℕ) (o : Operand) (mode : ReleaseMode) → ends_none (releases buffers r o mode) ≡ true
+none_released buffers None o mode = refl
+none_released buffers (Some a) o mode = refl
+
 -- the functions that end local references
 abbrev pub may_end : JniFunction → Bool
 may_end DeleteLocalRef = true
@@ -109,6 +124,8 @@ module _ (scene : Scene) (call : Call) where
   others_end_none (GetArrayRegion T) a m is = ap ends_none is ∙ none_copied_out array_index_out_of_bounds (local_array scene call) (region scene call)
   others_end_none (SetArrayRegion T) a m is = ap ends_none is ∙ none_copied_in array_index_out_of_bounds (local_array scene call) (region scene call)
   others_end_none GetStringRegion a m is = ap ends_none is ∙ none_copied_out string_index_out_of_bounds (local_array scene call) (region scene call)
+  others_end_none (GetBuffer access) a m is = ap ends_none is ∙ none_acquired access _
+  others_end_none (ReleaseBuffer access) a m is = ap ends_none is ∙ none_released scene.buffers _ _ _
   others_end_none GetFieldID a m is = none_field scene.classes _ a is
   others_end_none GetStaticFieldID a m is = none_field scene.classes _ a is
   others_end_none DeleteLocalRef a m is = absurd (cc)

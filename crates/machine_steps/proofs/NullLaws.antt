@@ -1,7 +1,10 @@
 -- What can be seen once a variable is made NULL.
 use Rattle.std.proofs.Common.{◌≡◌, ℕ, zero, suc, Bool, true, List, [], ◌∷◌, length, Option, Some, None, refl, sym, ap, ◌∙◌, subst}
 use Rattle.std.specs.Prelude.{slice_get, slice_set, is_none}
+use Rattle.std.specs.List.{AllByRecursion}
 use Rattle.std.specs.Option.{option_map}
+use Rattle.std.specs.Str.{bytes_eq}
+use Rattle.std.proofs.lemmas.Slice.Eq.{bytes_eq-Decides}
 use Rattle.base.specs.Bytes.{Identifier, lookup}
 use Rattle.heap.specs.Heap.{Space}
 use Rattle.semantics.specs.Object.{Reference}
@@ -12,13 +15,14 @@ use Rattle.semantics.specs.CallStep.{filled, put, put_assigned}
 use Rattle.semantics.specs.Sight.{holds_null, static_is_null, held_reference, held_field, scalar}
 use Rattle.semantics.specs.Task.{VariableKind, Task, Target, ScalarKind, ReferenceKind, FieldKind, BufferKind, Declared, Assigned, Tested, Dropped}
 use Rattle.semantics.specs.Thread as source
-use Rattle.semantics.specs.Thread.{Shared, viewed_by}
+use Rattle.semantics.specs.Thread.{Shared}
 use Rattle.semantics.specs.ThreadStep.{with_tasks}
 use Rattle.semantics.specs.Value.{Gives, Stuck}
-use Rattle.semantics.specs.Variable.{Variable, Scalar, LocalRef, FieldHandle, Elements, LocalArray, NoBuffer, StaticReference, Empty, Variables, assign, viewed}
-use Rattle.semantics_safety.specs.Owners.{Owners}
+use Rattle.semantics.specs.Variable.{Buffer, Variable, Scalar, LocalRef, FieldHandle, Elements, LocalArray, NoBuffer, StaticReference, Empty, Variables, assign, copied_length, viewed}
+use Rattle.semantics_safety.specs.Owners.{Owners, is_target}
+use Rattle.semantics_safety.specs.StepSafe.{HoldsNoBuffer}
 use Rattle.code_meaning.specs.Slots as lower
-use Rattle.code_meaning.specs.Slots.{Slots, Visible, visible_to, kind_of_variable, nulled_statics, type_of_array, IsNulled}
+use Rattle.code_meaning.specs.Slots.{Slots, Visible, visible_to, held_buffer, kind_of_variable, nulled_statics, type_of_array, IsNulled}
 use Rattle.code_meaning.specs.Stands.{target_name}
 use Rattle.code_meaning.specs.Does.{CanBeNull, kind_of_target}
 use Rattle.code_meaning.specs.Layout.{Known}
@@ -30,44 +34,53 @@ use Rattle.machine_calls.specs.FieldIds.{FieldAgrees, FieldsAgree}
 use Rattle.machine_calls.specs.StoreAgrees.{StaticsAgree}
 use Rattle.machine_calls.proofs.HeldStatics.{null_at}
 use Rattle.machine_calls.specs.Locals.{KeysAgree}
+use Rattle.tables.specs.Elements.{OwnedNumbers}
 use Rattle.tables.specs.Locals.{LocalTable}
+use Rattle.machine_calls.specs.Buffers.{BuffersAgree}
+use Rattle.machine_calls.specs.declared.buffer.Buffer.{Buffer as HeldBuffer}
+use Rattle.machine_calls.specs.WorkedOut.{buffer_there}
 use Rattle.machine_calls.proofs.KeyLaws.{key_nulled, null_there}
 use Rattle.machine_calls.specs.Given.{held_in}
 use Rattle.machine_calls.specs.Statics.{References}
-use Rattle.machine_steps.specs.Variables.{is_null, nulled_references, nulled_fields}
+use Rattle.machine_steps.specs.SlotsHold.{IsSmallCopy}
+use Rattle.machine_steps.specs.Variables.{is_null, is_null_buffer, nulled_references, nulled_fields, nulled_buffers}
 use Rattle.machine_steps.proofs.Changes.{is_nulled, lookup_other, lookup_same}
-use Rattle.machine_steps.proofs.Views.{Viewless, assigned_viewless}
+use Rattle.machine_steps.proofs.Acquisitions.{assigned_nothing, taken_by}
+use Rattle.machine_steps.proofs.SlotBuffers.{all_put, buffers_nulled, null_buffer}
 
 -- ---- the source
+
+same_target : (y : Identifier) → bytes_eq y y ≡ true
+same_target y = (bytes_eq-Decides y y).1 refl
 
 -- NULL went to a variable, or to a static, which shows it
 pub record PutsNull (own : Owners) (shared : Shared) (s : source.Thread) (rest : List Task) (target : Target) (x : Identifier) (kind : Option VariableKind) : Type 0 where
   pub variables : Variables
   pub steps : put target NullResult shared (with_tasks s rest) ≡ source.Advances (record shared { statics = nulled_statics kind x shared.statics }) (record s { tasks = Some rest; variables = variables }) source.Quiet
   pub nulled : IsNulled (visible_to own shared s) kind x (visible_to own (record shared { statics = nulled_statics kind x shared.statics }) (record s { tasks = Some rest; variables = variables }))
-  pub viewless : Viewless variables
+  pub taken : taken_by variables ≡ taken_by s.variables
 
-module _ (own : Owners) (shared : Shared) (s : source.Thread) (none : viewed_by s ≡ []) (rest : List Task) where
+module _ (own : Owners) (shared : Shared) (s : source.Thread) (rest : List Task) where
   abbrev after : Variables → source.Thread
   after vs = record s { tasks = Some rest; variables = vs }
 
   declared_null : (target : Target) (x y : Identifier) (kind : VariableKind) (v : Variable) → put target NullResult shared (with_tasks s rest) ≡ source.Advances shared (after (assign y v s.variables)) source.Quiet → y ≡ x
-      → scalar (Some v) ≡ Stuck → ((o : Option StaticReference) → holds_null (Some v) o ≡ Gives true) → ((o : Option StaticReference) → held_reference (Some v) o ≡ Empty) → held_field (Some v) ≡ None → type_of_array (Some v) ≡ None → kind_of_variable (Some v) ≡ Some kind → viewed v ≡ [] → PutsNull own shared s rest target x (Some kind)
-  declared_null target x y kind v steps same number null reference field no_array same_kind no_view = record {
+      → scalar (Some v) ≡ Stuck → ((o : Option StaticReference) → holds_null (Some v) o ≡ Gives true) → ((o : Option StaticReference) → held_reference (Some v) o ≡ Empty) → held_field (Some v) ≡ None → held_buffer (Some v) ≡ NoBuffer → type_of_array (Some v) ≡ None → kind_of_variable (Some v) ≡ Some kind → copied_length v ≡ 0 → viewed v ≡ [] → HoldsNoBuffer (lookup y s.variables) → PutsNull own shared s rest target x (Some kind)
+  declared_null target x y kind v steps same number null reference field no_buffer no_array same_kind no_copy no_view free = record {
     variables = assign y v s.variables;
     steps = steps;
     nulled = subst (λ (z : Identifier). IsNulled (visible_to own shared s) (Some kind) z (visible_to own shared (after (assign y v s.variables)))) same
-        (is_nulled own own shared s (after (assign y v s.variables)) y (λ z other. refl) v refl kind number (null (lookup y shared.statics)) (reference (lookup y shared.statics)) field no_array same_kind);
-    viewless = assigned_viewless y v s.variables no_view none;
+        (is_nulled own own shared s (after (assign y v s.variables)) y (λ z other. refl) v refl kind number (null (lookup y shared.statics)) (reference (lookup y shared.statics)) field no_buffer no_array same_kind);
+    taken = assigned_nothing y v s.variables no_copy no_view free;
   }
 
   -- a variable that can be NULL, whose kind is known
   nulled_variable : (x y : Identifier) (old new : Variable) (kind : VariableKind) → lookup y s.variables ≡ Some old → y ≡ x → kind_of_variable (Some old) ≡ Some kind → filled old NullResult ≡ new
-      → scalar (Some new) ≡ Stuck → ((o : Option StaticReference) → holds_null (Some new) o ≡ Gives true) → ((o : Option StaticReference) → held_reference (Some new) o ≡ Empty) → held_field (Some new) ≡ None → type_of_array (Some new) ≡ None → kind_of_variable (Some new) ≡ Some kind → viewed new ≡ []
+      → scalar (Some new) ≡ Stuck → ((o : Option StaticReference) → holds_null (Some new) o ≡ Gives true) → ((o : Option StaticReference) → held_reference (Some new) o ≡ Empty) → held_field (Some new) ≡ None → held_buffer (Some new) ≡ NoBuffer → type_of_array (Some new) ≡ None → kind_of_variable (Some new) ≡ Some kind → copied_length new ≡ 0 → viewed new ≡ [] → HoldsNoBuffer (lookup y s.variables)
       → PutsNull own shared s rest (Assigned y) x (kind_of_variable (lookup y s.variables))
-  nulled_variable x y old new kind found same was fills number null reference field no_array same_kind no_view =
+  nulled_variable x y old new kind found same was fills number null reference field no_buffer no_array same_kind no_copy no_view free =
       subst (PutsNull own shared s rest (Assigned y) x) (sym (ap kind_of_variable found ∙ was))
-      (declared_null (Assigned y) x y kind new (ap (put_assigned y NullResult shared (with_tasks s rest)) found ∙ ap (λ (v : Variable). source.Advances shared (after (assign y v s.variables)) source.Quiet) fills) same number null reference field no_array same_kind no_view)
+      (declared_null (Assigned y) x y kind new (ap (put_assigned y NullResult shared (with_tasks s rest)) found ∙ ap (λ (v : Variable). source.Advances shared (after (assign y v s.variables)) source.Quiet) fills) same number null reference field no_buffer no_array same_kind no_copy no_view free)
 
   -- a static
   nulled_static : (y : Identifier) → lookup y s.variables ≡ None → PutsNull own shared s rest (Assigned y) y None
@@ -82,6 +95,7 @@ module _ (own : Owners) (shared : Shared) (s : source.Thread) (none : viewed_by 
           is_null = ap (λ (v : Option Variable). holds_null v (lookup y now.statics)) found ∙ ap static_is_null there;
           reference = ap (λ (v : Option Variable). held_reference v (lookup y now.statics)) found ∙ ap (held_reference None) there;
           field = ap held_field found;
+          buffer = ap held_buffer found;
           array_type = ap type_of_array found;
           same_kind = ap kind_of_variable found;
           statics = refl;
@@ -90,34 +104,35 @@ module _ (own : Owners) (shared : Shared) (s : source.Thread) (none : viewed_by 
               record {
                 number = refl;
                 is_null = ap (λ (o : Option StaticReference). holds_null (lookup z s.variables) o) same;
-                element = λ i. refl;
+                element = λ u i array. refl;
                 reference = ap (λ (o : Option StaticReference). held_reference (lookup z s.variables) o) same;
                 field = refl;
+                buffer = refl;
                 array_type = refl;
                 kind = refl;
                 owner = refl;
               };
         };
-        viewless = none;
+        taken = refl;
       }
 
-  assigned_null : (x y : Identifier) (null : Bool) (o : Option Variable) → lookup y s.variables ≡ o → y ≡ x → holds_null o (lookup y shared.statics) ≡ Gives null → PutsNull own shared s rest (Assigned y) x (kind_of_variable (lookup y s.variables))
-  assigned_null x y null None found same h = subst (λ (z : Identifier). PutsNull own shared s rest (Assigned y) z (kind_of_variable (lookup y s.variables))) same (subst (PutsNull own shared s rest (Assigned y) y) (sym (ap kind_of_variable found)) (nulled_static y found))
-  assigned_null x y null (Some (Scalar v)) found same h = absurd (cc)
-  assigned_null x y null (Some (LocalRef level q)) found same h = nulled_variable x y (LocalRef level q) (LocalRef level None) ReferenceKind found same refl refl refl (λ o. refl) (λ o. refl) refl refl refl refl
-  assigned_null x y null (Some (FieldHandle f)) found same h = nulled_variable x y (FieldHandle f) (FieldHandle None) FieldKind found same refl refl refl (λ o. refl) (λ o. refl) refl refl refl refl
-  assigned_null x y null (Some (Elements t b)) found same h = nulled_variable x y (Elements t b) (Elements t NoBuffer) (BufferKind t) found same refl refl refl (λ o. refl) (λ o. refl) refl refl refl refl
-  assigned_null x y null (Some (LocalArray t zs)) found same h = absurd (cc)
+  assigned_null : (x y : Identifier) (null : Bool) (o : Option Variable) → lookup y s.variables ≡ o → y ≡ x → holds_null o (lookup y shared.statics) ≡ Gives null → HoldsNoBuffer (lookup y s.variables) → PutsNull own shared s rest (Assigned y) x (kind_of_variable (lookup y s.variables))
+  assigned_null x y null None found same h free = subst (λ (z : Identifier). PutsNull own shared s rest (Assigned y) z (kind_of_variable (lookup y s.variables))) same (subst (PutsNull own shared s rest (Assigned y) y) (sym (ap kind_of_variable found)) (nulled_static y found))
+  assigned_null x y null (Some (Scalar v)) found same h free = absurd (cc)
+  assigned_null x y null (Some (LocalRef level q)) found same h free = nulled_variable x y (LocalRef level q) (LocalRef level None) ReferenceKind found same refl refl refl (λ o. refl) (λ o. refl) refl refl refl refl refl refl free
+  assigned_null x y null (Some (FieldHandle f)) found same h free = nulled_variable x y (FieldHandle f) (FieldHandle None) FieldKind found same refl refl refl (λ o. refl) (λ o. refl) refl refl refl refl refl refl free
+  assigned_null x y null (Some (Elements t b)) found same h free = nulled_variable x y (Elements t b) (Elements t NoBuffer) (BufferKind t) found same refl refl refl (λ o. refl) (λ o. refl) refl refl refl refl refl refl free
+  assigned_null x y null (Some (LocalArray t zs)) found same h free = absurd (cc)
 
   -- NULL goes to a variable that can be NULL
-  pub puts_null : (code : Listing) (known : Known) (place : ℕ) (stack : List ℕ) (slots : Slots) (target : Target) (x : Identifier) → target_name target ≡ Some x → CanBeNull code known place stack slots (visible_to own shared s) target → PutsNull own shared s rest target x (kind_of_target code known place stack slots (visible_to own shared s) target)
-  puts_null code known place stack slots (Declared ScalarKind y) x is takes = absurd takes
-  puts_null code known place stack slots (Declared ReferenceKind y) x is takes = declared_null (Declared ReferenceKind y) x y ReferenceKind (LocalRef (length s.frames) None) refl (cc) refl (λ o. refl) (λ o. refl) refl refl refl refl
-  puts_null code known place stack slots (Declared FieldKind y) x is takes = declared_null (Declared FieldKind y) x y FieldKind (FieldHandle None) refl (cc) refl (λ o. refl) (λ o. refl) refl refl refl refl
-  puts_null code known place stack slots (Declared (BufferKind t) y) x is takes = declared_null (Declared (BufferKind t) y) x y (BufferKind t) (Elements t NoBuffer) refl (cc) refl (λ o. refl) (λ o. refl) refl refl refl refl
-  puts_null code known place stack slots (Assigned y) x is takes = assigned_null x y takes.0 (lookup y s.variables) refl (cc) takes.1
-  puts_null code known place stack slots (Tested then' else') x is takes = absurd takes
-  puts_null code known place stack slots Dropped x is takes = absurd takes
+  pub puts_null : (code : Listing) (known : Known) (place : ℕ) (stack : List ℕ) (slots : Slots) (target : Target) (x : Identifier) → target_name target ≡ Some x → CanBeNull code known place stack slots (visible_to own shared s) target → ((y : Identifier) → is_target target y ≡ true → HoldsNoBuffer (lookup y s.variables)) → PutsNull own shared s rest target x (kind_of_target code known place stack slots (visible_to own shared s) target)
+  puts_null code known place stack slots (Declared ScalarKind y) x is takes free = absurd takes
+  puts_null code known place stack slots (Declared ReferenceKind y) x is takes free = declared_null (Declared ReferenceKind y) x y ReferenceKind (LocalRef (length s.frames) None) refl (cc) refl (λ o. refl) (λ o. refl) refl refl refl refl refl refl (free y (same_target y))
+  puts_null code known place stack slots (Declared FieldKind y) x is takes free = declared_null (Declared FieldKind y) x y FieldKind (FieldHandle None) refl (cc) refl (λ o. refl) (λ o. refl) refl refl refl refl refl refl (free y (same_target y))
+  puts_null code known place stack slots (Declared (BufferKind t) y) x is takes free = declared_null (Declared (BufferKind t) y) x y (BufferKind t) (Elements t NoBuffer) refl (cc) refl (λ o. refl) (λ o. refl) refl refl refl refl refl refl (free y (same_target y))
+  puts_null code known place stack slots (Assigned y) x is takes free = assigned_null x y takes.0 (lookup y s.variables) refl (cc) takes.1 (free y (same_target y))
+  puts_null code known place stack slots (Tested then' else') x is takes free = absurd takes
+  puts_null code known place stack slots Dropped x is takes free = absurd takes
 
 -- ---- the machine
 
@@ -140,13 +155,18 @@ field_null_there classes (a ∷ handles) [] i null h e = absurd h
 field_null_there classes (a ∷ handles) (f ∷ fields) zero null h e = same_field_null classes a f h.0 ∙ (let same : is_none f ≡ null = cc in same)
 field_null_there classes (a ∷ handles) (f ∷ fields) (suc i) null h e = field_null_there classes handles fields i null h.1 e
 
+buffer_found : (space : Space) (copies : List (Option OwnedNumbers)) (owner : ℕ) (slots : List HeldBuffer) (buffers : List Buffer) (i : ℕ) (null : Bool) → BuffersAgree space copies owner slots buffers → (o : Option Buffer) → slice_get buffers i ≡ o → option_map lower.is_no_buffer o ≡ Some null
+    → is_null_buffer (buffer_there slots i) ≡ null
+buffer_found space copies owner slots buffers i null h None at e = absurd (cc)
+buffer_found space copies owner slots buffers i null h (Some b) at e = null_buffer space copies owner slots buffers i b h at ∙ (let same : lower.is_no_buffer b ≡ null = cc in same)
+
 -- a variable is NULL where the source's is
-pub variable_null_agrees : (classes : Classes) (space : Space) (references : References) (handles : List (Option Handle)) (visible : Visible) (slots : Slots) (variable : NullableVariable) (null : Bool) → KeysAgree space references.locals references.keys slots.references slots.owners → StaticsAgree space references.statics visible.statics → FieldsAgree classes handles slots.fields
-    → lower.holds_null visible slots variable ≡ Some null → is_null references handles variable ≡ null
-variable_null_agrees classes space references handles visible slots (nullable.Local i) null h g k e = null_found space references.locals references.keys slots.references slots.owners i null h (slice_get slots.references i) refl e
-variable_null_agrees classes space references handles visible slots (nullable.Static i) null h g k e = null_at space references.statics visible.statics i null g e
-variable_null_agrees classes space references handles visible slots (nullable.FieldId i) null h g k e = field_null_there classes handles slots.fields i null k e
-variable_null_agrees classes space references handles visible slots (nullable.Buffer i) null h g k e = cc
+pub variable_null_agrees : (classes : Classes) (space : Space) (copies : List (Option OwnedNumbers)) (owner : ℕ) (references : References) (handles : List (Option Handle)) (buffers : List HeldBuffer) (visible : Visible) (slots : Slots) (variable : NullableVariable) (null : Bool) → KeysAgree space references.locals references.keys slots.references slots.owners → StaticsAgree space references.statics visible.statics → FieldsAgree classes handles slots.fields → BuffersAgree space copies owner buffers slots.buffers
+    → lower.holds_null visible slots variable ≡ Some null → is_null references handles buffers variable ≡ null
+variable_null_agrees classes space copies owner references handles buffers visible slots (nullable.Local i) null h g k b e = null_found space references.locals references.keys slots.references slots.owners i null h (slice_get slots.references i) refl e
+variable_null_agrees classes space copies owner references handles buffers visible slots (nullable.Static i) null h g k b e = null_at space references.statics visible.statics i null g e
+variable_null_agrees classes space copies owner references handles buffers visible slots (nullable.FieldId i) null h g k b e = field_null_there classes handles slots.fields i null k e
+variable_null_agrees classes space copies owner references handles buffers visible slots (nullable.Buffer i) null h g k b e = buffer_found space copies owner buffers slots.buffers i null b (slice_get slots.buffers i) refl e
 
 set_fields_agree : (classes : Classes) (handles : List (Option Handle)) (fields : List (Option FieldId)) (i : ℕ) → FieldsAgree classes handles fields → FieldsAgree classes (slice_set handles i None) (slice_set fields i None)
 set_fields_agree classes [] [] i h = tt
@@ -156,13 +176,16 @@ set_fields_agree classes (a ∷ handles) (f ∷ fields) zero h = (tt, h.1)
 set_fields_agree classes (a ∷ handles) (f ∷ fields) (suc i) h = (h.0, set_fields_agree classes handles fields i h.1)
 
 -- the slots with NULL in a variable
-pub record NulledAgree (classes : Classes) (space : Space) (locals : LocalTable) (keys : List (Option ℕ)) (handles : List (Option Handle)) (slots : Slots) (variable : NullableVariable) : Type 0 where
+pub record NulledAgree (classes : Classes) (space : Space) (copies : List (Option OwnedNumbers)) (owner : ℕ) (locals : LocalTable) (keys : List (Option ℕ)) (handles : List (Option Handle)) (buffers : List HeldBuffer) (slots : Slots) (variable : NullableVariable) : Type 0 where
   pub references : KeysAgree space locals (nulled_references variable keys) (lower.with_null variable slots).references slots.owners
   pub fields : FieldsAgree classes (nulled_fields variable handles) (lower.with_null variable slots).fields
+  pub buffers_agree : BuffersAgree space copies owner (nulled_buffers variable buffers) (lower.with_null variable slots).buffers
+  pub small : AllByRecursion IsSmallCopy (lower.with_null variable slots).buffers
   pub numbers : (lower.with_null variable slots).numbers ≡ slots.numbers
 
-pub nulled_agree : (classes : Classes) (space : Space) (locals : LocalTable) (keys : List (Option ℕ)) (handles : List (Option Handle)) (slots : Slots) (variable : NullableVariable) → KeysAgree space locals keys slots.references slots.owners → FieldsAgree classes handles slots.fields → NulledAgree classes space locals keys handles slots variable
-nulled_agree classes space locals keys handles slots (nullable.Local i) h k = record { references = key_nulled space locals keys slots.references slots.owners i h; fields = k; numbers = refl }
-nulled_agree classes space locals keys handles slots (nullable.Static i) h k = record { references = h; fields = k; numbers = refl }
-nulled_agree classes space locals keys handles slots (nullable.FieldId i) h k = record { references = h; fields = set_fields_agree classes handles slots.fields i k; numbers = refl }
-nulled_agree classes space locals keys handles slots (nullable.Buffer i) h k = record { references = h; fields = k; numbers = refl }
+pub nulled_agree : (classes : Classes) (space : Space) (copies : List (Option OwnedNumbers)) (owner : ℕ) (locals : LocalTable) (keys : List (Option ℕ)) (handles : List (Option Handle)) (buffers : List HeldBuffer) (slots : Slots) (variable : NullableVariable) → KeysAgree space locals keys slots.references slots.owners → FieldsAgree classes handles slots.fields
+    → BuffersAgree space copies owner buffers slots.buffers → AllByRecursion IsSmallCopy slots.buffers → NulledAgree classes space copies owner locals keys handles buffers slots variable
+nulled_agree classes space copies owner locals keys handles buffers slots (nullable.Local i) h k b small = record { references = key_nulled space locals keys slots.references slots.owners i h; fields = k; buffers_agree = b; small = small; numbers = refl }
+nulled_agree classes space copies owner locals keys handles buffers slots (nullable.Static i) h k b small = record { references = h; fields = k; buffers_agree = b; small = small; numbers = refl }
+nulled_agree classes space copies owner locals keys handles buffers slots (nullable.FieldId i) h k b small = record { references = h; fields = set_fields_agree classes handles slots.fields i k; buffers_agree = b; small = small; numbers = refl }
+nulled_agree classes space copies owner locals keys handles buffers slots (nullable.Buffer i) h k b small = record { references = h; fields = k; buffers_agree = buffers_nulled space copies owner buffers slots.buffers i b; small = all_put IsSmallCopy slots.buffers i NoBuffer small tt; numbers = refl }

@@ -18,22 +18,23 @@ use Rattle.code_meaning.specs.Slots.{Slots, visible_to}
 use Rattle.machine_calls.specs.declared.statics.StaticReference.{StaticReference as InMemory}
 use Rattle.machine_calls.specs.declared.statics.StaticReference.TheVariants as static
 use Rattle.machine_calls.specs.declared.store.Store.{Store}
+use Rattle.machine_calls.specs.Buffers.{Acquired}
 use Rattle.machine_calls.specs.StoreAgrees.{MayChange, StoreAgrees}
 use Rattle.machine_steps.specs.Variables.{nulled_statics}
 use Rattle.machine_calls.proofs.HeldStatics.{keys_left}
 use Rattle.machine_calls.proofs.StaticStores.{with_same, with_static}
 
-module _ (p : Lowered) (w : World) (store : Store) (shared : Shared) (h : StoreAgrees p w store shared) where
+module _ (p : Lowered) (w : World) (store : Store) (shared : Shared) (all : Acquired) (h : StoreAgrees p w store shared all) where
   module _ (own : Owners) (code : Listing) (known : Known) (place : ℕ) (stack : List ℕ) (slots : Slots) (s : _) (statics : Vec InMemory) (x : Identifier) where
     -- NULL was stored
     pub store_nulled : (variable : NullableVariable) (kind : Option VariableKind) → IsStoredIn code known place stack slots (visible_to own shared s) variable kind x → statics.items ≡ nulled_statics variable store.statics.items
-        → StoreAgrees p w (record store { statics = statics }) (record shared { statics = lower.nulled_statics kind x shared.statics })
-    store_nulled (nullable.Local i) kind stored is = subst (λ (k : Option VariableKind). StoreAgrees p w (record store { statics = statics }) (record shared { statics = lower.nulled_statics k x shared.statics })) (sym stored) (with_same p w store shared h statics is)
-    store_nulled (nullable.FieldId i) kind stored is = subst (λ (k : Option VariableKind). StoreAgrees p w (record store { statics = statics }) (record shared { statics = lower.nulled_statics k x shared.statics })) (sym stored) (with_same p w store shared h statics is)
-    store_nulled (nullable.Buffer i) kind stored is = subst (λ (k : Option VariableKind). StoreAgrees p w (record store { statics = statics }) (record shared { statics = lower.nulled_statics k x shared.statics })) (sym stored.1) (with_same p w store shared h statics is)
+        → StoreAgrees p w (record store { statics = statics }) (record shared { statics = lower.nulled_statics kind x shared.statics }) all
+    store_nulled (nullable.Local i) kind stored is = subst (λ (k : Option VariableKind). StoreAgrees p w (record store { statics = statics }) (record shared { statics = lower.nulled_statics k x shared.statics }) all) (sym stored) (with_same p w store shared all h statics is)
+    store_nulled (nullable.FieldId i) kind stored is = subst (λ (k : Option VariableKind). StoreAgrees p w (record store { statics = statics }) (record shared { statics = lower.nulled_statics k x shared.statics }) all) (sym stored) (with_same p w store shared all h statics is)
+    store_nulled (nullable.Buffer i) kind stored is = subst (λ (k : Option VariableKind). StoreAgrees p w (record store { statics = statics }) (record shared { statics = lower.nulled_statics k x shared.statics }) all) (sym stored.1) (with_same p w store shared all h statics is)
     store_nulled (nullable.Static i) kind stored is =
-        subst (λ (k : Option VariableKind). StoreAgrees p w (record store { statics = statics }) (record shared { statics = lower.nulled_statics k x shared.statics })) (sym stored.0)
-        (with_static p w store shared h statics x i static.Empty Empty is stored.1.static.place tt (keys_left store.globals store.statics.items i static.Empty (λ key e. cc) h.keys))
+        subst (λ (k : Option VariableKind). StoreAgrees p w (record store { statics = statics }) (record shared { statics = lower.nulled_statics k x shared.statics }) all) (sym stored.0)
+        (with_static p w store shared all h statics x i static.Empty Empty is stored.1.static.place tt (keys_left store.globals store.statics.items i static.Empty (λ key e. cc) h.keys))
 
 -- what is NULL then
 pub may_be_nulled : (kind : Option VariableKind) (x : Identifier) (statics : Statics) → MayChange statics (lower.nulled_statics kind x statics)

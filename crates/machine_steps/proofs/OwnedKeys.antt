@@ -7,6 +7,7 @@ use Rattle.syntax.specs.Parts.{names_in}
 use Rattle.syntax.specs.Tree as tree
 use Rattle.syntax.specs.Tree.{Expr}
 use Rattle.class_rules.specs.Class.{Classes}
+use Rattle.tables.specs.Elements.{OwnedNumbers}
 use Rattle.heap.specs.Heap.{Space}
 use Rattle.jni.specs.JniFunction.{JniFunction, prototype}
 use Rattle.jni.specs.Prototype.{ParameterKind, FieldID, IntNumber, TextBytes, LocalVariable, ArrayVariable, BufferVariable, Mode, IsCopy}
@@ -71,15 +72,15 @@ module _ (line : ℕ) where
   quiet_return sight t = quiet_value sight (λ v. Returns) (ReturnValue line) t (λ v. refl)
 
 -- what a call's task is
-record IsInvoke (sight : Sight) (task : Task) (line : ℕ) (target : Target) (f : JniFunction) (args : List Actual) : Type 0 where
-  operands : List Operand
-  is : task ≡ Invoke line target f operands
-  given : args ≡ actuals sight f operands
+pub record IsInvoke (sight : Sight) (task : Task) (line : ℕ) (target : Target) (f : JniFunction) (args : List Actual) : Type 0 where
+  pub operands : List Operand
+  pub is : task ≡ Invoke line target f operands
+  pub given : args ≡ actuals sight f operands
 
 clash : {A : Type 0} (e : Effect) (line : ℕ) (target : Target) (f : JniFunction) (args : List Actual) → is_call e ≡ false → e ≡ Calls line target f args → A
 clash e line target f args quiet is = absurd (let no : true ≡ false = sym (ap is_call is) ∙ quiet in cc)
 
-called : (sight : Sight) (task : Task) (line : ℕ) (target : Target) (f : JniFunction) (args : List Actual) → effect_of sight task ≡ Calls line target f args → IsInvoke sight task line target f args
+pub called : (sight : Sight) (task : Task) (line : ℕ) (target : Target) (f : JniFunction) (args : List Actual) → effect_of sight task ≡ Calls line target f args → IsInvoke sight task line target f args
 called sight (SetScalar l x t) line target f args is = clash (with_value sight l (Sets x) (SetScalar l x) t) line target f args (quiet_value l sight (Sets x) (SetScalar l x) t (λ v. refl)) is
 called sight (SetElement l x i t) line target f args is =
     clash (effect_of sight (SetElement l x i t)) line target f args
@@ -189,7 +190,7 @@ static_some : (r : Reference) (n : ℕ) → as_static r ≡ Live n → r ≡ Som
 static_some None n e = absurd (cc)
 static_some (Some m) n e = cc
 
-module _ (p : Lowered) (classes : Classes) (space : Space) (call : Activation) (code : Listing) (own : Owners) (shared : Shared) (s : Thread) (task : Task) (rest : List Task) (r : Ready p classes space call code (visible_to own shared s) s.frames task rest) where
+module _ (p : Lowered) (classes : Classes) (space : Space) (copies : List (Option OwnedNumbers)) (owner : ℕ) (call : Activation) (code : Listing) (own : Owners) (shared : Shared) (s : Thread) (task : Task) (rest : List Task) (r : Ready p classes space copies owner call code (visible_to own shared s) s.frames task rest) where
   owner_of_one : (o : InMemory) (a : Actual) → IsOperand code r.known call.place call.stack (slots_of call r.meant) (visible_to own shared s) o a → IsArgumentOwn own s.variables a → HasOwner r.meant.references r.meant.owners o
   owner_of_one (operand.Local i) a (x, is, at) owned = λ n found.
       let shown = r.shows.each x (record { sort = Ref; index = i }) at in

@@ -41,36 +41,41 @@ no_buffer classes space NewLocal (given.Number n) (BufferResult b) h = h
 no_buffer classes space NewLocal (given.Reference a) (BufferResult b) h = h
 no_buffer classes space NewLocal (given.FieldId a) (BufferResult b) h = h
 no_buffer classes space NewLocal (given.Global s) (BufferResult b) h = h
+no_buffer classes space NewLocal (given.Buffer held) (BufferResult b) h = h
 no_buffer classes space GivesFlag given.Nothing (BufferResult b) h = h
 no_buffer classes space GivesFlag (given.Number n) (BufferResult b) h = h
 no_buffer classes space GivesFlag (given.Reference a) (BufferResult b) h = h
 no_buffer classes space GivesFlag (given.FieldId a) (BufferResult b) h = h
 no_buffer classes space GivesFlag (given.Global s) (BufferResult b) h = h
+no_buffer classes space GivesFlag (given.Buffer held) (BufferResult b) h = h
 no_buffer classes space GivesInt given.Nothing (BufferResult b) h = h
 no_buffer classes space GivesInt (given.Number n) (BufferResult b) h = h
 no_buffer classes space GivesInt (given.Reference a) (BufferResult b) h = h
 no_buffer classes space GivesInt (given.FieldId a) (BufferResult b) h = h
 no_buffer classes space GivesInt (given.Global s) (BufferResult b) h = h
+no_buffer classes space GivesInt (given.Buffer held) (BufferResult b) h = h
 no_buffer classes space GivesField given.Nothing (BufferResult b) h = h
 no_buffer classes space GivesField (given.Number n) (BufferResult b) h = h
 no_buffer classes space GivesField (given.Reference a) (BufferResult b) h = h
 no_buffer classes space GivesField (given.FieldId a) (BufferResult b) h = h
 no_buffer classes space GivesField (given.Global s) (BufferResult b) h = h
+no_buffer classes space GivesField (given.Buffer held) (BufferResult b) h = h
 no_buffer classes space GivesNothing given.Nothing (BufferResult b) h = h
 no_buffer classes space GivesNothing (given.Number n) (BufferResult b) h = h
 no_buffer classes space GivesNothing (given.Reference a) (BufferResult b) h = h
 no_buffer classes space GivesNothing (given.FieldId a) (BufferResult b) h = h
 no_buffer classes space GivesNothing (given.Global s) (BufferResult b) h = h
+no_buffer classes space GivesNothing (given.Buffer held) (BufferResult b) h = h
 
 -- so nothing is told of a copy
-pub nothing_told : (x : Identifier) (c : CallResult) (variables : Variables) → IsNoBuffer c → tell_copy x c variables ≡ variables
-nothing_told [] c variables h = refl
-nothing_told (b ∷ x) NoResult variables h = refl
-nothing_told (b ∷ x) NullResult variables h = refl
-nothing_told (b ∷ x) (ScalarResult v) variables h = refl
-nothing_told (b ∷ x) (ReferenceResult r) variables h = refl
-nothing_told (b ∷ x) (FieldResult f) variables h = refl
-nothing_told (b ∷ x) (BufferResult c) variables h = absurd h
+pub nothing_told : (x : Option Identifier) (c : CallResult) (variables : Variables) → IsNoBuffer c → tell_copy x c variables ≡ variables
+nothing_told None c variables h = refl
+nothing_told (Some x) NoResult variables h = refl
+nothing_told (Some x) NullResult variables h = refl
+nothing_told (Some x) (ScalarResult v) variables h = refl
+nothing_told (Some x) (ReferenceResult r) variables h = refl
+nothing_told (Some x) (FieldResult f) variables h = refl
+nothing_told (Some x) (BufferResult c) variables h = absurd h
 
 -- ---- frames
 
@@ -137,6 +142,7 @@ module _ (space : Space) where
   frames_agree classes NewLocal (given.Number n) c locals key after gs stacked h makes agree = absurd h
   frames_agree classes NewLocal (given.FieldId f) c locals key after gs stacked h makes agree = absurd h
   frames_agree classes NewLocal (given.Global s) c locals key after gs stacked h makes agree = absurd h
+  frames_agree classes NewLocal (given.Buffer b) c locals key after gs stacked h makes agree = absurd h
   frames_agree classes NewGlobal g c locals key after gs stacked h makes agree = same_table locals after gs makes.1 agree
   frames_agree classes GivesFlag g c locals key after gs stacked h makes agree = same_table locals after gs makes.1 agree
   frames_agree classes GivesInt g c locals key after gs stacked h makes agree = same_table locals after gs makes.1 agree

@@ -1,8 +1,9 @@
 -- The static whose global reference DeleteGlobalRef is given.
-use Rattle.std.proofs.Common.{◌≡◌, ℕ, List, [], ◌∷◌, Some, sym, ap, ◌∙◌, subst}
+use Rattle.std.proofs.Common.{◌≡◌, ℕ, List, [], ◌∷◌, Option, Some, sym, ap, ◌∙◌, subst}
 use Rattle.std.specs.List.{AllZip}
 use Rattle.base.specs.Bytes.{Identifier}
 use Rattle.class_rules.specs.Class.{Classes}
+use Rattle.tables.specs.Elements.{OwnedNumbers}
 use Rattle.heap.specs.Heap.{Space}
 use Rattle.type_rules.specs.Sorts.{Global}
 use Rattle.semantics.specs.Arguments.{Actual, ReferenceActual, reference_given, reference_in_actual, variable_given}
@@ -27,7 +28,7 @@ live_is Empty n x e = absurd (cc)
 live_is Deleted n x e = absurd (cc)
 live_is (Live m) n x e = let same : m ≡ n = cc in ap Live same
 
-module _ (p : Lowered) (classes : Classes) (space : Space) (call : Activation) (code : Listing) (own : Owners) (shared : Shared) (s : Thread) (task : Task) (rest : List Task) (r : Ready p classes space call code (visible_to own shared s) s.frames task rest) where
+module _ (p : Lowered) (classes : Classes) (space : Space) (copies : List (Option OwnedNumbers)) (owner : ℕ) (call : Activation) (code : Listing) (own : Owners) (shared : Shared) (s : Thread) (task : Task) (rest : List Task) (r : Ready p classes space copies owner call code (visible_to own shared s) s.frames task rest) where
   abbrev Gives : Operand → Actual → Type 0
   Gives o a = IsOperand code r.known call.place call.stack (slots_of call r.meant) (visible_to own shared s) o a
 

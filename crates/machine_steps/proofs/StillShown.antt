@@ -38,7 +38,7 @@ module _ (own : Owners) (shared shared' : Shared) (statics : shared'.statics ≡
     reference = referred x ∙ h.reference;
   }
   slot_stays x slots slot sort.FieldId h = record { field = h.field; is = h.is; is_null = nulls x ∙ h.is_null; no_number = h.no_number; kind = h.kind; there = h.there }
-  slot_stays x slots slot (sort.Buffer t writable) h = record { is_null = nulls x ∙ h.is_null; kind = h.kind }
+  slot_stays x slots slot (sort.Buffer t writable) h = record { buffer = h.buffer; is = h.is; is_null = nulls x ∙ h.is_null; kind = h.kind; there = h.there }
   slot_stays x slots slot (sort.Array t size) h =
       let array = array_of (lookup x s.variables) t h.array_type in
       let same : (i : ℕ) → (visible_to own shared' s).sight.element x i ≡ (visible_to own shared s).sight.element x i = λ i.
@@ -52,7 +52,7 @@ module _ (own : Owners) (shared shared' : Shared) (statics : shared'.statics ≡
       }
 
   shows_same : (code : Listing) (known : Known) (slots : Slots) → Shows code known (visible_to own shared s) slots → Shows code known (visible_to own shared' s) slots
-  shows_same code known slots h = record { numbers = h.numbers; references = h.references; owners = h.owners; fields = h.fields; each = λ x slot at. slot_stays x slots slot slot.sort (h.each x slot at) }
+  shows_same code known slots h = record { numbers = h.numbers; references = h.references; owners = h.owners; fields = h.fields; buffers = h.buffers; each = λ x slot at. slot_stays x slots slot slot.sort (h.each x slot at) }
 
 -- where one of them may hold something else
 pub shows_stay : (own : Owners) (shared shared' : Shared) → MayChange shared.statics shared'.statics → (s : source.Thread) (code : Listing) (known : Known) (slots : Slots) → Shows code known (visible_to own shared s) slots → Shows code known (visible_to own shared' s) slots

@@ -1,6 +1,6 @@
 -- A thread's step is that of the source's thread.
 use Rattle.semantics.proofs.BuiltCalls.{waits_for_none}
-use Rattle.std.proofs.Common.{◌≡◌, ℕ, Bool, true, false, List, [], ◌∷◌, length, cond, eqb, Option, Some, None, refl, sym, ap, ◌∙◌, subst}
+use Rattle.std.proofs.Common.{arith, ◌≡◌, ℕ, Bool, true, false, List, [], ◌∷◌, length, cond, eqb, Option, Some, None, refl, sym, ap, ◌∙◌, subst}
 use Rattle.std.specs.Prelude.{find}
 use Rattle.std.specs.Option.{option_map, option_map_or, option_and_then}
 use Rattle.syntax.specs.Views.{unit_tree}
@@ -12,14 +12,22 @@ use Rattle.semantics.specs.Heap.{Heap, class_of}
 use Rattle.semantics.specs.Activation.{return_step, monitors_after}
 use Rattle.semantics.specs.Activation as activation
 use Rattle.semantics.specs.CallStep.{waits_with}
-use Rattle.semantics.specs.Effect.{Effect, Calls, Returns, effect_of}
-use Rattle.semantics.specs.Task.{Task}
+use Rattle.semantics.specs.Arguments.{actuals}
+use Rattle.semantics.specs.Effect.{Effect, Calls, Returns, effect_of, goes_on, is_ready, reduce_first}
+use Rattle.semantics.specs.Task.{Task, Invoke}
 use Rattle.semantics.specs.Thread as source
-use Rattle.semantics.specs.Thread.{BuffersInUse, Shared, Monitor, sight_of, without_owner}
+use Rattle.semantics.specs.Thread.{Shared, Monitor, sight_of, without_owner}
 use Rattle.semantics.specs.Variable.{Variables}
 use Rattle.semantics.specs.ThreadStep.{thread_step, step_within, after_effect, next_effect, waits}
 use Rattle.code_meaning.specs.Slots.{Visible, visible_to}
-use Rattle.code_meaning.specs.Lowered.{Lowered, IsLowered}
+use Rattle.code.specs.Depth.{Listing}
+use Rattle.code_meaning.specs.Layout.{Known}
+use Rattle.code_meaning.specs.Lowered.{Lowered}
+use Rattle.code_meaning.specs.Stands.{After, TaskStands, TasksStand}
+use Rattle.tables.specs.Elements.{OwnedNumbers}
+use Rattle.tables.specs.Keys.{value_at}
+use Rattle.machine_calls.specs.Buffers.{Acquired, AreViewed, acquired_by, beside}
+use Rattle.semantics_safety.specs.StepSafe.{MayReturn}
 use Rattle.machine_steps.specs.declared.thread.Ending.{Ending}
 use Rattle.machine_steps.specs.declared.thread.Ending.TheVariants.{Unfinished}
 use Rattle.machine_steps.specs.declared.execute.Event.{Event}
@@ -30,54 +38,58 @@ use Rattle.machine_calls.specs.declared.activation.Activation.{Activation}
 use Rattle.semantics_safety.specs.Owners.{Owners, after_event, after_tasks}
 use Rattle.machine_calls.specs.declared.store.Store.{Store}
 use Rattle.machine_calls.specs.StoreAgrees.{StoreAgrees, Keeps}
-use Rattle.machine_steps.specs.ThreadAgrees.{CallsAgree, ThreadAgrees, ending_view}
+use Rattle.machine_steps.specs.ThreadAgrees.{CallsAgree, ThreadAgrees, buffers_of, ending_view}
 use Rattle.machine_steps.specs.Advances.{Advances, ending_after, calls_after}
-use Rattle.machine_steps.specs.Executes.{CallStands, WorkAgrees, GoesOn, after_any, cells_made, event_view, owners_left}
+use Rattle.machine_steps.specs.Executes.{CallStands, WorkAgrees, GoesOn, after_any, cells_made, event_view, in_use_with, owners_left}
 use Rattle.machine_calls.specs.CarriedOut.{IsShortOf}
 use Rattle.machine_calls.proofs.Keeping.{keeps_same}
 use Rattle.machine_calls.specs.HeapAgrees.{ReferenceAgrees, BlocksAgree}
-use Rattle.machine_steps.proofs.Calls.{ready, does_cases}
-use Rattle.machine_steps.specs.SlotsHold.{slots_of}
+use Rattle.machine_steps.proofs.Acquisitions.{nothing_lent, store_same}
+use Rattle.machine_steps.proofs.NoCalls.{IsNoCall, going_on, no_call}
 
 -- ---- work
 
 -- the tasks that a call in progress stands for
-pub record Working (p : Lowered) (classes : Classes) (space : Space) (call : Activation) (visible : Visible) (frames : List source.Frame) (tasks : Option (List Task)) : Type 0 where
+pub record Working (p : Lowered) (classes : Classes) (space : Space) (copies : List (Option OwnedNumbers)) (k : ℕ) (call : Activation) (visible : Visible) (frames : List source.Frame) (tasks : Option (List Task)) : Type 0 where
   pub task : Task
   pub rest : List Task
   pub is : tasks ≡ Some (task ∷ rest)
-  pub stands : CallStands p classes space call visible frames (task ∷ rest)
+  pub stands : CallStands p classes space copies k call visible frames (task ∷ rest)
 
-pub working : (p : Lowered) (classes : Classes) (space : Space) (visible : Visible) (frames : List source.Frame) (o : Option Activation) (call : Activation) (tasks : Option (List Task)) → WorkAgrees p classes space visible o frames tasks → o ≡ Some call → Working p classes space call visible frames tasks
-working p classes space visible frames None call tasks w e = absurd (cc)
-working p classes space visible frames (Some x) call None w e = absurd w
-working p classes space visible frames (Some x) call (Some []) w e = absurd (cc (w.stands.returns))
-working p classes space visible frames (Some x) call (Some (task ∷ rest)) w e = record { task = task; rest = rest; is = refl; stands = let same : x ≡ call = cc in subst (λ a. CallStands p classes space a visible frames (task ∷ rest)) same w }
+pub working : (p : Lowered) (classes : Classes) (space : Space) (copies : List (Option OwnedNumbers)) (k : ℕ) (visible : Visible) (frames : List source.Frame) (o : Option Activation) (call : Activation) (tasks : Option (List Task)) → WorkAgrees p classes space copies k visible o frames tasks → o ≡ Some call → Working p classes space copies k call visible frames tasks
+working p classes space copies k visible frames None call tasks w e = absurd (cc)
+working p classes space copies k visible frames (Some x) call None w e = absurd w
+working p classes space copies k visible frames (Some x) call (Some []) w e = absurd (cc (w.stands.returns))
+working p classes space copies k visible frames (Some x) call (Some (task ∷ rest)) w e = record { task = task; rest = rest; is = refl; stands = let same : x ≡ call = cc in subst (λ a. CallStands p classes space copies k a visible frames (task ∷ rest)) same w }
 
 -- no call is in progress
-pub resting : (p : Lowered) (classes : Classes) (space : Space) (visible : Visible) (frames : List source.Frame) (o : Option Activation) (tasks : Option (List Task)) → WorkAgrees p classes space visible o frames tasks → o ≡ None → tasks ≡ None
-resting p classes space visible frames None None w e = refl
-resting p classes space visible frames None (Some tasks) w e = absurd w
-resting p classes space visible frames (Some x) tasks w e = absurd (cc)
+pub resting : (p : Lowered) (classes : Classes) (space : Space) (copies : List (Option OwnedNumbers)) (k : ℕ) (visible : Visible) (frames : List source.Frame) (o : Option Activation) (tasks : Option (List Task)) → WorkAgrees p classes space copies k visible o frames tasks → o ≡ None → tasks ≡ None
+resting p classes space copies k visible frames None None w e = refl
+resting p classes space copies k visible frames None (Some tasks) w e = absurd w
+resting p classes space copies k visible frames (Some x) tasks w e = absurd (cc)
 
 -- no thread waits for a monitor
-never_waits : (p : Lowered) (space : Space) (classes : Classes) (k : ℕ) (own : Owners) (shared : Shared) (s : source.Thread) (frames : List source.Frame) (call : Activation) (task : Task) (rest : List Task) → IsLowered p → CallStands p classes space call (visible_to own shared s) frames (task ∷ rest) → waits_with classes k shared s (effect_of (sight_of shared s) task) ≡ false
-never_waits p space classes k own shared s frames call task rest l w =
-    let r = ready p classes space call w.code (visible_to own shared s) frames task rest l w.of_function w in
-    does_cases w.code r.known call.place call.stack (slots_of call r.meant) (visible_to own shared s) rest (λ e. waits_with classes k shared s e ≡ false)
-    (λ tasks h. refl) (λ x v h. refl) (λ target h. refl) (λ x i z t a h. refl) (λ t x n h. refl) (λ z h. refl)
-    (λ line target f args h. waits_for_none classes k shared s line target f args h.built)
-    (λ h. refl) (λ trap line h. refl) (effect_of (sight_of shared s) task) r.does
+waits_not : (classes : Classes) (k : ℕ) (shared : Shared) (s : source.Thread) (e : Effect) → IsNoCall e → waits_with classes k shared s e ≡ false
+waits_not classes k shared s (Calls line target f args) h = absurd h
+waits_not classes k shared s e h = refl
 
-not_waiting : (p : Lowered) (space : Space) (classes : Classes) (k : ℕ) (own : Owners) (shared : Shared) (s : source.Thread) (frames : List source.Frame) (o : Option Activation) (tasks : Option (List Task)) → IsLowered p → WorkAgrees p classes space (visible_to own shared s) o frames tasks → waits_with classes k shared s (next_effect shared s tasks) ≡ false
-not_waiting p space classes k own shared s frames None None l w = refl
-not_waiting p space classes k own shared s frames None (Some tasks) l w = absurd w
-not_waiting p space classes k own shared s frames (Some call) None l w = absurd w
-not_waiting p space classes k own shared s frames (Some call) (Some []) l w = refl
-not_waiting p space classes k own shared s frames (Some call) (Some (task ∷ rest)) l w = never_waits p space classes k own shared s frames call task rest l w
+never_waits : (code : Listing) (known : Known) (place : ℕ) (stack : List ℕ) (after : After) (classes : Classes) (k : ℕ) (shared : Shared) (s : source.Thread) (task : Task) → TaskStands code known place stack after task → waits_with classes k shared s (effect_of (sight_of shared s) task) ≡ false
+never_waits code known place stack after classes k shared s (Invoke line target f operands) h = by_call (is_ready operands)
+  where
+    by_call : (b : Bool) → waits_with classes k shared s (cond b (Calls line target f (actuals (sight_of shared s) f operands)) (goes_on line (Invoke line target f) (reduce_first (sight_of shared s) operands))) ≡ false
+    by_call true = waits_for_none classes k shared s line target f (actuals (sight_of shared s) f operands) h.built
+    by_call false = waits_not classes k shared s (goes_on line (Invoke line target f) (reduce_first (sight_of shared s) operands)) (going_on (sight_of shared s) line (Invoke line target f) (reduce_first (sight_of shared s) operands))
+never_waits code known place stack after classes k shared s task h = waits_not classes k shared s (effect_of (sight_of shared s) task) (no_call (sight_of shared s) task tt)
 
-pub unblocked : (p : Lowered) (classes : Classes) (space : Space) (made : ℕ) (k : ℕ) (own : Owners) (shared : Shared) (t : Thread) (s : source.Thread) → IsLowered p → ThreadAgrees p classes space made own shared t s → waits classes k shared s ≡ false
-unblocked p classes space made k own shared t s l h = not_waiting p space classes k own shared s s.frames t.call s.tasks l h.work
+not_waiting : (p : Lowered) (space : Space) (copies : List (Option OwnedNumbers)) (classes : Classes) (k : ℕ) (own : Owners) (shared : Shared) (s : source.Thread) (frames : List source.Frame) (o : Option Activation) (tasks : Option (List Task)) → WorkAgrees p classes space copies k (visible_to own shared s) o frames tasks → waits_with classes k shared s (next_effect shared s tasks) ≡ false
+not_waiting p space copies classes k own shared s frames None None w = refl
+not_waiting p space copies classes k own shared s frames None (Some tasks) w = absurd w
+not_waiting p space copies classes k own shared s frames (Some call) None w = absurd w
+not_waiting p space copies classes k own shared s frames (Some call) (Some []) w = refl
+not_waiting p space copies classes k own shared s frames (Some call) (Some (task ∷ rest)) w = never_waits w.code w.known call.place call.stack (λ q names. TasksStand w.code names q [] rest) classes k shared s task w.stands.stand
+
+pub unblocked : (p : Lowered) (classes : Classes) (space : Space) (copies : List (Option OwnedNumbers)) (made k : ℕ) (own : Owners) (shared : Shared) (t : Thread) (s : source.Thread) → ThreadAgrees p classes space copies made k own shared t s → waits classes k shared s ≡ false
+unblocked p classes space copies made k own shared t s h = not_waiting p space copies classes k own shared s s.frames t.call s.tasks h.work
 
 -- ---- an instruction
 
@@ -96,34 +108,36 @@ advanced_owners : (shared : Shared) (s : source.Thread) (own : Owners) (task : T
 advanced_owners shared s own task rest is event vs = ap (λ (o : Option (List Task)). after_tasks shared s o own event vs) is ∙ left_owners (effect_of (sight_of shared s) task) event (length s.frames) own vs
 
 -- One step of a thread.
-module _ (p : Lowered) (w : World) (old : Space) (in_use : BuffersInUse) (k : ℕ) (own : Owners) (shared : Shared) (t : Thread) (s : source.Thread) (h : ThreadAgrees p w.classes old (length (loaded_objects w)) own shared t s) where
+module _ (p : Lowered) (w : World) (old : Store) (others : Acquired) (k : ℕ) (own : Owners) (shared : Shared) (t : Thread) (s : source.Thread) (h : ThreadAgrees p w.classes old.heap old.elements (length (loaded_objects w)) k own shared t s) where
   -- a step of the source's thread within its call
-  steps_by : (refused : Bool) (task : Task) (rest : List Task) → s.tasks ≡ Some (task ∷ rest) → thread_step (unit_tree p.unit) w.classes in_use k shared s refused ≡ after_any w.classes in_use k shared s rest refused (effect_of (sight_of shared s) task)
-  steps_by false task rest tasks = ap (step_within (unit_tree p.unit) w.classes in_use k shared s false) tasks
-  steps_by true task rest tasks = ap (step_within (unit_tree p.unit) w.classes in_use k shared s true) tasks
+  steps_by : (refused : Bool) (task : Task) (rest : List Task) → s.tasks ≡ Some (task ∷ rest) → thread_step (unit_tree p.unit) w.classes (in_use_with others s) k shared s refused ≡ after_any w.classes (in_use_with others s) k shared s rest refused (effect_of (sight_of shared s) task)
+  steps_by false task rest tasks = ap (step_within (unit_tree p.unit) w.classes (in_use_with others s) k shared s false) tasks
+  steps_by true task rest tasks = ap (step_within (unit_tree p.unit) w.classes (in_use_with others s) k shared s true) tasks
 
   -- an instruction but a return
-  pub did : (store : Store) (refused : Bool) (e : Event) (task : Task) (rest : List Task) → s.tasks ≡ Some (task ∷ rest) → (after : Activation) (pending : Option ℕ) → GoesOn p w old store in_use k own shared s rest after pending (effect_of (sight_of shared s) task) refused e
-      → Advances p w old store in_use k own shared s (record t { call = Some after; pending = pending }) refused e
+  pub did : (store : Store) (refused : Bool) (e : Event) (task : Task) (rest : List Task) → s.tasks ≡ Some (task ∷ rest) → (after : Activation) (pending : Option ℕ) → GoesOn p w old store others k own shared s rest after pending (effect_of (sight_of shared s) task) refused e
+      → Advances p w old store others k own shared s (record t { call = Some after; pending = pending }) refused e
   did store refused e task rest is after pending g = record {
     next_shared = g.next_shared;
     next = g.next;
     steps = steps_by refused task rest is ∙ g.steps;
     store_agrees = g.store_agrees;
     keeps = g.keeps;
+    keeps_copies = g.keeps_copies;
     agrees =
         let owned = owners_left (effect_of (sight_of shared s) task) (event_view e) (length s.frames) own g.next.variables in
-        subst (λ (now : Owners). ThreadAgrees p w.classes store.heap (length (loaded_objects w)) now g.next_shared (record t { call = Some after; pending = pending }) g.next)
+        subst (λ (now : Owners). ThreadAgrees p w.classes store.heap store.elements (length (loaded_objects w)) k now g.next_shared (record t { call = Some after; pending = pending }) g.next)
         (sym (advanced_owners shared s own task rest is (event_view e) g.next.variables)) (record {
           calls = subst (CallsAgree p w.classes (length (loaded_objects w)) t.calls.items) (sym g.calls) h.calls;
           work = g.work;
           pending = g.pending_agrees;
           ending = g.ending ∙ h.ending;
-          busy = λ a b c. subst (λ (o : Option (List Task)). WorkAgrees p w.classes store.heap (visible_to owned g.next_shared g.next) (Some after) g.next.frames o) b g.work;
-          caught = λ b. absurd (subst (λ (o : Option (List Task)). WorkAgrees p w.classes store.heap (visible_to owned g.next_shared g.next) (Some after) g.next.frames o) b g.work);
-          viewless = g.viewless;
+          busy = λ a b c. subst (λ (o : Option (List Task)). WorkAgrees p w.classes store.heap store.elements k (visible_to owned g.next_shared g.next) (Some after) g.next.frames o) b g.work;
+          caught = λ b. absurd (subst (λ (o : Option (List Task)). WorkAgrees p w.classes store.heap store.elements k (visible_to owned g.next_shared g.next) (Some after) g.next.frames o) b g.work);
+          idle = λ b. absurd (subst (λ (o : Option (List Task)). WorkAgrees p w.classes store.heap store.elements k (visible_to owned g.next_shared g.next) (Some after) g.next.frames o) b g.work);
+          views = g.views;
         });
-    short = λ was. subst (λ (a : source.Advance). IsShortOf (cells_made shared a) old store.heap) (sym (steps_by false task rest is)) (g.short was);
+    short = λ was. subst (λ (a : source.Advance). IsShortOf (cells_made shared a) old.heap store.heap) (sym (steps_by false task rest is)) (g.short was);
   }
 
 -- ---- a return
@@ -199,29 +213,31 @@ class_pending space heap (Some a) (Some n) b h = found_class space.blocks b h
             ap (λ (c : ℕ). Some c) (ap (class_of heap) (sym named) ∙ of ∙ sym there.class)
         by_test false later e = later e
 
-module _ (p : Lowered) (w : World) (old : Space) (in_use : BuffersInUse) (k : ℕ) (own : Owners) (shared : Shared) (t : Thread) (s : source.Thread) (h : ThreadAgrees p w.classes old (length (loaded_objects w)) own shared t s) where
-  pub returned : (store : Store) (pending : Option ℕ) (after : Thread) (task : Task) (rest : List Task) → s.tasks ≡ Some (task ∷ rest) → StoreAgrees p w store shared → store.heap ≡ old → ReferenceAgrees store.heap pending s.pending → t.ending ≡ Unfinished
+module _ (p : Lowered) (w : World) (old : Store) (others : Acquired) (k : ℕ) (own : Owners) (shared : Shared) (t : Thread) (s : source.Thread) (h : ThreadAgrees p w.classes old.heap old.elements (length (loaded_objects w)) k own shared t s) where
+  pub returned : (store : Store) (pending : Option ℕ) (after : Thread) (task : Task) (rest : List Task) → s.tasks ≡ Some (task ∷ rest) → StoreAgrees p w store shared (beside others (acquired_by s)) → store ≡ old → MayReturn s → ReferenceAgrees store.heap pending s.pending → t.ending ≡ Unfinished
       → effect_of (sight_of shared s) task ≡ Returns → after.call ≡ None → after.pending ≡ None → after.calls.items ≡ calls_after (option_and_then (class_at store.heap) pending) t.calls.items
       → after.ending ≡ ending_after (option_and_then (class_at store.heap) pending) t.calls.items t.ending
-      → Advances p w old store in_use k own shared s after false event.Quiet
-  returned store pending after task rest tasks shares same pends o is no_call no_pending calls ending =
+      → Advances p w old store others k own shared s after false event.Quiet
+  returned store pending after task rest tasks shares same may pends o is no_call no_pending calls ending =
       let class : Option ℕ = option_and_then (class_at store.heap) pending in
       let made : ℕ = length (loaded_objects w) in
       let of : option_map (class_of shared.heap) s.pending ≡ class = class_pending store.heap shared.heap pending s.pending shares.heap.blocks pends in
       record {
         next_shared = shared;
         next = idle class s.calls;
-        steps = steps_by p w old in_use k own shared t s h false task rest tasks ∙ ap (after_effect w.classes in_use k shared s rest) is ∙ returns_by k shared s class shares.monitors of;
-        store_agrees = shares;
-        keeps = subst (λ (x : Space). Keeps x shared store.heap shared) same (keeps_same store.heap shared);
+        steps = steps_by p w old others k own shared t s h false task rest tasks ∙ ap (after_effect w.classes (in_use_with others s) k shared s rest) is ∙ returns_by k shared s class shares.monitors of;
+        store_agrees = store_same p w store shared others s.variables [] (sym (nothing_lent s.variables may.0)) shares;
+        keeps = subst (λ (x : Store). Keeps x.heap shared store.heap shared) same (keeps_same store.heap shared);
+        keeps_copies = λ key c there other. subst (λ (x : Store). value_at x.elements key ≡ Some c) (sym same) there;
         agrees = record {
           calls = subst (λ (ns : List PendingCall). CallsAgree p w.classes made ns (activation.calls_after (ending_of class s.calls) s.calls)) (sym calls) (calls_left p w.classes made class t.calls.items s.calls h.calls);
-          work = subst (λ (c : Option Activation). WorkAgrees p w.classes store.heap (visible_to (after_tasks shared s s.tasks own source.Quiet []) shared (idle class s.calls)) c [] None) (sym no_call) refl;
+          work = subst (λ (c : Option Activation). WorkAgrees p w.classes store.heap store.elements k (visible_to (after_tasks shared s s.tasks own source.Quiet []) shared (idle class s.calls)) c [] None) (sym no_call) refl;
           pending = subst (λ (a : Option ℕ). ReferenceAgrees store.heap a None) (sym no_pending) tt;
           ending = ending_agrees p w.classes made class t.calls.items s.calls t.ending h.calls o ∙ ap ending_view (sym ending);
           busy = λ a b c. something_to_do p w.classes made class t.calls.items s.calls t.ending h.calls (sym ending ∙ a) c;
           caught = λ b. refl;
-          viewless = refl;
+          idle = λ b. refl;
+          views = subst (λ (c : Option Activation). AreViewed store.heap (buffers_of c) (idle class s.calls)) (sym no_call) (λ n. omega arith);
         };
         short = λ e. absurd (cc);
       }

@@ -1,11 +1,10 @@
 -- What a step of a thread is.
 use Rattle.std.specs.Prelude.{◌≡◌, ℕ, Bool, true, false, List, [], ◌∷◌, length, Option, Some, None}
 use Rattle.syntax.specs.Views.{unit_tree}
-use Rattle.heap.specs.Heap.{Space}
 use Rattle.semantics.specs.World.{World, loaded_objects}
 use Rattle.semantics_safety.specs.Owners.{Owners, after_advance}
 use Rattle.semantics.specs.Thread as source
-use Rattle.semantics.specs.Thread.{BuffersInUse, Shared}
+use Rattle.semantics.specs.Thread.{Shared}
 use Rattle.semantics.specs.ThreadStep.{thread_step}
 use Rattle.code_meaning.specs.Lowered.{Lowered}
 use Rattle.machine_steps.specs.declared.thread.Ending.{Ending}
@@ -17,27 +16,30 @@ use Rattle.machine_steps.specs.declared.advance.Advanced.TheVariants as advanced
 use Rattle.machine_steps.specs.declared.thread.Thread.{Thread}
 use Rattle.machine_steps.specs.declared.thread.PendingCall.{PendingCall}
 use Rattle.machine_calls.specs.declared.store.Store.{Store}
+use Rattle.machine_calls.specs.Buffers.{Acquired, KeepsCopies, acquired_by, beside}
 use Rattle.machine_calls.specs.CarriedOut.{IsShortOf}
 use Rattle.machine_calls.specs.StoreAgrees.{StoreAgrees, Keeps}
-use Rattle.machine_steps.specs.Executes.{cells_made, event_view}
+use Rattle.machine_steps.specs.Executes.{cells_made, event_view, in_use_with}
 use Rattle.machine_steps.specs.ThreadAgrees.{ThreadAgrees}
 
 -- ---- steps
 
--- the thread took the step that the source's thread takes, or the same with its allocation refused, where too few cells were left
-pub record Advances (p : Lowered) (w : World) (old : Space) (store : Store) (in_use : BuffersInUse) (k : ℕ) (own : Owners) (shared : Shared) (s : source.Thread) (t : Thread) (refused : Bool) (event : Event) : Type 0 where
+-- Thread k took the step that the source's thread takes, or the same with its allocation refused, where too few cells were left. The
+-- buffers of the other threads, which take this, are as they were.
+pub record Advances (p : Lowered) (w : World) (old store : Store) (others : Acquired) (k : ℕ) (own : Owners) (shared : Shared) (s : source.Thread) (t : Thread) (refused : Bool) (event : Event) : Type 0 where
   pub next_shared : Shared
   pub next : source.Thread
-  pub steps : thread_step (unit_tree p.unit) w.classes in_use k shared s refused ≡ source.Advances next_shared next (event_view event)
-  pub store_agrees : StoreAgrees p w store next_shared
-  pub keeps : Keeps old shared store.heap next_shared
-  pub agrees : ThreadAgrees p w.classes store.heap (length (loaded_objects w)) (after_advance shared s own (source.Advances next_shared next (event_view event))) next_shared t next
-  pub short : refused ≡ true → IsShortOf (cells_made shared (thread_step (unit_tree p.unit) w.classes in_use k shared s false)) old store.heap
+  pub steps : thread_step (unit_tree p.unit) w.classes (in_use_with others s) k shared s refused ≡ source.Advances next_shared next (event_view event)
+  pub store_agrees : StoreAgrees p w store next_shared (beside others (acquired_by next))
+  pub keeps : Keeps old.heap shared store.heap next_shared
+  pub keeps_copies : KeepsCopies k old.elements store.elements
+  pub agrees : ThreadAgrees p w.classes store.heap store.elements (length (loaded_objects w)) k (after_advance shared s own (source.Advances next_shared next (event_view event))) next_shared t next
+  pub short : refused ≡ true → IsShortOf (cells_made shared (thread_step (unit_tree p.unit) w.classes (in_use_with others s) k shared s false)) old.heap store.heap
 
 -- the same by what is told of it
-abbrev pub AdvancesBy : Lowered → World → Space → Store → BuffersInUse → ℕ → Owners → Shared → source.Thread → Thread → Advanced → Type 0
-AdvancesBy p w old store in_use k own shared s t (advanced.Did event) = Advances p w old store in_use k own shared s t false event
-AdvancesBy p w old store in_use k own shared s t advanced.Refused = Advances p w old store in_use k own shared s t true Quiet
+abbrev pub AdvancesBy : Lowered → World → (old store : Store) → (others : Acquired) → (k : ℕ) → Owners → Shared → source.Thread → Thread → Advanced → Type 0
+AdvancesBy p w old store others k own shared s t (advanced.Did event) = Advances p w old store others k own shared s t false event
+AdvancesBy p w old store others k own shared s t advanced.Refused = Advances p w old store others k own shared s t true Quiet
 
 -- ---- returns
 

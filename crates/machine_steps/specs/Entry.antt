@@ -8,6 +8,7 @@ use Rattle.code.specs.Depth.{Listing}
 use Rattle.code_meaning.specs.Lowered.{Lowered}
 use Rattle.code_meaning.specs.Slots.{argument_word, HasRoom}
 use Rattle.machine_calls.specs.declared.activation.Activation.{Activation}
+use Rattle.machine_calls.specs.declared.buffer.Buffer.TheVariants as held
 use Rattle.tables.specs.Locals.{LocalTable}
 use Rattle.tables.specs.References.{references_in}
 use Rattle.machine_steps.specs.declared.thread.PendingCall.{PendingCall}
@@ -53,6 +54,7 @@ pub record BeginsIn (code : Listing) (loaded : List ℕ) (next : PendingCall) (c
   pub locals : call.locals ≡ entry_locals addresses
   pub references : call.slots.references.items ≡ keys_from 0 addresses
   pub fields : call.slots.fields.items ≡ replicate code.slots.field_ids None
+  pub buffers : call.slots.buffers.items ≡ replicate code.slots.buffers held.Null
 
 -- a call of a program before its first instruction
 pub record Begins (p : Lowered) (loaded : List ℕ) (next : PendingCall) (call : Activation) : Type 0 where

@@ -34,6 +34,8 @@ use Rattle.machine_steps.specs.declared.execute.Executed.TheVariants.{Did, Refus
 use Rattle.machine_steps.specs.declared.fault.StepFault.{StepFault}
 use Rattle.machine_steps.specs.declared.fault.StepFault.TheVariants.{NoRoom, Memory}
 use Rattle.machine_calls.specs.declared.store.Store.{Store}
+use Rattle.tables.specs.Elements.{OwnedNumbers}
+use Rattle.machine_calls.specs.Buffers.{Acquired, AreViewed, KeepsCopies, acquired_by, beside, in_use_of}
 use Rattle.machine_calls.specs.CarriedOut.{IsShortOf}
 use Rattle.machine_calls.specs.HeapAgrees.{ReferenceAgrees}
 use Rattle.machine_calls.specs.Locals.{FramesAgree}
@@ -49,24 +51,24 @@ event_view (Trapped trap line) = source.Trapped (trap_view trap) line
 
 -- ---- a call in progress
 
--- A call in progress stands for its tasks still to do, where this can be seen.
-pub record CallStands (p : Lowered) (classes : Classes) (space : Space) (call : Activation) (visible : Visible) (frames : List source.Frame) (tasks : List Task) : Type 0 where
+-- A call in progress of thread k stands for its tasks still to do, where this can be seen.
+pub record CallStands (p : Lowered) (classes : Classes) (space : Space) (copies : List (Option OwnedNumbers)) (k : ℕ) (call : Activation) (visible : Visible) (frames : List source.Frame) (tasks : List Task) : Type 0 where
   pub code : Listing
   pub of_function : slice_get p.codes call.function ≡ Some code
   pub known : Known
   pub stands : StandsFor code known call.place call.stack tasks
   pub meant : Meant
-  pub holds : SlotsHold classes space call.locals (values_in call) meant
+  pub holds : SlotsHold classes space copies k call.locals (values_in call) meant
   pub shows : Shows code known visible (slots_of call meant)
   pub depth : depth_at code.instrs call.place ≡ Some (length call.stack)
   pub frames_agree : FramesAgree space call.locals frames
 
 -- a call in progress, or none, which has no frame
-abbrev pub WorkAgrees : Lowered → Classes → Space → Visible → Option Activation → List source.Frame → Option (List Task) → Type 0
-WorkAgrees p classes space visible None frames None = frames ≡ []
-WorkAgrees p classes space visible None frames (Some tasks) = ⊥
-WorkAgrees p classes space visible (Some call) frames None = ⊥
-WorkAgrees p classes space visible (Some call) frames (Some tasks) = CallStands p classes space call visible frames tasks
+abbrev pub WorkAgrees : Lowered → Classes → Space → List (Option OwnedNumbers) → (k : ℕ) → Visible → Option Activation → List source.Frame → Option (List Task) → Type 0
+WorkAgrees p classes space copies k visible None frames None = frames ≡ []
+WorkAgrees p classes space copies k visible None frames (Some tasks) = ⊥
+WorkAgrees p classes space copies k visible (Some call) frames None = ⊥
+WorkAgrees p classes space copies k visible (Some call) frames (Some tasks) = CallStands p classes space copies k call visible frames tasks
 
 -- ---- steps
 
@@ -84,13 +86,18 @@ pub record IsSteady (classes : Classes) (own : Owners) (shared : Shared) (s : so
       → next_effect shared s s.tasks ≡ Calls line (Assigned x) f args → (prototype f).result ≡ NewLocal → lookup x s.variables ≡ Some (LocalRef level r) → level ≡ length (frames_after f s.frames)
   pub owned : (task : Task) (rest : List Task) → s.tasks ≡ Some (task ∷ rest) → AllByRecursion (λ x. IsOwn own x (lookup x s.variables)) (task_names task)
 
--- A call in progress, with what is pending, stands for a thread's tasks, of which this is the first.
-pub record IsExecuting (p : Lowered) (w : World) (store : Store) (call : Activation) (pending : Option ℕ) (own : Owners) (shared : Shared) (s : source.Thread) (task : Task) (rest : List Task) : Type 0 where
-  pub store_agrees : StoreAgrees p w store shared
+-- what all buffers take of what there is for them, where those of the other threads take this
+abbrev pub in_use_with : Acquired → source.Thread → BuffersInUse
+in_use_with others s = in_use_of (beside others (acquired_by s))
+
+-- A call in progress of thread k, with what is pending, stands for the thread's tasks, of which this is the first; the buffers of the
+-- other threads take this.
+pub record IsExecuting (p : Lowered) (w : World) (store : Store) (call : Activation) (pending : Option ℕ) (others : Acquired) (k : ℕ) (own : Owners) (shared : Shared) (s : source.Thread) (task : Task) (rest : List Task) : Type 0 where
+  pub store_agrees : StoreAgrees p w store shared (beside others (acquired_by s))
   pub tasks : s.tasks ≡ Some (task ∷ rest)
-  pub stands : CallStands p w.classes store.heap call (visible_to own shared s) s.frames (task ∷ rest)
+  pub stands : CallStands p w.classes store.heap store.elements k call (visible_to own shared s) s.frames (task ∷ rest)
   pub pending_agrees : ReferenceAgrees store.heap pending s.pending
-  pub viewless : viewed_by s ≡ []
+  pub views : AreViewed store.heap call.slots.buffers.items s
   pub steady : IsSteady w.classes own shared s
 
 -- what an effect of the first task leaves, or the same with its allocation refused
@@ -116,22 +123,24 @@ owners_left (Calls line target f args) event frames own vs = after_call target f
 owners_left other event frames own vs = own
 
 -- The first task had this effect on thread k, with the rest still to do: the thread goes on within its call. Its allocation was
--- refused only where too few cells were left.
-pub record GoesOn (p : Lowered) (w : World) (old : Space) (store : Store) (in_use : BuffersInUse) (k : ℕ) (own : Owners) (shared : Shared) (s : source.Thread) (rest : List Task) (call : Activation) (pending : Option ℕ) (effect : Effect) (refused : Bool) (event : Event) : Type 0 where
+-- refused only where too few cells were left. The buffers of the other threads are as they were.
+pub record GoesOn (p : Lowered) (w : World) (old store : Store) (others : Acquired) (k : ℕ) (own : Owners) (shared : Shared) (s : source.Thread) (rest : List Task) (call : Activation) (pending : Option ℕ) (effect : Effect) (refused : Bool) (event : Event) : Type 0 where
   pub next_shared : Shared
   pub next : source.Thread
-  pub steps : after_any w.classes in_use k shared s rest refused effect ≡ source.Advances next_shared next (event_view event)
-  pub store_agrees : StoreAgrees p w store next_shared
-  pub keeps : Keeps old shared store.heap next_shared
-  pub work : WorkAgrees p w.classes store.heap (visible_to (owners_left effect (event_view event) (length s.frames) own next.variables) next_shared next) (Some call) next.frames next.tasks
+  pub steps : after_any w.classes (in_use_with others s) k shared s rest refused effect ≡ source.Advances next_shared next (event_view event)
+  pub store_agrees : StoreAgrees p w store next_shared (beside others (acquired_by next))
+  pub keeps : Keeps old.heap shared store.heap next_shared
+  pub keeps_copies : KeepsCopies k old.elements store.elements
+  pub work : WorkAgrees p w.classes store.heap store.elements k (visible_to (owners_left effect (event_view event) (length s.frames) own next.variables) next_shared next) (Some call) next.frames next.tasks
   pub pending_agrees : ReferenceAgrees store.heap pending next.pending
+  pub views : AreViewed store.heap call.slots.buffers.items next
   pub calls : next.calls ≡ s.calls
   pub ending : next.ending ≡ s.ending
-  pub viewless : viewed_by next ≡ []
-  pub short : refused ≡ true → IsShortOf (cells_made shared (after_effect w.classes in_use k shared s rest effect)) old store.heap
+  pub short : refused ≡ true → IsShortOf (cells_made shared (after_effect w.classes (in_use_with others s) k shared s rest effect)) old.heap store.heap
 
 -- what an instruction did is the effect of the first of the tasks; a return leaves the store as it was
-abbrev pub Executes : Lowered → World → Space → Store → BuffersInUse → ℕ → Owners → Shared → source.Thread → (rest : List Task) → Activation → (pending : Option ℕ) → Effect → Executed → Type 0
-Executes p w old store in_use k own shared s rest call pending effect (Did event) = GoesOn p w old store in_use k own shared s rest call pending effect false event
-Executes p w old store in_use k own shared s rest call pending effect Refused = GoesOn p w old store in_use k own shared s rest call pending effect true Quiet
-Executes p w old store in_use k own shared s rest call pending effect Returned = (effect ≡ Returns) × StoreAgrees p w store shared × (store.heap ≡ old) × ReferenceAgrees store.heap pending s.pending
+abbrev pub Executes : Lowered → World → (old store : Store) → (others : Acquired) → (k : ℕ) → Owners → Shared → source.Thread → (rest : List Task) → Activation → (pending : Option ℕ) → Effect → Executed → Type 0
+Executes p w old store others k own shared s rest call pending effect (Did event) = GoesOn p w old store others k own shared s rest call pending effect false event
+Executes p w old store others k own shared s rest call pending effect Refused = GoesOn p w old store others k own shared s rest call pending effect true Quiet
+Executes p w old store others k own shared s rest call pending effect Returned =
+    (effect ≡ Returns) × StoreAgrees p w store shared (beside others (acquired_by s)) × (store ≡ old) × ReferenceAgrees store.heap pending s.pending

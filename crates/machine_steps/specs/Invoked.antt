@@ -1,18 +1,18 @@
 -- Where a call of a function of the JNI is made.
-use Rattle.std.specs.Prelude.{◌≡◌, ℕ, Bool, true, false, List, [], ◌∷◌, slice_get, ◌⊎◌, Option, Some, None}
+use Rattle.std.specs.Prelude.{◌≡◌, ℕ, Bool, true, false, List, ◌∷◌, slice_get, ◌⊎◌, Option, Some, None}
 use Rattle.code.specs.Call.{call_view}
 use Rattle.code.specs.Depth.{Listing}
 use Rattle.code.specs.declared.instr.Call.{Call as InMemory}
 use Rattle.code.specs.declared.instr.Instr.TheVariants as instr
 use Rattle.semantics.specs.Task.{Task}
-use Rattle.semantics.specs.Thread.{Shared, Thread, viewed_by}
+use Rattle.semantics.specs.Thread.{Shared, Thread}
 use Rattle.semantics.specs.Value.{Trap as SourceTrap}
 use Rattle.semantics.specs.World.{World}
 use Rattle.world_values.specs.SoundWorlds.{IsSound}
 use Rattle.jni.specs.Table.{function_value}
 use Rattle.semantics_safety.specs.Owners.{Owners}
 use Rattle.code_meaning.specs.Lowered.{Lowered, IsLowered}
-use Rattle.code_meaning.specs.Slots.{visible_to}
+use Rattle.code_meaning.specs.Slots.{SeesBuffers, visible_to}
 use Rattle.machine_steps.specs.declared.invoke.Invoked.{Invoked}
 use Rattle.machine_steps.specs.declared.invoke.Invoked.TheVariants as invoked
 use Rattle.machine_steps.specs.declared.execute.Event.TheVariants.{Quiet, Trapped}
@@ -26,22 +26,24 @@ use Rattle.machine_calls.specs.Traps.{trap_view}
 use Rattle.machine_calls.specs.declared.store.Store.{Store}
 use Rattle.machine_calls.specs.declared.activation.Activation.{Activation}
 use Rattle.machine_calls.specs.Asked.{scene_of}
-use Rattle.machine_calls.specs.Checked.{trap_found}
+use Rattle.machine_calls.specs.Buffers.{Acquired, AreViewed, acquired_by, beside}
+use Rattle.machine_calls.specs.Checked.{element_wanted, trap_found}
 use Rattle.machine_calls.specs.Locals.{locals_after}
 use Rattle.machine_calls.specs.StoreAgrees.{StoreAgrees}
 use Rattle.machine_calls.specs.WorkedOut.{IsWorkedOut}
 use Rattle.machine_steps.specs.Executes.{CallStands, IsSteady}
 use Rattle.machine_calls.specs.HeapAgrees.{ReferenceAgrees}
 
--- A thread of the source has a call as its first task, the machine is at the instruction that stands for it, and all that the
--- call can change agrees.
-pub record AtCall (p : Lowered) (w : World) (store : Store) (pending : Option ℕ) (call : Activation) (function : InMemory) (own : Owners) (shared : Shared) (s : Thread) (task : Task) (rest : List Task) : Type 0 where
+-- Thread k of the source has a call as its first task, the machine is at the instruction that stands for it, and all that the
+-- call can change agrees. What is seen of buffers are their elements.
+pub record AtCall (p : Lowered) (w : World) (store : Store) (pending : Option ℕ) (call : Activation) (function : InMemory) (others : Acquired) (k : ℕ) (own : Owners) (shared : Shared) (s : Thread) (task : Task) (rest : List Task) : Type 0 where
   pub lowered : IsLowered p
   pub tasks : s.tasks ≡ Some (task ∷ rest)
-  pub shares : StoreAgrees p w store shared
+  pub shares : StoreAgrees p w store shared (beside others (acquired_by s))
   pub pending_agrees : ReferenceAgrees store.heap pending s.pending
-  pub stands : CallStands p w.classes store.heap call (visible_to own shared s) s.frames (task ∷ rest)
-  pub viewless : viewed_by s ≡ []
+  pub stands : CallStands p w.classes store.heap store.elements k call (visible_to own shared s) s.frames (task ∷ rest)
+  pub sees : SeesBuffers (visible_to own shared s) stands.meant.buffers
+  pub views : AreViewed store.heap call.slots.buffers.items s
   pub steady : IsSteady w.classes own shared s
   pub code : Listing
   pub of_function : slice_get p.codes call.function ≡ Some code
@@ -50,7 +52,7 @@ pub record AtCall (p : Lowered) (w : World) (store : Store) (pending : Option �
 -- the trap of a call before it does anything
 abbrev pub trap_at : World → Store → (pending : Option ℕ) → Activation → InMemory → Option SourceTrap
 trap_at w store pending call function =
-    trap_found (scene_of w.classes store call pending) (has_room (locals_after (function_value function.function) call.locals)) (function_value function.function) function.operands.items
+    trap_found (scene_of w.classes store call pending) (has_room (locals_after (function_value function.function) call.locals)) (element_wanted function.target) (function_value function.function) function.operands.items
 
 -- No check stops a call, and this is what it answers.
 pub record IsAnswered (w : World) (store : Store) (pending : Option ℕ) (call : Activation) (function : InMemory) (given : Answer) : Type 0 where

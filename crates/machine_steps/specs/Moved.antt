@@ -20,6 +20,7 @@ pub record HasMoved (call after : Activation) (to : ℕ) (words : List ℕ) (slo
   pub numbers : after.slots.numbers.items ≡ slots.numbers
   pub references : after.slots.references.items ≡ slots.keys
   pub fields : after.slots.fields.items ≡ slots.handles
+  pub buffers : after.slots.buffers.items ≡ slots.buffers
   pub locals : after.locals ≡ call.locals
 
 -- the place that a way leads to; a trap stays

@@ -3,11 +3,15 @@ use Rattle.std.specs.Prelude.{◌≡◌, ℕ, ◌+◌, ◌<◌, ◌==◌, true, 
 use Rattle.code.specs.Effect.{truth_word}
 use Rattle.classes.specs.declared.class.FieldHandle.{FieldHandle}
 use Rattle.code.specs.declared.instr.Target.{Target}
-use Rattle.code.specs.declared.instr.Target.TheVariants.{Number, Local, FieldId, Static, Test}
+use Rattle.code.specs.declared.instr.Target.TheVariants.{Number, Local, FieldId, Static, Buffer, Test}
+use Rattle.code.specs.declared.instr.Operand.{Operand}
+use Rattle.code.specs.declared.instr.Operand.TheVariants.{IsCopy}
 use Rattle.jni.specs.Prototype.{ResultKind, NewLocal}
 use Rattle.machine_calls.specs.declared.answer.Given.{Given}
 use Rattle.machine_calls.specs.declared.answer.Given.TheVariants as given
 use Rattle.machine_calls.specs.declared.activation.Activation.{Activation}
+use Rattle.machine_calls.specs.declared.buffer.Buffer.{Buffer as HeldBuffer}
+use Rattle.machine_calls.specs.declared.buffer.Buffer.TheVariants as held
 use Rattle.tables.specs.Locals.{LocalTable, IsMade, has_room}
 use Rattle.machine_calls.specs.declared.statics.StaticReference.{StaticReference}
 
@@ -20,6 +24,17 @@ stack_with target g = []
 abbrev pub numbers_with : Target → Given → List ℕ → List ℕ
 numbers_with (Number i) (given.Number word) numbers = slice_set numbers i word
 numbers_with target g numbers = numbers
+
+-- the slot of the flag for `isCopy`, an operand at this place, if there is one
+abbrev pub told_slot : Option Operand → Option ℕ
+told_slot (Some (IsCopy i)) = Some i
+told_slot o = None
+
+-- the number slots once the flag in this slot, if there is one, tells a buffer that is given and is a copy from a view
+abbrev pub told_with : (told : Option ℕ) → Given → List ℕ → List ℕ
+told_with (Some i) (given.Buffer (held.Copy key)) numbers = slice_set numbers i 1
+told_with (Some i) (given.Buffer (held.View a)) numbers = slice_set numbers i 0
+told_with told g numbers = numbers
 
 -- a function of this kind of result makes a local reference of what is given, if it isn't NULL, and this is its key
 abbrev pub MakesLocal : ResultKind → Given → (before : LocalTable) → (key : Option ℕ) → (after : LocalTable) → Type 0
@@ -35,6 +50,11 @@ references_with target key references = references
 abbrev pub fields_with : Target → Given → List (Option FieldHandle) → List (Option FieldHandle)
 fields_with (FieldId i) (given.FieldId h) fields = slice_set fields i h
 fields_with target g fields = fields
+
+-- the slots of buffers with it
+abbrev pub buffers_with : Target → Given → List HeldBuffer → List HeldBuffer
+buffers_with (Buffer element i) (given.Buffer b) buffers = slice_set buffers i b
+buffers_with target g buffers = buffers
 
 -- the statics with it
 abbrev pub statics_with : Target → Given → List StaticReference → List StaticReference
@@ -56,6 +76,11 @@ abbrev pub HasField : Target → ℕ → Type 0
 HasField (FieldId i) count = i < count
 HasField target count = Unit {0}
 
+-- among this number of slots of buffers
+abbrev pub HasBuffer : Target → ℕ → Type 0
+HasBuffer (Buffer element i) count = i < count
+HasBuffer target count = Unit {0}
+
 -- among this number of statics
 abbrev pub HasStatic : Target → ℕ → Type 0
 HasStatic (Static i) count = i < count
@@ -63,20 +88,26 @@ HasStatic target count = Unit {0}
 
 -- the target's slot is there
 abbrev pub HasTarget : Target → Activation → Type 0
-HasTarget target call = HasNumber target (length call.slots.numbers.items) × HasReference target (length call.slots.references.items) × HasField target (length call.slots.fields.items)
+HasTarget target call = HasNumber target (length call.slots.numbers.items) × HasReference target (length call.slots.references.items) × HasField target (length call.slots.fields.items) × HasBuffer target (length call.slots.buffers.items)
+
+-- the slot of the flag for `isCopy`, if there is one, is among this number of slots of numbers
+abbrev pub HasTold : (told : Option ℕ) → ℕ → Type 0
+HasTold (Some i) count = i < count
+HasTold None count = Unit {0}
 
 -- a local reference, where a function of this kind of result puts one, has room in the current frame
 abbrev pub HasRoom : ResultKind → LocalTable → Type 0
 HasRoom NewLocal locals = has_room locals ≡ true
 HasRoom kind locals = Unit {0}
 
--- the call goes on after the instruction, with what is given where it belongs
-pub record Receives (target : Target) (kind : ResultKind) (g : Given) (call after : Activation) : Type 0 where
+-- the call goes on after the instruction, with what is given where it belongs, once `isCopy` has been told
+pub record Receives (target : Target) (kind : ResultKind) (told : Option ℕ) (g : Given) (call after : Activation) : Type 0 where
   pub function : after.function ≡ call.function
   pub place : after.place ≡ call.place + 1
   pub stack : after.stack ≡ stack_with target g
-  pub numbers : after.slots.numbers.items ≡ numbers_with target g call.slots.numbers.items
+  pub numbers : after.slots.numbers.items ≡ numbers_with target g (told_with told g call.slots.numbers.items)
   pub key : Option ℕ
   pub makes : MakesLocal kind g call.locals key after.locals
   pub references : after.slots.references.items ≡ references_with target key call.slots.references.items
   pub fields : after.slots.fields.items ≡ fields_with target g call.slots.fields.items
+  pub buffers : after.slots.buffers.items ≡ buffers_with target g call.slots.buffers.items

@@ -1,5 +1,5 @@
 -- How threads stand for those of the source.
-use Rattle.std.specs.Prelude.{◌≡◌, ℕ, ◌<◌, ◌≤◌, List, [], ◌∷◌, length, map, Some, None, IsTrue, slice_get, suc}
+use Rattle.std.specs.Prelude.{◌≡◌, ℕ, ◌<◌, ◌≤◌, List, [], ◌∷◌, length, map, Option, Some, None, IsTrue, slice_get, suc}
 use Rattle.std.specs.List.{list_all}
 use Rattle.syntax.specs.Parts.{functions_of}
 use Rattle.syntax.specs.Tree.{Function}
@@ -12,15 +12,19 @@ use Rattle.semantics.specs.World.{Invocation}
 use Rattle.semantics.specs.Activation.{function_at, class_of_function}
 use Rattle.semantics_safety.specs.Owners.{Owners, AllOwners}
 use Rattle.semantics.specs.Thread as source
-use Rattle.semantics.specs.Thread.{Shared, viewed_by}
+use Rattle.semantics.specs.Thread.{Shared}
 use Rattle.code_meaning.specs.Slots.{ArgumentsFit, visible_to}
 use Rattle.code_meaning.specs.Lowered.{Lowered}
 use Rattle.machine_steps.specs.declared.thread.Ending.{Ending}
 use Rattle.machine_steps.specs.declared.thread.Ending.TheVariants.{Unfinished, Ended, Uncaught}
 use Rattle.machine_steps.specs.declared.thread.Thread.{Thread}
 use Rattle.machine_steps.specs.declared.thread.PendingCall.{PendingCall}
+use Rattle.machine_calls.specs.declared.activation.Activation.{Activation}
+use Rattle.machine_calls.specs.declared.buffer.Buffer.{Buffer}
+use Rattle.machine_calls.specs.Buffers.{AreViewed}
 use Rattle.machine_calls.specs.HeapAgrees.{ReferenceAgrees}
 use Rattle.machine_steps.specs.Executes.{WorkAgrees}
+use Rattle.tables.specs.Elements.{OwnedNumbers}
 
 -- how a thread has ended, if it has
 abbrev pub ending_view : Ending → source.Ending
@@ -51,22 +55,29 @@ CallsAgree p classes made (n ∷ nexts) (c ∷ calls) = CallAgrees p classes mad
 
 -- ---- threads
 
--- a thread stands for one of the source, with this heap, where this number of objects were made at load
-pub record ThreadAgrees (p : Lowered) (classes : Classes) (space : Space) (made : ℕ) (own : Owners) (shared : Shared) (t : Thread) (s : source.Thread) : Type 0 where
+-- the buffers in the slots of a call in progress, or of none
+abbrev pub buffers_of : Option Activation → List Buffer
+buffers_of None = []
+buffers_of (Some call) = call.slots.buffers.items
+
+-- thread k stands for one of the source, with this heap and these copied lists, where this number of objects were made at load
+pub record ThreadAgrees (p : Lowered) (classes : Classes) (space : Space) (copies : List (Option OwnedNumbers)) (made k : ℕ) (own : Owners) (shared : Shared) (t : Thread) (s : source.Thread) : Type 0 where
   pub calls : CallsAgree p classes made t.calls.items s.calls
-  pub work : WorkAgrees p classes space (visible_to own shared s) t.call s.frames s.tasks
+  pub work : WorkAgrees p classes space copies k (visible_to own shared s) t.call s.frames s.tasks
   pub pending : ReferenceAgrees space t.pending s.pending
   pub ending : s.ending ≡ ending_view t.ending
   -- a thread with nothing to do has ended
   pub busy : t.ending ≡ Unfinished → s.tasks ≡ None → s.calls ≡ [] → ⊥
   -- no exception is pending between two calls
   pub caught : s.tasks ≡ None → s.pending ≡ None
-  -- no function that gives a view can be called yet
-  pub viewless : viewed_by s ≡ []
+  -- nor is there a variable
+  pub idle : s.tasks ≡ None → s.variables ≡ []
+  -- each view in a slot is one that a variable holds, so it is pinned
+  pub views : AreViewed space (buffers_of t.call) s
 
 -- thread by thread, from the one of a number on
-abbrev pub ThreadsAgree : Lowered → Classes → Space → (made : ℕ) → AllOwners → ℕ → Shared → List Thread → List source.Thread → Type 0
-ThreadsAgree p classes space made owners k shared [] [] = Unit {0}
-ThreadsAgree p classes space made owners k shared [] (s ∷ ss) = ⊥
-ThreadsAgree p classes space made owners k shared (t ∷ ts) [] = ⊥
-ThreadsAgree p classes space made owners k shared (t ∷ ts) (s ∷ ss) = ThreadAgrees p classes space made (owners k) shared t s × ThreadsAgree p classes space made owners (suc k) shared ts ss
+abbrev pub ThreadsAgree : Lowered → Classes → Space → List (Option OwnedNumbers) → (made : ℕ) → AllOwners → ℕ → Shared → List Thread → List source.Thread → Type 0
+ThreadsAgree p classes space copies made owners k shared [] [] = Unit {0}
+ThreadsAgree p classes space copies made owners k shared [] (s ∷ ss) = ⊥
+ThreadsAgree p classes space copies made owners k shared (t ∷ ts) [] = ⊥
+ThreadsAgree p classes space copies made owners k shared (t ∷ ts) (s ∷ ss) = ThreadAgrees p classes space copies made k (owners k) shared t s × ThreadsAgree p classes space copies made owners (suc k) shared ts ss

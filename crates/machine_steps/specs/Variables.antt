@@ -1,27 +1,35 @@
 -- Variables that can be NULL.
-use Rattle.std.specs.Prelude.{ℕ, ◌<◌, Bool, true, is_none, List, slice_get, slice_set, Option, None}
+use Rattle.std.specs.Prelude.{ℕ, ◌<◌, Bool, true, false, is_none, List, slice_get, slice_set, Option, None}
 use Rattle.classes.specs.declared.class.FieldHandle.{FieldHandle}
 use Rattle.code.specs.declared.instr.NullableVariable.{NullableVariable}
-use Rattle.code.specs.declared.instr.NullableVariable.TheVariants.{Local, Static, FieldId}
+use Rattle.code.specs.declared.instr.NullableVariable.TheVariants.{Local, Static, FieldId, Buffer}
+use Rattle.machine_calls.specs.declared.buffer.Buffer.{Buffer as HeldBuffer}
+use Rattle.machine_calls.specs.declared.buffer.Buffer.TheVariants as held
 use Rattle.machine_calls.specs.declared.statics.StaticReference.{StaticReference}
 use Rattle.machine_calls.specs.declared.statics.StaticReference.TheVariants.{Empty}
 use Rattle.machine_calls.specs.Given.{held_in}
 use Rattle.machine_steps.specs.SlotsHold.{SlotValues}
 use Rattle.machine_calls.specs.Statics.{References, holds_null, static_at}
+use Rattle.machine_calls.specs.WorkedOut.{buffer_there}
 
--- whether a variable is NULL; nothing else is stored in buffers yet
-abbrev pub is_null : References → List (Option FieldHandle) → NullableVariable → Bool
-is_null references fields (Local i) = is_none (held_in (slice_get references.keys i))
-is_null references fields (Static i) = holds_null (static_at references i)
-is_null references fields (FieldId i) = is_none (held_in (slice_get fields i))
-is_null references fields v = true
+-- whether a buffer is NULL
+abbrev pub is_null_buffer : HeldBuffer → Bool
+is_null_buffer held.Null = true
+is_null_buffer b = false
+
+-- whether a variable is NULL
+abbrev pub is_null : References → List (Option FieldHandle) → List HeldBuffer → NullableVariable → Bool
+is_null references fields buffers (Local i) = is_none (held_in (slice_get references.keys i))
+is_null references fields buffers (Static i) = holds_null (static_at references i)
+is_null references fields buffers (FieldId i) = is_none (held_in (slice_get fields i))
+is_null references fields buffers (Buffer i) = is_null_buffer (buffer_there buffers i)
 
 -- a variable has its slot among these numbers of them
-abbrev pub HasSlot : (references fields statics : ℕ) → NullableVariable → Type 0
-HasSlot references fields statics (Local i) = i < references
-HasSlot references fields statics (Static i) = i < statics
-HasSlot references fields statics (FieldId i) = i < fields
-HasSlot references fields statics v = Unit {0}
+abbrev pub HasSlot : (references fields buffers statics : ℕ) → NullableVariable → Type 0
+HasSlot references fields buffers statics (Local i) = i < references
+HasSlot references fields buffers statics (Static i) = i < statics
+HasSlot references fields buffers statics (FieldId i) = i < fields
+HasSlot references fields buffers statics (Buffer i) = i < buffers
 
 -- the slots of references with NULL in a variable
 abbrev pub nulled_references : NullableVariable → List (Option ℕ) → List (Option ℕ)
@@ -33,9 +41,14 @@ abbrev pub nulled_fields : NullableVariable → List (Option FieldHandle) → Li
 nulled_fields (FieldId i) fields = slice_set fields i None
 nulled_fields v fields = fields
 
+-- the slots of buffers with NULL in a variable
+abbrev pub nulled_buffers : NullableVariable → List HeldBuffer → List HeldBuffer
+nulled_buffers (Buffer i) buffers = slice_set buffers i held.Null
+nulled_buffers v buffers = buffers
+
 -- the slots with NULL in a variable
 abbrev pub nulled_slots : NullableVariable → SlotValues → SlotValues
-nulled_slots v slots = record slots { keys = nulled_references v slots.keys; handles = nulled_fields v slots.handles }
+nulled_slots v slots = record slots { keys = nulled_references v slots.keys; handles = nulled_fields v slots.handles; buffers = nulled_buffers v slots.buffers }
 
 -- the statics with NULL in a variable
 abbrev pub nulled_statics : NullableVariable → List StaticReference → List StaticReference

@@ -5,15 +5,16 @@ ghost use Rattle.std.specs.Option.{option_and_then};
 ghost use Rattle.std.specs.VecDeque.{deque_len};
 ghost use Rattle.heap.specs.Heap.{IsAddress, class_at, left_of};
 ghost use Rattle.syntax.specs.Views.{unit_tree};
-ghost use Rattle.semantics.specs.Thread.{BuffersInUse, Shared, Thread as SourceThread};
+ghost use Rattle.semantics.specs.Thread.{Shared, Thread as SourceThread};
 ghost use Rattle.semantics.specs.ThreadStep.{thread_step};
 ghost use Rattle.semantics.specs.World.{loaded_objects};
 ghost use Rattle.semantics_safety.specs.Owners.{Owners};
 ghost use Rattle.code_meaning.specs.Lowered.{IsLowered};
+ghost use Rattle.machine_calls.specs.Buffers.{Acquired, acquired_by, beside};
 ghost use Rattle.machine_calls.specs.StoreAgrees.{StoreAgrees};
 ghost use Rattle.machine_steps.specs.ThreadAgrees.{ThreadAgrees};
 ghost use Rattle.machine_steps.specs.Advances.{AdvancesBy, ending_after, calls_after};
-ghost use Rattle.machine_steps.specs.Executes.{IsHindered, IsSteady, cells_made};
+ghost use Rattle.machine_steps.specs.Executes.{IsHindered, IsSteady, cells_made, in_use_with};
 ghost use Rattle.machine_steps.specs.Entry.{IsReady, Begins};
 
 use crate::entry::begin;
@@ -36,8 +37,8 @@ pub enum Advanced {
     Refused,
 }
 
-/// Takes one step of a thread that has not ended. Only the entry into a call, a new frame and a new global reference
-/// take host memory.
+/// Takes one step of a thread, which has this number and has not ended. Only the entry into a call, a new frame, a new global reference
+/// and a copy of elements take host memory.
 ///
 /// Where the step's objects have no room, its allocation is refused if it may be. Else `NoRoom` says so, before anything has
 /// changed: room can be made then, and the same step asked for again. It takes no host memory.
@@ -47,20 +48,21 @@ pub fn advance(
     world: &World,
     store: &mut Store,
     thread: &mut Thread,
+    number: u8,
     may_refuse: bool,
 ) -> Result<Advanced, StepFault>
     requires lowered { IsLowered program.now }
     requires few { store.old.births + 2 < 2 ^ 32 }
-    requires agrees { (own : Owners) × (shared : Shared) × (s : SourceThread) × StoreAgrees program.now world.now store.old shared
-        × ThreadAgrees program.now world.now.classes store.old.heap (length (loaded_objects world.now)) own shared thread.old s × (thread.old.ending ≡ Ending.Unfinished) × IsSteady world.now.classes own shared s }
-    ensures advances { IfOk result (λ advanced. (in_use : BuffersInUse) (k : ℕ) (own : Owners) (shared : Shared) (s : SourceThread) → StoreAgrees program.now world.now store.old shared
-        → ThreadAgrees program.now world.now.classes store.old.heap (length (loaded_objects world.now)) own shared thread.old s
+    requires agrees { (others : Acquired) × (own : Owners) × (shared : Shared) × (s : SourceThread) × StoreAgrees program.now world.now store.old shared (beside others (acquired_by s))
+        × ThreadAgrees program.now world.now.classes store.old.heap store.old.elements (length (loaded_objects world.now)) number own shared thread.old s × (thread.old.ending ≡ Ending.Unfinished) × IsSteady world.now.classes own shared s }
+    ensures advances { IfOk result (λ advanced. (others : Acquired) (own : Owners) (shared : Shared) (s : SourceThread) → StoreAgrees program.now world.now store.old shared (beside others (acquired_by s))
+        → ThreadAgrees program.now world.now.classes store.old.heap store.old.elements (length (loaded_objects world.now)) number own shared thread.old s
         → IsSteady world.now.classes own shared s
-        → AdvancesBy program.now world.now store.old.heap store.new in_use k own shared s thread.new advanced) }
-    ensures hindered { IfErr result (λ fault. (in_use : BuffersInUse) (k : ℕ) (own : Owners) (shared : Shared) (s : SourceThread) → StoreAgrees program.now world.now store.old shared
-        → ThreadAgrees program.now world.now.classes store.old.heap (length (loaded_objects world.now)) own shared thread.old s
+        → AdvancesBy program.now world.now store.old store.new others number own shared s thread.new advanced) }
+    ensures hindered { IfErr result (λ fault. (others : Acquired) (own : Owners) (shared : Shared) (s : SourceThread) → StoreAgrees program.now world.now store.old shared (beside others (acquired_by s))
+        → ThreadAgrees program.now world.now.classes store.old.heap store.old.elements (length (loaded_objects world.now)) number own shared thread.old s
         → IsSteady world.now.classes own shared s
-        → IsHindered (left_of store.old.heap) (cells_made shared (thread_step (unit_tree program.now.unit) world.now.classes in_use k shared s false)) may_refuse fault) }
+        → IsHindered (left_of store.old.heap) (cells_made shared (thread_step (unit_tree program.now.unit) world.now.classes (in_use_with others s) number shared s false)) may_refuse fault) }
     ensures refuses { result ≡ Ok Advanced.Refused → may_refuse ≡ true }
     ensures store { OnErr result (store.new ≡ store.old) }
     ensures thread { OnErr result (thread.new ≡ thread.old) }
@@ -70,7 +72,15 @@ pub fn advance(
             Ok(()) => Ok(Advanced::Did(Event::Quiet)),
             Err(_) => Err(StepFault::Memory),
         },
-        Some(call) => match execute(program, world, store, &mut thread.pending, call, may_refuse) {
+        Some(call) => match execute(
+            program,
+            world,
+            store,
+            &mut thread.pending,
+            call,
+            number,
+            may_refuse,
+        ) {
             Ok(Executed::Did(event)) => Ok(Advanced::Did(event)),
             Ok(Executed::Refused) => Ok(Advanced::Refused),
             Ok(Executed::Returned) => {

@@ -14,6 +14,7 @@ use code::code::Code;
 use code::stack::Stack;
 use heap::Addr;
 use machine_calls::activation::{Activation, Slots};
+use machine_calls::buffer::Buffer;
 use std::alloc::{AllocError, Global};
 use std::vec::VecCloneMethods;
 use tables::{Local, Locals, TableFault};
@@ -39,6 +40,8 @@ pub fn begin(
     let slots = code.slots();
     let mut fields = Vec::new(alloc);
     fields.resize(slots.field_ids as usize, None)?;
+    let mut buffers = Vec::new(alloc);
+    buffers.resize(slots.buffers as usize, Buffer::Null)?;
     let addresses = addresses_given(
         alloc,
         loaded,
@@ -56,6 +59,7 @@ pub fn begin(
             numbers: number_slots(alloc, &next.arguments, slots.numbers as usize)?,
             references,
             fields,
+            buffers,
         },
         locals,
     })

@@ -1,25 +1,27 @@
 //! Calls of functions of the JNI (JNI Specification, chapter 4).
 
-ghost use Rattle.std.specs.Prelude.{◌≡◌, ◌+◌, ◌<◌, ◌^◌, ◌||◌, ℕ, nat_le, false, true, List, Option, Some, Ok, IfOk, IfErr, OnErr};
+ghost use Rattle.std.specs.Prelude.{◌≡◌, ◌+◌, ◌<◌, ◌^◌, ◌||◌, ℕ, nat_le, false, true, List, Option, Some, Ok, slice_get, IfOk, IfErr, OnErr};
 ghost use Rattle.code.specs.Call.{IsPrepared};
 ghost use Rattle.heap.specs.Heap.{left_of};
 ghost use Rattle.semantics.specs.Effect.{effect_of};
 ghost use Rattle.semantics.specs.Task.{Task};
-ghost use Rattle.semantics.specs.Thread.{BuffersInUse, Shared, Thread as SourceThread, sight_of};
+ghost use Rattle.semantics.specs.Thread.{Shared, Thread as SourceThread, sight_of};
 ghost use Rattle.semantics.specs.ThreadStep.{after_effect};
 ghost use Rattle.semantics_safety.specs.Owners.{Owners};
 ghost use Rattle.code_meaning.specs.Lowered.{Lowered};
-ghost use Rattle.machine_steps.specs.Executes.{Executes, IsHindered, cells_made};
-ghost use Rattle.machine_calls.specs.CarriedOut.{is_of_references};
+ghost use Rattle.machine_steps.specs.Executes.{Executes, IsHindered, cells_made, in_use_with};
+ghost use Rattle.machine_calls.specs.Buffers.{Acquired};
+ghost use Rattle.machine_calls.specs.CarriedOut.{takes_memory};
 ghost use Rattle.machine_calls.specs.Made.{cells_of};
 ghost use Rattle.machine_calls.specs.NewObjects.{texts_in};
 ghost use Rattle.machine_calls.specs.Answers.{is_halt};
+ghost use Rattle.machine_steps.specs.Received.{told_slot};
 ghost use Rattle.machine_steps.specs.Invoked.{AtCall, IsAnswered, IsStopped, done_or_refused, executed_as};
 
 use crate::fault::StepFault;
 use crate::receive::receive;
 use classes::table::ClassTable;
-use code::instr::Call;
+use code::instr::{Call, Operand};
 use heap::{Addr, Heap};
 use machine_calls::activation::Activation;
 use machine_calls::answer::{Answer, work_out};
@@ -41,7 +43,8 @@ pub enum Invoked {
     Trapped(Trap),
 }
 
-/// The instruction that calls a function. Only a new frame and a new global reference take host memory. Where what is made has no
+/// The instruction that calls a function, in the thread of this number. Only a new frame, a new global reference and a copy of elements
+/// take host memory. Where what is made has no
 /// room, the call is refused if it may be, and else the fault says so.
 #[inline(never)]
 pub fn invoke(
@@ -50,16 +53,17 @@ pub fn invoke(
     pending: &mut Option<Addr>,
     call: &mut Activation,
     function: &Call,
+    thread: u8,
     may_refuse: bool,
 ) -> Result<Invoked, StepFault>
-    requires at_call { (p : Lowered) × (own : Owners) × (shared : Shared) × (s : SourceThread) × (task : Task) × (rest : List Task) × AtCall p world.now store.old pending.old call.old function.now own shared s task rest }
+    requires at_call { (p : Lowered) × (others : Acquired) × (own : Owners) × (shared : Shared) × (s : SourceThread) × (task : Task) × (rest : List Task) × AtCall p world.now store.old pending.old call.old function.now others thread own shared s task rest }
     requires place { call.old.place + 1 < 2 ^ 64 }
     requires few { store.old.births + 2 < 2 ^ 32 }
     requires prepared { IsPrepared function.now }
-    ensures done { IfOk result (λ done. (p : Lowered) (in_use : BuffersInUse) (k : ℕ) (own : Owners) (shared : Shared) (s : SourceThread) (task : Task) (rest : List Task) → AtCall p world.now store.old pending.old call.old function.now own shared s task rest
-        → Executes p world.now store.old.heap store.new in_use k own shared s rest call.new pending.new (effect_of (sight_of shared s) task) (executed_as function.now.line done)) }
-    ensures hindered { IfErr result (λ fault. (p : Lowered) (in_use : BuffersInUse) (k : ℕ) (own : Owners) (shared : Shared) (s : SourceThread) (task : Task) (rest : List Task) → AtCall p world.now store.old pending.old call.old function.now own shared s task rest
-        → IsHindered (left_of store.old.heap) (cells_made shared (after_effect world.now.classes in_use k shared s rest (effect_of (sight_of shared s) task))) may_refuse fault) }
+    ensures done { IfOk result (λ done. (p : Lowered) (others : Acquired) (own : Owners) (shared : Shared) (s : SourceThread) (task : Task) (rest : List Task) → AtCall p world.now store.old pending.old call.old function.now others thread own shared s task rest
+        → Executes p world.now store.old store.new others thread own shared s rest call.new pending.new (effect_of (sight_of shared s) task) (executed_as function.now.line done)) }
+    ensures hindered { IfErr result (λ fault. (p : Lowered) (others : Acquired) (own : Owners) (shared : Shared) (s : SourceThread) (task : Task) (rest : List Task) → AtCall p world.now store.old pending.old call.old function.now others thread own shared s task rest
+        → IsHindered (left_of store.old.heap) (cells_made shared (after_effect world.now.classes (in_use_with others s) thread shared s rest (effect_of (sight_of shared s) task))) may_refuse fault) }
     ensures refuses { result ≡ Ok Invoked.Refused → may_refuse ≡ true }
     ensures store { OnErr result (store.new ≡ store.old) }
     ensures pending { OnErr result (pending.new ≡ pending.old) }
@@ -74,7 +78,7 @@ pub fn invoke(
                 &answer,
                 may_refuse,
             ) {
-                match finish(world, store, pending, call, function, answer) {
+                match finish(world, store, pending, call, function, thread, answer) {
                     Ok(invoked) => Ok(invoked),
                     Err(_) => Err(StepFault::Memory),
                 }
@@ -109,7 +113,7 @@ fn answer_or_trap(
     call: &Activation,
     function: &Call,
 ) -> Result<Answer, Trap>
-    requires at_call { (p : Lowered) × (own : Owners) × (shared : Shared) × (s : SourceThread) × (task : Task) × (rest : List Task) × AtCall p world.now store.now pending call.now function.now own shared s task rest }
+    requires at_call { (p : Lowered) × (others : Acquired) × (k : ℕ) × (own : Owners) × (shared : Shared) × (s : SourceThread) × (task : Task) × (rest : List Task) × AtCall p world.now store.now pending call.now function.now others k own shared s task rest }
     requires prepared { IsPrepared function.now }
     ensures answer { IfOk result (IsAnswered world.now store.now pending call.now function.now) }
     ensures runs { IfOk result (λ answer. is_halt answer ≡ false) }
@@ -126,6 +130,7 @@ fn answer_or_trap(
             &store.globals,
         ),
         fields: &call.slots.fields,
+        buffers: &call.slots.buffers,
         stack: &call.stack,
         pending,
     };
@@ -156,18 +161,19 @@ fn finish(
     pending: &mut Option<Addr>,
     call: &mut Activation,
     function: &Call,
+    thread: u8,
     answer: Answer,
 ) -> Result<Invoked, AllocError>
-    requires at_call { (p : Lowered) × (own : Owners) × (shared : Shared) × (s : SourceThread) × (task : Task) × (rest : List Task) × AtCall p world.now store.old pending.old call.old function.now own shared s task rest }
+    requires at_call { (p : Lowered) × (others : Acquired) × (own : Owners) × (shared : Shared) × (s : SourceThread) × (task : Task) × (rest : List Task) × AtCall p world.now store.old pending.old call.old function.now others thread own shared s task rest }
     requires place { call.old.place + 1 < 2 ^ 64 }
     requires few { store.old.births + 2 < 2 ^ 32 }
     requires prepared { IsPrepared function.now }
     requires answered { IsAnswered world.now store.old pending.old call.old function.now answer }
     requires runs { is_halt answer ≡ false }
-    ensures done { IfOk result (λ done. (p : Lowered) (in_use : BuffersInUse) (k : ℕ) (own : Owners) (shared : Shared) (s : SourceThread) (task : Task) (rest : List Task) → AtCall p world.now store.old pending.old call.old function.now own shared s task rest
-        → Executes p world.now store.old.heap store.new in_use k own shared s rest call.new pending.new (effect_of (sight_of shared s) task) (executed_as function.now.line done)) }
+    ensures done { IfOk result (λ done. (p : Lowered) (others : Acquired) (own : Owners) (shared : Shared) (s : SourceThread) (task : Task) (rest : List Task) → AtCall p world.now store.old pending.old call.old function.now others thread own shared s task rest
+        → Executes p world.now store.old store.new others thread own shared s rest call.new pending.new (effect_of (sight_of shared s) task) (executed_as function.now.line done)) }
     ensures refused { result ≡ Ok Invoked.Refused → left_of store.old.heap < cells_of world.now.classes (texts_in function.now.texts.items) answer }
-    ensures of_references { OnErr result (is_of_references answer ≡ true) }
+    ensures memory { OnErr result (takes_memory answer ≡ true) }
     ensures store { OnErr result (store.new ≡ store.old) }
     ensures pending { OnErr result (pending.new ≡ pending.old) }
     ensures call { OnErr result (call.new ≡ call.old) }
@@ -178,7 +184,9 @@ fn finish(
         store,
         pending,
         &mut call.locals,
-        &mut call.slots,
+        &mut call.slots.numbers,
+        &mut call.slots.buffers,
+        thread,
         kind,
         &function.texts,
         answer,
@@ -190,9 +198,20 @@ fn finish(
         &mut store.statics,
         function.target,
         kind,
+        told_slot(function),
         &carried.given,
     );
     Ok(done_or_refused(carried.refused))
+}
+
+/// The slot of the flag that is given for `isCopy`, if there is one.
+fn told_slot(function: &Call) -> Option<u32>
+    ensures { result ≡ told_slot (slice_get function.now.operands.items 1) }
+{
+    match function.operands.get(1) {
+        Some(Operand::IsCopy(slot)) => Some(*slot),
+        _ => None,
+    }
 }
 
 /// What a call came to that wasn't stopped.

@@ -3,6 +3,7 @@
 #![tactic(auto)]
 
 pub mod advance;
+mod buffer_elements;
 mod entry;
 pub mod execute;
 pub mod fault;

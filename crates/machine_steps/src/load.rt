@@ -1,6 +1,6 @@
 //! The threads of a machine before its first step.
 
-ghost use Rattle.std.specs.Prelude.{◌≡◌, ℕ, IfOk, IfErr, OnOk, IfSome, IfNone, IsTrue, [], None, map, length, flat_map};
+ghost use Rattle.std.specs.Prelude.{◌≡◌, ℕ, List, Option, IfOk, IfErr, OnOk, IfSome, IfNone, IsTrue, [], None, map, length, flat_map};
 ghost use Rattle.std.specs.List.{list_all};
 ghost use Rattle.std.specs.Option.{option_and_then};
 ghost use Rattle.syntax.specs.Limits.{IsTree};
@@ -17,6 +17,7 @@ ghost use Rattle.semantics.specs.Load.{fits_parameter, fit_parameters, refused_c
 ghost use Rattle.semantics.specs.Start.{waiting_thread};
 ghost use Rattle.semantics.specs.Thread.{Shared};
 ghost use Rattle.semantics_safety.specs.Owners.{Owners, AllOwners};
+ghost use Rattle.tables.specs.Elements.{OwnedNumbers};
 ghost use Rattle.machine_steps.specs.ThreadAgrees.{ThreadAgrees, ThreadsAgree};
 ghost use Rattle.machine_steps.specs.Loading.{IsNumberOf, IsCallOf, IsFirstOf};
 
@@ -36,7 +37,7 @@ pub fn load_threads(
     program: &Program<'_>,
     world: &World,
 ) -> Result<Vec<Thread>, LoadFault>
-    ensures agree { IfOk result (λ threads. (space : Space) (owners : AllOwners) (k : ℕ) (shared : Shared) → ThreadsAgree program.now world.now.classes space (length (loaded_objects world.now)) owners k shared threads.items
+    ensures agree { IfOk result (λ threads. (space : Space) (copies : List (Option OwnedNumbers)) (owners : AllOwners) (k : ℕ) (shared : Shared) → ThreadsAgree program.now world.now.classes space copies (length (loaded_objects world.now)) owners k shared threads.items
         (map waiting_thread world.now.threads)) }
     ensures all { OnOk result (flat_map (refused_calls (unit_tree program.now.unit) world.now.classes) world.now.threads ≡ []) }
     ensures refused { IfErr result (IsFirstOf (flat_map (refused_calls (unit_tree program.now.unit) world.now.classes) world.now.threads)) }
@@ -56,7 +57,7 @@ fn load_all(
     world: &World,
 ) -> Result<Vec<Thread>, LoadFault>
     requires { functions.now ≡ program.now.unit }
-    ensures agree { IfOk result (λ threads. (space : Space) (owners : AllOwners) (k : ℕ) (shared : Shared) → ThreadsAgree program.now world.now.classes space (length (loaded_objects world.now)) owners k shared threads.items
+    ensures agree { IfOk result (λ threads. (space : Space) (copies : List (Option OwnedNumbers)) (owners : AllOwners) (k : ℕ) (shared : Shared) → ThreadsAgree program.now world.now.classes space copies (length (loaded_objects world.now)) owners k shared threads.items
         (map waiting_thread world.now.threads)) }
     ensures all { OnOk result (flat_map (refused_calls (unit_tree program.now.unit) world.now.classes) world.now.threads ≡ []) }
     ensures refused { IfErr result (IsFirstOf (flat_map (refused_calls (unit_tree program.now.unit) world.now.classes) world.now.threads)) }
@@ -82,7 +83,7 @@ fn load_thread(
     requires functions { functions.now ≡ program.now.unit }
     requires some { IsTrue (has_call calls.now) }
     requires given { IsTrue (list_all (are_arguments (length (loaded_objects world.now))) calls.now) }
-    ensures agrees { IfOk result (λ thread. (space : Space) (own : Owners) (shared : Shared) → ThreadAgrees program.now world.now.classes space (length (loaded_objects world.now)) own shared thread
+    ensures agrees { IfOk result (λ thread. (space : Space) (copies : List (Option OwnedNumbers)) (k : ℕ) (own : Owners) (shared : Shared) → ThreadAgrees program.now world.now.classes space copies (length (loaded_objects world.now)) k own shared thread
         (waiting_thread calls.now)) }
     ensures all { OnOk result (refused_calls (unit_tree program.now.unit) world.now.classes calls.now ≡ []) }
     ensures refused { IfErr result (IsFirstOf (refused_calls (unit_tree program.now.unit) world.now.classes calls.now)) }

@@ -24,7 +24,7 @@ use machine_calls::statics::StaticReference;
 use machine_calls::store::Store;
 use std::alloc::{AllocError, Global};
 use syntax::Item;
-use tables::Globals;
+use tables::{Elements, Globals};
 use world_values::{ObjectValue, World};
 
 /// The heap with the objects that are made before the first step: the class objects, the OutOfMemoryError object and
@@ -35,6 +35,8 @@ pub fn load_store(alloc: Global, items: &[Item], world: &World) -> Result<Store,
     ensures cells { IfOk result (λ store. store.heap.cells ≡ world.now.cells) }
     ensures statics { IfOk result (λ store. store.statics.items ≡ replicate (length (statics_of (unit_tree items.now))) Empty) }
     ensures globals { IfOk result (λ store. store.globals ≡ []) }
+    ensures elements { IfOk result (λ store. store.elements ≡ []) }
+    ensures views { IfOk result (λ store. store.views ≡ 0) }
 {
     let mut heap = Heap::new(alloc, world.cells())?;
     let loaded = load_objects(alloc, &mut heap, world)?;
@@ -47,6 +49,8 @@ pub fn load_store(alloc: Global, items: &[Item], world: &World) -> Result<Store,
         births,
         statics: empty_statics(alloc, items)?,
         globals: Globals::new(alloc),
+        elements: Elements::new(alloc),
+        views: 0,
     })
 }
 

@@ -1,8 +1,9 @@
 //! Where what a function gives goes.
 
 ghost use Rattle.std.specs.Prelude.{◌≡◌, ◌<◌, ◌^◌, ◌+◌, [], length};
+ghost use Rattle.code.specs.declared.instr.ElementType.{ElementType};
 ghost use Rattle.jni.specs.Table.{result_value};
-ghost use Rattle.machine_steps.specs.Received.{HasTarget, HasRoom, MakesLocal, Receives, stack_with, numbers_with, fields_with, statics_with, HasStatic};
+ghost use Rattle.machine_steps.specs.Received.{HasTarget, HasTold, HasRoom, MakesLocal, Receives, stack_with, numbers_with, told_with, fields_with, buffers_with, statics_with, HasStatic};
 
 use classes::class::FieldHandle;
 use code::instr::Target;
@@ -10,33 +11,39 @@ use code::stack::Stack;
 use jni::ResultKind;
 use machine_calls::activation::Activation;
 use machine_calls::answer::Given;
+use machine_calls::buffer::Buffer;
 use machine_calls::statics::StaticReference;
 use tables::{Local, Locals};
 
 /// Puts what a function of this kind of result gives into its target, a new local reference also into the current frame, and
-/// goes on after the instruction. It takes no host memory.
+/// goes on after the instruction. Before, the flag in the slot `told`, if there is one, tells a buffer that is a copy from a view (JNI
+/// Specification, chapter 4, "Get<PrimitiveType>ArrayElements Routines"). It takes no host memory.
 pub fn receive(
     call: &mut Activation,
     statics: &mut [StaticReference],
     target: Target,
     kind: ResultKind,
+    told: Option<u32>,
     given: &Given,
 )
     requires place { call.old.place + 1 < 2 ^ 64 }
     requires target { HasTarget target call.old }
+    requires told { HasTold told (length call.old.slots.numbers.items) }
     requires static_target { HasStatic target (length statics.old) }
     requires room { HasRoom (result_value kind) call.old.locals }
-    ensures call { Receives target (result_value kind) given.now call.old call.new }
+    ensures call { Receives target (result_value kind) told given.now call.old call.new }
     ensures statics { statics.new ≡ statics_with target given.now statics.old }
 {
     call.stack.clear();
     call.place += 1;
     let key = make_local(&mut call.locals, kind, given);
+    tell_copy(&mut call.slots.numbers, told, given);
     match target {
-        Target::Dropped | Target::Buffer(_) => {}
+        Target::Dropped => {}
         Target::Number(slot) => put_number(&mut call.slots.numbers, slot, given),
         Target::Local(slot) => call.slots.references[slot as usize] = key,
         Target::FieldId(slot) => put_field(&mut call.slots.fields, slot, given),
+        Target::Buffer(_, slot) => put_buffer(&mut call.slots.buffers, slot, given),
         Target::Static(slot) => put_static(statics, slot, given),
         Target::Test => put_test(&mut call.stack, given),
     }
@@ -80,6 +87,31 @@ fn put_field(fields: &mut [Option<FieldHandle>], slot: u32, given: &Given)
 {
     if let Given::FieldId(field) = *given {
         fields[slot as usize] = field;
+    }
+}
+
+/// Puts a buffer into its slot.
+fn put_buffer(buffers: &mut [Buffer], slot: u32, given: &Given)
+    requires { slot < length buffers.old }
+    ensures { (element : ElementType) → buffers.new ≡ buffers_with (Target.Buffer element slot) given.now buffers.old }
+{
+    if let Given::Buffer(buffer) = *given {
+        buffers[slot as usize] = buffer;
+    }
+}
+
+/// Tells by the flag in a slot, if there is one, whether a buffer that is given is a copy or a view.
+fn tell_copy(numbers: &mut [u32], told: Option<u32>, given: &Given)
+    requires { HasTold told (length numbers.old) }
+    ensures { numbers.new ≡ told_with told given.now numbers.old }
+{
+    let Some(slot) = told else {
+        return;
+    };
+    match *given {
+        Given::Buffer(Buffer::Copy(_)) => numbers[slot as usize] = 1,
+        Given::Buffer(Buffer::View(_)) => numbers[slot as usize] = 0,
+        _ => {}
     }
 }
 

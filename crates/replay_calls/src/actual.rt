@@ -7,7 +7,7 @@ ghost use Rattle.syntax.specs.Views.{argument_tree, expr_tree};
 ghost use Rattle.classes.specs.FieldViews.{field_id_view};
 ghost use Rattle.jni.specs.Prototype.{ParameterKind as Kind};
 ghost use Rattle.jni.specs.Table.{function_value, parameter_value};
-ghost use Rattle.semantics.specs.Arguments.{actuals, field_argument, field_given, look_up, look_up_expression, mode_given, mode_of, named_variable, number_given, object_given, reference_argument, reference_given, text_given, variable_given};
+ghost use Rattle.semantics.specs.Arguments.{actuals, address_given, field_argument, field_given, look_up, look_up_expression, mode_given, mode_of, named_variable, number_given, object_given, reference_argument, reference_given, text_given, variable_given};
 ghost use Rattle.semantics.specs.CallEffects.{level_of};
 ghost use Rattle.semantics.specs.Sight.{Sight, held_field, held_reference};
 ghost use Rattle.semantics.specs.Task.{Given, NumberOperand};
@@ -276,6 +276,16 @@ pub fn variable_given<'a>(actuals: &[Actual<'a>], place: usize) -> &'a [u8]
     match actual_at(actuals, place) {
         Some(Actual::Reference(name, _) | Actual::Variable(name)) => bytes_of(name),
         _ => &[],
+    }
+}
+
+/// The name of the variable whose address is at a place.
+pub fn address_given<'a>(actuals: &[Actual<'a>], place: usize) -> Option<&'a [u8]>
+    ensures { option_map (λ x. x.now) result ≡ address_given (map actual_view actuals.now) place }
+{
+    match actual_at(actuals, place) {
+        Some(Actual::Variable(name)) => Some(bytes_of(name)),
+        _ => None,
     }
 }
 

@@ -1,6 +1,7 @@
 //! What functions of element buffers do, as data.
 
 ghost use Rattle.std.specs.Prelude.{◌≡◌, List, IfOk, length, map};
+ghost use Rattle.std.specs.Option.{option_map};
 ghost use Rattle.class_rules.specs.Class.{Classes};
 ghost use Rattle.jni.specs.Table.{access_value, function_value};
 ghost use Rattle.semantics.specs.CallEffects.{BufferResult};
@@ -108,17 +109,17 @@ pub(crate) fn copy_back(
     Ok(())
 }
 
-/// `isCopy`, the variable of this name, unless it is NULL, tells a copy from a view.
+/// `isCopy`, the variable of this name, tells a copy from a view; it may be NULL.
 pub fn tell_copy<'a>(
     variables: &mut Variables<'a>,
-    name: &'a [u8],
+    name: Option<&'a [u8]>,
     lent: Lent,
 ) -> Result<(), AllocError>
-    ensures { IfOk result (λ _. (heap : Heap) → variables_view variables.new ≡ tell_copy name.entry.now (BufferResult (lent_view heap lent)) (variables_view variables.old)) }
+    ensures { IfOk result (λ _. (heap : Heap) → variables_view variables.new ≡ tell_copy (option_map (λ x. x.now) name.entry) (BufferResult (lent_view heap lent)) (variables_view variables.old)) }
 {
-    if name.is_empty() {
+    let Some(name) = name else {
         return Ok(());
-    }
+    };
     match lent {
         Lent::Copy(_) => variables.set_named(name, Content::Number(Value::Flag(true))),
         Lent::View(_) => variables.set_named(name, Content::Number(Value::Flag(false))),

@@ -10,7 +10,7 @@ use Rattle.class_rules.specs.Fields.{FieldId}
 use Rattle.jni.specs.Access.{Access, ElementsCopy, ArrayView, CharsCopy, CharsView}
 use Rattle.jni.specs.JniFunction.{is_built_function, JniFunction, FindClass, NewGlobalRef, DeleteLocalRef, DeleteGlobalRef, EnsureLocalCapacity, PushLocalFrame, GetFieldID, GetStaticFieldID, prototype, NewArray, NewObjectArray, GetObjectArrayElement, SetObjectArrayElement, GetArrayRegion, SetArrayRegion, GetStringRegion, GetBuffer, ReleaseBuffer}
 use Rattle.jni.specs.Prototype.{ResultKind, NewLocal}
-use Rattle.semantics.specs.Arguments.{Actual, ReleaseMode, CopyBackAndFree, CopyBack, FreeUncopied, mode_given, number_given, object_given, reference_given, variable_given}
+use Rattle.semantics.specs.Arguments.{Actual, ReleaseMode, CopyBackAndFree, CopyBack, FreeUncopied, mode_given, number_given, object_given, reference_given, variable_given, address_given}
 use Rattle.semantics.specs.CallEffects.{CallResult, NoResult, ReferenceResult, BufferResult, CallEffect, copy_effect, freed, release_effect, view_effect, Leaves, Throws, at_index, at_region, delete_global_effect, delete_local_effect, ensure_effect, found_class_effect, found_field_effect, get_region_effect, level_of, local_array, new_array_effect, out_of_memory, push_effect, refuses_frames, set_region_effect, store_effect, with_capacity, without_local}
 use Rattle.semantics.specs.CallEffects as call_effects
 use Rattle.semantics.specs.CallStep.{after_call, after_refusal, call_step, checked, completed, failure, is_zero, makes_objects, put, received, target_element, tell_copy}
@@ -227,14 +227,14 @@ received_buffer NewLocal b t = refl
 received_buffer kind b t = refl
 
 -- none of these gives a buffer
-not_told : (x : Identifier) (g : Given) (vs : Variables) → tell_copy x (given_view g) vs ≡ vs
-not_told [] g vs = refl
-not_told (b ∷ x) given.Nothing vs = refl
-not_told (b ∷ x) given.Null vs = refl
-not_told (b ∷ x) (given.Number z) vs = refl
-not_told (b ∷ x) (given.Flag c) vs = refl
-not_told (b ∷ x) (given.Reference r) vs = refl
-not_told (b ∷ x) (given.Field f) vs = refl
+not_told : (x : Option Identifier) (g : Given) (vs : Variables) → tell_copy x (given_view g) vs ≡ vs
+not_told None g vs = refl
+not_told (Some x) given.Nothing vs = refl
+not_told (Some x) given.Null vs = refl
+not_told (Some x) (given.Number z) vs = refl
+not_told (Some x) (given.Flag c) vs = refl
+not_told (Some x) (given.Reference r) vs = refl
+not_told (Some x) (given.Field f) vs = refl
 
 -- a thread with these variables, these frames and this pending exception
 abbrev in_locals : Thread → Variables → List Frame → Reference → Thread
@@ -354,8 +354,8 @@ module _ (classes : Classes) (in_use : BuffersInUse) (k : ℕ) (s : Shared) (t :
       let after : Shared = record s' { heap = s'.heap ++ made } in
       let todo : List Task = tasks_after line (purpose_view line purpose) (is_zero (given_view g)) ++ rest in
       ap (completes made s' (in_locals t us fs r)) (sym same)
-      ∙ ap (λ (w : Thread). let u : Thread = record w { tasks = Some todo; variables = tell_copy (variable_given args 1) (given_view g) us } in put (purpose_view line purpose) (given_view g) after u) (in_received kind g t us fs r)
-      ∙ ap (λ (ws : Variables). let u : Thread = record (in_locals t us (frames_with kind (given_view g) fs) r) { tasks = Some todo; variables = ws } in put (purpose_view line purpose) (given_view g) after u) (not_told (variable_given args 1) g us)
+      ∙ ap (λ (w : Thread). let u : Thread = record w { tasks = Some todo; variables = tell_copy (address_given args 1) (given_view g) us } in put (purpose_view line purpose) (given_view g) after u) (in_received kind g t us fs r)
+      ∙ ap (λ (ws : Variables). let u : Thread = record (in_locals t us (frames_with kind (given_view g) fs) r) { tasks = Some todo; variables = ws } in put (purpose_view line purpose) (given_view g) after u) (not_told (address_given args 1) g us)
       ∙ by_purpose purpose after us (frames_with kind (given_view g) fs) r g new
 
   -- the same where no object is made
@@ -374,10 +374,10 @@ module _ (classes : Classes) (in_use : BuffersInUse) (k : ℕ) (s : Shared) (t :
 
   -- a buffer is given, and told
   lent_is : (b : Lent) (new : TaskInMemory)
-      → after_call classes in_use k s caller line (purpose_view line purpose) f args rest (effect_as classes s caller (Lends b)) ≡ left_by k s (in_locals t (tell_copy (variable_given args 1) (BufferResult (lent_view s.heap b)) vs) frames pending) rest (lent_outcome line purpose b) new
+      → after_call classes in_use k s caller line (purpose_view line purpose) f args rest (effect_as classes s caller (Lends b)) ≡ left_by k s (in_locals t (tell_copy (address_given args 1) (BufferResult (lent_view s.heap b)) vs) frames pending) rest (lent_outcome line purpose b) new
   lent_is b new =
       let given = BufferResult (lent_view s.heap b) in
-      let us : Variables = tell_copy (variable_given args 1) given vs in
+      let us : Variables = tell_copy (address_given args 1) given vs in
       let todo : List Task = tasks_after line (purpose_view line purpose) false ++ rest in
       ap (λ (w : Thread). let u : Thread = record w { tasks = Some todo; variables = us } in let after : Shared = record s { heap = s.heap ++ [] } in put (purpose_view line purpose) given after u) (received_buffer kind (lent_view s.heap b) caller)
       ∙ ap (λ (heap : Heap). let after : Shared = record s { heap = heap } in put (purpose_view line purpose) given after (with_tasks (in_locals t us frames pending) todo)) (append-nil s.heap)
@@ -477,7 +477,7 @@ module _ (classes : Classes) (in_use : BuffersInUse) (k : ℕ) (s : Shared) (vs 
 
   -- a buffer is given
   pub buffer_lent : (a : Answer) (b : Lent) (vs' : Contents) (frames' : List Frame) (took : Outcome) → a ≡ told → lent_in a ≡ Some b
-      → variables_view vs' ≡ tell_copy (variable_given args 1) (BufferResult (lent_view s.heap b)) (variables_view vs) → frames' ≡ frames → took ≡ lent_outcome line purpose b
+      → variables_view vs' ≡ tell_copy (address_given args 1) (BufferResult (lent_view s.heap b)) (variables_view vs) → frames' ≡ frames → took ≡ lent_outcome line purpose b
       → MakesCall false scene line purpose f args took (scene_with classes in_use k s vs' frames' pending)
   buffer_lent a b vs' frames' took same is varied framed is_for = λ t rest new sees has.
       by_told t rest sees false (Lends b) (sym (lends_it a b is) ∙ same)

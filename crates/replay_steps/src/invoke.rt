@@ -6,7 +6,7 @@ ghost use Rattle.jni.specs.JniFunction.{is_built_function};
 ghost use Rattle.jni.specs.Table.{function_value};
 ghost use Rattle.replay_tasks.specs.declared.outcome.Outcome.TheVariants as outcome;
 ghost use Rattle.replay_tasks.specs.declared.task.Task.TheVariants as task;
-ghost use Rattle.semantics.specs.Arguments.{Actual as ActualOfCall, variable_given};
+ghost use Rattle.semantics.specs.Arguments.{Actual as ActualOfCall, address_given};
 ghost use Rattle.semantics.specs.Thread.{Shared as SharedOfThreads};
 ghost use Rattle.replay_calls.specs.Actuals.{actual_view};
 ghost use Rattle.replay_calls.specs.Answers.{FitsArrays, FitsFrames, answer_view, trap_in};
@@ -24,7 +24,7 @@ ghost use Rattle.syntax.specs.Views.{element_tree};
 
 use crate::activation::Locals;
 use crate::turn::Turn;
-use replay_calls::actual::{Actual, actuals, variable_given};
+use replay_calls::actual::{Actual, actuals, address_given};
 use replay_calls::carry_out::{carry_out, makes_object, put_local, refuse};
 use replay_calls::{Answer, Lending, Shared, answer_or_trap, lent_in, tell_copy, trap_in};
 use replay_tasks::{Invocation, Outcome, Purpose, Target, VariableKind, reduced};
@@ -281,12 +281,12 @@ fn lend<'a>(
     buffer: Lent,
 ) -> Result<Outcome<'a>, AllocError>
     requires { PurposeInRange i.now.purpose }
-    ensures variables { IfOk result (λ _. (heap : Heap) → variables_view locals.new.variables ≡ tell_copy (variable_given (map actual_view actuals.entry.now) 1) (BufferResult (lent_view heap buffer)) (variables_view locals.old.variables)) }
+    ensures variables { IfOk result (λ _. (heap : Heap) → variables_view locals.new.variables ≡ tell_copy (address_given (map actual_view actuals.entry.now) 1) (BufferResult (lent_view heap buffer)) (variables_view locals.old.variables)) }
     ensures frames { locals.new.frames ≡ locals.old.frames }
     ensures outcome { IfOk result (λ o. o ≡ lent_outcome i.now.line i.now.purpose buffer) }
     ensures range { IfOk result OutcomeInRange }
 {
-    tell_copy(&mut locals.variables, variable_given(actuals, 1), buffer)?;
+    tell_copy(&mut locals.variables, address_given(actuals, 1), buffer)?;
     Ok(lent_outcome(i.line, i.purpose, buffer))
 }
 

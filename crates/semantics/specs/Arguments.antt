@@ -130,6 +130,15 @@ variable_in_actual a = []
 abbrev pub variable_given : List Actual → ℕ → Identifier
 variable_given args i = variable_in_actual (slice_get args i)
 
+-- the variable whose address an argument is, if it is one
+abbrev pub address_in_actual : Option Actual → Option Identifier
+address_in_actual (Some (VariableActual x)) = Some x
+address_in_actual a = None
+
+-- the same of the argument at this place
+abbrev pub address_given : List Actual → ℕ → Option Identifier
+address_given args i = address_in_actual (slice_get args i)
+
 -- the mode of an argument
 abbrev pub mode_in_actual : Option Actual → ReleaseMode
 mode_in_actual (Some (ModeActual m)) = m

@@ -8,7 +8,7 @@ use Rattle.jni.specs.JniFunction.{JniFunction, MonitorEnter, prototype}
 use Rattle.jni.specs.Prototype.{ResultKind, NewLocal, NewGlobal, GivesFlag, GivesInt, GivesField, GivesBuffer, GivesNothing}
 use Rattle.semantics.specs.Object.{Object}
 use Rattle.semantics.specs.World.{fresh_object}
-use Rattle.semantics.specs.Arguments.{Actual, object_given, variable_given}
+use Rattle.semantics.specs.Arguments.{Actual, address_given, object_given}
 use Rattle.semantics.specs.CallEffects.{CallResult, NoResult, NullResult, ScalarResult, ReferenceResult, FieldResult, BufferResult, CallEffect, Throws, Leaves, out_of_memory, with_local, Halts}
 use Rattle.semantics.specs.CallTable.{call_effect}
 use Rattle.semantics.specs.Checks.{call_trap}
@@ -66,10 +66,9 @@ received NewLocal (ReferenceResult (Some n)) t = record t { frames = with_local 
 received kind given t = t
 
 -- `isCopy`, if it isn't NULL, tells a copy from a view
-abbrev pub tell_copy : Identifier → CallResult → Variables → Variables
-tell_copy [] given vs = vs
-tell_copy x (BufferResult (Copy n zs)) vs = assign x (Scalar (Flag true)) vs
-tell_copy x (BufferResult (View n)) vs = assign x (Scalar (Flag false)) vs
+abbrev pub tell_copy : Option Identifier → CallResult → Variables → Variables
+tell_copy (Some x) (BufferResult (Copy n zs)) vs = assign x (Scalar (Flag true)) vs
+tell_copy (Some x) (BufferResult (View n)) vs = assign x (Scalar (Flag false)) vs
 tell_copy x given vs = vs
 
 -- what a failing call gives: NULL, -1 or nothing
@@ -119,7 +118,7 @@ module _ (classes : Classes) (in_use : BuffersInUse) (k : ℕ) (s : Shared) (t :
   -- the thread with the call's result: in its frame, in `isCopy`, and in the test of an `if`
   abbrev pub resumed : Thread → CallResult → Thread
   resumed t' given =
-      record (received (prototype f).result given t') { tasks = Some (tasks_after line target (is_zero given) ++ rest); variables = tell_copy (variable_given args 1) given t'.variables }
+      record (received (prototype f).result given t') { tasks = Some (tasks_after line target (is_zero given) ++ rest); variables = tell_copy (address_given args 1) given t'.variables }
 
   -- the new objects are made, and the result goes where it belongs
   abbrev pub completed : List Object → Shared → Thread → CallResult → Advance

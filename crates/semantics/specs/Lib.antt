@@ -36,5 +36,6 @@ pub mod Report
 pub mod ReportOf
 pub mod Run
 pub mod AccountLaws
--- values and names of objects in memory
+-- values and names of objects, traps, events and endings in memory
 pub mod Views
+pub mod EventViews

@@ -1,21 +1,25 @@
-//! What a program does: its run on a heap where objects have names and never move. The definitions are in `specs/`; the code has only the words of journals, of schedules
-//! and of what is printed, objects by name, and the laws.
+//! What a program does: its run on a heap where objects have names and never move. The definitions are in `specs/`; the code has only what a run is made of for the
+//! machine and for the replay alike (words of journals and schedules, values of objects, traps, events and endings, and what is printed), and the laws.
 #![tactic(auto)]
 
+mod event;
 mod journal;
 mod object_value;
 mod objects;
 mod printed;
 mod schedule;
+mod trap;
 
 ghost use Rattle.semantics.specs.AccountLaws.{OthersStay, StepsMay, StepsPrint};
 ghost use Rattle.semantics.specs.Reachable.{ReachableIsComputed};
 
+pub use event::{Ending, Event, Stop};
 pub use journal::Entry;
 pub use object_value::ObjectValue;
 pub use objects::Objects;
 pub use printed::Printed;
 pub use schedule::ScheduleWord;
+pub use trap::Trap;
 
 /// The computed list is the set of the reachable objects.
 pub fn reachable_is_computed()

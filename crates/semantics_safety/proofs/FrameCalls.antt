@@ -10,7 +10,7 @@ use Rattle.jni.specs.JniFunction.{DeleteLocalRef, PushLocalFrame, PopLocalFrame}
 use Rattle.jni.specs.Prototype.{NewLocal, GivesInt, GivesNothing, LocalVariable}
 use Rattle.region_rules.specs.RegionStates as states
 use Rattle.region_rules.specs.RegionStates.{ReferenceAt, state_of, with_changed, killed, after_pop, get_of}
-use Rattle.semantics.specs.Arguments.{Actual, ReferenceActual, actuals, reference_in_actual, reference_given, number_given, variable_given}
+use Rattle.semantics.specs.Arguments.{Actual, ReferenceActual, actuals, reference_in_actual, reference_given, number_given, variable_given, address_given}
 use Rattle.semantics.specs.CallEffects.{ScalarResult, ReferenceResult, NoResult, CallEffect, Leaves, delete_local_effect, push_effect, without_local}
 use Rattle.semantics.specs.CallStep.{trap_of_call, target_element, checked, after_call, call_step, is_zero, completed, received, tell_copy}
 use Rattle.semantics.specs.CallTable.{call_effect}
@@ -138,8 +138,8 @@ module _ (classes : Classes) (in_use : BuffersInUse) (k : ℕ) (s : Shared) (t :
     tested_lands : (t' : Thread) (z : ℤ) (q : Point) → Stands own s.statics t'.variables t'.frames q → GoesOn (Branch line (Done (Truth (is_zero (ScalarResult (Int z))))) a b ∷ rest) q
         → LandsBy (Calls line (Tested a b) PushLocalFrame args) (length t.frames) own s.statics (completed classes in_use k s t line (Tested a b) PushLocalFrame args rest [] s t' (ScalarResult (Int z)))
     tested_lands t' z q there g =
-        quiet_by line PushLocalFrame args (length t.frames) own own (Tested a b) (λ y other. refl) s.statics (record s { heap = s.heap ++ [] }) (record (received GivesInt (ScalarResult (Int z)) t') { tasks = Some (tasks_after line (Tested a b) (is_zero (ScalarResult (Int z))) ++ rest); variables = tell_copy (variable_given args 1) (ScalarResult (Int z)) t'.variables })
-        ((q, subst (λ (vs : Variables). Stands own s.statics vs t'.frames q) (sym (told t' line rest (variable_given args 1) t'.variables GivesInt (ScalarResult (Int z)) (AnInt z))) there, g), λ x r e. (r, e))
+        quiet_by line PushLocalFrame args (length t.frames) own own (Tested a b) (λ y other. refl) s.statics (record s { heap = s.heap ++ [] }) (record (received GivesInt (ScalarResult (Int z)) t') { tasks = Some (tasks_after line (Tested a b) (is_zero (ScalarResult (Int z))) ++ rest); variables = tell_copy (address_given args 1) (ScalarResult (Int z)) t'.variables })
+        ((q, subst (λ (vs : Variables). Stands own s.statics vs t'.frames q) (sym (told t' line rest (address_given args 1) t'.variables GivesInt (ScalarResult (Int z)) (AnInt z))) there, g), λ x r e. (r, e))
 
     refused : LandsBy (Calls line (Tested a b) PushLocalFrame args) (length t.frames) own s.statics (completed classes in_use k s t line (Tested a b) PushLocalFrame args rest [] s (record t { pending = Some (length classes + 1) }) (ScalarResult (Int (negsuc 3))))
     refused = tested_lands (record t { pending = Some (length classes + 1) }) (negsuc 3) p stands (refl, (pushed, p, IsFalseNow pushed, on_true, on_false))

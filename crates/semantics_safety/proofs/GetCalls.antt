@@ -15,7 +15,7 @@ use Rattle.type_rules.specs.Sorts.{Sort, sort_in}
 use Rattle.type_rules.specs.Sorts as sort
 use Rattle.region_rules.specs.RegionStates.{get_of, VariableState, BufferState, Free, Untested, ReferenceAt, BufferIn, state_of, with_new, with_changed}
 use Rattle.semantics.specs.Object.{Reference}
-use Rattle.semantics.specs.Arguments.{Actual, ReferenceActual, look_up, actuals, variable_given, variable_in_actual, reference_in_actual, name_or_zero}
+use Rattle.semantics.specs.Arguments.{Actual, ReferenceActual, look_up, actuals, reference_in_actual, name_or_zero, address_given, address_in_actual}
 use Rattle.semantics.specs.CallEffects.{CallEffect, Leaves, BufferResult}
 use Rattle.semantics.specs.CallStep.{put, put_assigned, tell_copy, trap_of_call, target_element, checked, after_call, call_step}
 use Rattle.semantics.specs.CallTable.{call_effect, go_together}
@@ -169,27 +169,16 @@ module _ (ss : Statics) (vs : Variables) (frames : List Frame) (p : Point) {own 
       cc
 
   -- the flag tells it
-  pub stands_told : (b : Buffer) → Stands own ss (tell_copy y (BufferResult b) vs) frames p
-  stands_told b = by_name y refl b
-    where
-      by_name : (z : Identifier) → z ≡ y → (b : Buffer) → Stands own ss (tell_copy z (BufferResult b) vs) frames p
-      by_name [] same b = stands
-      by_name (c ∷ z) same NoBuffer = stands
-      by_name (c ∷ z) same (Copy n zs) = subst (λ (i : Identifier). Stands own ss (assign i (Scalar (Flag true)) vs) frames p) (sym same) (flag_set true)
-      by_name (c ∷ z) same (View n) = subst (λ (i : Identifier). Stands own ss (assign i (Scalar (Flag false)) vs) frames p) (sym same) (flag_set false)
+  pub stands_told : (b : Buffer) → Stands own ss (tell_copy (Some y) (BufferResult b) vs) frames p
+  stands_told NoBuffer = stands
+  stands_told (Copy n zs) = flag_set true
+  stands_told (View n) = flag_set false
 
   -- and references are as they were
-  pub told_apart : (a : Identifier) (level : ℕ) (r : Reference) (b : Buffer) → lookup a vs ≡ Some (LocalRef level r) → lookup a (tell_copy y (BufferResult b) vs) ≡ lookup a vs
-  told_apart a level r b e = by_name y refl b
-    where
-      other : (z : Identifier) → z ≡ y → a ≢ z
-      other z same is = not_flag a level r e (is ∙ same)
-
-      by_name : (z : Identifier) → z ≡ y → (b : Buffer) → lookup a (tell_copy z (BufferResult b) vs) ≡ lookup a vs
-      by_name [] same b = refl
-      by_name (c ∷ z) same NoBuffer = refl
-      by_name (c ∷ z) same (Copy n zs) = lookup_other (c ∷ z) a (Scalar (Flag true)) vs (other (c ∷ z) same)
-      by_name (c ∷ z) same (View n) = lookup_other (c ∷ z) a (Scalar (Flag false)) vs (other (c ∷ z) same)
+  pub told_apart : (a : Identifier) (level : ℕ) (r : Reference) (b : Buffer) → lookup a vs ≡ Some (LocalRef level r) → lookup a (tell_copy (Some y) (BufferResult b) vs) ≡ lookup a vs
+  told_apart a level r NoBuffer e = refl
+  told_apart a level r (Copy n zs) e = lookup_other y a (Scalar (Flag true)) vs (not_flag a level r e)
+  told_apart a level r (View n) e = lookup_other y a (Scalar (Flag false)) vs (not_flag a level r e)
 
 -- ---- the step
 
@@ -224,7 +213,11 @@ module _ (classes : Classes) (in_use : BuffersInUse) (k : ℕ) (s : Shared) (t :
   view_lent access a level n false critical e = inl refl
 
   module _ (access : Access) (a : Identifier) (level : ℕ) (here_a : state_of p.regions a ≡ Some (ReferenceAt level true)) (r : Reference) (at_a : lookup a t.variables ≡ Some (LocalRef level r)) (target : Target) (away : IsNoTest target) (goes : ResultGoes target (GivesBuffer access) (Some (access, Some a)) (GoesOn rest) p) where
-    got : (shared : Shared) → shared.statics ≡ s.statics → (b : Buffer) → IsLentBy t.variables access a b → (y : Identifier) → (y ≡ []) ⊎ (sort_in p.names y ≡ Some sort.Flag)
+    -- the address of a flag, or NULL
+    abbrev IsFlagOrNone : Option Identifier → Type 0
+    IsFlagOrNone y = (y ≡ None) ⊎ ((x : Identifier) × (y ≡ Some x) × (sort_in p.names x ≡ Some sort.Flag))
+
+    got : (shared : Shared) → shared.statics ≡ s.statics → (b : Buffer) → IsLentBy t.variables access a b → (y : Option Identifier) → IsFlagOrNone y
         → Lands own shared.statics (put target (BufferResult b) shared (record t { tasks = Some (tasks_after line target false ++ rest); variables = tell_copy y (BufferResult b) t.variables }))
     got shared same b is y told =
         subst (λ (tasks : List Task). Lands own shared.statics (put target (BufferResult b) shared (record t { tasks = Some tasks; variables = tell_copy y (BufferResult b) t.variables }))) (sym (nothing_after t line rest target false away)) (by_copy told)
@@ -232,21 +225,22 @@ module _ (classes : Classes) (in_use : BuffersInUse) (k : ℕ) (s : Shared) (t :
         there : Stands own shared.statics t.variables t.frames p
         there = subst (λ (ss : Statics). Stands own ss t.variables t.frames p) (sym same) stands
 
-        by_copy : (y ≡ []) ⊎ (sort_in p.names y ≡ Some sort.Flag) → Lands own shared.statics (put target (BufferResult b) shared (record t { tasks = Some rest; variables = tell_copy y (BufferResult b) t.variables }))
+        by_copy : IsFlagOrNone y → Lands own shared.statics (put target (BufferResult b) shared (record t { tasks = Some rest; variables = tell_copy y (BufferResult b) t.variables }))
         by_copy (inl none) =
-            subst (λ (z : Identifier). Lands own shared.statics (put target (BufferResult b) shared (record t { tasks = Some rest; variables = tell_copy z (BufferResult b) t.variables }))) (sym none)
+            subst (λ (z : Option Identifier). Lands own shared.statics (put target (BufferResult b) shared (record t { tasks = Some rest; variables = tell_copy z (BufferResult b) t.variables }))) (sym none)
             (buffer_lands classes in_use k shared t rest p there access a level here_a b is target goes)
-        by_copy (inr flag) =
-            buffer_lands classes in_use k shared (record t { variables = tell_copy y (BufferResult b) t.variables }) rest p (stands_told shared.statics t.variables t.frames p there y flag b) access a level here_a b
-            (lent_moved t.variables (tell_copy y (BufferResult b) t.variables) access a b (told_apart shared.statics t.variables t.frames p there y flag a level r b at_a) is) target goes
+        by_copy (inr (x, is_x, flag)) =
+            subst (λ (z : Option Identifier). Lands own shared.statics (put target (BufferResult b) shared (record t { tasks = Some rest; variables = tell_copy z (BufferResult b) t.variables }))) (sym is_x)
+            (buffer_lands classes in_use k shared (record t { variables = tell_copy (Some x) (BufferResult b) t.variables }) rest p (stands_told shared.statics t.variables t.frames p there x flag b) access a level here_a b
+            (lent_moved t.variables (tell_copy (Some x) (BufferResult b) t.variables) access a b (told_apart shared.statics t.variables t.frames p there x flag a level r b at_a) is) target goes)
 
   -- the variable of `isCopy`
-  abbrev told_in : Operand → Identifier
-  told_in c = variable_in_actual (Some (look_up (sight_of s t) (IsCopy, c)))
+  abbrev told_in : Operand → Option Identifier
+  told_in c = address_in_actual (Some (look_up (sight_of s t) (IsCopy, c)))
 
-  told_fits : (c : Operand) → OperandFits p IsCopy c → (told_in c ≡ []) ⊎ (sort_in p.names (told_in c) ≡ Some sort.Flag)
+  told_fits : (c : Operand) → OperandFits p IsCopy c → (told_in c ≡ None) ⊎ ((x : Identifier) × (told_in c ≡ Some x) × (sort_in p.names x ≡ Some sort.Flag))
   told_fits (Given (tree.Value (tree.Named n))) fit = inl refl
-  told_fits (Given (tree.AddressOf y)) fit = inr fit
+  told_fits (Given (tree.AddressOf y)) fit = inr (y, refl, fit)
   told_fits c fit = absurd fit
 
   -- the arguments of such a call
@@ -273,7 +267,7 @@ module _ (classes : Classes) (in_use : BuffersInUse) (k : ℕ) (s : Shared) (t :
   got_is ArrayView a c = refl
   got_is CharsView a c = refl
 
-  told_is : (access : Access) (a : Identifier) (c : Operand) → variable_given (got_with access a c) 1 ≡ told_in c
+  told_is : (access : Access) (a : Identifier) (c : Operand) → address_given (got_with access a c) 1 ≡ told_in c
   told_is (ElementsCopy u) a c = refl
   told_is CharsCopy a c = refl
   told_is ArrayView a c = refl
@@ -295,7 +289,7 @@ module _ (classes : Classes) (in_use : BuffersInUse) (k : ℕ) (s : Shared) (t :
   got_at access a c level (Some n) target away here_a at_a fit goes None e =
       subst (λ (e : CallEffect). LandsBy (Calls line target (GetBuffer access) (got_with access a c)) (length t.frames) own s.statics (after_call classes in_use k s t line target (GetBuffer access) (got_with access a c) rest e)) (sym (got_is access a c))
       (put_by line (GetBuffer access) (got_with access a c) (length t.frames) own own target (λ y other. refl) (BufferResult (buffer_got access a)) s.statics _ _
-      (subst (λ (y : Identifier). Lands own s.statics (put target (BufferResult (buffer_got access a)) (record s { heap = s.heap ++ [] }) (record t { tasks = Some (tasks_after line target false ++ rest); variables = tell_copy y (BufferResult (buffer_got access a)) t.variables }))) (sym (told_is access a c))
+      (subst (λ (y : Option Identifier). Lands own s.statics (put target (BufferResult (buffer_got access a)) (record s { heap = s.heap ++ [] }) (record t { tasks = Some (tasks_after line target false ++ rest); variables = tell_copy y (BufferResult (buffer_got access a)) t.variables }))) (sym (told_is access a c))
       (got access a level here_a (Some n) at_a target away goes (record s { heap = s.heap ++ [] }) refl (buffer_got access a) (got_lent access a level n at_a) (told_in c) (told_fits c fit))))
 
   get_operands : (access : Access) (target : Target) (operands : List Operand) → IsNoTest target → CallKeeps p (GetBuffer access) (map operand_argument operands) → OperandsFit p (owner access ∷ IsCopy ∷ []) operands

@@ -1,5 +1,5 @@
 -- Calls that change no variable, no static and no reference of a frame, and give no buffer.
-use Rattle.std.proofs.Common.{◌≡◌, ℕ, ◌≤◌, Bool, true, false, List, [], ◌∷◌, ◌++◌, Some, refl, sym, ap, ◌∙◌, subst, length, if◌then◌else◌}
+use Rattle.std.proofs.Common.{◌≡◌, ℕ, ◌≤◌, Bool, true, false, List, [], ◌∷◌, ◌++◌, Some, refl, sym, ap, ◌∙◌, subst, length, if◌then◌else◌, Option, None}
 use Rattle.base.specs.Bytes.{Identifier}
 use Rattle.class_rules.specs.Class.{Classes}
 use Rattle.syntax.specs.Tree.{Argument}
@@ -7,7 +7,7 @@ use Rattle.jni.specs.JniFunction.{JniFunction, ReleaseBuffer, DeleteLocalRef, Po
 use Rattle.jni.specs.Prototype.{ResultKind, NewLocal}
 use Rattle.semantics.specs.Object.{Object}
 use Rattle.semantics.specs.World.{fresh_object}
-use Rattle.semantics.specs.Arguments.{Actual, variable_given}
+use Rattle.semantics.specs.Arguments.{Actual, address_given}
 use Rattle.semantics.specs.CallEffects.{CallResult, ReferenceResult, CallEffect, Throws, Halts, Leaves, with_local, out_of_memory}
 use Rattle.semantics.specs.CallStep.{put, received, tell_copy, failure, is_zero, completed, after_call, after_refusal}
 use Rattle.region_rules.specs.RegionStates as states
@@ -76,17 +76,17 @@ module _ (t : Thread) (line : ℕ) (rest : List Task) where
   received_is kind given NullLocal = refl
   received_is kind given NoResultThere = refl
 
-  pub told : (x : Identifier) (vs : Variables) (kind : ResultKind) (given : CallResult) → Simple kind given → tell_copy x given vs ≡ vs
-  told [] vs kind given simple = refl
-  told (c ∷ x) vs kind given (AnInt z) = refl
-  told (c ∷ x) vs kind given (AFlag b) = refl
-  told (c ∷ x) vs kind given (AField f) = refl
-  told (c ∷ x) vs kind given NoField = refl
-  told (c ∷ x) vs kind given (AGlobal r) = refl
-  told (c ∷ x) vs kind given NoGlobal = refl
-  told (c ∷ x) vs kind given NoLocal = refl
-  told (c ∷ x) vs kind given NullLocal = refl
-  told (c ∷ x) vs kind given NoResultThere = refl
+  pub told : (x : Option Identifier) (vs : Variables) (kind : ResultKind) (given : CallResult) → Simple kind given → tell_copy x given vs ≡ vs
+  told None vs kind given simple = refl
+  told (Some x) vs kind given (AnInt z) = refl
+  told (Some x) vs kind given (AFlag b) = refl
+  told (Some x) vs kind given (AField f) = refl
+  told (Some x) vs kind given NoField = refl
+  told (Some x) vs kind given (AGlobal r) = refl
+  told (Some x) vs kind given NoGlobal = refl
+  told (Some x) vs kind given NoLocal = refl
+  told (Some x) vs kind given NullLocal = refl
+  told (Some x) vs kind given NoResultThere = refl
 
   pub nothing_after : (target : Target) (zero : Bool) → IsNoTest target → tasks_after line target zero ++ rest ≡ rest
   nothing_after (Declared kind x) zero h = refl
@@ -94,19 +94,19 @@ module _ (t : Thread) (line : ℕ) (rest : List Task) where
   nothing_after (Tested a b) zero h = absurd h
   nothing_after Dropped zero h = refl
 
-  pub resumed_is : (target : Target) (x : Identifier) (kind : ResultKind) (given : CallResult) → IsNoTest target → Simple kind given
+  pub resumed_is : (target : Target) (x : Option Identifier) (kind : ResultKind) (given : CallResult) → IsNoTest target → Simple kind given
       → record (received kind given t) { tasks = Some (tasks_after line target (is_zero given) ++ rest); variables = tell_copy x given t.variables } ≡ with_tasks t rest
   resumed_is target x kind given h simple =
       ap (λ (r : Thread). record r { tasks = Some (tasks_after line target (is_zero given) ++ rest); variables = tell_copy x given t.variables }) (received_is kind given simple)
       ∙ ap (λ (tasks : List Task). record t { tasks = Some tasks; variables = tell_copy x given t.variables }) (nothing_after target (is_zero given) h)
       ∙ ap (λ (vs : Variables). record t { tasks = Some rest; variables = vs }) (told x t.variables kind given simple)
 
-  local_told : (x : Identifier) (n : ℕ) (vs : Variables) → tell_copy x (ReferenceResult (Some n)) vs ≡ vs
-  local_told [] n vs = refl
-  local_told (c ∷ x) n vs = refl
+  local_told : (x : Option Identifier) (n : ℕ) (vs : Variables) → tell_copy x (ReferenceResult (Some n)) vs ≡ vs
+  local_told None n vs = refl
+  local_told (Some x) n vs = refl
 
   -- the same with a local reference in the current frame
-  pub resumed_local : (target : Target) (x : Identifier) (n : ℕ) → IsNoTest target
+  pub resumed_local : (target : Target) (x : Option Identifier) (n : ℕ) → IsNoTest target
       → record (received NewLocal (ReferenceResult (Some n)) t) { tasks = Some (tasks_after line target (is_zero (ReferenceResult (Some n))) ++ rest); variables = tell_copy x (ReferenceResult (Some n)) t.variables }
       ≡ record t { frames = with_local n t.frames; tasks = Some rest }
   resumed_local target x n h =
@@ -128,14 +128,14 @@ module _ (classes : Classes) (in_use : BuffersInUse) (k : ℕ) (s : Shared) (t :
   given_lands {now} left kind made s' t' given get is away room there (Plainly simple) h =
       let shared : Shared = record s' { heap = s'.heap ++ made } in
       put_by line f args (length t.frames) own now target (λ y other. left y) given s'.statics shared _ (
-      subst (λ (result : ResultKind). Lands now s'.statics (put target given shared (record (received result given t') { tasks = Some (tasks_after line target (is_zero given) ++ rest); variables = tell_copy (variable_given args 1) given t'.variables }))) (sym is)
-      (subst (λ (r : Thread). Lands now s'.statics (put target given shared r)) (sym (resumed_is t' line rest target (variable_given args 1) kind given away simple))
+      subst (λ (result : ResultKind). Lands now s'.statics (put target given shared (record (received result given t') { tasks = Some (tasks_after line target (is_zero given) ++ rest); variables = tell_copy (address_given args 1) given t'.variables }))) (sym is)
+      (subst (λ (r : Thread). Lands now s'.statics (put target given shared r)) (sym (resumed_is t' line rest target (address_given args 1) kind given away simple))
       (result_lands classes in_use k shared t' rest p there target kind given get simple h)))
   given_lands {now} left kind made s' t' given get is away room there (ALocal n) h =
       let shared : Shared = record s' { heap = s'.heap ++ made } in
       put_by line f args (length t.frames) own (with_target target p.regions.frames now) target (λ y other. ap (λ (b : Bool). if b then Some p.regions.frames else now y) other ∙ left y) given s'.statics shared _ (
-      subst (λ (result : ResultKind). Lands (with_target target p.regions.frames now) s'.statics (put target (ReferenceResult (Some n)) shared (record (received result (ReferenceResult (Some n)) t') { tasks = Some (tasks_after line target false ++ rest); variables = tell_copy (variable_given args 1) (ReferenceResult (Some n)) t'.variables }))) (sym is)
-      (subst (λ (r : Thread). Lands (with_target target p.regions.frames now) s'.statics (put target (ReferenceResult (Some n)) shared r)) (sym (resumed_local t' line rest target (variable_given args 1) n away))
+      subst (λ (result : ResultKind). Lands (with_target target p.regions.frames now) s'.statics (put target (ReferenceResult (Some n)) shared (record (received result (ReferenceResult (Some n)) t') { tasks = Some (tasks_after line target false ++ rest); variables = tell_copy (address_given args 1) (ReferenceResult (Some n)) t'.variables }))) (sym is)
+      (subst (λ (r : Thread). Lands (with_target target p.regions.frames now) s'.statics (put target (ReferenceResult (Some n)) shared r)) (sym (resumed_local t' line rest target (address_given args 1) n away))
       (local_completed shared t' n get t'.frames refl (room refl) there h)))
 
 module _ (classes : Classes) (in_use : BuffersInUse) (k : ℕ) (s : Shared) (t : Thread) (line : ℕ) (target : Target) (f : JniFunction) (args : List Actual) (rest : List Task) (p : Point) {own : Owners} (stands : Stands own s.statics t.variables t.frames p) where
@@ -162,7 +162,7 @@ module _ (classes : Classes) (in_use : BuffersInUse) (k : ℕ) (s : Shared) (t :
   completed_lands left made s' t' given get away vs fs ss simple h =
       let shared : Shared = record s' { heap = s'.heap ++ made } in
       put_by line f args (length t.frames) own own target (λ y other. left y) given s'.statics shared _
-      (subst (λ (r : Thread). Lands own s'.statics (put target given shared r)) (sym (resumed_is t' line rest target (variable_given args 1) (prototype f).result given away simple))
+      (subst (λ (r : Thread). Lands own s'.statics (put target given shared r)) (sym (resumed_is t' line rest target (address_given args 1) (prototype f).result given away simple))
       (result_lands classes in_use k shared t' rest p (stands_again s' t' vs fs ss) target (prototype f).result given get simple h))
 
   -- such a call leads to a point again

@@ -10,7 +10,7 @@ use Rattle.jni.specs.Prototype.{ResultKind, NewLocal, NewGlobal, GivesFlag, Give
 use Rattle.region_rules.specs.RegionStates.{RegionState, Free, BufferIn, state_of, get_of, after_call, after_pop}
 use Rattle.type_rules.specs.Sorts.{Sort, sort_in}
 use Rattle.type_rules.specs.Sorts as sort
-use Rattle.semantics.specs.Arguments.{Actual, look_up, actuals, variable_in_actual}
+use Rattle.semantics.specs.Arguments.{Actual, look_up, actuals, address_in_actual}
 use Rattle.semantics.specs.Effect.{Effect, Sets, SetsNull, MakesArray, Calls}
 use Rattle.semantics.specs.Sight.{Sight}
 use Rattle.semantics.specs.Task.{Task, VariableKind, ScalarKind, ReferenceKind, FieldKind, BufferKind, Target, Declared, Assigned, Tested, Dropped, Operand, Given, Invoke}
@@ -169,13 +169,13 @@ module _ (ss : Statics) (vs : Variables) (frames : List Frame) (p : Point) {own 
   fits_call line Dropped f operands r = r.0
 
   -- the variable of `isCopy` holds a flag
-  told_operand : (sight : Sight) (c : Operand) (x : Identifier) → OperandFits p IsCopy c → variable_in_actual (Some (look_up sight (IsCopy, c))) ≡ x → x ≢ [] → HoldsNoBuffer (lookup x vs)
-  told_operand sight (Given (tree.Value (tree.Named n))) x fit e some = absurd (some (sym e))
-  told_operand sight (Given (tree.AddressOf y)) x fit e some = subst (λ (z : Identifier). HoldsNoBuffer (lookup z vs)) e (sorted_holds ss vs frames p stands y sort.Flag tt fit)
-  told_operand sight c x fit e some = absurd fit
+  told_operand : (sight : Sight) (c : Operand) (x : Identifier) → OperandFits p IsCopy c → address_in_actual (Some (look_up sight (IsCopy, c))) ≡ Some x → HoldsNoBuffer (lookup x vs)
+  told_operand sight (Given (tree.Value (tree.Named n))) x fit e = absurd (cc (e))
+  told_operand sight (Given (tree.AddressOf y)) x fit e = let same : y ≡ x = cc in subst (λ (z : Identifier). HoldsNoBuffer (lookup z vs)) same (sorted_holds ss vs frames p stands y sort.Flag tt fit)
+  told_operand sight c x fit e = absurd fit
 
   told_holds : (sight : Sight) (f : JniFunction) (operands : List Operand) (x : Identifier) → OperandsFit p (prototype f).parameters operands → IsTold f (actuals sight f operands) x → HoldsNoBuffer (lookup x vs)
-  told_holds sight (GetBuffer access) (o ∷ c ∷ []) x fit told = told_operand sight c x fit.1.0 told.0 told.1
+  told_holds sight (GetBuffer access) (o ∷ c ∷ []) x fit told = told_operand sight c x fit.1.0 told
   told_holds sight (GetBuffer access) (o ∷ c ∷ d ∷ operands) x fit told = absurd fit.1.1
   told_holds sight (GetBuffer access) (o ∷ []) x fit told = absurd fit.1
   told_holds sight (GetBuffer access) [] x fit told = absurd fit

@@ -10,7 +10,7 @@ use Rattle.type_rules.specs.SortRules.{IsSorted}
 use Rattle.semantics.specs.declared.journal.Entry.TheVariants.{Step}
 use Rattle.semantics.specs.Journal.{Journal}
 use Rattle.semantics.specs.World.{Invocation, World}
-use Rattle.semantics.specs.Arguments.{Actual, object_given, variable_given}
+use Rattle.semantics.specs.Arguments.{Actual, object_given, variable_given, address_given}
 use Rattle.semantics.specs.Checks.{frames_after}
 use Rattle.semantics.specs.Effect.{Effect, Sets, SetsNull, MakesArray, Calls, Returns, NoEffect}
 use Rattle.semantics.specs.Load.{Loads}
@@ -79,7 +79,7 @@ HoldsNoBuffer v = (kind : ElementType) (b : Buffer) → v ≡ Some (Elements kin
 
 -- a call tells this variable whether its buffer is a copy
 abbrev pub IsTold : JniFunction → List Actual → Identifier → Type 0
-IsTold (GetBuffer access) args x = (variable_given args 1 ≡ x) × (x ≢ [])
+IsTold (GetBuffer access) args x = address_given args 1 ≡ Some x
 IsTold f args x = ⊥
 
 -- an effect sets this variable, not only an element of it, and not to give a buffer up

@@ -7,7 +7,7 @@ use Rattle.base.specs.Element.{ElementType}
 use Rattle.class_rules.specs.Class.{Classes}
 use Rattle.jni.specs.JniFunction.{JniFunction, prototype}
 use Rattle.jni.specs.Prototype.{ResultKind, NewLocal, NewGlobal, GivesFlag, GivesInt, GivesField, GivesNothing, GivesBuffer}
-use Rattle.semantics.specs.Arguments.{Actual, variable_given}
+use Rattle.semantics.specs.Arguments.{Actual, address_given}
 use Rattle.semantics.specs.CallEffects.{CallResult, NoResult, NullResult, ScalarResult, ReferenceResult, FieldResult, BufferResult, CallEffect, Throws, Halts, Leaves, out_of_memory}
 use Rattle.semantics.specs.CallStep.{blank, filled, is_zero, put, put_assigned, tell_copy, failure, element_type, target_element, resumed, completed, after_call, after_refusal}
 use Rattle.semantics.specs.Effect.{tasks_after}
@@ -103,16 +103,16 @@ put_fits classes u before old vs Dropped given s t keeps h texts r e = (keeps, h
 
 -- ---- whether a buffer is a copy
 
-told_typed : (classes : Classes) (heap : Heap) (y : Identifier) (given : CallResult) (vs : Variables) → AreTypedVariables classes heap vs → AreTypedVariables classes heap (tell_copy y given vs)
-told_typed classes heap [] given vs h = h
-told_typed classes heap (c ∷ y) (BufferResult (Copy n zs)) vs h = assign_typed classes heap (c ∷ y) (Scalar (Flag true)) vs h tt
-told_typed classes heap (c ∷ y) (BufferResult (View n)) vs h = assign_typed classes heap (c ∷ y) (Scalar (Flag false)) vs h tt
-told_typed classes heap (c ∷ y) (BufferResult NoBuffer) vs h = h
-told_typed classes heap (c ∷ y) NoResult vs h = h
-told_typed classes heap (c ∷ y) NullResult vs h = h
-told_typed classes heap (c ∷ y) (ScalarResult v) vs h = h
-told_typed classes heap (c ∷ y) (ReferenceResult r) vs h = h
-told_typed classes heap (c ∷ y) (FieldResult f) vs h = h
+told_typed : (classes : Classes) (heap : Heap) (y : Option Identifier) (given : CallResult) (vs : Variables) → AreTypedVariables classes heap vs → AreTypedVariables classes heap (tell_copy y given vs)
+told_typed classes heap None given vs h = h
+told_typed classes heap (Some y) (BufferResult (Copy n zs)) vs h = assign_typed classes heap y (Scalar (Flag true)) vs h tt
+told_typed classes heap (Some y) (BufferResult (View n)) vs h = assign_typed classes heap y (Scalar (Flag false)) vs h tt
+told_typed classes heap (Some y) (BufferResult NoBuffer) vs h = h
+told_typed classes heap (Some y) NoResult vs h = h
+told_typed classes heap (Some y) NullResult vs h = h
+told_typed classes heap (Some y) (ScalarResult v) vs h = h
+told_typed classes heap (Some y) (ReferenceResult r) vs h = h
+told_typed classes heap (Some y) (FieldResult f) vs h = h
 
 element_found : (o : Option Variable) (v : Variable) → o ≡ Some v → ElementIs (element_type o) v
 element_found o (Scalar w) e = tt
@@ -132,11 +132,11 @@ flag_other x y b vs v e = elim (one_or_other x y) [
   | inr other ↦ element_found (lookup x vs) v (sym (lookup_other y x (Scalar (Flag b)) vs other) ∙ e)
 ]
 
-element_told : (x y : Identifier) (b : Buffer) (vs : Variables) (v : Variable) → lookup x (tell_copy y (BufferResult b) vs) ≡ Some v → ElementIs (element_type (lookup x vs)) v
-element_told x [] b vs v e = element_found (lookup x vs) v e
-element_told x (c ∷ y) NoBuffer vs v e = element_found (lookup x vs) v e
-element_told x (c ∷ y) (Copy n zs) vs v e = flag_other x (c ∷ y) true vs v e
-element_told x (c ∷ y) (View n) vs v e = flag_other x (c ∷ y) false vs v e
+element_told : (x : Identifier) (y : Option Identifier) (b : Buffer) (vs : Variables) (v : Variable) → lookup x (tell_copy y (BufferResult b) vs) ≡ Some v → ElementIs (element_type (lookup x vs)) v
+element_told x None b vs v e = element_found (lookup x vs) v e
+element_told x (Some y) NoBuffer vs v e = element_found (lookup x vs) v e
+element_told x (Some y) (Copy n zs) vs v e = flag_other x y true vs v e
+element_told x (Some y) (View n) vs v e = flag_other x y false vs v e
 
 blank_element : (kind : VariableKind) (x : Identifier) (vs : Variables) (n : ℕ) → ElementIs (target_element vs (Declared kind x)) (blank kind n)
 blank_element ScalarKind x vs n = tt
@@ -150,7 +150,7 @@ module _ (classes : Classes) (in_use : BuffersInUse) (k : ℕ) (s : Shared) (t :
   abbrev u : ElementType
   u = target_element t.variables target
 
-  told_target : (target' : Target) (y : Identifier) (given : CallResult) (heap : Heap) (vs : Variables) → ResultFits classes (target_element t.variables target') t.variables heap vs given → TargetFits (target_element t.variables target') target' (tell_copy y given vs) given
+  told_target : (target' : Target) (y : Option Identifier) (given : CallResult) (heap : Heap) (vs : Variables) → ResultFits classes (target_element t.variables target') t.variables heap vs given → TargetFits (target_element t.variables target') target' (tell_copy y given vs) given
   told_target (Declared kind x) y (BufferResult b) heap vs r = λ n. blank_element kind x t.variables n
   told_target (Declared kind x) y NoResult heap vs r = λ n. tt
   told_target (Declared kind x) y NullResult heap vs r = λ n. tt
@@ -169,9 +169,9 @@ module _ (classes : Classes) (in_use : BuffersInUse) (k : ℕ) (s : Shared) (t :
   completed_fits : (made : List Object) (s' : Shared) (t' : Thread) (given : CallResult) → IsLeft classes u s.heap t.variables (s'.heap ++ made) t'.variables given → AdvanceFits classes s.heap (completed classes in_use k s t line target f args rest made s' t' given)
   completed_fits made s' t' given left =
       put_fits classes u t.variables s.heap t'.variables target given (record s' { heap = s'.heap ++ made }) (resumed classes in_use k s t line target f args rest t' given)
-      left.keeps (told_typed classes (s'.heap ++ made) (variable_given args 1) given t'.variables left.variables)
+      left.keeps (told_typed classes (s'.heap ++ made) (address_given args 1) given t'.variables left.variables)
       (all_append _ (tasks_after line target (is_zero given)) rest (after_texts line target (is_zero given) target_texts) texts)
-      left.result (told_target target (variable_given args 1) given (s'.heap ++ made) t'.variables left.result)
+      left.result (told_target target (address_given args 1) given (s'.heap ++ made) t'.variables left.result)
 
   failure_fits : (kind : ResultKind) (heap : Heap) → ResultFits classes u t.variables heap t.variables (failure kind)
   failure_fits NewLocal heap = tt

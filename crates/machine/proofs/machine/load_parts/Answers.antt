@@ -5,6 +5,7 @@ use Rattle.std.proofs.Common.{◌≡◌, ℕ, List, [], Option, length, replicat
 use Rattle.syntax.specs.Views.{unit_tree}
 use Rattle.semantics.specs.Start.{start, waiting_thread}
 use Rattle.semantics.specs.World.{loaded_objects}
+use Rattle.semantics.specs.State.{views}
 use Rattle.world_values.proofs.LoadedWorlds.{few_loaded}
 use Rattle.std.proofs.lemmas.List.{length-map}
 use Rattle.machine.proofs.TextBytes.{texts_are_bytes}
@@ -13,7 +14,9 @@ use Rattle.machine_steps.proofs.ThreadLoads.{agree_length}
 use Rattle.syntax.specs.Parts.{statics_of}
 use Rattle.syntax.specs.declared.unit.Item.{Item}
 use Rattle.machine_calls.specs.StoreAgrees.{StaticsAgree}
-use Rattle.machine_calls.specs.HeapAgrees.{SlotsAgree}
+use Rattle.machine_calls.specs.HeapAgrees.{SlotsAgree, times}
+use Rattle.tables.specs.Elements.{lengths}
+use Rattle.machine.proofs.TakenBuffers.{none_taken}
 use Rattle.semantics_safety.specs.Owners.{AllOwners, owners_after}
 use Rattle.machine_calls.specs.Statics.{HaveKeys, all_held}
 use Rattle.machine_calls.specs.declared.statics.StaticReference.{StaticReference}
@@ -27,8 +30,9 @@ returns-in-Ok-clause-begins c =
     let s = start (unit_tree c.args.program.now.unit) w in
     let made = c.in_ok-store.ensures.made in
     let owners : AllOwners = owners_after (unit_tree c.args.program.now.unit) w [] in
-    let agree = c.in-Ok.ensures.agree c.in_ok-store.store.heap owners 1 s.shared in
-    let count : length c.in-Ok.threads.items ≡ length c.args.world.now.threads = agree_length _ _ _ _ _ _ _ _ _ agree ∙ length-map c.args.world.now.threads waiting_thread in
+    let agree = c.in-Ok.ensures.agree c.in_ok-store.store.heap c.in_ok-store.store.elements owners 1 s.shared in
+    let none = none_taken w.threads in
+    let count : length c.in-Ok.threads.items ≡ length c.args.world.now.threads = agree_length _ _ _ _ _ _ _ _ _ _ agree ∙ length-map c.args.world.now.threads waiting_thread in
     record {
       lowered = c.items.ensures.lowered;
       safe = c.accepted_is_safe.ensures (unit_tree c.args.program.now.unit) w
@@ -52,6 +56,13 @@ returns-in-Ok-clause-begins c =
         named = names_begin (statics_of (unit_tree c.args.program.now.unit));
         keys = subst (HaveKeys c.in_ok-store.store.globals) (sym c.in_ok-store.ensures.statics) (no_keys c.in_ok-store.store.globals (length (statics_of (unit_tree c.items.result.now))));
         globals = subst (λ (globals : List (Option ℕ)). SlotsAgree c.in_ok-store.store.heap globals []) (sym c.in_ok-store.ensures.globals) (record { names = []; agree = tt; same = λ n. refl });
+        buffers = record {
+          copied = ap lengths c.in_ok-store.ensures.elements ∙ sym none.0;
+          many = c.in_ok-store.ensures.views ∙ sym (ap length none.1);
+          pins = λ a n named. made.unpinned a ∙ sym (ap (times n) none.1);
+          made = λ n past. ap (times n) none.1;
+          there = λ n some. let nothing : times n (views s) ≡ 0 = ap (times n) none.1 in absurd (omega (arith, some, nothing));
+        };
         monitors = refl;
       };
       threads_agree = agree;

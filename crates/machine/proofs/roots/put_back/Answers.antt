@@ -39,6 +39,8 @@ returns c = λ to h.
         births = refl;
         statics = refl;
         globals = c.put_globals-next.ensures.moved to (subst (λ (n : ℕ). AreMovedAt to c.args.store.now.globals items n) (sym next) parts.1);
+        elements = refl;
+        views = refl;
       };
       follow = c.put_threads.ensures to (subst (λ (n : ℕ). AreMovedAt to (flat_map thread_places c.args.threads.now) items n) (sym further) parts.2);
     }

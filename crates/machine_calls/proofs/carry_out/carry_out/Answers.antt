@@ -1,4 +1,4 @@
-use Rattle.std.proofs.Common.{◌≡◌, ◌+◌, ℕ, List, ◌<◌, ◌≤◌, ◌^◌, Option, Some, None, length, true, false, Result, Ok, Err, sym, ap, ◌∙◌, subst, arith}
+use Rattle.std.proofs.Common.{◌≡◌, ℕ, List, ◌<◌, ◌≤◌, ◌^◌, Option, Some, None, length, true, false, Result, Ok, Err, refl, sym, subst, arith}
 use Rattle.std.specs.Prelude.{slice_get, IfOk}
 use Rattle.class_rules.specs.Class.{Classes}
 use Rattle.heap.specs.Heap.{Space, left_of}
@@ -15,8 +15,11 @@ use Rattle.machine_calls.specs.declared.answer.Given.{Given}
 use Rattle.machine_calls.specs.declared.answer.Given.TheVariants as given
 use Rattle.machine_calls.specs.declared.carry_out.Carried.{Carried}
 use Rattle.machine_calls.specs.declared.store.Store.{Store}
-use Rattle.machine_calls.specs.Answers.{IsAnswer, bringing}
-use Rattle.machine_calls.specs.Copies.{space_with}
+use Rattle.base.specs.Bytes.{Identifier}
+use Rattle.code.specs.declared.instr.LocalArray.{LocalArray}
+use Rattle.machine_calls.specs.declared.buffer.Buffer.{Buffer}
+use Rattle.machine_calls.specs.Answers.{Brought, IsAnswer, bringing}
+use Rattle.machine_calls.specs.Buffers.{Acquired, acquired_by, beside, holding, in_use_of}
 use Rattle.machine_calls.specs.CarriedOut.{CarriesOut, failed}
 use Rattle.tables.specs.Locals.{LocalTable}
 use Rattle.machine_calls.specs.declared.answer.Answer.TheVariants as answer
@@ -28,6 +31,10 @@ use Rattle.machine_calls.proofs.AnswerCases.{makes_it, throws_it}
 use Rattle.machine_calls.proofs.CarryOuts as carries
 use Rattle.machine_calls.proofs.LongTables.{classes_loaded}
 use Rattle.machine_calls.proofs.carry_out.carry_out.Goals as goal
+
+-- what a call of thread k brings
+abbrev brings : (texts : List (List ℕ)) → (numbers : List ℕ) → List Buffer → Store → (k : ℕ) → (others : Acquired) → Thread → Option (Identifier × LocalArray) → Brought
+brings texts numbers buffers store k others s array = bringing texts numbers (holding buffers store.elements k) (in_use_of (beside others (acquired_by s))) array
 
 -- a class of the table has a small number
 small : (w : World) (class : ℕ) → IsSound w → class ≤ length w.classes → class < 2 ^ 32
@@ -44,113 +51,116 @@ unchanged table texts old after new o made is = (subst (Makes table texts old ne
 short : (classes table : Classes) (texts : List (List ℕ)) (old after : Store) (new : New) (o : Option ℕ) → table ≡ classes → Makes table texts old new after o → o ≡ None → left_of old.heap < cells_of_new classes texts new
 short classes table texts old after new o same made is = subst (λ (t : Classes). left_of old.heap < cells_of_new t texts new) same (subst (Makes table texts old new after) is made).1
 
-module _ (p : Lowered) (w : World) (space : Space) (before : LocalTable) (a : Answer) (kind : ResultKind) (shared : Shared) (s : Thread) (effect : CallEffect) where
+module _ (p : Lowered) (w : World) (space : Space) (before : LocalTable) (a : Answer) (kind : ResultKind) (others : Acquired) (k : ℕ) (shared : Shared) (s : Thread) (effect : CallEffect) where
   -- what was refused, told of a store that is as it was
   refused_in : (old new : Store) (after : Option ℕ) (locals : LocalTable) (carried : Carried) → new ≡ old → after ≡ slice_get new.loaded.items (length w.classes) → carried ≡ record { given = failed kind; refused = true }
-      → CarriesOut p w space before a kind shared s effect true old (slice_get old.loaded.items (length w.classes)) locals (failed kind) → CarriesOut p w space before a kind shared s effect carried.refused new after locals carried.given
+      → CarriesOut p w space before a kind others k shared s effect true old (slice_get old.loaded.items (length w.classes)) locals (failed kind) → CarriesOut p w space before a kind others k shared s effect carried.refused new after locals carried.given
   refused_in old new after locals carried same is told h =
-      subst (λ (r : Carried). CarriesOut p w space before a kind shared s effect r.refused new after locals r.given) (sym told)
-      (subst (λ (o : Option ℕ). CarriesOut p w space before a kind shared s effect true new o locals (failed kind)) (sym is)
-      (subst (λ (t : Store). CarriesOut p w space before a kind shared s effect true t (slice_get t.loaded.items (length w.classes)) locals (failed kind)) (sym same) h))
+      subst (λ (r : Carried). CarriesOut p w space before a kind others k shared s effect r.refused new after locals r.given) (sym told)
+      (subst (λ (o : Option ℕ). CarriesOut p w space before a kind others k shared s effect true new o locals (failed kind)) (sym is)
+      (subst (λ (t : Store). CarriesOut p w space before a kind others k shared s effect true t (slice_get t.loaded.items (length w.classes)) locals (failed kind)) (sym same) h))
 
 pub make-requires-clause-class : goal.make-requires-clause-class
 make-requires-clause-class c =
     let r = c.requires.possible in
     let w = c.args.world.now in
-    let k = result_value c.args.kind in
+    let kind = result_value c.args.kind in
     let texts = texts_in c.args.texts.now in
-    let brought = bringing texts c.args.slots.now.numbers.items r.1 in
+    let brought = brings texts c.args.numbers.now c.args.buffers.now c.args.store.now c.args.thread r.2 r.4 r.1 in
     small w (class_of_new c.in-Makes.new) c.threads.ensures.sound
-    (makes_it w.classes brought c.args.store.now.heap c.args.locals.now k r.2 r.3 c.in-Makes.new r.4 (subst (λ (a : Answer). IsAnswer w.classes brought c.args.store.now.heap c.args.locals.now k r.2 r.3 a r.4) c.in-Makes.is r.6)).describes.makeable.high
+    (makes_it w.classes brought c.args.store.now.heap c.args.locals.now kind r.3 r.4 c.in-Makes.new r.5 (subst (λ (a : Answer). IsAnswer w.classes brought c.args.store.now.heap c.args.locals.now kind r.3 r.4 a r.5) c.in-Makes.is r.7)).describes.makeable.high
 
 pub make-requires-in-Throws-clause-class : goal.make-requires-in-Throws-clause-class
 make-requires-in-Throws-clause-class c =
     let r = c.requires.possible in
     let w = c.args.world.now in
-    let k = result_value c.args.kind in
+    let kind = result_value c.args.kind in
     let texts = texts_in c.args.texts.now in
-    let brought = bringing texts c.args.slots.now.numbers.items r.1 in
+    let brought = brings texts c.args.numbers.now c.args.buffers.now c.args.store.now c.args.thread r.2 r.4 r.1 in
     small w c.in-Throws.class c.threads.ensures.sound
-    (throws_it w.classes brought c.args.store.now.heap c.args.locals.now k r.2 r.3 c.in-Throws.class r.4 (subst (λ (a : Answer). IsAnswer w.classes brought c.args.store.now.heap c.args.locals.now k r.2 r.3 a r.4) c.in-Throws.is r.6)).makeable.high
+    (throws_it w.classes brought c.args.store.now.heap c.args.locals.now kind r.3 r.4 c.in-Throws.class r.5 (subst (λ (a : Answer). IsAnswer w.classes brought c.args.store.now.heap c.args.locals.now kind r.3 r.4 a r.5) c.in-Throws.is r.7)).makeable.high
 
 pub returns-in-Writes-clause-carried : goal.returns-in-Writes-clause-carried
-returns-in-Writes-clause-carried c p array shared s effect h does =
+returns-in-Writes-clause-carried c p array others shared s effect h does =
     let w = c.args.world.now in
-    let k = result_value c.args.kind in
+    let kind = result_value c.args.kind in
     let texts = texts_in c.args.texts.now in
-    let brought = bringing texts c.args.slots.now.numbers.items array in
+    let brought = brings texts c.args.numbers.now c.args.buffers.now c.args.store.now c.args.thread others s array in
     let old = c.args.store.now in
-    carries.by_answer p w old.heap c.args.locals.now k shared s effect brought c.args.answer (answer.Writes c.in-Writes.addr c.in-Writes.place c.in-Writes.value) c.in-Writes.is _ _ _ _ _ (λ writes.
-    subst (λ (space : Space). CarriesOut p w old.heap c.args.locals.now (answer.Writes c.in-Writes.addr c.in-Writes.place c.in-Writes.value) k shared s effect false (record old { heap = space }) c.args.pending.now c.args.locals.now given.Nothing) (sym c.set.ensures)
-    (carries.writes p w old c.args.pending.now c.args.locals.now k shared s h brought c.in-Writes.addr c.in-Writes.place c.in-Writes.value effect writes)) does
+    carries.by_answer p w old.heap c.args.locals.now kind others c.args.thread shared s effect brought c.args.answer (answer.Writes c.in-Writes.addr c.in-Writes.place c.in-Writes.value) c.in-Writes.is _ _ _ _ _ (λ writes.
+    subst (λ (space : Space). CarriesOut p w old.heap c.args.locals.now (answer.Writes c.in-Writes.addr c.in-Writes.place c.in-Writes.value) kind others c.args.thread shared s effect false (record old { heap = space }) c.args.pending.now c.args.locals.now given.Nothing) (sym c.set.ensures)
+    (carries.writes p w old c.args.pending.now c.args.locals.now kind others c.args.thread shared s h brought c.in-Writes.addr c.in-Writes.place c.in-Writes.value effect writes)) does
 
 pub returns-in-Some-clause-carried : goal.returns-in-Some-clause-carried
-returns-in-Some-clause-carried c p array shared s effect h does =
+returns-in-Some-clause-carried c p array others shared s effect h does =
     let w = c.args.world.now in
-    let k = result_value c.args.kind in
+    let kind = result_value c.args.kind in
     let texts = texts_in c.args.texts.now in
-    let brought = bringing texts c.args.slots.now.numbers.items array in
+    let brought = brings texts c.args.numbers.now c.args.buffers.now c.args.store.now c.args.thread others s array in
     let old = c.args.store.now in
-    carries.by_answer p w old.heap c.args.locals.now k shared s effect brought c.args.answer (answer.Makes c.in-Makes.new) c.in-Makes.is _ _ _ _ _ (λ makes.
-    carries.makes p w old c.args.pending.now c.args.locals.now k shared s h brought c.make.new.store c.in-Makes.new c.in-Some.addr
+    carries.by_answer p w old.heap c.args.locals.now kind others c.args.thread shared s effect brought c.args.answer (answer.Makes c.in-Makes.new) c.in-Makes.is _ _ _ _ _ (λ makes.
+    carries.makes p w old c.args.pending.now c.args.locals.now kind others c.args.thread shared s h brought c.make.new.store c.in-Makes.new c.in-Some.addr
     (has_made w.classes c.classes.result.now texts old c.make.new.store c.in-Makes.new c.in-Some.addr c.make.result c.classes.ensures.classes c.make.ensures c.in-Some.is) effect makes) does
 
 pub returns-in-None-clause-carried : goal.returns-in-None-clause-carried
-returns-in-None-clause-carried c p array shared s effect h does =
+returns-in-None-clause-carried c p array others shared s effect h does =
     let w = c.args.world.now in
-    let k = result_value c.args.kind in
+    let kind = result_value c.args.kind in
     let texts = texts_in c.args.texts.now in
-    let brought = bringing texts c.args.slots.now.numbers.items array in
+    let brought = brings texts c.args.numbers.now c.args.buffers.now c.args.store.now c.args.thread others s array in
     let old = c.args.store.now in
-    carries.by_answer p w old.heap c.args.locals.now k shared s effect brought c.args.answer (answer.Makes c.in-Makes.new) c.in-Makes.is _ _ _ _ _ (λ makes.
-    refused_in p w old.heap c.args.locals.now (answer.Makes c.in-Makes.new) k shared s effect old c.make.new.store c.refuse.new.pending c.args.locals.now c.refuse.result
+    carries.by_answer p w old.heap c.args.locals.now kind others c.args.thread shared s effect brought c.args.answer (answer.Makes c.in-Makes.new) c.in-Makes.is _ _ _ _ _ (λ makes.
+    refused_in p w old.heap c.args.locals.now (answer.Makes c.in-Makes.new) kind others c.args.thread shared s effect old c.make.new.store c.refuse.new.pending c.args.locals.now c.refuse.result
     (unchanged c.classes.result.now texts old c.make.new.store c.in-Makes.new c.make.result c.make.ensures c.in-None.is) c.refuse.ensures.pending c.refuse.ensures.carried
-    (carries.refuses_object p w old c.args.pending.now c.args.locals.now k shared s h brought c.in-Makes.new effect makes (short w.classes c.classes.result.now texts old c.make.new.store c.in-Makes.new c.make.result c.classes.ensures.classes c.make.ensures c.in-None.is))) does
+    (carries.refuses_object p w old c.args.pending.now c.args.locals.now kind others c.args.thread shared s h brought c.in-Makes.new effect makes (short w.classes c.classes.result.now texts old c.make.new.store c.in-Makes.new c.make.result c.classes.ensures.classes c.make.ensures c.in-None.is))) does
 
 pub returns-in-Some-make-clause-carried : goal.returns-in-Some-make-clause-carried
-returns-in-Some-make-clause-carried c p array shared s effect h does =
+returns-in-Some-make-clause-carried c p array others shared s effect h does =
     let w = c.args.world.now in
-    let k = result_value c.args.kind in
+    let kind = result_value c.args.kind in
     let texts = texts_in c.args.texts.now in
-    let brought = bringing texts c.args.slots.now.numbers.items array in
+    let brought = brings texts c.args.numbers.now c.args.buffers.now c.args.store.now c.args.thread others s array in
     let old = c.args.store.now in
-    carries.by_answer p w old.heap c.args.locals.now k shared s effect brought c.args.answer (answer.Throws c.in-Throws.class) c.in-Throws.is _ _ _ _ _ (λ throws.
-    subst (λ (g : Given). CarriesOut p w old.heap c.args.locals.now (answer.Throws c.in-Throws.class) k shared s effect false c.make-in-Throws.new.store (Some c.in-Some-make.addr) c.args.locals.now g) (sym c.failed.ensures)
-    (carries.throws p w old c.args.pending.now c.args.locals.now k shared s h brought c.make-in-Throws.new.store c.in-Throws.class c.in-Some-make.addr
+    carries.by_answer p w old.heap c.args.locals.now kind others c.args.thread shared s effect brought c.args.answer (answer.Throws c.in-Throws.class) c.in-Throws.is _ _ _ _ _ (λ throws.
+    subst (λ (g : Given). CarriesOut p w old.heap c.args.locals.now (answer.Throws c.in-Throws.class) kind others c.args.thread shared s effect false c.make-in-Throws.new.store (Some c.in-Some-make.addr) c.args.locals.now g) (sym c.failed.ensures)
+    (carries.throws p w old c.args.pending.now c.args.locals.now kind others c.args.thread shared s h brought c.make-in-Throws.new.store c.in-Throws.class c.in-Some-make.addr
     (has_made w.classes c.classes-in-Throws.result.now texts old c.make-in-Throws.new.store (Fresh c.in-Throws.class) c.in-Some-make.addr c.make-in-Throws.result c.classes-in-Throws.ensures.classes c.make-in-Throws.ensures c.in-Some-make.is) effect throws)) does
 
 pub returns-in-None-make-clause-carried : goal.returns-in-None-make-clause-carried
-returns-in-None-make-clause-carried c p array shared s effect h does =
+returns-in-None-make-clause-carried c p array others shared s effect h does =
     let w = c.args.world.now in
-    let k = result_value c.args.kind in
+    let kind = result_value c.args.kind in
     let texts = texts_in c.args.texts.now in
-    let brought = bringing texts c.args.slots.now.numbers.items array in
+    let brought = brings texts c.args.numbers.now c.args.buffers.now c.args.store.now c.args.thread others s array in
     let old = c.args.store.now in
-    carries.by_answer p w old.heap c.args.locals.now k shared s effect brought c.args.answer (answer.Throws c.in-Throws.class) c.in-Throws.is _ _ _ _ _ (λ throws.
-    refused_in p w old.heap c.args.locals.now (answer.Throws c.in-Throws.class) k shared s effect old c.make-in-Throws.new.store c.refuse-in-None-make.new.pending c.args.locals.now c.refuse-in-None-make.result
+    carries.by_answer p w old.heap c.args.locals.now kind others c.args.thread shared s effect brought c.args.answer (answer.Throws c.in-Throws.class) c.in-Throws.is _ _ _ _ _ (λ throws.
+    refused_in p w old.heap c.args.locals.now (answer.Throws c.in-Throws.class) kind others c.args.thread shared s effect old c.make-in-Throws.new.store c.refuse-in-None-make.new.pending c.args.locals.now c.refuse-in-None-make.result
     (unchanged c.classes-in-Throws.result.now texts old c.make-in-Throws.new.store (Fresh c.in-Throws.class) c.make-in-Throws.result c.make-in-Throws.ensures c.in-None-make.is) c.refuse-in-None-make.ensures.pending c.refuse-in-None-make.ensures.carried
-    (carries.refuses_exception p w old c.args.pending.now c.args.locals.now k shared s h brought c.in-Throws.class effect throws (short w.classes c.classes-in-Throws.result.now texts old c.make-in-Throws.new.store (Fresh c.in-Throws.class) c.make-in-Throws.result c.classes-in-Throws.ensures.classes c.make-in-Throws.ensures c.in-None-make.is))) does
+    (carries.refuses_exception p w old c.args.pending.now c.args.locals.now kind others c.args.thread shared s h brought c.in-Throws.class effect throws (short w.classes c.classes-in-Throws.result.now texts old c.make-in-Throws.new.store (Fresh c.in-Throws.class) c.make-in-Throws.result c.classes-in-Throws.ensures.classes c.make-in-Throws.ensures c.in-None-make.is))) does
 
 pub returns-in-Gives-clause-carried : goal.returns-in-Gives-clause-carried
-returns-in-Gives-clause-carried c p array shared s effect h does =
+returns-in-Gives-clause-carried c p array others shared s effect h does =
     let w = c.args.world.now in
-    let k = result_value c.args.kind in
+    let kind = result_value c.args.kind in
     let texts = texts_in c.args.texts.now in
-    let brought = bringing texts c.args.slots.now.numbers.items array in
+    let brought = brings texts c.args.numbers.now c.args.buffers.now c.args.store.now c.args.thread others s array in
     let old = c.args.store.now in
-    carries.by_answer p w old.heap c.args.locals.now k shared s effect brought c.args.answer (answer.Gives c.in-Gives.given) c.in-Gives.is _ _ _ _ _ (λ gives. carries.gives p w old c.args.pending.now c.args.locals.now k shared s h brought c.in-Gives.given effect gives) does
+    carries.by_answer p w old.heap c.args.locals.now kind others c.args.thread shared s effect brought c.args.answer (answer.Gives c.in-Gives.given) c.in-Gives.is _ _ _ _ _ (λ gives. carries.gives p w old c.args.pending.now c.args.locals.now kind others c.args.thread shared s h brought c.in-Gives.given effect gives) does
 
--- what is told of an answer of references, of each kind of result
+-- what is told of an answer of buffers, of each kind of result
 told_on : {T E : Type 0} (P Q : T → Type 0) (r : Result T E) → ((x : T) → P x → Q x) → IfOk r P → IfOk r Q
 told_on P Q (Ok x) f h = f x h
 told_on P Q (Err e) f h = h
 
 pub returns-in_default-clause-carried : goal.returns-in_default-clause-carried
 returns-in_default-clause-carried c =
-    told_on _ _ c.carry_out_references.result (λ carried told p array shared s effect. told p (result_value c.args.kind) (bringing (texts_in c.args.texts.now) c.args.slots.now.numbers.items array) shared s effect) c.carry_out_references.ensures.carried
+    told_on _ _ c.carry_out_buffers.result (λ carried told p array others shared s effect h does.
+    told p (result_value c.args.kind) (brings (texts_in c.args.texts.now) c.args.numbers.now c.args.buffers.now c.args.store.now c.args.thread others s array) others shared s effect h does refl refl) c.carry_out_buffers.ensures.carried
 
-pub carry_out_references-requires-clause-possible : goal.carry_out_references-requires-clause-possible
-carry_out_references-requires-clause-possible c = let r = c.requires.possible in (r.0, result_value c.args.kind, bringing (texts_in c.args.texts.now) c.args.slots.now.numbers.items r.1, r.2, r.3, r.4, r.5, r.6)
+pub carry_out_buffers-requires-clause-possible : goal.carry_out_buffers-requires-clause-possible
+carry_out_buffers-requires-clause-possible c =
+    let r = c.requires.possible in
+    (r.0, result_value c.args.kind, brings (texts_in c.args.texts.now) c.args.numbers.now c.args.buffers.now c.args.store.now c.args.thread r.2 r.4 r.1, r.2, r.3, r.4, r.5, r.6, r.7, refl, refl)
 
 -- a message and an exception were made in the store of the world's classes
 both_made : (classes table : Classes) (texts : List (List ℕ)) (old after : Store) (class place a : ℕ) (o : Option ℕ) → table ≡ classes → Raises table texts old class place after o → o ≡ Some a → Raises classes texts old class place after (Some a)
@@ -163,79 +173,79 @@ pub raise-requires-clause-class : goal.raise-requires-clause-class
 raise-requires-clause-class c =
     let r = c.requires.possible in
     let w = c.args.world.now in
-    let k = result_value c.args.kind in
+    let kind = result_value c.args.kind in
     let texts = texts_in c.args.texts.now in
-    let brought = bringing texts c.args.slots.now.numbers.items r.1 in
-    let does = subst (λ (a : Answer). IsAnswer w.classes brought c.args.store.now.heap c.args.locals.now k r.2 r.3 a r.4) c.in-Raises.is r.6 in
+    let brought = brings texts c.args.numbers.now c.args.buffers.now c.args.store.now c.args.thread r.2 r.4 r.1 in
+    let does = subst (λ (a : Answer). IsAnswer w.classes brought c.args.store.now.heap c.args.locals.now kind r.3 r.4 a r.5) c.in-Raises.is r.7 in
     small w c.in-Raises.class c.threads.ensures.sound does.2.high
 
 pub returns-in-Some-raise-clause-carried : goal.returns-in-Some-raise-clause-carried
-returns-in-Some-raise-clause-carried c p array shared s effect h does =
+returns-in-Some-raise-clause-carried c p array others shared s effect h does =
     let w = c.args.world.now in
-    let k = result_value c.args.kind in
+    let kind = result_value c.args.kind in
     let texts = texts_in c.args.texts.now in
-    let brought = bringing texts c.args.slots.now.numbers.items array in
+    let brought = brings texts c.args.numbers.now c.args.buffers.now c.args.store.now c.args.thread others s array in
     let old = c.args.store.now in
     let class = c.in-Raises.class in
     let place = c.in-Raises.place in
     let made = both_made w.classes c.classes-in-Raises.result.now texts old c.raise.new.store class place c.in-Some-raise.exception c.raise.result c.classes-in-Raises.ensures.classes c.raise.ensures c.in-Some-raise.is in
-    carries.by_answer p w old.heap c.args.locals.now k shared s effect brought c.args.answer (answer.Raises class place) c.in-Raises.is _ _ _ _ _ (λ raises.
-    carries.raises p w old c.args.pending.now c.args.locals.now k shared s h brought class place effect raises made.0 c.raise.new.store made.1 c.in-Some-raise.exception made.2 made.3) does
+    carries.by_answer p w old.heap c.args.locals.now kind others c.args.thread shared s effect brought c.args.answer (answer.Raises class place) c.in-Raises.is _ _ _ _ _ (λ raises.
+    carries.raises p w old c.args.pending.now c.args.locals.now kind others c.args.thread shared s h brought class place effect raises made.0 c.raise.new.store made.1 c.in-Some-raise.exception made.2 made.3) does
 
 pub returns-in-None-raise-clause-carried : goal.returns-in-None-raise-clause-carried
-returns-in-None-raise-clause-carried c p array shared s effect h does =
+returns-in-None-raise-clause-carried c p array others shared s effect h does =
     let w = c.args.world.now in
-    let k = result_value c.args.kind in
+    let kind = result_value c.args.kind in
     let texts = texts_in c.args.texts.now in
-    let brought = bringing texts c.args.slots.now.numbers.items array in
+    let brought = brings texts c.args.numbers.now c.args.buffers.now c.args.store.now c.args.thread others s array in
     let old = c.args.store.now in
     let class = c.in-Raises.class in
     let place = c.in-Raises.place in
     let none = none_made w.classes c.classes-in-Raises.result.now texts old c.raise.new.store class place c.raise.result c.classes-in-Raises.ensures.classes c.raise.ensures c.in-None-raise.is in
-    carries.by_answer p w old.heap c.args.locals.now k shared s effect brought c.args.answer (answer.Raises class place) c.in-Raises.is _ _ _ _ _ (λ raises.
-    refused_in p w old.heap c.args.locals.now (answer.Raises class place) k shared s effect old c.raise.new.store c.refuse-in-None-raise.new.pending c.args.locals.now c.refuse-in-None-raise.result none.0 c.refuse-in-None-raise.ensures.pending c.refuse-in-None-raise.ensures.carried
-    (carries.refuses_raise p w old c.args.pending.now c.args.locals.now k shared s h brought class place effect raises none.1)) does
+    carries.by_answer p w old.heap c.args.locals.now kind others c.args.thread shared s effect brought c.args.answer (answer.Raises class place) c.in-Raises.is _ _ _ _ _ (λ raises.
+    refused_in p w old.heap c.args.locals.now (answer.Raises class place) kind others c.args.thread shared s effect old c.raise.new.store c.refuse-in-None-raise.new.pending c.args.locals.now c.refuse-in-None-raise.result none.0 c.refuse-in-None-raise.ensures.pending c.refuse-in-None-raise.ensures.carried
+    (carries.refuses_raise p w old c.args.pending.now c.args.locals.now kind others c.args.thread shared s h brought class place effect raises none.1)) does
 
 pub returns-in-Pends-clause-carried : goal.returns-in-Pends-clause-carried
-returns-in-Pends-clause-carried c p array shared s effect h does =
+returns-in-Pends-clause-carried c p array others shared s effect h does =
     let w = c.args.world.now in
-    let k = result_value c.args.kind in
+    let kind = result_value c.args.kind in
     let texts = texts_in c.args.texts.now in
-    let brought = bringing texts c.args.slots.now.numbers.items array in
+    let brought = brings texts c.args.numbers.now c.args.buffers.now c.args.store.now c.args.thread others s array in
     let old = c.args.store.now in
-    carries.by_answer p w old.heap c.args.locals.now k shared s effect brought c.args.answer (answer.Pends c.in-Pends.exception c.in-Pends.given) c.in-Pends.is _ _ _ _ _ (λ pends.
-    carries.pends p w old c.args.pending.now c.args.locals.now k shared s h brought c.in-Pends.exception c.in-Pends.given effect pends) does
+    carries.by_answer p w old.heap c.args.locals.now kind others c.args.thread shared s effect brought c.args.answer (answer.Pends c.in-Pends.exception c.in-Pends.given) c.in-Pends.is _ _ _ _ _ (λ pends.
+    carries.pends p w old c.args.pending.now c.args.locals.now kind others c.args.thread shared s h brought c.in-Pends.exception c.in-Pends.given effect pends) does
 
 pub returns-in-CopiesOut-clause-carried : goal.returns-in-CopiesOut-clause-carried
-returns-in-CopiesOut-clause-carried c p array shared s effect h does =
+returns-in-CopiesOut-clause-carried c p array others shared s effect h does =
     let w = c.args.world.now in
-    let k = result_value c.args.kind in
-    let brought = bringing (texts_in c.args.texts.now) c.args.slots.now.numbers.items array in
+    let kind = result_value c.args.kind in
+    let brought = brings (texts_in c.args.texts.now) c.args.numbers.now c.args.buffers.now c.args.store.now c.args.thread others s array in
     let old = c.args.store.now in
-    carries.by_answer p w old.heap c.args.locals.now k shared s effect brought c.args.answer (answer.CopiesOut c.in-CopiesOut.region) c.in-CopiesOut.is _ _ _ _ _ (λ copies.
-    carries.copies_out p w old c.args.pending.now c.args.locals.now k shared s h brought c.in-CopiesOut.region effect copies) does
+    carries.by_answer p w old.heap c.args.locals.now kind others c.args.thread shared s effect brought c.args.answer (answer.CopiesOut c.in-CopiesOut.region) c.in-CopiesOut.is _ _ _ _ _ (λ copies.
+    carries.copies_out p w old c.args.pending.now c.args.locals.now kind others c.args.thread shared s h brought c.in-CopiesOut.region effect copies) does
 
 pub returns-in-CopiesIn-clause-carried : goal.returns-in-CopiesIn-clause-carried
-returns-in-CopiesIn-clause-carried c p array shared s effect h does =
+returns-in-CopiesIn-clause-carried c p array others shared s effect h does =
     let w = c.args.world.now in
-    let k = result_value c.args.kind in
-    let brought = bringing (texts_in c.args.texts.now) c.args.slots.now.numbers.items array in
+    let kind = result_value c.args.kind in
+    let brought = brings (texts_in c.args.texts.now) c.args.numbers.now c.args.buffers.now c.args.store.now c.args.thread others s array in
     let old = c.args.store.now in
-    carries.by_answer p w old.heap c.args.locals.now k shared s effect brought c.args.answer (answer.CopiesIn c.in-CopiesIn.region) c.in-CopiesIn.is _ _ _ _ _ (λ copies.
-    subst (λ (space : Space). CarriesOut p w old.heap c.args.locals.now (answer.CopiesIn c.in-CopiesIn.region) k shared s effect false (record old { heap = space }) c.args.pending.now c.args.locals.now given.Nothing) (sym (c.copy_in.ensures ∙ ap (space_with old.heap c.in-CopiesIn.region) c.deref.ensures.value))
-    (carries.copies_in p w old c.args.pending.now c.args.locals.now k shared s h brought c.in-CopiesIn.region effect copies)) does
+    carries.by_answer p w old.heap c.args.locals.now kind others c.args.thread shared s effect brought c.args.answer (answer.CopiesIn c.in-CopiesIn.region) c.in-CopiesIn.is _ _ _ _ _ (λ copies.
+    subst (λ (space : Space). CarriesOut p w old.heap c.args.locals.now (answer.CopiesIn c.in-CopiesIn.region) kind others c.args.thread shared s effect false (record old { heap = space }) c.args.pending.now c.args.locals.now given.Nothing) (sym c.copy_in.ensures)
+    (carries.copies_in p w old c.args.pending.now c.args.locals.now kind others c.args.thread shared s h brought c.in-CopiesIn.region effect copies)) does
 
 -- what is known of a region that is copied
 pub copy_out-requires : goal.copy_out-requires
 copy_out-requires c =
     let r = c.requires.possible in
-    let brought = bringing (texts_in c.args.texts.now) c.args.slots.now.numbers.items r.1 in
-    let copied = (subst (λ (a : Answer). IsAnswer c.args.world.now.classes brought c.args.store.now.heap c.args.locals.now (result_value c.args.kind) r.2 r.3 a r.4) c.in-CopiesOut.is r.6).1 in
-    record { within = copied.within; slots = subst (λ (l : List ℕ). (i : ℕ) → i < c.in-CopiesOut.region.count → c.in-CopiesOut.region.slot + i < length l) (sym c.deref_mut.ensures.value) copied.slots }
+    let brought = brings (texts_in c.args.texts.now) c.args.numbers.now c.args.buffers.now c.args.store.now c.args.thread r.2 r.4 r.1 in
+    let copied = (subst (λ (a : Answer). IsAnswer c.args.world.now.classes brought c.args.store.now.heap c.args.locals.now (result_value c.args.kind) r.3 r.4 a r.5) c.in-CopiesOut.is r.7).1 in
+    record { within = copied.within; slots = copied.slots }
 
 pub copy_in-requires : goal.copy_in-requires
 copy_in-requires c =
     let r = c.requires.possible in
-    let brought = bringing (texts_in c.args.texts.now) c.args.slots.now.numbers.items r.1 in
-    let copied = (subst (λ (a : Answer). IsAnswer c.args.world.now.classes brought c.args.store.now.heap c.args.locals.now (result_value c.args.kind) r.2 r.3 a r.4) c.in-CopiesIn.is r.6).1 in
-    record { within = copied.within; slots = subst (λ (l : List ℕ). (i : ℕ) → i < c.in-CopiesIn.region.count → c.in-CopiesIn.region.slot + i < length l) (sym c.deref.ensures.value) copied.slots }
+    let brought = brings (texts_in c.args.texts.now) c.args.numbers.now c.args.buffers.now c.args.store.now c.args.thread r.2 r.4 r.1 in
+    let copied = (subst (λ (a : Answer). IsAnswer c.args.world.now.classes brought c.args.store.now.heap c.args.locals.now (result_value c.args.kind) r.3 r.4 a r.5) c.in-CopiesIn.is r.7).1 in
+    record { within = copied.within; slots = copied.slots }

@@ -3,6 +3,7 @@ use Rattle.std.specs.Prelude.{slice_get, slice_set, IsSome}
 use Rattle.machine_calls.specs.declared.answer.Answer.{Answer}
 use Rattle.machine_calls.specs.declared.answer.Given.TheVariants as given
 use Rattle.machine_calls.specs.Answers.{IsAnswer}
+use Rattle.machine_calls.specs.Buffers.{acquired_by, beside}
 use Rattle.machine_calls.specs.CarriedOut.{CarriesOut}
 use Rattle.tables.specs.Locals.{LocalTable, without}
 use Rattle.machine_calls.specs.declared.answer.Answer.TheVariants as answer
@@ -21,35 +22,35 @@ delete_global-requires c =
     let w = c.args.world.now in
     let old = c.args.store.now in
     let slot = c.in-DeletesGlobal.slot in
-    let deletes = subst (λ (a : Answer). IsAnswer w.classes r.2 old.heap c.args.locals.now r.1 r.3 r.4 a r.5) c.in-DeletesGlobal.is r.7 in
-    let live = live_there r.0 w old r.3 r.6.store_agrees deletes.1.0 slot deletes.1.1 deletes.1.2.place deletes.1.2.there in
+    let deletes = subst (λ (a : Answer). IsAnswer w.classes r.2 old.heap c.args.locals.now r.1 r.4 r.5 a r.6) c.in-DeletesGlobal.is r.8 in
+    let live = live_there r.0 w old r.4 (beside r.3 (acquired_by r.5)) r.7.store_agrees deletes.1.0 slot deletes.1.1 deletes.1.2.place deletes.1.2.there in
     (live.key, subst (λ (l : List StaticReference). slice_get l slot ≡ Some (static.Live live.key)) (sym c.deref_mut.ensures.value) live.at, subst (λ (o : Option ℕ). IsSome o) (sym live.held) refl)
 
 pub returns-in-DeletesGlobal-clause-carried : goal.returns-in-DeletesGlobal-clause-carried
-returns-in-DeletesGlobal-clause-carried c p k brought shared s effect h does =
+returns-in-DeletesGlobal-clause-carried c p kind brought others k shared s effect h does =
     let w = c.args.world.now in
     let old = c.args.store.now in
     let slot = c.in-DeletesGlobal.slot in
     let statics = with_items old.statics c.delete_global.new.statics in
-    carries.by_answer p w old.heap c.args.locals.now k shared s effect brought c.args.answer (answer.DeletesGlobal c.in-DeletesGlobal.slot) c.in-DeletesGlobal.is _ _ _ _ _ (λ deletes.
-    carries.deletes_static p w old c.args.pending.now c.args.locals.now k shared s h brought statics c.delete_global.new.globals slot effect deletes
+    carries.by_answer p w old.heap c.args.locals.now kind others k shared s effect brought c.args.answer (answer.DeletesGlobal c.in-DeletesGlobal.slot) c.in-DeletesGlobal.is _ _ _ _ _ (λ deletes.
+    carries.deletes_static p w old c.args.pending.now c.args.locals.now kind others k shared s h brought statics c.delete_global.new.globals slot effect deletes
     (with_items_is old.statics c.delete_global.new.statics (search (rules, places)) ∙ c.delete_global.ensures.statics ∙ ap (λ (l : List StaticReference). slice_set l slot static.Deleted) c.deref_mut.ensures.value)
     (λ key at. c.delete_global.ensures.globals key (subst (λ (l : List StaticReference). slice_get l slot ≡ Some (static.Live key)) (sym c.deref_mut.ensures.value) at))) does
 
 pub returns-in_ok-held-in-MakesGlobal-clause-carried : goal.returns-in_ok-held-in-MakesGlobal-clause-carried
-returns-in_ok-held-in-MakesGlobal-clause-carried c p k brought shared s effect h does =
+returns-in_ok-held-in-MakesGlobal-clause-carried c p kind brought others k shared s effect h does =
     let w = c.args.world.now in
     let old = c.args.store.now in
-    carries.by_answer p w old.heap c.args.locals.now k shared s effect brought c.args.answer (answer.MakesGlobal c.in-MakesGlobal.reference) c.in-MakesGlobal.is _ _ _ _ _ (λ makes.
-    carries.makes_global p w old c.args.pending.now c.args.locals.now k shared s h brought c.make_global.new.globals c.in_ok-held-in-MakesGlobal.held effect c.in-MakesGlobal.reference makes.1.0 makes.0 makes.1.1 makes.1.2 c.in_ok-held-in-MakesGlobal.ensures.made) does
+    carries.by_answer p w old.heap c.args.locals.now kind others k shared s effect brought c.args.answer (answer.MakesGlobal c.in-MakesGlobal.reference) c.in-MakesGlobal.is _ _ _ _ _ (λ makes.
+    carries.makes_global p w old c.args.pending.now c.args.locals.now kind others k shared s h brought c.make_global.new.globals c.in_ok-held-in-MakesGlobal.held effect c.in-MakesGlobal.reference makes.1.0 makes.0 makes.1.1 makes.1.2 c.in_ok-held-in-MakesGlobal.ensures.made) does
 
 pub returns-in-Deletes-clause-carried : goal.returns-in-Deletes-clause-carried
-returns-in-Deletes-clause-carried c p k brought shared s effect h does =
+returns-in-Deletes-clause-carried c p kind brought others k shared s effect h does =
     let w = c.args.world.now in
     let old = c.args.store.now in
     let locals = c.args.locals.now in
     let key = c.in-Deletes.key in
     let gone : c.delete.new.self ≡ without locals key = search rules in
-    carries.by_answer p w old.heap locals k shared s effect brought c.args.answer (answer.Deletes key) c.in-Deletes.is _ _ _ _ _ (λ deletes.
-    subst (λ (l : LocalTable). CarriesOut p w old.heap locals (answer.Deletes key) k shared s effect false old c.args.pending.now l given.Nothing) (sym gone)
-    (carries.deletes p w old c.args.pending.now locals k shared s h brought key effect deletes)) does
+    carries.by_answer p w old.heap locals kind others k shared s effect brought c.args.answer (answer.Deletes key) c.in-Deletes.is _ _ _ _ _ (λ deletes.
+    subst (λ (l : LocalTable). CarriesOut p w old.heap locals (answer.Deletes key) kind others k shared s effect false old c.args.pending.now l given.Nothing) (sym gone)
+    (carries.deletes p w old c.args.pending.now locals kind others k shared s h brought key effect deletes)) does

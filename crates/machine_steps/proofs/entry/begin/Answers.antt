@@ -4,6 +4,7 @@ use Rattle.std.proofs.lemmas.List.{take_all, length-map}
 use Rattle.code.specs.declared.slots.SlotCounts.{SlotCounts}
 use Rattle.world_values.specs.Views.{object_value_view}
 use Rattle.code_meaning.specs.Slots.{argument_reference}
+use Rattle.machine_calls.specs.declared.buffer.Buffer.TheVariants as buffer
 use Rattle.machine_steps.specs.Entry.{entry_locals, keys_from}
 use Rattle.machine_steps.proofs.ArgumentSlots.{addresses_count}
 use Rattle.machine_steps.proofs.EntryTables.{given_few}
@@ -44,4 +45,5 @@ returns c = record {
   locals = c.in_ok-references.ensures.locals ∙ ap entry_locals c.deref-2.ensures.value;
   references = c.in_ok-references.ensures.keys ∙ ap (keys_from 0) c.deref-2.ensures.value;
   fields = c.in_ok-resize.ensures.items ∙ resized None c.new-fields.result.items c.args.code.now.slots.field_ids c.slots-slots.result.field_ids (vec_len c.new-fields.result) c.new-fields.ensures.items c.new-fields.ensures.len (ap (λ (s : SlotCounts). s.field_ids) c.slots-slots.ensures.counts);
+  buffers = c.in_ok-resize-2.ensures.items ∙ resized buffer.Null c.new-buffers.result.items c.args.code.now.slots.buffers c.slots-slots.result.buffers (vec_len c.new-buffers.result) c.new-buffers.ensures.items c.new-buffers.ensures.len (ap (λ (s : SlotCounts). s.buffers) c.slots-slots.ensures.counts);
 }

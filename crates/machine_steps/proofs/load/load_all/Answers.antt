@@ -52,11 +52,11 @@ load_thread-requires-clause-given c =
     subst (λ (cs : List Invocation). list_all (are_arguments made) cs ≡ true) (sym c.deref.ensures.value) (calls_given c.args.world.now k _ c.threads-calls-items.ensures.sound there)
 
 pub returns-clause-agree : goal.returns-clause-agree
-returns-clause-agree c space owners k shared =
+returns-clause-agree c space copies owners k shared =
     let w = c.args.world.now in
     let items = c.threads-calls-items.result.now in
-    subst (λ (cs : List (List Invocation)). ThreadsAgree c.args.program.now w.classes space (length (loaded_objects w)) owners k shared c.loop-calls.threads.items (map waiting_thread cs)) c.threads-calls-items.ensures.calls
-    (all_agree c.args.program.now w.classes space (length (loaded_objects w)) shared items c.loop-calls.calls-index c.loop-calls.threads.items c.loop-calls-test.false (c.loop-calls.invariant.agree space shared) owners k)
+    subst (λ (cs : List (List Invocation)). ThreadsAgree c.args.program.now w.classes space copies (length (loaded_objects w)) owners k shared c.loop-calls.threads.items (map waiting_thread cs)) c.threads-calls-items.ensures.calls
+    (all_agree c.args.program.now w.classes space copies (length (loaded_objects w)) shared items c.loop-calls.calls-index c.loop-calls.threads.items c.loop-calls-test.false (c.loop-calls.invariant.agree space copies shared) owners k)
 
 pub returns-clause-all : goal.returns-clause-all
 returns-clause-all c =
@@ -75,9 +75,9 @@ loop-calls-preserved c =
     let k = c.loop-calls.calls-index in
     let at = slice_get_read items (length items) k c.calls-item.result refl c.loop-calls-test.true c.calls-item.is in
     record {
-      agree = λ space shared. subst (λ (ts : List Thread). AgreeSoFar p classes space made shared items (k + 1) ts) (sym c.in_ok-push-in-Ok.ensures.items)
-          (one_more p classes space made shared items k c.calls-item.result c.in-Ok.thread c.loop-calls.threads.items at
-          (λ own. subst (λ (cs : List Invocation). ThreadAgrees p classes space made own shared c.in-Ok.thread (waiting_thread cs)) c.deref.ensures.value (c.in-Ok.ensures.agrees space own shared))
-          (c.loop-calls.invariant.agree space shared));
+      agree = λ space copies shared. subst (λ (ts : List Thread). AgreeSoFar p classes space copies made shared items (k + 1) ts) (sym c.in_ok-push-in-Ok.ensures.items)
+          (one_more p classes space copies made shared items k c.calls-item.result c.in-Ok.thread c.loop-calls.threads.items at
+          (λ j own. subst (λ (cs : List Invocation). ThreadAgrees p classes space copies made j own shared c.in-Ok.thread (waiting_thread cs)) c.deref.ensures.value (c.in-Ok.ensures.agrees space copies j own shared))
+          (c.loop-calls.invariant.agree space copies shared));
       all = c.loop-calls.invariant.all ∙ loads_at (unit_tree p.unit) classes items k c.calls-item.result at (ap (refused_calls (unit_tree p.unit) classes) (sym c.deref.ensures.value) ∙ c.in-Ok.ensures.all);
     }

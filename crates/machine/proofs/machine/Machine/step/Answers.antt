@@ -19,7 +19,7 @@ use Rattle.machine.specs.Stops.{stop_after, stop_view}
 use Rattle.machine_steps.specs.declared.thread.Thread.{Thread}
 use Rattle.machine_steps.specs.declared.advance.Advanced.{Advanced}
 use Rattle.machine_steps.specs.declared.advance.Advanced.TheVariants as advanced
-use Rattle.machine.specs.Run.{has_ended as ended, AdvancesFrom, Corresponds, Run, InState, CouldStep, HadNoRoom, LeavesAll, TurnHolds, Waits, turn_at_rest, replay_of, printed_after, can_turn, event_of, is_refused}
+use Rattle.machine.specs.Run.{has_ended as ended, AdvancesAlways, AdvancesFrom, Corresponds, Run, InState, CouldStep, HadNoRoom, LeavesAll, TurnHolds, Waits, turn_at_rest, replay_of, printed_after, can_turn, event_of, is_refused}
 use Rattle.machine_calls.specs.declared.store.Store.{Store}
 use Rattle.semantics.specs.Object.{sizes}
 use Rattle.semantics.specs.Reachable.{live_size}
@@ -215,18 +215,22 @@ module _ (a : After-index) (free : Free a) (store' : Store) (later : List Thread
   still_free : is_blocked a.self.inside.world.classes between.stands.state a.args.k ≡ false
   still_free = ap (λ (x : state.State). is_blocked a.self.inside.world.classes x a.args.k) between.same ∙ free.free
 
+  -- the step is thread k's
+  advances_here : AdvancesAlways a.self.inside.program a.self.inside.world a.args.k f.between store' f.old f.new x
+  advances_here = subst (λ (n : ℕ). AdvancesAlways a.self.inside.program a.self.inside.world n f.between store' f.old f.new x) (sym (number a)) f.advances
+
   next : Corresponds a.self.inside.program a.self.inside.world store' later (printed_after a.self.inside.printed.items a.args.k (event_of x)) (stop_after a.self.inside.stop a.args.k (event_of x)) (a.self.inside.journal.items ++ Step a.args.k (is_refused x) ∷ [])
   next =
       subst (λ (l : List Thread). Corresponds a.self.inside.program a.self.inside.world store' l (printed_after a.self.inside.printed.items a.args.k (event_of x)) (stop_after a.self.inside.stop a.args.k (event_of x)) (a.self.inside.journal.items ++ Step a.args.k (is_refused x) ∷ [])) (sym f.follow)
-      (steps_by _ _ _ _ _ _ _ between.stands a.args.k (a.from-index.result - 1) f.old (number a) f.at store' f.new x (running a free) still_live still_free f.advances between.left)
+      (steps_by _ _ _ _ _ _ _ between.stands a.args.k (a.from-index.result - 1) f.old (number a) f.at store' f.new x (running a free) still_live still_free advances_here between.left)
 
   -- where it was refused
   no_room : x ≡ advanced.Refused → HadNoRoom a.args.self.now a.args.k (left_of store'.heap) × LeavesAll a.args.self.now (left_of store'.heap)
   no_room refused =
-      let short = short_by _ _ _ _ _ _ _ between.stands a.args.k (a.from-index.result - 1) f.old (number a) f.at store' f.new x (running a free) still_live still_free f.advances between.left refused in
+      let short = short_by _ _ _ _ _ _ _ between.stands a.args.k (a.from-index.result - 1) f.old (number a) f.at store' f.new x (running a free) still_live still_free advances_here between.left refused in
       let here = subst (λ (r : Run). replay_of r ≡ Some between.stands.state) a.self.view_is between.stands.replays in (
         (between.stands.state, here, subst (λ (r : Run). left_of store'.heap < sizes (made (unit_tree r.unit) r.world between.stands.state a.args.k)) a.self.view_is short.0),
-        (between.stands.state, here, λ none. subst (λ (r : Run). left_of store'.heap ≡ r.world.cells - live_size r.world between.stands.state) a.self.view_is short.1),
+        (between.stands.state, here, λ none. subst (λ (r : Run). left_of store'.heap ≡ r.world.cells - live_size r.world between.stands.state) a.self.view_is (short.1 none)),
       )
 
 pub invariant_of-self-2 : goal.invariant_of-self-2

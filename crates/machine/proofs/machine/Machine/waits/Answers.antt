@@ -11,4 +11,4 @@ returns c =
     let i = c.self.inside in
     let m = c.self.invariant in
     subst (λ (r : Run). Waits r c.args._k false) c.self.view_is
-    (m.state, m.replays, sym (never_blocked i.program i.world.classes i.store.heap (length (loaded_objects i.world)) (owners_after (unit_tree i.program.unit) i.world i.journal.items) 1 m.state i.threads.items m.lowered m.threads_agree c.args._k))
+    (m.state, m.replays, sym (never_blocked i.program i.world.classes i.store.heap i.store.elements (length (loaded_objects i.world)) (owners_after (unit_tree i.program.unit) i.world i.journal.items) m.state i.threads.items m.threads_agree c.args._k))

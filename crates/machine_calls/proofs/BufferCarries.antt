@@ -1,0 +1,390 @@
+-- What is carried out of buffers is what the source's call leaves.
+use Rattle.std.proofs.Common.{◌≡◌, ◌≢◌, ℕ, ℤ, ◌+◌, ◌-◌, ◌<◌, ◌≤◌, Bool, true, false, List, [], ◌++◌, length, map, Option, Some, None, refl, sym, ap, ◌∙◌, subst, arith}
+use Rattle.std.specs.Prelude.{nat_lt, nat_le, if◌then◌else◌, FitsSigned}
+use Rattle.std.specs.Int.{w32, cast_signed, cast_unsigned}
+use Rattle.std.specs.List.{AllByRecursion}
+use Rattle.std.specs.Option.{option_map_or}
+use Rattle.std.proofs.lemmas.Bool.{le-leb, leb-true, lt-ltb, ltb-true}
+use Rattle.std.proofs.lemmas.List.{append-nil, length-map}
+use Rattle.std.proofs.lemmas.Option.{slice_get_within}
+use Rattle.base.specs.Bytes.{Identifier, lookup}
+use Rattle.base.specs.Element.{ElementType}
+use Rattle.code_meaning.specs.Coding.{mode_code}
+use Rattle.code_meaning.specs.Lowered.{Lowered}
+use Rattle.heap.specs.Heap.{Block, Space, name_at, pins_at, values_at, with_pins}
+use Rattle.heap.specs.declared.value.Value.{Value}
+use Rattle.heap.specs.declared.value.Value.TheVariants as value
+use Rattle.jni.specs.Prototype.{ResultKind}
+use Rattle.semantics.specs.Arguments.{ReleaseMode, CopyBackAndFree, CopyBack, FreeUncopied}
+use Rattle.semantics.specs.CallEffects.{CallEffect, CallResult, Leaves, NoResult, BufferResult, copied_elements, release_effect, with_freed}
+use Rattle.semantics.specs.Heap.{Heap, numbers_of, object_at, values_of, with_numbers}
+use Rattle.semantics.specs.Object.{Object, Number, Reference}
+use Rattle.semantics.specs.Thread as source
+use Rattle.semantics.specs.Thread.{BuffersInUse, Shared, Thread}
+use Rattle.semantics.specs.Variable as variable
+use Rattle.semantics.specs.Variable.{Variable, Elements, NoBuffer, Copy, View}
+use Rattle.semantics.specs.World.{World}
+use Rattle.tables.specs.Elements.{OwnedNumbers, lengths, owned}
+use Rattle.tables.specs.Keys.{value_at}
+use Rattle.tables.specs.Locals.{LocalTable}
+use Rattle.tables.proofs.Keys.{set_other}
+use Rattle.machine_calls.specs.declared.answer.Answer.{Answer}
+use Rattle.machine_calls.specs.declared.answer.Answer.TheVariants as answer
+use Rattle.machine_calls.specs.declared.answer.Given.{Given}
+use Rattle.machine_calls.specs.declared.answer.Given.TheVariants as given
+use Rattle.machine_calls.specs.declared.buffer.Buffer.{Buffer}
+use Rattle.machine_calls.specs.declared.buffer.Buffer.TheVariants as held
+use Rattle.machine_calls.specs.declared.buffer.Release.{Release}
+use Rattle.machine_calls.specs.declared.store.Store.{Store}
+use Rattle.machine_calls.specs.Answers.{Brought, GivenAgrees, IsAnswer}
+use Rattle.machine_calls.specs.BufferChanges.{CanCopyBack, CanGiveUp, GivesUp, MakesCopy, MakesView, MayGiveUp, copied_back, space_back, written_back}
+use Rattle.machine_calls.specs.Buffers.{Acquired, BufferAgrees, IsCopyOf, SameAcquired, acquired_by, acquired_of, beside, copies_back, gives_up, in_use_of, nothing_acquired}
+use Rattle.machine_calls.specs.CarriedOut.{CarriesOut, CopiesStay, IsPossible, ResultAgrees, acquired_with}
+use Rattle.machine_calls.specs.Copies.{overlaid, words_at}
+use Rattle.machine_calls.specs.HeapAgrees.{ReferenceAgrees, ValuesAgree}
+use Rattle.machine_calls.specs.Locals.{FramesAgree}
+use Rattle.machine_calls.specs.StoreAgrees.{Keeps, StoreAgrees}
+use Rattle.machine_calls.proofs.BlocksOfNames.{Named, name_within, named}
+use Rattle.machine_calls.proofs.BufferOperands.{words_back}
+use Rattle.machine_calls.proofs.BufferStores.{agrees_copies, agrees_pinned, agrees_same, keeps_pinned, names_pinned}
+use Rattle.machine_calls.proofs.CellsMade.{nothing_asked}
+use Rattle.machine_calls.proofs.CopiedRegions.{words_agree}
+use Rattle.machine_calls.proofs.HeldSums.{IsMoreBy, beside_freed, beside_more, beside_nothing}
+use Rattle.machine_calls.proofs.Keeping.{frames_stay, keeps_same, key_stays, reference_stays}
+use Rattle.machine_calls.proofs.Loaded.{agree_length}
+use Rattle.machine_calls.proofs.Overlays.{length_overlaid, overlaid_whole}
+use Rattle.machine_calls.proofs.Taken.{counted_view, left_copy, left_view, taken_copy, taken_view}
+use Rattle.machine_calls.proofs.Writes.{values_agree, values_keep}
+
+-- a test that doesn't hold
+not_within : (n m : ℕ) → m < n → nat_le n m ≡ false
+not_within n m over = by_test (nat_le n m) refl
+  where
+    by_test : (t : Bool) → nat_le n m ≡ t → t ≡ false
+    by_test true e = absurd (omega (arith, over, leb-true n m e))
+    by_test false e = refl
+
+not_below : (n m : ℕ) → m ≤ n → nat_lt n m ≡ false
+not_below n m over = by_test (nat_lt n m) refl
+  where
+    by_test : (t : Bool) → nat_lt n m ≡ t → t ≡ false
+    by_test true e = absurd (omega (arith, over, ltb-true n m e))
+    by_test false e = refl
+
+module _ (p : Lowered) (w : World) (store : Store) (pending : Option ℕ) (locals : LocalTable) (kind : ResultKind) (others : Acquired) (k : ℕ) (shared : Shared) (s : Thread) (h : IsPossible p w store pending locals others shared s) (brought : Brought) where
+  -- what the buffers of all threads take
+  abbrev all : Acquired
+  all = beside others (acquired_by s)
+
+  abbrev Does : Answer → CallEffect → Type 0
+  Does a effect = IsAnswer w.classes brought store.heap locals kind shared s a effect
+
+  abbrev Carries : Answer → CallEffect → Store → Given → Type 0
+  Carries a effect after g = CarriesOut p w store.heap locals a kind others k shared s effect false after pending locals g
+
+  -- a thread that has the frames and the exception that it had, and objects that stay where they are
+  effected : (a : Answer) (after : Store) (g : Given) (s' : Shared) (t : Thread) (c : CallResult) → t.frames ≡ s.frames → t.pending ≡ s.pending → s'.statics ≡ shared.statics → Keeps store.heap shared after.heap s'
+      → StoreAgrees p w after s' (beside others (beside (acquired_by t) (acquired_with c))) → ResultAgrees w.classes after k g kind c → Carries a (Leaves [] s' t c) after g
+  effected a after g s' t c frames pends statics keeps agrees given = record {
+    store_agrees = subst (λ (x : Shared). StoreAgrees p w after x (beside others (beside (acquired_by t) (acquired_with c)))) (sym same) agrees;
+    keeps = subst (λ (x : Shared). Keeps store.heap shared after.heap x) (sym same) keeps;
+    pending_agrees = subst (λ (r : Reference). ReferenceAgrees after.heap pending r) (sym pends) (reference_stays store.heap after.heap keeps.names pending s.pending h.pending_agrees);
+    frames_agree = subst (λ (l : List source.Frame). FramesAgree after.heap locals l) (sym frames) (frames_stay store.heap after.heap keeps.names locals s.frames h.frames_agree);
+    left = λ key n level is left. key_stays store.heap after.heap keeps.names locals key n level is;
+    given_agrees = given;
+    still = λ e. statics;
+    could_refuse = λ e. absurd (cc);
+    room = nothing_asked store.heap;
+  }
+    where
+      same : record s' { heap = s'.heap ++ [] } ≡ s'
+      same = ap (λ (l : Heap). let r : Shared = record s' { heap = l } in r) (append-nil s'.heap)
+
+  -- ---- a copy
+
+  module _ (a : ℕ) (effect : CallEffect) (does : Does (answer.AcquiresCopy a) effect) (uses : brought.in_use ≡ in_use_of all) where
+    abbrev numbers : List ℤ
+    numbers = numbers_of shared.heap does.1.name
+
+    abbrev gives_copy : Bool → CallEffect
+    gives_copy t = Leaves [] shared s (BufferResult (if t then Copy does.1.name numbers else NoBuffer))
+
+    copy_is : (t : Bool) → nat_le (lengths store.elements + length numbers) 65536 ≡ t → effect ≡ gives_copy t
+    copy_is t e =
+        let used : brought.in_use.copied ≡ lengths store.elements = ap (λ (u : BuffersInUse). u.copied) uses ∙ sym h.store_agrees.buffers.copied in
+        does.1.is ∙ ap gives_copy (ap (λ (n : ℕ). nat_le (n + length numbers) 65536) used ∙ e)
+
+    copied : (b : Buffer) (elements : List (Option OwnedNumbers)) → MakesCopy k numbers store.elements b elements → Carries (answer.AcquiresCopy a) effect (record store { elements = elements }) (given.Buffer b)
+    copied held.Null elements (over, same) =
+        subst (λ (e : CallEffect). Carries (answer.AcquiresCopy a) e (record store { elements = elements }) (given.Buffer held.Null)) (sym (copy_is false (not_within (lengths store.elements + length numbers) 65536 over)))
+        (subst (λ (l : List (Option OwnedNumbers)). Carries (answer.AcquiresCopy a) (gives_copy false) (record store { elements = l }) (given.Buffer held.Null)) (sym same)
+        (effected (answer.AcquiresCopy a) store (given.Buffer held.Null) shared s (BufferResult NoBuffer) refl refl refl (keeps_same store.heap shared)
+        (agrees_same p w store shared all h.store_agrees (beside others (beside (acquired_by s) nothing_acquired)) (beside_nothing others (acquired_by s))) (does.0, tt)))
+    copied (held.Copy key) elements (within, gains, more) =
+        let next : Acquired = beside others (beside (acquired_by s) (acquired_of (Copy does.1.name numbers))) in
+        subst (λ (e : CallEffect). Carries (answer.AcquiresCopy a) e (record store { elements = elements }) (given.Buffer (held.Copy key))) (sym (copy_is true (le-leb (lengths store.elements + length numbers) 65536 within)))
+        (effected (answer.AcquiresCopy a) (record store { elements = elements }) (given.Buffer (held.Copy key)) shared s (BufferResult (Copy does.1.name numbers)) refl refl refl (keeps_same store.heap shared)
+        (agrees_copies p w store shared all h.store_agrees next elements
+        (taken_copy store.heap store.elements elements store.views (length shared.heap) k does.1.name numbers all next (beside_more others (acquired_by s) (Copy does.1.name numbers)) more h.store_agrees.buffers)) (does.0, gains.has))
+    copied (held.View x) elements made = absurd made
+
+    pub acquires_copy : (b : Buffer) (elements : List (Option OwnedNumbers)) → MakesCopy k (map (cast_signed w32) (words_at store.heap a)) store.elements b elements → Carries (answer.AcquiresCopy a) effect (record store { elements = elements }) (given.Buffer b)
+    acquires_copy b elements made = copied b elements (subst (λ (l : List ℤ). MakesCopy k l store.elements b elements) (words_back (words_at store.heap a) numbers does.1.words) made)
+
+  -- ---- a view
+
+  module _ (a : ℕ) (effect : CallEffect) (does : Does (answer.AcquiresView a) effect) (uses : brought.in_use ≡ in_use_of all) where
+    abbrev gives_view : Bool → CallEffect
+    gives_view t = Leaves [] shared s (BufferResult (if t then View does.1.name else NoBuffer))
+
+    view_is : (t : Bool) → nat_lt store.views 64 ≡ t → effect ≡ gives_view t
+    view_is t e =
+        let used : brought.in_use.views ≡ store.views = ap (λ (u : BuffersInUse). u.views) uses ∙ sym h.store_agrees.buffers.many in
+        does.1.is ∙ ap gives_view (ap (λ (n : ℕ). nat_lt n 64) used ∙ e)
+
+    pub acquires_view : (b : Buffer) (space : Space) (views : ℕ) → MakesView a store.heap store.views b space views → Carries (answer.AcquiresView a) effect (record store { heap = space; views = views }) (given.Buffer b)
+    acquires_view held.Null space views (over, same, as_many) =
+        let same_store : record store { heap = space; views = views } ≡ store = λ i. record store { heap = same i; views = as_many i } in
+        subst (λ (e : CallEffect). Carries (answer.AcquiresView a) e (record store { heap = space; views = views }) (given.Buffer held.Null)) (sym (view_is false (not_below store.views 64 over)))
+        (subst (λ (x : Store). Carries (answer.AcquiresView a) (gives_view false) x (given.Buffer held.Null)) (sym same_store)
+        (effected (answer.AcquiresView a) store (given.Buffer held.Null) shared s (BufferResult NoBuffer) refl refl refl (keeps_same store.heap shared)
+        (agrees_same p w store shared all h.store_agrees (beside others (beside (acquired_by s) nothing_acquired)) (beside_nothing others (acquired_by s))) (does.0, tt)))
+    acquires_view (held.Copy key) space views made = absurd made
+    acquires_view (held.View x) space views (below, here, pinned, more) =
+        let count = pins_at store.heap a + 1 in
+        let after : Store = record store { heap = with_pins store.heap a count; views = store.views + 1 } in
+        let same_store : record store { heap = space; views = views } ≡ after = λ i. record store { heap = pinned i; views = more i } in
+        let next : Acquired = beside others (beside (acquired_by s) (acquired_of (View does.1.name))) in
+        let within = name_within store.heap shared.heap a does.1.name h.store_agrees.heap does.1.there in
+        subst (λ (e : CallEffect). Carries (answer.AcquiresView a) e (record store { heap = space; views = views }) (given.Buffer (held.View x))) (sym (view_is true (lt-ltb store.views 64 below)))
+        (subst (λ (x' : Store). Carries (answer.AcquiresView a) (gives_view true) x' (given.Buffer (held.View x))) (sym same_store)
+        (effected (answer.AcquiresView a) after (given.Buffer (held.View x)) shared s (BufferResult (View does.1.name)) refl refl refl (keeps_pinned p w store shared all h.store_agrees a count)
+        (agrees_pinned p w store shared all h.store_agrees next a count (store.views + 1)
+        (taken_view store.heap store.elements store.views (length shared.heap) a does.1.name all next (beside_more others (acquired_by s) (View does.1.name)) h.store_agrees.heap.unique does.1.there within.1 h.store_agrees.buffers))
+        (does.0, subst (λ (y : ℕ). name_at (with_pins store.heap a count) y ≡ Some does.1.name) (sym here) (names_pinned store.heap a count a does.1.name does.1.there))))
+
+  -- ---- a release
+
+  module _ (r : Release) (effect : CallEffect) (does : Does (answer.Releases r) effect) (lists : brought.buffers.copies ≡ store.elements) (own : brought.buffers.owner ≡ k) where
+    abbrev x : Identifier
+    x = does.1.variable
+
+    abbrev n : ℕ
+    n = does.1.name
+
+    abbrev type : ElementType
+    type = does.1.holds.type
+
+    abbrev b : variable.Buffer
+    b = does.1.holds.buffer
+
+    abbrev at : lookup x s.variables ≡ Some (Elements type b)
+    at = does.1.holds.is
+
+    agrees : BufferAgrees store.heap store.elements k r.held b
+    agrees =
+        subst (λ (l : List (Option OwnedNumbers)). BufferAgrees store.heap l k r.held b) lists
+        (subst (λ (o : ℕ). BufferAgrees store.heap brought.buffers.copies o r.held b) own
+        (subst (λ (y : Buffer). BufferAgrees store.heap brought.buffers.copies brought.buffers.owner y b) (sym does.1.held) does.1.holds.agrees))
+
+    -- what buffers take without it
+    abbrev next : Acquired
+    next = beside others (beside (acquired_by (with_freed s x)) nothing_acquired)
+
+    -- as many values in memory
+    as_long : length (values_at store.heap r.object) ≡ length (values_of shared.heap n)
+    as_long =
+        let block : Named store.heap shared.heap r.object n = named store.heap shared.heap r.object n h.store_agrees.heap does.1.there in
+        let is : object_at shared.heap n ≡ Some block.agrees.object = ap (object_at shared.heap) (sym block.birth) ∙ block.agrees.is in
+        ap (λ (o : Option Block). length (option_map_or (λ (c : Block). c.values) o [])) block.at
+        ∙ agree_length store.heap block.block.values block.agrees.object.values block.agrees.values
+        ∙ sym (ap (λ (o : Option Object). length (option_map_or (λ (y : Object). y.values) o [])) is)
+
+    -- numbers that go back
+    record Back (y : Buffer) (c : variable.Buffer) : Type 0 where
+      pub zs : List ℤ
+      pub fit : AllByRecursion (FitsSigned w32) zs
+      pub many : length zs ≡ length (values_of shared.heap n)
+      pub space : copied_back store.elements r.object y store.heap ≡ written_back store.heap r.object zs
+      pub elements : copied_elements (Some (Elements type c)) ≡ zs
+      pub can : CanCopyBack store.elements r.object y store.heap
+
+    back_of : (y : Buffer) (c : variable.Buffer) → BufferAgrees store.heap store.elements k y c → IsCopyOf shared.heap n c → Back y c
+    back_of held.Null NoBuffer agree is = absurd is
+    back_of held.Null (Copy m zs) agree is = absurd agree
+    back_of held.Null (View m) agree is = absurd agree
+    back_of (held.Copy key) NoBuffer agree is = absurd agree
+    back_of (held.Copy key) (View m) agree is = absurd agree
+    back_of (held.View y) NoBuffer agree is = absurd agree
+    back_of (held.View y) (Copy m zs) agree is = absurd agree
+    back_of (held.View y) (View m) agree is = absurd is
+    back_of (held.Copy key) (Copy m zs) agree is = record {
+      zs = zs;
+      fit = is.0;
+      many = is.1;
+      space = ap (λ (o : Option OwnedNumbers). written_back store.heap r.object (option_map_or (λ (c : OwnedNumbers). c.numbers) o [])) agree;
+      elements = refl;
+      can = (owned k zs, agree, omega (arith, is.1, as_long));
+    }
+
+    back : copies_back r.mode ≡ true → Back r.held b
+    back e = back_of r.held b agrees (does.1.copy e)
+
+    pub can_copy_back : copies_back r.mode ≡ true → CanCopyBack store.elements r.object r.held store.heap
+    can_copy_back e = (back e).can
+
+    pub can_give_up : CanGiveUp r.held store.heap store.elements store.views
+    can_give_up = by_buffer r.held b agrees at
+      where
+        by_buffer : (y : Buffer) (c : variable.Buffer) → BufferAgrees store.heap store.elements k y c → lookup x s.variables ≡ Some (Elements type c) → CanGiveUp y store.heap store.elements store.views
+        by_buffer held.Null c agree there = tt
+        by_buffer (held.Copy key) NoBuffer agree there = absurd agree
+        by_buffer (held.Copy key) (Copy m zs) agree there = (owned k zs, agree)
+        by_buffer (held.Copy key) (View m) agree there = absurd agree
+        by_buffer (held.View y) NoBuffer agree there = absurd agree
+        by_buffer (held.View y) (Copy m zs) agree there = absurd agree
+        by_buffer (held.View y) (View m) agree there =
+            let within = name_within store.heap shared.heap y m h.store_agrees.heap agree in
+            counted_view store.heap store.elements store.views (length shared.heap) y m next all (beside_freed others s x type (View m) there) h.store_agrees.heap.unique agree within.1 h.store_agrees.buffers
+
+    pub slot_there : r.slot < length brought.buffers.slots
+    slot_there = slice_get_within brought.buffers.slots r.slot does.1.holds.held does.1.holds.there
+
+    -- ---- numbers go back
+
+    abbrev shared_back : Bool → Shared
+    shared_back true = record shared { heap = with_numbers shared.heap n (copied_elements (lookup x s.variables)) }
+    shared_back false = shared
+
+    abbrev store_back : Store
+    store_back = record store { heap = space_back store.elements r store.heap }
+
+    record Backed (t : Bool) : Type 0 where
+      pub stands : StoreAgrees p w store_back (shared_back t) all
+      pub keeps : Keeps store.heap shared store_back.heap (shared_back t)
+
+    backed : (t : Bool) → copies_back r.mode ≡ t → Backed t
+    backed false e =
+        let same : space_back store.elements r store.heap ≡ store.heap = ap (λ (t : Bool). if t then copied_back store.elements r.object r.held store.heap else store.heap) e in
+        record {
+          stands = subst (λ (space : Space). StoreAgrees p w (record store { heap = space }) shared all) (sym same) h.store_agrees;
+          keeps = subst (λ (space : Space). Keeps store.heap shared space shared) (sym same) (keeps_same store.heap shared);
+        }
+    backed true e =
+        let it = back e in
+        let words = map value.Number (map (cast_unsigned w32) it.zs) in
+        let same : space_back store.elements r store.heap ≡ written_back store.heap r.object it.zs = ap (λ (t : Bool). if t then copied_back store.elements r.object r.held store.heap else store.heap) e ∙ it.space in
+        let elements : copied_elements (lookup x s.variables) ≡ it.zs = ap copied_elements at ∙ it.elements in
+        let many : length (map Number it.zs) ≡ length (values_of shared.heap n) = length-map it.zs Number ∙ it.many in
+        let keeps = λ (ws : List Value). length_overlaid ws 0 words in
+        record {
+          stands =
+              subst (λ (space : Space). StoreAgrees p w (record store { heap = space }) (shared_back true) all) (sym same)
+              (subst (λ (zs : List ℤ). StoreAgrees p w (record store { heap = written_back store.heap r.object it.zs }) (record shared { heap = with_numbers shared.heap n zs }) all) (sym elements)
+              (values_agree p w store shared r.object (λ ws. overlaid ws 0 words) n (map Number it.zs) all h.store_agrees does.1.there keeps many
+              (λ ws agree. subst (λ (l : List Value). ValuesAgree store.heap l (map Number it.zs)) (sym (overlaid_whole ws words (whole it.zs ws agree it.many))) (words_agree store.heap it.zs it.fit))));
+          keeps =
+              subst (λ (space : Space). Keeps store.heap shared space (shared_back true)) (sym same)
+              (subst (λ (zs : List ℤ). Keeps store.heap shared (written_back store.heap r.object it.zs) (record shared { heap = with_numbers shared.heap n zs })) (sym elements)
+              (values_keep p w store shared r.object (λ ws. overlaid ws 0 words) n (map Number it.zs) all h.store_agrees does.1.there keeps many));
+        }
+      where
+        whole : (zs : List ℤ) (ws : List Value) → ValuesAgree store.heap ws (values_of shared.heap n) → length zs ≡ length (values_of shared.heap n) → length (map value.Number (map (cast_unsigned w32) zs)) ≡ length ws
+        whole zs ws agree many = length-map (map (cast_unsigned w32) zs) value.Number ∙ length-map zs (cast_unsigned w32) ∙ many ∙ sym (agree_length store.heap ws (values_of shared.heap n) agree)
+
+    -- ---- the buffer is given up
+
+    module _ (shared' : Shared) (before : StoreAgrees p w store_back shared' all) (kept : (y m : ℕ) → name_at store.heap y ≡ Some m → name_at store_back.heap y ≡ Some m) (space : Space) (elements : List (Option OwnedNumbers)) (views : ℕ) where
+      record LeavesStore : Type 0 where
+        pub stands : StoreAgrees p w (record store { heap = space; elements = elements; views = views }) shared' next
+        pub names : (y m : ℕ) → name_at store_back.heap y ≡ Some m → name_at space y ≡ Some m
+
+      given_up : (y : Buffer) (c : variable.Buffer) → BufferAgrees store.heap store.elements k y c → lookup x s.variables ≡ Some (Elements type c) → GivesUp y store_back.heap store.elements store.views space elements views → LeavesStore
+      given_up held.Null (Copy m zs) agree there gives = absurd agree
+      given_up held.Null (View m) agree there gives = absurd agree
+      given_up (held.Copy key) NoBuffer agree there gives = absurd agree
+      given_up (held.Copy key) (View m) agree there gives = absurd agree
+      given_up (held.View y) NoBuffer agree there gives = absurd agree
+      given_up (held.View y) (Copy m zs) agree there gives = absurd agree
+      given_up held.Null NoBuffer agree there (heap, lists', as_many) =
+          let same : record store { heap = space; elements = elements; views = views } ≡ store_back = λ i. record store { heap = heap i; elements = lists' i; views = as_many i } in
+          record {
+            stands = subst (λ (z : Store). StoreAgrees p w z shared' next) (sym same) (agrees_same p w store_back shared' all before next (lost (beside_freed others s x type NoBuffer there)));
+            names = λ z m e. ap (λ (t : Space). name_at t z) heap ∙ e;
+          }
+        where
+          lost : IsMoreBy NoBuffer next all → SameAcquired all next
+          lost by = record { copied = omega (arith, by.copied); many = omega (arith, by.many); viewed = λ m. omega (arith, by.viewed m) }
+      given_up (held.Copy key) (Copy m zs) agree there (heap, lists', as_many, fewer) =
+          let same : record store { heap = space; elements = elements; views = views } ≡ record store_back { elements = elements } = λ i. record store { heap = heap i; elements = elements; views = as_many i } in
+          record {
+            stands = subst (λ (z : Store). StoreAgrees p w z shared' next) (sym same)
+                (agrees_copies p w store_back shared' all before next elements
+                (left_copy store_back.heap elements store.elements store.views (length shared'.heap) k m zs next all (beside_freed others s x type (Copy m zs) there) (fewer (owned k zs) agree) before.buffers));
+            names = λ z i e. ap (λ (t : Space). name_at t z) heap ∙ e;
+          }
+      given_up (held.View y) (View m) agree there (heap, lists', as_many) =
+          let count = pins_at store_back.heap y - 1 in
+          let same : record store { heap = space; elements = elements; views = views } ≡ record store_back { heap = with_pins store_back.heap y count; views = store.views - 1 } = λ i. record store { heap = heap i; elements = lists' i; views = as_many i } in
+          let named_there = kept y m agree in
+          let within = name_within store_back.heap shared'.heap y m before.heap named_there in
+          record {
+            stands = subst (λ (z : Store). StoreAgrees p w z shared' next) (sym same)
+                (agrees_pinned p w store_back shared' all before next y count (store.views - 1)
+                (left_view store_back.heap store.elements store.views (length shared'.heap) y m next all (beside_freed others s x type (View m) there) before.heap.unique named_there within.1 before.buffers));
+            names = λ z i e. ap (λ (t : Space). name_at t z) heap ∙ names_pinned store_back.heap y count z i e;
+          }
+
+    -- ---- both
+
+    module _ (space : Space) (elements : List (Option OwnedNumbers)) (views : ℕ) where
+      abbrev after : Store
+      after = record store { heap = space; elements = elements; views = views }
+
+      -- nothing is given
+      no_result : (z : Store) → ResultAgrees w.classes z k given.Nothing kind NoResult
+      no_result z = subst (λ (g : ResultKind). GivenAgrees w.classes z.heap g given.Nothing NoResult) (sym does.0) tt
+
+      freed_as : (t : Bool) → copies_back r.mode ≡ t → (shared_back t).statics ≡ shared.statics → GivesUp r.held store_back.heap store.elements store.views space elements views → Carries (answer.Releases r) (Leaves [] (shared_back t) (with_freed s x) NoResult) after given.Nothing
+      freed_as t e statics gives =
+          let first = backed t e in
+          let second = given_up (shared_back t) first.stands first.keeps.names space elements views r.held b agrees at gives in
+          effected (answer.Releases r) after given.Nothing (shared_back t) (with_freed s x) NoResult refl refl statics
+          (record { names = λ y m at'. second.names y m (first.keeps.names y m at'); statics = first.keeps.statics; shapes = first.keeps.shapes; room = first.keeps.room; few = first.keeps.few })
+          second.stands (no_result after)
+
+      pub releases : MayGiveUp (gives_up r.mode) r.held store_back.heap store.elements store.views space elements views → Carries (answer.Releases r) effect after given.Nothing
+      releases gives = subst (λ (e : CallEffect). Carries (answer.Releases r) e after given.Nothing) (sym does.1.is) (by_mode does.1.mode does.1.coded)
+        where
+          by_mode : (m : ReleaseMode) → r.mode ≡ mode_code m → Carries (answer.Releases r) (release_effect shared s n x m) after given.Nothing
+          by_mode CopyBackAndFree coded = freed_as true (ap copies_back coded) refl (subst (λ (t : Bool). MayGiveUp t r.held store_back.heap store.elements store.views space elements views) (ap gives_up coded) gives)
+          by_mode FreeUncopied coded = freed_as false (ap copies_back coded) refl (subst (λ (t : Bool). MayGiveUp t r.held store_back.heap store.elements store.views space elements views) (ap gives_up coded) gives)
+          by_mode CopyBack coded =
+              let stays = subst (λ (t : Bool). MayGiveUp t r.held store_back.heap store.elements store.views space elements views) (ap gives_up coded) gives in
+              let same : after ≡ store_back = λ i. record store { heap = stays.0 i; elements = stays.1 i; views = stays.2 i } in
+              let first = backed true (ap copies_back coded) in
+              subst (λ (z : Store). Carries (answer.Releases r) (Leaves [] (shared_back true) s NoResult) z given.Nothing) (sym same)
+              (effected (answer.Releases r) store_back given.Nothing (shared_back true) s NoResult refl refl refl first.keeps
+              (agrees_same p w store_back (shared_back true) all first.stands (beside others (beside (acquired_by s) nothing_acquired)) (beside_nothing others (acquired_by s))) (no_result store_back))
+
+-- ---- other lists
+
+-- a list more leaves them
+pub copies_more : (k : ℕ) (zs : List ℤ) (a : ℕ) (b : Buffer) (before after : List (Option OwnedNumbers)) → MakesCopy k zs before b after → CopiesStay (answer.AcquiresCopy a) before after
+copies_more k zs a held.Null before after (over, same) key c there left = ap (λ (l : List (Option OwnedNumbers)). value_at l key) same ∙ there
+copies_more k zs a (held.Copy new) before after (within, gains, more) key c there left =
+    gains.others key (λ e. let none : value_at before key ≡ None = ap (value_at before) e ∙ gains.was_free in let both : Some c ≡ None = sym there ∙ none in absurd (cc)) ∙ there
+copies_more k zs a (held.View y) before after made key c there left = absurd made
+
+-- a list less does
+pub copies_fewer : (r : Release) (heap : Space) (before : List (Option OwnedNumbers)) (views : ℕ) (space : Space) (after : List (Option OwnedNumbers)) (views_after : ℕ) → MayGiveUp (gives_up r.mode) r.held heap before views space after views_after → CopiesStay (answer.Releases r) before after
+copies_fewer r heap before views space after views_after may key c there left = by_test (gives_up r.mode) refl may
+  where
+    by_held : (y : Buffer) → y ≢ held.Copy key → GivesUp y heap before views space after views_after → value_at after key ≡ Some c
+    by_held held.Null other gives = ap (λ (l : List (Option OwnedNumbers)). value_at l key) gives.1 ∙ there
+    by_held (held.Copy old) other gives = ap (λ (l : List (Option OwnedNumbers)). value_at l key) gives.1 ∙ set_other before old key None (λ e. other (ap held.Copy (sym e))) ∙ there
+    by_held (held.View y) other gives = ap (λ (l : List (Option OwnedNumbers)). value_at l key) gives.1 ∙ there
+
+    by_test : (t : Bool) → gives_up r.mode ≡ t → MayGiveUp t r.held heap before views space after views_after → value_at after key ≡ Some c
+    by_test true e gives = by_held r.held (left e) gives
+    by_test false e stays = ap (λ (l : List (Option OwnedNumbers)). value_at l key) stays.1 ∙ there

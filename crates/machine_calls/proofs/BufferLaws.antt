@@ -1,0 +1,160 @@
+-- What buffers in slots stand for, once a call has been carried out.
+use Rattle.std.proofs.Common.{◌≡◌, ◌≢◌, ℕ, zero, suc, Bool, true, false, List, [], ◌∷◌, Option, Some, None, refl, sym, ap, ◌∙◌, subst, inl, inr, ◌⊎◌}
+use Rattle.std.specs.Prelude.{if◌then◌else◌, slice_get, slice_set}
+use Rattle.std.specs.List.{AllZip}
+use Rattle.class_rules.specs.Class.{Classes}
+use Rattle.heap.specs.Heap.{Space, name_at}
+use Rattle.jni.specs.Prototype.{ResultKind}
+use Rattle.semantics.specs.CallEffects.{CallEffect}
+use Rattle.semantics.specs.Thread.{Shared, Thread}
+use Rattle.semantics.specs.Variable as source
+use Rattle.semantics.specs.Variable.{NoBuffer, Copy, View}
+use Rattle.tables.specs.Elements.{OwnedNumbers, owned}
+use Rattle.tables.specs.Keys.{value_at}
+use Rattle.tables.specs.Locals.{LocalTable}
+use Rattle.machine_calls.specs.declared.answer.Answer.{Answer}
+use Rattle.machine_calls.specs.declared.answer.Answer.TheVariants as answer
+use Rattle.machine_calls.specs.declared.answer.Given.TheVariants as given
+use Rattle.machine_calls.specs.declared.buffer.Buffer.{Buffer}
+use Rattle.machine_calls.specs.declared.buffer.Buffer.TheVariants as held
+use Rattle.machine_calls.specs.declared.buffer.Release.{Release}
+use Rattle.machine_calls.specs.Answers.{Brought, IsAnswer}
+use Rattle.machine_calls.specs.Buffers.{BufferAgrees, BuffersAgree, KeepsCopies, gives_up}
+use Rattle.machine_calls.specs.CarriedOut.{CopiesStay, IsNewCopy, buffers_after}
+use Rattle.machine_calls.proofs.KeyLaws.{set_cases}
+
+-- ---- one slot after another
+
+-- a key in a slot has a list
+copy_there : (space : Space) (copies : List (Option OwnedNumbers)) (k : ℕ) (b : Buffer) (c : source.Buffer) (key : ℕ) → b ≡ held.Copy key → BufferAgrees space copies k b c → (l : OwnedNumbers) × (value_at copies key ≡ Some l) × (l.owner ≡ k)
+copy_there space copies k held.Null c key is h = absurd (cc)
+copy_there space copies k (held.View a) c key is h = absurd (cc)
+copy_there space copies k (held.Copy old) NoBuffer key is h = absurd h
+copy_there space copies k (held.Copy old) (View n) key is h = absurd h
+copy_there space copies k (held.Copy old) (Copy n zs) key is h = let same : old ≡ key = cc in (owned k zs, ap (value_at copies) (sym same) ∙ h, refl)
+
+pub own_copy : (space : Space) (copies : List (Option OwnedNumbers)) (k : ℕ) (slots : List Buffer) (buffers : List source.Buffer) (i key : ℕ) → AllZip (BufferAgrees space copies k) slots buffers → slice_get slots i ≡ Some (held.Copy key) → (l : OwnedNumbers) × (value_at copies key ≡ Some l) × (l.owner ≡ k)
+own_copy space copies k [] buffers i key h at = absurd (cc)
+own_copy space copies k (b ∷ slots) [] i key h at = absurd h
+own_copy space copies k (b ∷ slots) (c ∷ buffers) zero key h at = copy_there space copies k b c key (let same : b ≡ held.Copy key = cc in same) h.0
+own_copy space copies k (b ∷ slots) (c ∷ buffers) (suc i) key h at = own_copy space copies k slots buffers i key h.1 at
+
+-- what a slot stands for
+pub slot_agrees : (space : Space) (copies : List (Option OwnedNumbers)) (k : ℕ) (slots : List Buffer) (buffers : List source.Buffer) (i : ℕ) (c : source.Buffer) → AllZip (BufferAgrees space copies k) slots buffers → slice_get buffers i ≡ Some c → (b : Buffer) × (slice_get slots i ≡ Some b) × BufferAgrees space copies k b c
+slot_agrees space copies k [] [] i c h at = absurd (cc)
+slot_agrees space copies k [] (d ∷ buffers) i c h at = absurd h
+slot_agrees space copies k (b ∷ slots) [] i c h at = absurd h
+slot_agrees space copies k (b ∷ slots) (d ∷ buffers) zero c h at = let same : d ≡ c = cc in (b, refl, subst (BufferAgrees space copies k b) same h.0)
+slot_agrees space copies k (b ∷ slots) (d ∷ buffers) (suc i) c h at = slot_agrees space copies k slots buffers i c h.1 at
+
+module _ (space after : Space) (copies left : List (Option OwnedNumbers)) (k : ℕ) (names : (a n : ℕ) → name_at space a ≡ Some n → name_at after a ≡ Some n) where
+  pub buffer_stays : (b : Buffer) (c : source.Buffer) → ((key : ℕ) (l : OwnedNumbers) → b ≡ held.Copy key → value_at copies key ≡ Some l → value_at left key ≡ Some l) → BufferAgrees space copies k b c → BufferAgrees after left k b c
+  buffer_stays held.Null NoBuffer kept h = h
+  buffer_stays held.Null (Copy n zs) kept h = h
+  buffer_stays held.Null (View n) kept h = h
+  buffer_stays (held.Copy key) NoBuffer kept h = h
+  buffer_stays (held.Copy key) (Copy n zs) kept h = kept key (owned k zs) refl h
+  buffer_stays (held.Copy key) (View n) kept h = h
+  buffer_stays (held.View a) NoBuffer kept h = h
+  buffer_stays (held.View a) (Copy n zs) kept h = h
+  buffer_stays (held.View a) (View n) kept h = names a n h
+
+  all_stay : (slots : List Buffer) (buffers : List source.Buffer) → ((i key : ℕ) (l : OwnedNumbers) → slice_get slots i ≡ Some (held.Copy key) → value_at copies key ≡ Some l → value_at left key ≡ Some l)
+      → AllZip (BufferAgrees space copies k) slots buffers → AllZip (BufferAgrees after left k) slots buffers
+  all_stay [] [] kept h = h
+  all_stay [] (c ∷ buffers) kept h = h
+  all_stay (b ∷ slots) [] kept h = h
+  all_stay (b ∷ slots) (c ∷ buffers) kept h =
+      (buffer_stays b c (λ key l is. kept 0 key l (ap (λ (y : Buffer). Some y) is)) h.0, all_stay slots buffers (λ i key l at. kept (suc i) key l at) h.1)
+
+  -- where the lists of all slots stay
+  pub buffers_stay : (slots : List Buffer) (buffers : List source.Buffer) → BuffersAgree space copies k slots buffers → ((i key : ℕ) (l : OwnedNumbers) → slice_get slots i ≡ Some (held.Copy key) → value_at copies key ≡ Some l → value_at left key ≡ Some l)
+      → BuffersAgree after left k slots buffers
+  buffers_stay slots buffers h kept = record { agree = all_stay slots buffers kept h.agree; apart = h.apart }
+
+  all_but : (slots : List Buffer) (buffers : List source.Buffer) (i : ℕ) → ((j key : ℕ) (l : OwnedNumbers) → j ≢ i → slice_get slots j ≡ Some (held.Copy key) → value_at copies key ≡ Some l → value_at left key ≡ Some l)
+      → AllZip (BufferAgrees space copies k) slots buffers → AllZip (BufferAgrees after left k) (slice_set slots i held.Null) (slice_set buffers i NoBuffer)
+  all_but [] [] i kept h = h
+  all_but [] (c ∷ buffers) i kept h = absurd h
+  all_but (b ∷ slots) [] i kept h = absurd h
+  all_but (b ∷ slots) (c ∷ buffers) zero kept h = (tt, all_stay slots buffers (λ j key l at. kept (suc j) key l (λ e. cc) at) h.1)
+  all_but (b ∷ slots) (c ∷ buffers) (suc i) kept h = (
+    buffer_stays b c (λ key l is. kept 0 key l (λ e. cc) (ap (λ (y : Buffer). Some y) is)) h.0,
+    all_but slots buffers i (λ j key l other at. kept (suc j) key l (λ e. other cc) at) h.1,
+  )
+
+  -- where those of all slots but one do, which becomes NULL
+  pub buffer_ended : (slots : List Buffer) (buffers : List source.Buffer) (i : ℕ) → BuffersAgree space copies k slots buffers
+      → ((j key : ℕ) (l : OwnedNumbers) → j ≢ i → slice_get slots j ≡ Some (held.Copy key) → value_at copies key ≡ Some l → value_at left key ≡ Some l) → BuffersAgree after left k (slice_set slots i held.Null) (slice_set buffers i NoBuffer)
+  buffer_ended slots buffers i h kept = record {
+    agree = all_but slots buffers i kept h.agree;
+    apart = λ j m key at_j at_m. by_cases j m key (set_cases slots i j held.Null (held.Copy key) at_j) (set_cases slots i m held.Null (held.Copy key) at_m);
+  }
+    where
+      no_copy : (key : ℕ) → held.Null ≡ held.Copy key → ⊥
+      no_copy key e = cc
+
+      by_cases : (j m key : ℕ) → ((j ≡ i) × (held.Null ≡ held.Copy key)) ⊎ ((j ≢ i) × (slice_get slots j ≡ Some (held.Copy key))) → ((m ≡ i) × (held.Null ≡ held.Copy key)) ⊎ ((m ≢ i) × (slice_get slots m ≡ Some (held.Copy key))) → j ≡ m
+      by_cases j m key (inl (same, none)) o = absurd (no_copy key none)
+      by_cases j m key (inr (other, at)) (inl (same, none)) = absurd (no_copy key none)
+      by_cases j m key (inr (other, at)) (inr (away, is)) = h.apart j m key at is
+
+  -- the source's buffers once an answer is carried out
+  abbrev pub source_after : Answer → List source.Buffer → List source.Buffer
+  source_after (answer.Releases r) buffers = if gives_up r.mode then slice_set buffers r.slot NoBuffer else buffers
+  source_after a buffers = buffers
+
+  -- an answer leaves the others
+  pub buffers_left : (a : Answer) (slots : List Buffer) (buffers : List source.Buffer) → BuffersAgree space copies k slots buffers → CopiesStay a copies left → ((r : Release) → a ≡ answer.Releases r → slice_get slots r.slot ≡ Some r.held)
+      → BuffersAgree after left k (buffers_after a slots) (source_after a buffers)
+  buffers_left (answer.Releases r) slots buffers h stay there = by_test (gives_up r.mode) refl
+    where
+      at : slice_get slots r.slot ≡ Some r.held
+      at = there r refl
+
+      by_test : (t : Bool) → gives_up r.mode ≡ t → BuffersAgree after left k (if t then slice_set slots r.slot held.Null else slots) (if t then slice_set buffers r.slot NoBuffer else buffers)
+      by_test false e = buffers_stay slots buffers h (λ i key l found has. stay key l has (λ up. absurd (let clash : false ≡ true = sym e ∙ up in cc)))
+      by_test true e = buffer_ended slots buffers r.slot h (λ j key l other found has. stay key l has (λ up is. other (h.apart j r.slot key found (at ∙ ap (λ (y : Buffer). Some y) is))))
+  buffers_left a slots buffers h stay there = buffers_stay slots buffers h (λ i key l found has. stay key l has tt)
+
+-- ---- a buffer is given
+
+set_zip : {A B : Type 0} (R : A → B → Type 0) (xs : List A) (ys : List B) (i : ℕ) (x : A) (y : B) → AllZip R xs ys → R x y → AllZip R (slice_set xs i x) (slice_set ys i y)
+set_zip R [] [] i x y h new = h
+set_zip R [] (b ∷ ys) i x y h new = absurd h
+set_zip R (a ∷ xs) [] i x y h new = absurd h
+set_zip R (a ∷ xs) (b ∷ ys) zero x y h new = (new, h.1)
+set_zip R (a ∷ xs) (b ∷ ys) (suc i) x y h new = (h.0, set_zip R xs ys i x y h.1 new)
+
+-- no slot has the key of a new list
+pub new_apart : (space : Space) (copies : List (Option OwnedNumbers)) (k : ℕ) (slots : List Buffer) (buffers : List source.Buffer) (b : Buffer) → BuffersAgree space copies k slots buffers → IsNewCopy copies (given.Buffer b) → (j key : ℕ) → b ≡ held.Copy key → slice_get slots j ≡ Some (held.Copy key) → ⊥
+new_apart space copies k slots buffers held.Null h new j key is at = absurd (cc)
+new_apart space copies k slots buffers (held.View a) h new j key is at = absurd (cc)
+new_apart space copies k slots buffers (held.Copy fresh) h new j key is at =
+    let same : fresh ≡ key = cc in
+    let old = own_copy space copies k slots buffers j key h.agree at in
+    absurd (let both : Some old.0 ≡ None = sym old.1 ∙ ap (value_at copies) (sym same) ∙ new in cc)
+
+pub buffer_put : (space : Space) (copies : List (Option OwnedNumbers)) (k : ℕ) (slots : List Buffer) (buffers : List source.Buffer) (i : ℕ) (b : Buffer) (c : source.Buffer) → BuffersAgree space copies k slots buffers → BufferAgrees space copies k b c
+    → ((j key : ℕ) → b ≡ held.Copy key → slice_get slots j ≡ Some (held.Copy key) → ⊥) → BuffersAgree space copies k (slice_set slots i b) (slice_set buffers i c)
+buffer_put space copies k slots buffers i b c h new fresh = record {
+  agree = set_zip (BufferAgrees space copies k) slots buffers i b c h.agree new;
+  apart = λ j m key at_j at_m. by_cases j m key (set_cases slots i j b (held.Copy key) at_j) (set_cases slots i m b (held.Copy key) at_m);
+}
+  where
+    by_cases : (j m key : ℕ) → ((j ≡ i) × (b ≡ held.Copy key)) ⊎ ((j ≢ i) × (slice_get slots j ≡ Some (held.Copy key))) → ((m ≡ i) × (b ≡ held.Copy key)) ⊎ ((m ≢ i) × (slice_get slots m ≡ Some (held.Copy key))) → j ≡ m
+    by_cases j m key (inl (same, is)) (inl (too, was)) = same ∙ sym too
+    by_cases j m key (inl (same, is)) (inr (away, at)) = absurd (fresh m key is at)
+    by_cases j m key (inr (away, at)) (inl (same, is)) = absurd (fresh j key is at)
+    by_cases j m key (inr (other, at)) (inr (away, is)) = h.apart j m key at is
+
+-- ---- other threads
+
+-- a release ends a list of its thread alone
+pub keeps_others : (classes : Classes) (brought : Brought) (space : Space) (locals : LocalTable) (kind : ResultKind) (s : Shared) (t : Thread) (a : Answer) (effect : CallEffect) (left : List (Option OwnedNumbers)) → IsAnswer classes brought space locals kind s t a effect
+    → CopiesStay a brought.buffers.copies left → KeepsCopies brought.buffers.owner brought.buffers.copies left
+keeps_others classes brought space locals kind s t (answer.Releases r) effect left does stay key c has other =
+    stay key c has (λ up is.
+    let own = copy_there space brought.buffers.copies brought.buffers.owner does.1.holds.held does.1.holds.buffer key (sym does.1.held ∙ is) does.1.holds.agrees in
+    other (let both : Some c ≡ Some own.0 = sym has ∙ own.1 in let same : c ≡ own.0 = cc in ap (λ (l : OwnedNumbers). l.owner) same ∙ own.2))
+keeps_others classes brought space locals kind s t a effect left does stay key c has other = stay key c has tt

@@ -1,0 +1,81 @@
+use Rattle.std.proofs.Common.{◌<◌, length, Result, Ok, Err, ap, subst}
+use Rattle.std.specs.Prelude.{IfOk}
+use Rattle.machine_calls.specs.declared.answer.Answer.{Answer}
+use Rattle.machine_calls.specs.declared.answer.Answer.TheVariants as answer
+use Rattle.machine_calls.specs.Answers.{IsAnswer}
+use Rattle.machine_calls.specs.Buffers.{HeldBuffers, acquired_by, beside}
+use Rattle.machine_calls.proofs.BufferCarries as buffers
+use Rattle.machine_calls.proofs.CarryOuts as carries
+use Rattle.machine_calls.proofs.Taken.{few_pins}
+use Rattle.machine_calls.proofs.carry_out.carry_out_buffers.Goals as goal
+
+pub acquire_view-buffer-requires-clause-pins : goal.acquire_view-buffer-requires-clause-pins
+acquire_view-buffer-requires-clause-pins c =
+    let r = c.requires.possible in
+    let old = c.args.store.now in
+    let view = (subst (λ (a : Answer). IsAnswer c.args.world.now.classes r.2 old.heap c.args.locals.now r.1 r.4 r.5 a r.6) c.in-AcquiresView.is r.8).1 in
+    few_pins old.heap old.elements old.views (length r.4.heap) c.in-AcquiresView.object view.name (beside r.3 (acquired_by r.5)) r.7.store_agrees.buffers view.there
+
+pub release-requires-clause-back : goal.release-requires-clause-back
+release-requires-clause-back c =
+    let r = c.requires.possible in
+    let w = c.args.world.now in
+    let old = c.args.store.now in
+    let does = subst (λ (a : Answer). IsAnswer w.classes r.2 old.heap c.args.locals.now r.1 r.4 r.5 a r.6) c.in-Releases.is r.8 in
+    buffers.can_copy_back r.0 w old c.args.pending.now c.args.locals.now r.1 r.3 c.args.thread r.4 r.5 r.7 r.2 c.in-Releases.released r.6 does (ap (λ (b : HeldBuffers). b.copies) r.9) (ap (λ (b : HeldBuffers). b.owner) r.9)
+
+pub release-requires-clause-held : goal.release-requires-clause-held
+release-requires-clause-held c =
+    let r = c.requires.possible in
+    let w = c.args.world.now in
+    let old = c.args.store.now in
+    let does = subst (λ (a : Answer). IsAnswer w.classes r.2 old.heap c.args.locals.now r.1 r.4 r.5 a r.6) c.in-Releases.is r.8 in
+    buffers.can_give_up r.0 w old c.args.pending.now c.args.locals.now r.1 r.3 c.args.thread r.4 r.5 r.7 r.2 c.in-Releases.released r.6 does (ap (λ (b : HeldBuffers). b.copies) r.9) (ap (λ (b : HeldBuffers). b.owner) r.9)
+
+pub release-requires-clause-slot : goal.release-requires-clause-slot
+release-requires-clause-slot c =
+    let r = c.requires.possible in
+    let w = c.args.world.now in
+    let old = c.args.store.now in
+    let does = subst (λ (a : Answer). IsAnswer w.classes r.2 old.heap c.args.locals.now r.1 r.4 r.5 a r.6) c.in-Releases.is r.8 in
+    subst (λ (b : HeldBuffers). c.in-Releases.released.slot < length b.slots) r.9
+    (buffers.slot_there r.0 w old c.args.pending.now c.args.locals.now r.1 r.3 c.args.thread r.4 r.5 r.7 r.2 c.in-Releases.released r.6 does (ap (λ (b : HeldBuffers). b.copies) r.9) (ap (λ (b : HeldBuffers). b.owner) r.9))
+
+pub returns-in_ok-buffer-in-AcquiresCopy-clause-carried : goal.returns-in_ok-buffer-in-AcquiresCopy-clause-carried
+returns-in_ok-buffer-in-AcquiresCopy-clause-carried c p kind brought others shared s effect h does buffers_are uses =
+    let w = c.args.world.now in
+    let old = c.args.store.now in
+    let a = c.in-AcquiresCopy.object in
+    carries.by_answer p w old.heap c.args.locals.now kind others c.args.thread shared s effect brought c.args.answer (answer.AcquiresCopy a) c.in-AcquiresCopy.is _ _ _ _ _ (λ acquires.
+    buffers.acquires_copy p w old c.args.pending.now c.args.locals.now kind others c.args.thread shared s h brought a effect acquires uses c.in_ok-buffer-in-AcquiresCopy.buffer c.acquire_copy.new.elements c.in_ok-buffer-in-AcquiresCopy.ensures.ok) does
+
+pub returns-in-AcquiresView-clause-carried : goal.returns-in-AcquiresView-clause-carried
+returns-in-AcquiresView-clause-carried c p kind brought others shared s effect h does buffers_are uses =
+    let w = c.args.world.now in
+    let old = c.args.store.now in
+    let a = c.in-AcquiresView.object in
+    carries.by_answer p w old.heap c.args.locals.now kind others c.args.thread shared s effect brought c.args.answer (answer.AcquiresView a) c.in-AcquiresView.is _ _ _ _ _ (λ acquires.
+    buffers.acquires_view p w old c.args.pending.now c.args.locals.now kind others c.args.thread shared s h brought a effect acquires uses c.acquire_view-buffer.result c.acquire_view-buffer.new.heap c.acquire_view-buffer.new.views c.acquire_view-buffer.ensures) does
+
+pub returns-in-Releases-clause-carried : goal.returns-in-Releases-clause-carried
+returns-in-Releases-clause-carried c p kind brought others shared s effect h does buffers_are uses =
+    let w = c.args.world.now in
+    let old = c.args.store.now in
+    let r = c.in-Releases.released in
+    carries.by_answer p w old.heap c.args.locals.now kind others c.args.thread shared s effect brought c.args.answer (answer.Releases r) c.in-Releases.is _ _ _ _ _ (λ releases.
+    buffers.releases p w old c.args.pending.now c.args.locals.now kind others c.args.thread shared s h brought r effect releases (ap (λ (b : HeldBuffers). b.copies) buffers_are) (ap (λ (b : HeldBuffers). b.owner) buffers_are) c.release.new.heap c.release.new.elements c.release.new.views c.release.ensures.released) does
+
+-- what is told of an answer of references
+told_on : {T E : Type 0} (P Q : T → Type 0) (r : Result T E) → ((x : T) → P x → Q x) → IfOk r P → IfOk r Q
+told_on P Q (Ok x) f h = f x h
+told_on P Q (Err e) f h = h
+
+pub returns-in_default-clause-carried : goal.returns-in_default-clause-carried
+returns-in_default-clause-carried c =
+    told_on _ _ c.carry_out_references.result (λ carried told p kind brought others shared s effect h does buffers_are uses. told p kind brought others c.args.thread shared s effect h does) c.carry_out_references.ensures.carried
+
+pub returns-in_default-clause-new_copy : goal.returns-in_default-clause-new_copy
+returns-in_default-clause-new_copy c = told_on _ _ c.carry_out_references.result (λ carried told. told c.args.store.now.elements) c.carry_out_references.ensures.new_copy
+
+pub carry_out_references-requires-clause-possible : goal.carry_out_references-requires-clause-possible
+carry_out_references-requires-clause-possible c = let r = c.requires.possible in (r.0, r.1, r.2, r.3, r.4, r.5, r.6, r.7, r.8)

@@ -1,0 +1,608 @@
+-- What the slots show once an answer is carried out, and `isCopy` is told.
+use Rattle.std.proofs.Common.{◌≡◌, ◌≢◌, ◌⊎◌, inl, inr, take, drop, ℕ, ℤ, ◌≤◌, Bool, true, false, List, [], ◌∷◌, length, Option, Some, None, refl, sym, ap, ◌∙◌, subst, arith, ⊎_elim}
+use Rattle.std.specs.Prelude.{slice_get, slice_set, nat_le, nat_lt, if◌then◌else◌}
+use Rattle.std.proofs.lemmas.Bool.{cond_both}
+use Rattle.std.specs.List.{AllByRecursion, AllZip}
+use Rattle.std.proofs.lemmas.List.{length-map, length-take}
+use Rattle.std.proofs.lemmas.Option.{slice_get_within}
+use Rattle.base.specs.Bytes.{Identifier, lookup}
+use Rattle.base.specs.Element.{ElementType}
+use Rattle.class_rules.specs.BuiltIns.{array_index_out_of_bounds, string_index_out_of_bounds}
+use Rattle.class_rules.specs.Class.{Classes}
+use Rattle.heap.specs.Heap.{Space, values_at}
+use Rattle.heap.specs.declared.value.Value.{Value}
+use Rattle.jni.specs.Access.{Access, ElementsCopy, ArrayView, CharsCopy, CharsView}
+use Rattle.jni.specs.JniFunction.{JniFunction, DeleteGlobalRef, DeleteLocalRef, EnsureLocalCapacity, FindClass, GetArrayRegion, GetBuffer, GetFieldID, GetObjectArrayElement, GetStaticFieldID, GetStringRegion, NewArray, NewObjectArray, PushLocalFrame, ReleaseBuffer, SetArrayRegion, SetField, SetObjectArrayElement, SetObjectField, SetStaticField, SetStaticObjectField, prototype}
+use Rattle.jni.specs.Prototype.{ParameterKind, BufferVariable, IsCopy, Mode, ResultKind, GivesNothing, owner}
+use Rattle.semantics.specs.Arguments.{Actual, ReleaseMode, CopyBackAndFree, CopyBack, FreeUncopied, mode_given, object_given, variable_given, variable_in_actual, address_given, address_in_actual}
+use Rattle.semantics.specs.CallEffects.{CallEffect, CallResult, NoResult, NullResult, ScalarResult, ReferenceResult, FieldResult, BufferResult, begun_with, freed, release_effect}
+use Rattle.semantics.specs.CallStep.{makes_objects, tell_copy}
+use Rattle.semantics.specs.CallTable.{call_effect}
+use Rattle.semantics.specs.Effect.{effect_of}
+use Rattle.semantics.specs.Task.{Task}
+use Rattle.semantics.specs.Thread as source
+use Rattle.semantics.specs.Thread.{BuffersInUse, Shared, sight_of}
+use Rattle.semantics.specs.Value.{Flag}
+use Rattle.semantics.specs.Variable as source_variable
+use Rattle.semantics.specs.Variable.{Variable, Variables, Scalar, Elements, NoBuffer, Copy, View, assign, change}
+use Rattle.semantics.specs.World.{World}
+use Rattle.semantics_safety.specs.Owners.{Owners}
+use Rattle.code.specs.Call.{Call, call_view}
+use Rattle.code.specs.Depth.{Listing}
+use Rattle.code.specs.Effect.{truth_word}
+use Rattle.code.specs.declared.instr.Call.{Call as InMemory}
+use Rattle.code.specs.declared.instr.LocalArray.{LocalArray}
+use Rattle.code.specs.declared.instr.Operand.{Operand}
+use Rattle.code.specs.declared.instr.Operand.TheVariants as operand
+use Rattle.code.specs.declared.instr.ReleaseMode.{ReleaseMode as ModeOfCode}
+use Rattle.type_rules.specs.Sorts as sort
+use Rattle.type_rules.specs.Sorts.{Buffer}
+use Rattle.code_meaning.specs.Coding.{mode_code}
+use Rattle.code_meaning.specs.Does.{ActualFits, IsOperand, OperandFits}
+use Rattle.code_meaning.specs.Fits.{HaveOwnSlots}
+use Rattle.code_meaning.specs.Layout.{Known, Slot}
+use Rattle.code_meaning.specs.Lowered.{Lowered}
+use Rattle.code_meaning.specs.Slots.{Shows, Slots, Visible, held_buffer, visible_to, word_of}
+use Rattle.code_meaning.specs.Stands.{IsBufferResult}
+use Rattle.code_meaning.proofs.SlotLaws.{fewer_shown, known_among, shows_buffer_again, shows_set}
+use Rattle.tables.specs.Elements.{OwnedNumbers}
+use Rattle.machine_calls.specs.declared.activation.Activation.{Activation}
+use Rattle.machine_calls.specs.declared.answer.Answer.{Answer}
+use Rattle.machine_calls.specs.declared.answer.Answer.TheVariants as answers
+use Rattle.machine_calls.specs.declared.answer.Given.{Given}
+use Rattle.machine_calls.specs.declared.answer.Given.TheVariants as given
+use Rattle.machine_calls.specs.declared.array_region.ArrayRegion.{ArrayRegion}
+use Rattle.machine_calls.specs.declared.buffer.Buffer.{Buffer as HeldBuffer}
+use Rattle.machine_calls.specs.declared.buffer.Buffer.TheVariants as held
+use Rattle.machine_calls.specs.declared.buffer.Release.{Release}
+use Rattle.machine_calls.specs.declared.store.Store.{Store}
+use Rattle.machine_calls.specs.declared.trap.Trap.TheVariants.{OutOfRange}
+use Rattle.machine_calls.specs.Answers.{IsAnswer, is_halt}
+use Rattle.machine_calls.specs.Asked.{brought_by, buffers_of, references_of, scene_of}
+use Rattle.machine_calls.specs.Buffers.{Acquired, AreViewed, BuffersAgree, gives_up}
+use Rattle.machine_calls.specs.CarriedOut.{LeavesCopy, ResultAgrees, buffers_after, result_after, slots_after, variables_left}
+use Rattle.machine_calls.specs.Copies.{overlaid, word_of as word_in, words_of}
+use Rattle.machine_calls.specs.Given.{operand_of}
+use Rattle.machine_calls.specs.Scenes.{Scene}
+use Rattle.machine_calls.specs.WorkedOut.{IsWorkedOut, buffer_there, copies_in, copies_out, deletes, deletes_global, local_array, mode_of, region, releases, slot_of, stores_there, writes_there}
+use Rattle.machine_calls.proofs.BufferOperands.{given_buffer, given_mode}
+use Rattle.machine_calls.proofs.KeyLaws.{set_cases}
+use Rattle.machine_steps.specs.Executes.{in_use_with}
+use Rattle.machine_steps.specs.Invoked.{AtCall}
+use Rattle.machine_steps.specs.Received.{told_slot, told_with}
+use Rattle.machine_steps.specs.SlotsHold.{IsSmallCopy, slots_of}
+use Rattle.machine_steps.proofs.Acquisitions.{taken_by}
+use Rattle.machine_steps.proofs.AskedCalls.{CalledAs, called as called_at, r as ready_at}
+use Rattle.machine_steps.proofs.Calls.{Ready}
+use Rattle.machine_steps.proofs.Changes.{buffer_by_kind, change_is, is_buffer_set, is_set}
+use Rattle.machine_steps.proofs.CopiedArrays.{AreKept, Copied, Released, array_known, copied_taken, kept_or_copied, meant_after, shows_copied}
+use Rattle.machine_steps.proofs.OwnersLeft.{leaves_owners, left_own}
+use Rattle.machine_steps.proofs.Receives.{IsNoBuffer, no_buffer, nothing_told}
+use Rattle.machine_steps.proofs.SlotBuffers.{all_put, buffers_nulled}
+use Rattle.machine_steps.proofs.ViewCounts.{views_freed, views_same}
+
+-- ---- the flag for `isCopy`
+
+module _ (code : Listing) (known : Known) (place : ℕ) (stack : List ℕ) (slots : Slots) (visible : Visible) where
+  -- an operand is the address of a flag, and this is its slot; or NULL
+  record IsFlag (o : Operand) (a : Actual) : Type 0 where
+    slot : ℕ
+    variable : Identifier
+    told : told_slot (Some o) ≡ Some slot
+    address : address_in_actual (Some a) ≡ Some variable
+    there : lookup variable known ≡ Some (record { sort = sort.Flag; index = slot })
+
+  abbrev IsNoFlag : Operand → Actual → Type 0
+  IsNoFlag o a = (told_slot (Some o) ≡ None) × (address_in_actual (Some a) ≡ None)
+
+  flag_operand : (o : Operand) (a : Actual) → OperandFits IsCopy o → ActualFits IsCopy a → IsOperand code known place stack slots visible o a → IsFlag o a ⊎ IsNoFlag o a
+  flag_operand (operand.IsCopy i) a kind fit h = inl (record { slot = i; variable = h.0; told = refl; address = ap (λ (b : Actual). address_in_actual (Some b)) h.1; there = h.2 })
+  flag_operand operand.Null a kind fit (inl h) = absurd (subst (ActualFits IsCopy) h.1 fit)
+  flag_operand operand.Null a kind fit (inr (inl h)) = absurd (let e = subst (ActualFits IsCopy) h fit in cc)
+  flag_operand operand.Null a kind fit (inr (inr h)) = inr (refl, ap (λ (b : Actual). address_in_actual (Some b)) h)
+  flag_operand (operand.Local i) a kind fit h = absurd kind
+  flag_operand (operand.Static i) a kind fit h = absurd kind
+  flag_operand operand.Number a kind fit h = absurd (cc)
+  flag_operand (operand.FieldId i) a kind fit h = absurd (cc)
+  flag_operand operand.Text a kind fit h = absurd (cc)
+  flag_operand (operand.Array array) a kind fit h = absurd (let e = kind.1 in cc)
+  flag_operand (operand.Buffer i) a kind fit h = absurd (let e = kind.1 in cc)
+  flag_operand (operand.Mode mode) a kind fit h = absurd (cc)
+
+  -- the second argument is the address of a flag, or NULL
+  record TellsFlag (operands : List Operand) (args : List Actual) : Type 0 where
+    slot : ℕ
+    variable : Identifier
+    told : told_slot (slice_get operands 1) ≡ Some slot
+    address : address_given args 1 ≡ Some variable
+    there : lookup variable known ≡ Some (record { sort = sort.Flag; index = slot })
+
+  abbrev TellsNothing : List Operand → List Actual → Type 0
+  TellsNothing operands args = (told_slot (slice_get operands 1) ≡ None) × (address_given args 1 ≡ None)
+
+  flag_given : (p : ParameterKind) (operands : List Operand) (args : List Actual) → AllZip OperandFits (p ∷ IsCopy ∷ []) operands → AllZip ActualFits (p ∷ IsCopy ∷ []) args → AllZip (IsOperand code known place stack slots visible) operands args
+      → TellsFlag operands args ⊎ TellsNothing operands args
+  flag_given p [] args kinds fit h = absurd kinds
+  flag_given p (o ∷ []) args kinds fit h = absurd kinds.1
+  flag_given p (o ∷ q ∷ operands) [] kinds fit h = absurd h
+  flag_given p (o ∷ q ∷ operands) (a ∷ []) kinds fit h = absurd h.1
+  flag_given p (o ∷ q ∷ operands) (a ∷ b ∷ args) kinds fit h =
+      ⊎_elim (λ (f : IsFlag q b). inl (record { slot = f.slot; variable = f.variable; told = f.told; address = f.address; there = f.there })) (λ (n : IsNoFlag q b). inr n) (flag_operand q b kinds.1.0 fit.1.0 h.1.0)
+
+  -- a buffer that is an operand has its slot
+  buffer_known : (operands : List Operand) (args : List Actual) → AllZip (IsOperand code known place stack slots visible) operands args → (i : ℕ) → operand_of operands 1 ≡ operand.Buffer i
+      → (t : ElementType) × (writable : Bool) × (lookup (variable_given args 1) known ≡ Some (record { sort = Buffer t writable; index = i }))
+  buffer_known [] args h i at = absurd (cc)
+  buffer_known (o ∷ []) args h i at = absurd (cc)
+  buffer_known (o ∷ q ∷ operands) [] h i at = absurd h
+  buffer_known (o ∷ q ∷ operands) (a ∷ []) h i at = absurd h.1
+  buffer_known (o ∷ q ∷ operands) (a ∷ b ∷ args) h i at =
+      let is = subst (λ (x : Operand). IsOperand code known place stack slots visible x b) at h.1.0 in
+      (is.2, is.3, ap (λ (c : Actual). lookup (variable_in_actual (Some c)) known) is.1 ∙ is.4)
+
+-- a function that gives a buffer
+gets_buffer : (f : JniFunction) → IsBufferResult (prototype f).result → (access : Access) × (f ≡ GetBuffer access)
+gets_buffer (GetBuffer a) h = (a, refl)
+gets_buffer f h = absurd (let e = h.1 in cc)
+
+-- ---- what is told
+
+-- nothing is told of what is given
+record TellsNone (g : Given) (c : CallResult) : Type 0 where
+  numbers : (told : Option ℕ) (ns : List ℕ) → told_with told g ns ≡ ns
+  variables : (x : Option Identifier) (vs : Variables) → tell_copy x c vs ≡ vs
+
+-- or whether it is a copy
+record Tells (b : Bool) (g : Given) (c : CallResult) : Type 0 where
+  numbers : (i : ℕ) (ns : List ℕ) → told_with (Some i) g ns ≡ slice_set ns i (truth_word b)
+  none : (ns : List ℕ) → told_with None g ns ≡ ns
+  variables : (x : Identifier) (vs : Variables) → tell_copy (Some x) c vs ≡ assign x (Scalar (Flag b)) vs
+  unnamed : (vs : Variables) → tell_copy None c vs ≡ vs
+
+-- what is no copy and no view
+abbrev IsUntold : Given → Type 0
+IsUntold (given.Buffer (held.Copy key)) = ⊥
+IsUntold (given.Buffer (held.View a)) = ⊥
+IsUntold g = Unit {0}
+
+untold_numbers : (g : Given) → IsUntold g → (told : Option ℕ) (ns : List ℕ) → told_with told g ns ≡ ns
+untold_numbers (given.Buffer (held.Copy key)) h told ns = absurd h
+untold_numbers (given.Buffer (held.View a)) h told ns = absurd h
+untold_numbers (given.Buffer held.Null) h None ns = refl
+untold_numbers (given.Buffer held.Null) h (Some i) ns = refl
+untold_numbers g h None ns = refl
+untold_numbers g h (Some i) ns = refl
+
+no_buffer_told : (x : Option Identifier) (vs : Variables) → tell_copy x (BufferResult NoBuffer) vs ≡ vs
+no_buffer_told None vs = refl
+no_buffer_told (Some x) vs = refl
+
+module _ (classes : Classes) (store : Store) (k : ℕ) (kind : ResultKind) where
+  abbrev Told : Given → CallResult → Type 0
+  Told g c = TellsNone g c ⊎ (IsBufferResult kind × ((b : Bool) × Tells b g c))
+
+  plain_told : (g : Given) (c : CallResult) → IsUntold g → IsNoBuffer c → Told g c
+  plain_told g c untold plain = inl (record { numbers = untold_numbers g untold; variables = λ x vs. nothing_told x c vs plain })
+
+  what_told : (g : Given) (c : CallResult) → ResultAgrees classes store k g kind c → Told g c
+  what_told given.Nothing c h = plain_told given.Nothing c tt (no_buffer classes store.heap kind given.Nothing c h)
+  what_told (given.Number word) c h = plain_told (given.Number word) c tt (no_buffer classes store.heap kind (given.Number word) c h)
+  what_told (given.Reference a) c h = plain_told (given.Reference a) c tt (no_buffer classes store.heap kind (given.Reference a) c h)
+  what_told (given.FieldId f) c h = plain_told (given.FieldId f) c tt (no_buffer classes store.heap kind (given.FieldId f) c h)
+  what_told (given.Global s) c h = plain_told (given.Global s) c tt (⊎_elim (λ e. subst IsNoBuffer (sym e) tt) (λ e. subst IsNoBuffer (sym e.0) tt) h.1.1)
+  what_told (given.Buffer held.Null) NullResult h = plain_told (given.Buffer held.Null) NullResult tt tt
+  what_told (given.Buffer held.Null) (BufferResult NoBuffer) h = inl (record { numbers = untold_numbers (given.Buffer held.Null) tt; variables = no_buffer_told })
+  what_told (given.Buffer held.Null) (BufferResult (Copy n zs)) h = absurd h.1
+  what_told (given.Buffer held.Null) (BufferResult (View n)) h = absurd h.1
+  what_told (given.Buffer (held.Copy key)) NullResult h = absurd (let e = h.1 in cc)
+  what_told (given.Buffer (held.Copy key)) (BufferResult NoBuffer) h = absurd h.1
+  what_told (given.Buffer (held.Copy key)) (BufferResult (View n)) h = absurd h.1
+  what_told (given.Buffer (held.Copy key)) (BufferResult (Copy n zs)) h = inr (h.0, (true, record { numbers = λ i ns. refl; none = λ ns. refl; variables = λ x vs. refl; unnamed = λ vs. refl }))
+  what_told (given.Buffer (held.View a)) NullResult h = absurd (let e = h.1 in cc)
+  what_told (given.Buffer (held.View a)) (BufferResult NoBuffer) h = absurd h.1
+  what_told (given.Buffer (held.View a)) (BufferResult (Copy n zs)) h = absurd h.1
+  what_told (given.Buffer (held.View a)) (BufferResult (View n)) h = inr (h.0, (false, record { numbers = λ i ns. refl; none = λ ns. refl; variables = λ x vs. refl; unnamed = λ vs. refl }))
+  what_told (given.Buffer b) NoResult h = absurd h.1
+  what_told (given.Buffer b) (ScalarResult v) h = absurd h.1
+  what_told (given.Buffer b) (ReferenceResult q) h = absurd h.1
+  what_told (given.Buffer b) (FieldResult f) h = absurd h.1
+
+-- a flag is told
+module _ (code : Listing) (known : Known) (own : Owners) (shared : Shared) (s : source.Thread) (slots : Slots) (shows : Shows code known (visible_to own shared s) slots) (owned : HaveOwnSlots known) where
+  flag_shown : (x : Identifier) (i : ℕ) (b : Bool) → lookup x known ≡ Some (record { sort = sort.Flag; index = i })
+      → Shows code known (visible_to own shared (record s { variables = assign x (Scalar (Flag b)) s.variables })) (record slots { numbers = slice_set slots.numbers i (truth_word b) })
+  flag_shown x i b at =
+      let slot : Slot = record { sort = sort.Flag; index = i } in
+      let shown = shows.each x slot at in
+      let new : source.Thread = record s { variables = assign x (Scalar (Flag b)) s.variables } in
+      fewer_shown code known ((x, slot) ∷ known) (visible_to own shared new) (record slots { numbers = slice_set slots.numbers i (truth_word b) }) (known_among x slot known at)
+      (shows_set code known (visible_to own shared s) (visible_to own shared new) slots x slot (Flag b) shows
+      (record { within = omega (arith, slice_get_within slots.numbers i (word_of shown.value) shown.word, shows.numbers); own = owned x slot at }) tt refl
+      (is_set own own shared s new x (λ y other. refl) (Flag b) refl))
+
+  -- a buffer is given up
+  freed_shown : (x : Identifier) (t : ElementType) (writable : Bool) (i : ℕ) → lookup x known ≡ Some (record { sort = Buffer t writable; index = i })
+      → Shows code known (visible_to own shared (record s { variables = change x freed s.variables })) (record slots { buffers = slice_set slots.buffers i NoBuffer })
+  freed_shown x t writable i at =
+      let slot : Slot = record { sort = Buffer t writable; index = i } in
+      let shown = shows.each x slot at in
+      let variable = buffer_by_kind (lookup x s.variables) t shown.kind in
+      let new : source.Thread = record s { variables = change x freed s.variables } in
+      shows_buffer_again code known (visible_to own shared s) (visible_to own shared new) slots x t writable i NoBuffer shows at
+      (record { within = omega (arith, slice_get_within slots.buffers i shown.buffer shown.there, shows.buffers); own = owned x slot at })
+      (is_buffer_set own own shared s new x (λ y other. refl) t NoBuffer (change_is x freed (Elements t variable.0) s.variables variable.1))
+
+-- ---- buffers that the answer leaves
+
+module _ (space : Space) (copies : List (Option OwnedNumbers)) (k : ℕ) (slots : List HeldBuffer) (buffers : List source_variable.Buffer) where
+  agree_after : (a : Answer) → BuffersAgree space copies k slots buffers → BuffersAgree space copies k (buffers_after a slots) (meant_after a buffers)
+  agree_after (answers.Releases r) h = by_test (gives_up r.mode)
+    where
+      by_test : (b : Bool) → BuffersAgree space copies k (if b then slice_set slots r.slot held.Null else slots) (if b then slice_set buffers r.slot NoBuffer else buffers)
+      by_test true = buffers_nulled space copies k slots buffers r.slot h
+      by_test false = h
+  agree_after a h = h
+
+  small_after : (a : Answer) → AllByRecursion IsSmallCopy buffers → AllByRecursion IsSmallCopy (meant_after a buffers)
+  small_after (answers.Releases r) h = by_test (gives_up r.mode)
+    where
+      by_test : (b : Bool) → AllByRecursion IsSmallCopy (if b then slice_set buffers r.slot NoBuffer else buffers)
+      by_test true = all_put IsSmallCopy buffers r.slot NoBuffer h tt
+      by_test false = h
+  small_after a h = h
+
+  lists_left : (a : Answer) → BuffersAgree space copies k slots buffers → ((r : Release) → a ≡ answers.Releases r → slice_get slots r.slot ≡ Some r.held) → (i key : ℕ) → slice_get (buffers_after a slots) i ≡ Some (held.Copy key) → LeavesCopy a key
+  lists_left (answers.Releases r) h there i key at = λ up is. by_place (set_cases slots r.slot i held.Null (held.Copy key) (subst (λ (b : Bool). slice_get (if b then slice_set slots r.slot held.Null else slots) i ≡ Some (held.Copy key)) up at)) is
+    where
+      by_place : ((i ≡ r.slot) × (held.Null ≡ held.Copy key)) ⊎ ((i ≢ r.slot) × (slice_get slots i ≡ Some (held.Copy key))) → r.held ≡ held.Copy key → ⊥
+      by_place (inl (same, none)) is = cc
+      by_place (inr (other, found)) is = other (h.apart i r.slot key found (there r refl ∙ ap (λ (b : HeldBuffer). Some b) is))
+  lists_left a h there i key at = tt
+
+-- ---- what releases a buffer
+
+abbrev is_release : Answer → Bool
+is_release (answers.Releases r) = true
+is_release a = false
+
+no_deletion : (o : Option ℕ) → is_release (deletes o) ≡ false
+no_deletion None = refl
+no_deletion (Some key) = refl
+
+no_global_deletion : (q : Option ℕ) (o : Operand) → is_release (deletes_global q o) ≡ false
+no_global_deletion None o = refl
+no_global_deletion (Some a) (operand.Static i) = refl
+no_global_deletion (Some a) o = refl
+
+no_write : (space : Space) (q : Option ℕ) (place : ℕ) (v : Value) → is_release (writes_there space q place v) ≡ false
+no_write space None place v = refl
+no_write space (Some a) place v = by_test (nat_lt place (length (values_at space a)))
+  where
+    by_test : (b : Bool) → is_release (if b then answers.Writes a place v else answers.Gives given.Nothing) ≡ false
+    by_test true = refl
+    by_test false = refl
+
+no_store : (space : Space) (q : Option ℕ) (fits : Bool) (i : Option ℕ) (v : Value) → is_release (stores_there space q fits i v) ≡ false
+no_store space q fits None v = refl
+no_store space q false (Some i) v = refl
+no_store space q true (Some i) v = no_write space q i v
+
+no_copy_out : (exception : ℕ) (array : LocalArray) (q : Option ArrayRegion) → is_release (copies_out exception array q) ≡ false
+no_copy_out exception array None = refl
+no_copy_out exception array (Some q) = cond_both (nat_le q.count array.len) (answers.CopiesOut q) (answers.Halts OutOfRange) (λ (a : Answer). is_release a ≡ false) (λ e. refl) (λ e. refl)
+
+no_copy_in : (exception : ℕ) (array : LocalArray) (q : Option ArrayRegion) → is_release (copies_in exception array q) ≡ false
+no_copy_in exception array None = refl
+no_copy_in exception array (Some q) = cond_both (nat_le q.count array.len) (answers.CopiesIn q) (answers.Halts OutOfRange) (λ (a : Answer). is_release a ≡ false) (λ e. refl) (λ e. refl)
+
+module _ (scene : Scene) (function : Call) (release : Release) where
+  other : (a : Answer) → answers.Releases release ≡ a → is_release a ≡ false → ⊥
+  other a is keeps = let clash : true ≡ false = ap is_release is ∙ keeps in cc
+
+  -- a function that gives nothing and releases a buffer
+  releases_by : (f : JniFunction) → (prototype f).result ≡ GivesNothing → IsWorkedOut scene function f (answers.Releases release) → (access : Access) × (f ≡ ReleaseBuffer access)
+  releases_by (ReleaseBuffer access) nothing is = (access, refl)
+  releases_by DeleteGlobalRef nothing is = absurd (other _ is (no_global_deletion _ _))
+  releases_by DeleteLocalRef nothing is = absurd (other _ is (no_deletion _))
+  releases_by (SetField T) nothing is = absurd (other _ is (no_write scene.space _ _ _))
+  releases_by SetObjectField nothing is = absurd (other _ is (no_write scene.space _ _ _))
+  releases_by (SetStaticField T) nothing is = absurd (other _ is (no_write scene.space _ _ _))
+  releases_by SetStaticObjectField nothing is = absurd (other _ is (no_write scene.space _ _ _))
+  releases_by SetObjectArrayElement nothing is = absurd (other _ is (no_store scene.space _ _ _ _))
+  releases_by (GetArrayRegion T) nothing is = absurd (other _ is (no_copy_out array_index_out_of_bounds (local_array scene function) (region scene function)))
+  releases_by (SetArrayRegion T) nothing is = absurd (other _ is (no_copy_in array_index_out_of_bounds (local_array scene function) (region scene function)))
+  releases_by GetStringRegion nothing is = absurd (other _ is (no_copy_out string_index_out_of_bounds (local_array scene function) (region scene function)))
+  releases_by FindClass nothing is = absurd (cc)
+  releases_by EnsureLocalCapacity nothing is = absurd (cc)
+  releases_by PushLocalFrame nothing is = absurd (cc)
+  releases_by (NewArray T) nothing is = absurd (cc)
+  releases_by NewObjectArray nothing is = absurd (cc)
+  releases_by GetObjectArrayElement nothing is = absurd (cc)
+  releases_by (GetBuffer access) nothing is = absurd (cc)
+  releases_by GetFieldID nothing is = absurd (cc)
+  releases_by GetStaticFieldID nothing is = absurd (cc)
+  releases_by f nothing is = absurd (other _ is refl)
+
+  release_is : (slots : List HeldBuffer) (object : Option ℕ) (o : Operand) (mode : ModeOfCode) → answers.Releases release ≡ releases slots object o mode → (release.slot ≡ slot_of o) × (release.held ≡ buffer_there slots (slot_of o)) × (release.mode ≡ mode)
+  release_is slots None o mode e = absurd (cc)
+  release_is slots (Some a) o mode e =
+      let made : Release = record { object = a; slot = slot_of o; held = buffer_there slots (slot_of o); mode = mode } in
+      let same : release ≡ made = cc in
+      (ap (λ (x : Release). x.slot) same, ap (λ (x : Release). x.held) same, ap (λ (x : Release). x.mode) same)
+
+-- ---- the call
+
+module _ (p : Lowered) (w : World) (store : Store) (pending : Option ℕ) (call : Activation) (in_memory : InMemory) (others : Acquired) (k : ℕ) (own : Owners) (shared : Shared) (s : source.Thread) (task : Task) (rest : List Task) (h : AtCall p w store pending call in_memory others k own shared s task rest) where
+  abbrev function : Call
+  function = call_view in_memory
+
+  abbrev r : Ready p w.classes store.heap store.elements k call h.code (visible_to own shared s) s.frames task rest
+  r = ready_at p w store pending call in_memory others k own shared s task rest h
+
+  abbrev called : CalledAs p w store pending call h.code function others k own shared s task rest r (effect_of (sight_of shared s) task)
+  called = called_at p w store pending call in_memory others k own shared s task rest h
+
+  -- what the source's call does
+  abbrev effect : CallEffect
+  effect = call_effect w.classes (in_use_with others s) k shared s called.args called.f
+
+  abbrev kind : ResultKind
+  kind = (prototype called.f).result
+
+  module _ (answer : Answer) (works : IsWorkedOut (scene_of w.classes store call pending) function called.f answer) where
+    abbrev own_left : Owners
+    own_left = left_own p w store pending call in_memory others k own shared s task rest h answer works
+
+    -- the slots with these numbers and these buffers, for which the others stand as they did
+    abbrev pub left_slots : List ℕ → List source_variable.Buffer → Slots
+    left_slots numbers buffers = record { numbers = numbers; references = r.meant.references; owners = (leaves_owners p w store pending call in_memory others k own shared s task rest h answer works).owners; fields = r.meant.fields; buffers = buffers }
+
+    -- What slots show of the thread with these variables, once the answer is carried out, its result is this, and `isCopy` is told: number
+    -- slots and buffers as they lie there, with what the buffers stand for. Lists are those of before.
+    pub record ShowsLeft (c : CallResult) (vs : Variables) (numbers : List ℕ) (slots : List HeldBuffer) : Type 0 where
+      pub buffers : List source_variable.Buffer
+      pub shows : Shows h.code r.known (visible_to own_left shared (record s { variables = vs })) (left_slots numbers buffers)
+      pub agree : BuffersAgree store.heap store.elements k slots buffers
+      pub small : AllByRecursion IsSmallCopy buffers
+      -- no list that the answer ends is left in a slot
+      pub left : (i key : ℕ) → slice_get slots i ≡ Some (held.Copy key) → LeavesCopy answer key
+      pub kept : (vs ≡ s.variables) ⊎ (kind ≡ GivesNothing) ⊎ (IsBufferResult kind × (vs ≡ tell_copy (address_given called.args 1) c s.variables))
+
+    -- ---- a release
+
+    -- the call releases a buffer
+    record Frees (release : Release) : Type 0 where
+      type : ElementType
+      writable : Bool
+      there : lookup (variable_given called.args 1) r.known ≡ Some (record { sort = Buffer type writable; index = release.slot })
+      mode : ReleaseMode
+      coded : release.mode ≡ mode_code mode
+      object : ℕ
+      does : effect ≡ release_effect shared s object (variable_given called.args 1) mode
+
+    abbrev Fits : List ParameterKind → Type 0
+    Fits l = AllZip OperandFits l function.operands
+
+    abbrev Effect : JniFunction → CallEffect
+    Effect f = call_effect w.classes (in_use_with others s) k shared s called.args f
+
+    frees_by : (release : Release) (access : Access) (more : List ParameterKind) → called.f ≡ ReleaseBuffer access → Fits (owner access ∷ BufferVariable access ∷ more) → IsWorkedOut (scene_of w.classes store call pending) function (ReleaseBuffer access) (answers.Releases release)
+        → (mode : ReleaseMode) → mode_of access (operand_of function.operands 2) ≡ mode_code mode → Effect (ReleaseBuffer access) ≡ release_effect shared s (object_given called.args 0) (variable_given called.args 1) mode → Frees release
+    frees_by release access more same kinds is mode coded does =
+        let b = given_buffer store.heap (buffers_of store call k) s.variables access (owner access) more function.operands called.args kinds called.asked.buffers in
+        let it = release_is (scene_of w.classes store call pending) function release call.slots.buffers.items _ (operand_of function.operands 1) (mode_of access (operand_of function.operands 2)) is in
+        let slot : release.slot ≡ b.slot = it.0 ∙ ap slot_of b.at in
+        let named = buffer_known h.code r.known call.place call.stack (slots_of call r.meant) (visible_to own shared s) function.operands called.args called.operands b.slot b.at in
+        record {
+          type = named.0;
+          writable = named.1;
+          there = subst (λ (i : ℕ). lookup (variable_given called.args 1) r.known ≡ Some (record { sort = Buffer named.0 named.1; index = i })) (sym slot) named.2;
+          mode = mode;
+          coded = it.2 ∙ coded;
+          object = object_given called.args 0;
+          does = ap Effect same ∙ does;
+        }
+
+    frees_as : (release : Release) (access : Access) → called.f ≡ ReleaseBuffer access → Fits (prototype (ReleaseBuffer access)).parameters → IsWorkedOut (scene_of w.classes store call pending) function (ReleaseBuffer access) (answers.Releases release) → Frees release
+    unfolding call_effect
+    frees_as release (ElementsCopy T) same kinds is =
+        frees_by release (ElementsCopy T) (Mode ∷ []) same kinds is (mode_given called.args 2)
+        (given_mode w.classes store.heap (references_of store call) call.slots.fields.items T (owner (ElementsCopy T)) (BufferVariable (ElementsCopy T)) function.operands called.args kinds called.asked.given) refl
+    frees_as release ArrayView same kinds is = frees_by release ArrayView (Mode ∷ []) same kinds is FreeUncopied refl refl
+    frees_as release CharsCopy same kinds is = frees_by release CharsCopy [] same kinds is FreeUncopied refl refl
+    frees_as release CharsView same kinds is = frees_by release CharsView [] same kinds is FreeUncopied refl refl
+
+    frees : (release : Release) → answer ≡ answers.Releases release → kind ≡ GivesNothing → Frees release
+    frees release is nothing =
+        let released = subst (IsWorkedOut (scene_of w.classes store call pending) function called.f) is works in
+        let by = releases_by (scene_of w.classes store call pending) function release called.f nothing released in
+        frees_as release by.0 by.1 (subst (λ (f : JniFunction). Fits (prototype f).parameters) by.1 called.asked.kinds)
+        (subst (λ (f : JniFunction). IsWorkedOut (scene_of w.classes store call pending) function f (answers.Releases release)) by.1 released)
+
+    -- ---- what carrying out the answer leaves
+
+    abbrev Shown : Variables → List ℕ → List source_variable.Buffer → Type 0
+    Shown vs numbers buffers = Shows h.code r.known (visible_to own_left shared (record s { variables = vs })) (left_slots numbers buffers)
+
+    as_before : Shown s.variables call.slots.numbers.items r.meant.buffers
+    as_before = (leaves_owners p w store pending call in_memory others k own shared s task rest h answer works).shows
+
+    same_shown : (vs : Variables) (numbers : List ℕ) (buffers : List source_variable.Buffer) → vs ≡ s.variables → numbers ≡ call.slots.numbers.items → buffers ≡ r.meant.buffers → Shown vs numbers buffers
+    same_shown vs numbers buffers same_variables same_numbers same_buffers =
+        subst (λ (us : Variables). Shown us numbers buffers) (sym same_variables)
+        (subst (λ (l : List ℕ). Shown s.variables l buffers) (sym same_numbers)
+        (subst (Shown s.variables call.slots.numbers.items) (sym same_buffers) as_before))
+
+    abbrev ShownFreed : Release → Variables → Bool → Type 0
+    ShownFreed release vs b = Shown vs call.slots.numbers.items (if b then slice_set r.meant.buffers release.slot NoBuffer else r.meant.buffers)
+
+    release_shown : (release : Release) → Frees release → Shown (variables_left false s effect) call.slots.numbers.items (if gives_up release.mode then slice_set r.meant.buffers release.slot NoBuffer else r.meant.buffers)
+    release_shown release f = by_mode f.mode f.coded f.does
+      where
+        with_these : (vs : Variables) (b : Bool) → variables_left false s effect ≡ vs → gives_up release.mode ≡ b → ShownFreed release vs b → ShownFreed release (variables_left false s effect) (gives_up release.mode)
+        with_these vs b variables up here = subst (λ (us : Variables). ShownFreed release us (gives_up release.mode)) (sym variables) (subst (ShownFreed release vs) (sym up) here)
+
+        freed_here : ShownFreed release (change (variable_given called.args 1) freed s.variables) true
+        freed_here = freed_shown h.code r.known own_left shared s (left_slots call.slots.numbers.items r.meant.buffers) as_before called.own_slots (variable_given called.args 1) f.type f.writable release.slot f.there
+
+        by_mode : (mode : ReleaseMode) → release.mode ≡ mode_code mode → effect ≡ release_effect shared s f.object (variable_given called.args 1) mode → ShownFreed release (variables_left false s effect) (gives_up release.mode)
+        by_mode CopyBack coded does = with_these s.variables false (ap (variables_left false s) does) (ap gives_up coded) as_before
+        by_mode CopyBackAndFree coded does = with_these _ true (ap (variables_left false s) does) (ap gives_up coded) freed_here
+        by_mode FreeUncopied coded does = with_these _ true (ap (variables_left false s) does) (ap gives_up coded) freed_here
+
+    abbrev Does : Type 0
+    Does = IsAnswer w.classes (brought_by store call k (in_use_with others s) function called.args) store.heap call.locals kind shared s answer effect
+
+    abbrev WasCopied : Type 0
+    WasCopied = Copied w.classes (brought_by store call k (in_use_with others s) function called.args) store.heap call.locals kind shared s answer effect
+
+    abbrev WasReleased : Type 0
+    WasReleased = Released w.classes (brought_by store call k (in_use_with others s) function called.args) store.heap call.locals kind shared s answer effect
+
+    abbrev WasKept : Type 0
+    WasKept = AreKept w.classes (brought_by store call k (in_use_with others s) function called.args) store.heap call.locals kind shared s answer effect
+
+    copied_shown : WasCopied → Shown (variables_left false s effect) (slots_after store.heap answer call.slots.numbers.items) (meant_after answer r.meant.buffers)
+    copied_shown it =
+        let c = it.copied in
+        let named = array_known h.code r.known call.place call.stack (slots_of call r.meant) (visible_to own shared s) function.operands called.args c.name c.array called.operands c.given in
+        let few : length (words_of store.heap it.region) ≤ c.array.len =
+        omega (arith, c.few, length-map (take it.region.count (drop it.region.start (values_at store.heap it.region.object))) word_in, length-take it.region.count (drop it.region.start (values_at store.heap it.region.object))) in
+        let variables : variables_left false s effect ≡ change c.name (begun_with c.numbers) s.variables = ap (variables_left false s) c.is in
+        let numbers : slots_after store.heap answer call.slots.numbers.items ≡ overlaid call.slots.numbers.items c.array.start (words_of store.heap it.region) =
+        ap (λ (a : Answer). slots_after store.heap a call.slots.numbers.items) it.is ∙ ap (λ (i : ℕ). overlaid call.slots.numbers.items i (words_of store.heap it.region)) c.slot in
+        let buffers : meant_after answer r.meant.buffers ≡ r.meant.buffers = ap (λ (a : Answer). meant_after a r.meant.buffers) it.is in
+        subst (λ (us : Variables). Shown us (slots_after store.heap answer call.slots.numbers.items) (meant_after answer r.meant.buffers)) (sym variables)
+        (subst (λ (l : List ℕ). Shown (change c.name (begun_with c.numbers) s.variables) l (meant_after answer r.meant.buffers)) (sym numbers)
+        (subst (Shown (change c.name (begun_with c.numbers) s.variables) (overlaid call.slots.numbers.items c.array.start (words_of store.heap it.region))) (sym buffers)
+        (shows_copied h.code r.known own_left shared s (left_slots call.slots.numbers.items r.meant.buffers) as_before c.name named.0 c.array named.1 (words_of store.heap it.region) c.numbers c.words few called.own_slots)))
+
+    released_shown : WasReleased → Shown (variables_left false s effect) (slots_after store.heap answer call.slots.numbers.items) (meant_after answer r.meant.buffers)
+    released_shown it =
+        subst (λ (a : Answer). Shown (variables_left false s effect) (slots_after store.heap a call.slots.numbers.items) (meant_after a r.meant.buffers)) (sym it.is) (release_shown it.release (frees it.release it.is it.nothing))
+
+    -- ---- what the slots view
+
+    abbrev Viewed : Variables → List HeldBuffer → Type 0
+    Viewed vs slots = AreViewed store.heap slots (record s { variables = vs })
+
+    same_viewed : (vs : Variables) (slots : List HeldBuffer) → taken_by vs ≡ taken_by s.variables → slots ≡ call.slots.buffers.items → Viewed vs slots
+    same_viewed vs slots same_variables same_slots = views_same store.heap call.slots.buffers.items slots s (record s { variables = vs }) same_slots same_variables h.views
+
+    freed_viewed : (release : Release) (f : Frees release) (vs : Variables) → vs ≡ change (variable_given called.args 1) freed s.variables → Viewed vs (slice_set call.slots.buffers.items release.slot held.Null)
+    freed_viewed release f vs is =
+        let x = variable_given called.args 1 in
+        let shown = r.shows.each x (record { sort = Buffer f.type f.writable; index = release.slot }) f.there in
+        let variable = buffer_by_kind (lookup x s.variables) f.type shown.kind in
+        let same : variable.0 ≡ shown.buffer = sym (ap held_buffer variable.1) ∙ shown.is in
+        views_freed store.heap store.elements k call.slots.buffers.items r.meant.buffers release.slot x f.type shown.buffer s (record s { variables = vs }) r.holds.buffers.agree shown.there
+        (variable.1 ∙ ap (λ (b : source_variable.Buffer). Some (Elements f.type b)) same) is h.views
+
+    abbrev ViewedIf : Release → Bool → Type 0
+    ViewedIf release b = Viewed (variables_left false s effect) (if b then slice_set call.slots.buffers.items release.slot held.Null else call.slots.buffers.items)
+
+    release_viewed : (release : Release) → Frees release → Viewed (variables_left false s effect) (buffers_after (answers.Releases release) call.slots.buffers.items)
+    release_viewed release f = by_mode f.mode f.coded f.does
+      where
+        by_mode : (mode : ReleaseMode) → release.mode ≡ mode_code mode → effect ≡ release_effect shared s f.object (variable_given called.args 1) mode → ViewedIf release (gives_up release.mode)
+        by_mode CopyBack coded does = subst (ViewedIf release) (sym (ap gives_up coded)) (same_viewed (variables_left false s effect) call.slots.buffers.items (ap (λ (e : CallEffect). taken_by (variables_left false s e)) does) refl)
+        by_mode CopyBackAndFree coded does = subst (ViewedIf release) (sym (ap gives_up coded)) (freed_viewed release f (variables_left false s effect) (ap (variables_left false s) does))
+        by_mode FreeUncopied coded does = subst (ViewedIf release) (sym (ap gives_up coded)) (freed_viewed release f (variables_left false s effect) (ap (variables_left false s) does))
+
+    copied_viewed : WasCopied → Viewed (variables_left false s effect) (buffers_after answer call.slots.buffers.items)
+    copied_viewed it =
+        let c = it.copied in
+        let named = array_known h.code r.known call.place call.stack (slots_of call r.meant) (visible_to own shared s) function.operands called.args c.name c.array called.operands c.given in
+        let few : length (words_of store.heap it.region) ≤ c.array.len =
+        omega (arith, c.few, length-map (take it.region.count (drop it.region.start (values_at store.heap it.region.object))) word_in, length-take it.region.count (drop it.region.start (values_at store.heap it.region.object))) in
+        same_viewed (variables_left false s effect) (buffers_after answer call.slots.buffers.items)
+        (ap (λ (e : CallEffect). taken_by (variables_left false s e)) c.is
+        ∙ copied_taken h.code r.known own_left shared s (left_slots call.slots.numbers.items r.meant.buffers) as_before c.name named.0 c.array named.1 (words_of store.heap it.region) c.numbers c.words few)
+        (ap (λ (a : Answer). buffers_after a call.slots.buffers.items) it.is)
+
+    released_viewed : WasReleased → Viewed (variables_left false s effect) (buffers_after answer call.slots.buffers.items)
+    released_viewed it =
+        subst (λ (a : Answer). Viewed (variables_left false s effect) (buffers_after a call.slots.buffers.items)) (sym it.is) (release_viewed it.release (frees it.release it.is it.nothing))
+
+    -- what it leaves before `isCopy` is told
+    record Carried (vs : Variables) : Type 0 where
+      views : Viewed vs (buffers_after answer call.slots.buffers.items)
+      shows : Shown vs (slots_after store.heap answer call.slots.numbers.items) (meant_after answer r.meant.buffers)
+      kept : (vs ≡ s.variables) ⊎ (kind ≡ GivesNothing)
+
+    nothing_made : (object : ℕ) (x : Identifier) (mode : ReleaseMode) → effect ≡ release_effect shared s object x mode → makes_objects effect ≡ true → ⊥
+    nothing_made object x CopyBack is made = let e : false ≡ true = sym (ap makes_objects is) ∙ made in cc
+    nothing_made object x CopyBackAndFree is made = let e : false ≡ true = sym (ap makes_objects is) ∙ made in cc
+    nothing_made object x FreeUncopied is made = let e : false ≡ true = sym (ap makes_objects is) ∙ made in cc
+
+    carried : (refused : Bool) → (refused ≡ true → makes_objects effect ≡ true) → WasKept ⊎ (WasCopied ⊎ WasReleased) → Carried (variables_left refused s effect)
+    carried false could (inl kept) = record { views = same_viewed (variables_left false s effect) (buffers_after answer call.slots.buffers.items) (ap taken_by kept.0) (kept.2 call.slots.buffers.items); shows = same_shown _ _ _ kept.0 (kept.1 call.slots.numbers.items) (kept.3 r.meant.buffers); kept = inl kept.0 }
+    carried true could (inl kept) = record { views = same_viewed s.variables (buffers_after answer call.slots.buffers.items) refl (kept.2 call.slots.buffers.items); shows = same_shown _ _ _ refl (kept.1 call.slots.numbers.items) (kept.3 r.meant.buffers); kept = inl refl }
+    carried false could (inr (inl it)) = record { views = copied_viewed it; shows = copied_shown it; kept = inr it.nothing }
+    carried true could (inr (inl it)) = absurd (let e : false ≡ true = sym (ap makes_objects it.copied.is) ∙ could refl in cc)
+    carried false could (inr (inr it)) = record { views = released_viewed it; shows = released_shown it; kept = inr it.nothing }
+    carried true could (inr (inr it)) = absurd (nothing_made it.released.name it.released.variable it.released.mode it.released.is (could refl))
+
+    -- each view in slots is one of a variable's
+    pub views_left : (refused : Bool) → is_halt answer ≡ false → Does → (refused ≡ true → makes_objects effect ≡ true) → AreViewed store.heap (buffers_after answer call.slots.buffers.items) (record s { variables = variables_left refused s effect })
+    views_left refused runs does could = (carried refused could (kept_or_copied w.classes (brought_by store call k (in_use_with others s) function called.args) store.heap call.locals kind shared s answer effect runs does)).views
+
+    -- ---- and once it is told
+
+    flag_or_none : IsBufferResult kind → TellsFlag h.code r.known call.place call.stack (slots_of call r.meant) (visible_to own shared s) function.operands called.args ⊎ TellsNothing h.code r.known call.place call.stack (slots_of call r.meant) (visible_to own shared s) function.operands called.args
+    flag_or_none buffer =
+        let by = gets_buffer called.f buffer in
+        flag_given h.code r.known call.place call.stack (slots_of call r.meant) (visible_to own shared s) (owner by.0) function.operands called.args
+        (subst (λ (f : JniFunction). AllZip OperandFits (prototype f).parameters function.operands) by.1 called.asked.kinds)
+        (subst (λ (f : JniFunction). AllZip ActualFits (prototype f).parameters called.args) by.1 called.asked.fit) called.operands
+
+    module _ (vs : Variables) (numbers : List ℕ) (buffers : List source_variable.Buffer) (shows : Shown vs numbers buffers) (g : Given) (c : CallResult) where
+      abbrev ToldShown : Type 0
+      ToldShown = Shown (tell_copy (address_given called.args 1) c vs) (told_with (told_slot (slice_get function.operands 1)) g numbers) buffers
+
+      none_told : TellsNone g c → ToldShown
+      none_told t =
+          subst (λ (us : Variables). Shown us (told_with (told_slot (slice_get function.operands 1)) g numbers) buffers) (sym (t.variables (address_given called.args 1) vs))
+          (subst (λ (l : List ℕ). Shown vs l buffers) (sym (t.numbers (told_slot (slice_get function.operands 1)) numbers)) shows)
+
+      flag_told : (b : Bool) → Tells b g c → IsBufferResult kind → ToldShown
+      flag_told b t buffer = by_flag (flag_or_none buffer)
+        where
+          by_flag : TellsFlag h.code r.known call.place call.stack (slots_of call r.meant) (visible_to own shared s) function.operands called.args ⊎ TellsNothing h.code r.known call.place call.stack (slots_of call r.meant) (visible_to own shared s) function.operands called.args → ToldShown
+          by_flag (inl f) =
+              let variables = ap (λ (x : Option Identifier). tell_copy x c vs) f.address ∙ t.variables f.variable vs in
+              let are : told_with (told_slot (slice_get function.operands 1)) g numbers ≡ slice_set numbers f.slot (truth_word b) = ap (λ (o : Option ℕ). told_with o g numbers) f.told ∙ t.numbers f.slot numbers in
+              subst (λ (us : Variables). Shown us (told_with (told_slot (slice_get function.operands 1)) g numbers) buffers) (sym variables)
+              (subst (λ (l : List ℕ). Shown (assign f.variable (Scalar (Flag b)) vs) l buffers) (sym are)
+              (flag_shown h.code r.known own_left shared (record s { variables = vs }) (left_slots numbers buffers) shows called.own_slots f.variable f.slot b f.there))
+          by_flag (inr n) =
+              subst (λ (us : Variables). Shown us (told_with (told_slot (slice_get function.operands 1)) g numbers) buffers) (sym (ap (λ (x : Option Identifier). tell_copy x c vs) n.1 ∙ t.unnamed vs))
+              (subst (λ (l : List ℕ). Shown vs l buffers) (sym (ap (λ (o : Option ℕ). told_with o g numbers) n.0 ∙ t.none numbers)) shows)
+
+    released_there : Does → (release : Release) → answer ≡ answers.Releases release → slice_get call.slots.buffers.items release.slot ≡ Some release.held
+    released_there does release is =
+        let d = subst (λ (a : Answer). IsAnswer w.classes (brought_by store call k (in_use_with others s) function called.args) store.heap call.locals kind shared s a effect) is does in
+        d.1.holds.there ∙ ap (λ (b : HeldBuffer). Some b) (sym d.1.held)
+
+    pub shows_left : (refused : Bool) (after : Store) (g : Given) → is_halt answer ≡ false
+        → IsAnswer w.classes (brought_by store call k (in_use_with others s) function called.args) store.heap call.locals kind shared s answer effect
+        → (refused ≡ true → makes_objects effect ≡ true) → ResultAgrees w.classes after k g kind (result_after kind refused effect)
+        → ShowsLeft (result_after kind refused effect) (tell_copy (address_given called.args 1) (result_after kind refused effect) (variables_left refused s effect))
+        (told_with (told_slot (slice_get function.operands 1)) g (slots_after store.heap answer call.slots.numbers.items)) (buffers_after answer call.slots.buffers.items)
+    shows_left refused after g runs does could agrees =
+        by_told (carried refused could (kept_or_copied w.classes (brought_by store call k (in_use_with others s) function called.args) store.heap call.locals kind shared s answer effect runs does))
+        (what_told w.classes after k kind g (result_after kind refused effect) agrees)
+      where
+        by_told : Carried (variables_left refused s effect) → Told w.classes after k kind g (result_after kind refused effect)
+            → ShowsLeft (result_after kind refused effect) (tell_copy (address_given called.args 1) (result_after kind refused effect) (variables_left refused s effect))
+            (told_with (told_slot (slice_get function.operands 1)) g (slots_after store.heap answer call.slots.numbers.items)) (buffers_after answer call.slots.buffers.items)
+        by_told there told = record {
+          buffers = meant_after answer r.meant.buffers;
+          shows = ⊎_elim (λ t. none_told (variables_left refused s effect) (slots_after store.heap answer call.slots.numbers.items) (meant_after answer r.meant.buffers) there.shows g (result_after kind refused effect) t)
+              (λ t. flag_told (variables_left refused s effect) (slots_after store.heap answer call.slots.numbers.items) (meant_after answer r.meant.buffers) there.shows g (result_after kind refused effect) t.1.0 t.1.1 t.0) told;
+          agree = agree_after store.heap store.elements k call.slots.buffers.items r.meant.buffers answer r.holds.buffers;
+          small = small_after store.heap store.elements k call.slots.buffers.items r.meant.buffers answer r.holds.small;
+          left = lists_left store.heap store.elements k call.slots.buffers.items r.meant.buffers answer r.holds.buffers (released_there does);
+          kept = ⊎_elim (λ t. ⊎_elim (λ same. inl (t.variables (address_given called.args 1) (variables_left refused s effect) ∙ same)) (λ nothing. inr (inl nothing)) there.kept)
+              (λ t. ⊎_elim (λ same. inr (inr (t.0, ap (tell_copy (address_given called.args 1) (result_after kind refused effect)) same))) (λ nothing. inr (inl nothing)) there.kept) told;
+        }

@@ -1,0 +1,186 @@
+-- What a call gives that is a buffer, and what the variable that is told of it was.
+use Rattle.std.proofs.Common.{◌≡◌, ◌≢◌, ◌⊎◌, inl, inr, ℕ, ℤ, ◌+◌, Bool, true, false, List, [], ◌∷◌, length, Option, Some, None, refl, sym, ap, ◌∙◌, subst, arith, if◌then◌else◌}
+use Rattle.std.specs.Prelude.{FitsSigned, nat_le, nat_lt}
+use Rattle.std.specs.Int.{w32}
+use Rattle.std.specs.List.{AllByRecursion, AllZip}
+use Rattle.std.specs.Str.{bytes_eq}
+use Rattle.std.proofs.lemmas.Bool.{leb-true}
+use Rattle.std.proofs.lemmas.Slice.Eq.{bytes_eq-Decides}
+use Rattle.class_rules.specs.Class.{Classes}
+use Rattle.heap.specs.Heap.{Space}
+use Rattle.jni.specs.JniFunction.{JniFunction, GetBuffer, prototype}
+use Rattle.jni.specs.Access.{Access}
+use Rattle.jni.specs.Prototype.{ParameterKind, ArrayVariable, BufferVariable, IsCopy, owner, ResultKind, NewLocal, NewGlobal, GivesFlag, GivesInt, GivesField, GivesNothing, GivesBuffer}
+use Rattle.base.specs.Bytes.{Identifier, lookup}
+use Rattle.base.specs.Element.{ElementType}
+use Rattle.semantics.specs.Arguments.{Actual, address_given, address_in_actual}
+use Rattle.semantics.specs.CallEffects.{CallEffect, CallResult, Halts, NoResult, NullResult, BufferResult, Throws, copy_effect, view_effect}
+use Rattle.semantics.specs.CallStep.{tell_copy}
+use Rattle.semantics.specs.Heap.{numbers_of}
+use Rattle.semantics.specs.Task.{VariableKind, ScalarKind, BufferKind}
+use Rattle.semantics.specs.Thread as source
+use Rattle.semantics.specs.Thread.{Shared}
+use Rattle.semantics.specs.Value.{Value, Flag}
+use Rattle.semantics.specs.Variable as variable
+use Rattle.semantics.specs.Variable.{Variable, Variables, Scalar, Elements, NoBuffer, Copy, View, assign}
+use Rattle.semantics_safety.specs.StepSafe.{HoldsNoBuffer}
+use Rattle.code.specs.Depth.{Listing}
+use Rattle.code.specs.declared.instr.Operand.{Operand}
+use Rattle.code.specs.declared.instr.Operand.TheVariants as operand
+use Rattle.code_meaning.specs.Does.{IsOperand, OperandFits}
+use Rattle.code_meaning.specs.Layout.{Known}
+use Rattle.code_meaning.specs.Slots.{Shows, Slots, kind_of_variable, visible_to}
+use Rattle.code_meaning.specs.Stands.{IsBufferResult}
+use Rattle.type_rules.specs.Sorts as sort
+use Rattle.semantics_safety.specs.Owners.{Owners}
+use Rattle.tables.specs.Locals.{LocalTable}
+use Rattle.machine_calls.specs.declared.answer.Answer.{Answer}
+use Rattle.machine_calls.specs.declared.answer.Answer.TheVariants as answers
+use Rattle.machine_calls.specs.declared.answer.Given.{Given}
+use Rattle.machine_calls.specs.declared.store.Store.{Store}
+use Rattle.machine_calls.specs.Answers.{Brought, IsAnswer}
+use Rattle.machine_calls.specs.CarriedOut.{ResultAgrees, result_after}
+use Rattle.machine_calls.proofs.AnswerCases.{gives_it, makes_it, throws_it, writes_it}
+use Rattle.machine_steps.specs.SlotsHold.{IsSmallCopy}
+use Rattle.machine_steps.proofs.Acquisitions.{assigned_nothing, taken_by}
+use Rattle.machine_steps.proofs.Changes.{lookup_other, lookup_same}
+use Rattle.machine_steps.proofs.Invocations.{plain_result}
+use Rattle.machine_steps.proofs.Receives.{IsNoBuffer}
+use Rattle.machine_calls.specs.Traps.{trap_view}
+
+-- ---- what is told
+
+assigned_kind : (y x : Identifier) (v : Value) (vs : Variables) → kind_of_variable (lookup y vs) ≡ Some ScalarKind → kind_of_variable (lookup x (assign y (Scalar v) vs)) ≡ kind_of_variable (lookup x vs)
+assigned_kind y x v vs scalar = by_test (bytes_eq x y) refl
+  where
+    by_test : (b : Bool) → bytes_eq x y ≡ b → kind_of_variable (lookup x (assign y (Scalar v) vs)) ≡ kind_of_variable (lookup x vs)
+    by_test true e =
+        let same : x ≡ y = (bytes_eq-Decides x y).0 e in
+        subst (λ (z : Identifier). kind_of_variable (lookup z (assign y (Scalar v) vs)) ≡ kind_of_variable (lookup z vs)) (sym same) (ap kind_of_variable (lookup_same y (Scalar v) vs) ∙ sym scalar)
+    by_test false e = ap kind_of_variable (lookup_other y x (Scalar v) vs (λ same. let clash : false ≡ true = sym e ∙ (bytes_eq-Decides x y).1 same in cc))
+
+-- variables are of the kinds that they were
+pub told_kind : (y : Option Identifier) (x : Identifier) (c : CallResult) (vs : Variables) → ((z : Identifier) → y ≡ Some z → kind_of_variable (lookup z vs) ≡ Some ScalarKind) → kind_of_variable (lookup x (tell_copy y c vs)) ≡ kind_of_variable (lookup x vs)
+told_kind None x c vs h = refl
+told_kind (Some y) x (BufferResult (Copy n zs)) vs h = assigned_kind y x (Flag true) vs (h y refl)
+told_kind (Some y) x (BufferResult (View n)) vs h = assigned_kind y x (Flag false) vs (h y refl)
+told_kind (Some y) x (BufferResult NoBuffer) vs h = refl
+told_kind (Some y) x c vs h = refl
+
+assigned_free : (y x : Identifier) (v : Value) (vs : Variables) → HoldsNoBuffer (lookup x vs) → HoldsNoBuffer (lookup x (assign y (Scalar v) vs))
+assigned_free y x v vs free kind b = by_test (bytes_eq x y) refl
+  where
+    by_test : (t : Bool) → bytes_eq x y ≡ t → lookup x (assign y (Scalar v) vs) ≡ Some (Elements kind b) → b ≡ NoBuffer
+    by_test true e is =
+        let same : x ≡ y = (bytes_eq-Decides x y).0 e in
+        absurd (let clash : Some (Scalar v) ≡ Some (Elements kind b) = sym (lookup_same y (Scalar v) vs) ∙ ap (λ (z : Identifier). lookup z (assign y (Scalar v) vs)) (sym same) ∙ is in cc)
+    by_test false e is = free kind b (sym (lookup_other y x (Scalar v) vs (λ same. let clash : false ≡ true = sym e ∙ (bytes_eq-Decides x y).1 same in cc)) ∙ is)
+
+-- one that held no buffer holds none
+pub told_free : (y : Option Identifier) (x : Identifier) (c : CallResult) (vs : Variables) → HoldsNoBuffer (lookup x vs) → HoldsNoBuffer (lookup x (tell_copy y c vs))
+told_free None x c vs h = h
+told_free (Some y) x (BufferResult (Copy n zs)) vs h = assigned_free y x (Flag true) vs h
+told_free (Some y) x (BufferResult (View n)) vs h = assigned_free y x (Flag false) vs h
+told_free (Some y) x (BufferResult NoBuffer) vs h = h
+told_free (Some y) x c vs h = h
+
+-- they take what they did
+pub told_nothing : (y : Option Identifier) (c : CallResult) (vs : Variables) → ((b : variable.Buffer) (z : Identifier) → c ≡ BufferResult b → y ≡ Some z → HoldsNoBuffer (lookup z vs)) → taken_by (tell_copy y c vs) ≡ taken_by vs
+told_nothing None c vs h = refl
+told_nothing (Some y) (BufferResult (Copy n zs)) vs h = assigned_nothing y (Scalar (Flag true)) vs refl refl (h (Copy n zs) y refl refl)
+told_nothing (Some y) (BufferResult (View n)) vs h = assigned_nothing y (Scalar (Flag false)) vs refl refl (h (View n) y refl refl)
+told_nothing (Some y) (BufferResult NoBuffer) vs h = refl
+told_nothing (Some y) c vs h = refl
+
+-- the variable that a call tells, if it tells one, is a number
+module _ (code : Listing) (known : Known) (place : ℕ) (stack : List ℕ) (slots : Slots) (own : Owners) (shared : Shared) (s : source.Thread) (shows : Shows code known (visible_to own shared s) slots) where
+  abbrev IsTellable : Option Identifier → Type 0
+  IsTellable y = (z : Identifier) → y ≡ Some z → kind_of_variable (lookup z s.variables) ≡ Some ScalarKind
+
+  one_told : (o : Operand) (a : Actual) → OperandFits IsCopy o → IsOperand code known place stack slots (visible_to own shared s) o a → IsTellable (address_in_actual (Some a))
+  one_told (operand.IsCopy i) a kind h z is =
+      let shown = shows.each h.0 (record { sort = sort.Flag; index = i }) h.2 in
+      let same : h.0 ≡ z = let both : Some h.0 ≡ Some z = sym (ap (λ (b : Actual). address_in_actual (Some b)) h.1) ∙ is in cc in
+      subst (λ (x : Identifier). kind_of_variable (lookup x s.variables) ≡ Some ScalarKind) same shown.kind
+  one_told operand.Null a kind (inl h) z is = absurd (let clash : None ≡ Some z = sym (ap (λ (b : Actual). address_in_actual (Some b)) h.1) ∙ is in cc)
+  one_told operand.Null a kind (inr (inl h)) z is = absurd (let clash : None ≡ Some z = sym (ap (λ (b : Actual). address_in_actual (Some b)) h) ∙ is in cc)
+  one_told operand.Null a kind (inr (inr h)) z is = absurd (let clash : None ≡ Some z = sym (ap (λ (b : Actual). address_in_actual (Some b)) h) ∙ is in cc)
+  one_told (operand.Local i) a kind h z is = absurd kind
+  one_told (operand.Static i) a kind h z is = absurd kind
+  one_told operand.Number a kind h z is = absurd (cc (kind))
+  one_told (operand.FieldId i) a kind h z is = absurd (cc (kind))
+  one_told operand.Text a kind h z is = absurd (cc (kind))
+  one_told (operand.Array array) a kind h z is = absurd (let clash : IsCopy ≡ ArrayVariable kind.0 = kind.1 in cc)
+  one_told (operand.Buffer i) a kind h z is = absurd (let clash : IsCopy ≡ BufferVariable kind.0 = kind.1 in cc)
+  one_told (operand.Mode mode) a kind h z is = absurd (cc (kind))
+
+  two_told : (p : ParameterKind) (operands : List Operand) (args : List Actual) → AllZip OperandFits (p ∷ IsCopy ∷ []) operands → AllZip (IsOperand code known place stack slots (visible_to own shared s)) operands args → IsTellable (address_given args 1)
+  two_told p [] args kinds h = absurd kinds
+  two_told p (o ∷ []) args kinds h = absurd kinds.1
+  two_told p (o ∷ q ∷ operands) [] kinds h = absurd h
+  two_told p (o ∷ q ∷ operands) (a ∷ []) kinds h = absurd h.1
+  two_told p (o ∷ q ∷ operands) (a ∷ b ∷ args) kinds h = one_told q b kinds.1.0 h.1.0
+
+  pub told_number : (f : JniFunction) (operands : List Operand) (args : List Actual) → IsBufferResult (prototype f).result → AllZip OperandFits (prototype f).parameters operands → AllZip (IsOperand code known place stack slots (visible_to own shared s)) operands args → IsTellable (address_given args 1)
+  told_number (GetBuffer access) operands args b kinds h = two_told (owner access) operands args kinds h
+  told_number f operands args b kinds h = absurd (let clash : (prototype f).result ≡ GivesBuffer b.0 = b.1 in cc)
+
+-- ---- a buffer that is given
+
+-- a function that gives one is of this kind
+pub gives_buffer : (classes : Classes) (store : Store) (k : ℕ) (kind : ResultKind) (g : Given) (c : CallResult) (b : variable.Buffer) → ResultAgrees classes store k g kind c → c ≡ BufferResult b → IsBufferResult kind
+gives_buffer classes store k (GivesBuffer access) g c b h is = (access, refl)
+gives_buffer classes store k kind g c b h is = absurd (subst IsNoBuffer is (plain_result classes store k kind g c (λ of_buffer. let clash : kind ≡ GivesBuffer of_buffer.0 = of_buffer.1 in cc) h))
+
+-- a copy that is made is small
+small_copy : (n : ℕ) (zs : List ℤ) (taken : ℕ) (b : variable.Buffer) → AllByRecursion (FitsSigned w32) zs → BufferResult (if nat_le (taken + length zs) 65536 then Copy n zs else NoBuffer) ≡ BufferResult b → IsSmallCopy b
+small_copy n zs taken b fit = by_test (nat_le (taken + length zs) 65536) refl
+  where
+    by_test : (t : Bool) → nat_le (taken + length zs) 65536 ≡ t → BufferResult (if t then Copy n zs else NoBuffer) ≡ BufferResult b → IsSmallCopy b
+    by_test true e is = let same : Copy n zs ≡ b = cc in subst IsSmallCopy same (omega (arith, leb-true (taken + length zs) 65536 e), fit)
+    by_test false e is = let same : NoBuffer ≡ b = cc in subst IsSmallCopy same tt
+
+small_view : (n views : ℕ) (b : variable.Buffer) → BufferResult (if nat_lt views 64 then View n else NoBuffer) ≡ BufferResult b → IsSmallCopy b
+small_view n views b = by_test (nat_lt views 64)
+  where
+    by_test : (t : Bool) → BufferResult (if t then View n else NoBuffer) ≡ BufferResult b → IsSmallCopy b
+    by_test true is = let same : View n ≡ b = cc in subst IsSmallCopy same tt
+    by_test false is = let same : NoBuffer ≡ b = cc in subst IsSmallCopy same tt
+
+module _ (classes : Classes) (brought : Brought) (space : Space) (locals : LocalTable) (access : Access) (shared : Shared) (s : source.Thread) (effect : CallEffect) (b : variable.Buffer) where
+  abbrev IsGiven : Answer → Type 0
+  IsGiven answer = IsAnswer classes brought space locals (GivesBuffer access) shared s answer effect
+
+  of_effect : (left : CallEffect) → effect ≡ left → result_after (GivesBuffer access) false effect ≡ BufferResult b → result_after (GivesBuffer access) false left ≡ BufferResult b
+  of_effect left is gave = ap (result_after (GivesBuffer access) false) (sym is) ∙ gave
+
+  small_answer : (answer : Answer) → IsGiven answer → result_after (GivesBuffer access) false effect ≡ BufferResult b → IsSmallCopy b
+  small_answer (answers.Gives g) h gave = absurd (gives_it classes brought space locals (GivesBuffer access) shared s g effect h).agrees
+  small_answer (answers.Writes a place v) h gave = absurd (let clash : GivesBuffer access ≡ GivesNothing = (writes_it classes brought space locals (GivesBuffer access) shared s a place v effect h).kind_is in cc)
+  small_answer (answers.CopiesOut region) h gave = absurd (let clash : GivesBuffer access ≡ GivesNothing = h.0 in cc)
+  small_answer (answers.CopiesIn region) h gave = absurd (let clash : GivesBuffer access ≡ GivesNothing = h.0 in cc)
+  small_answer (answers.Makes new) h gave = absurd (let clash : GivesBuffer access ≡ NewLocal = (makes_it classes brought space locals (GivesBuffer access) shared s new effect h).kind_is in cc)
+  small_answer (answers.Throws class) h gave = absurd (let clash : NullResult ≡ BufferResult b = of_effect (Throws class) (throws_it classes brought space locals (GivesBuffer access) shared s class effect h).is gave in cc)
+  small_answer (answers.Raises class place) h gave = absurd (let clash : GivesBuffer access ≡ GivesInt = h.0 in cc)
+  small_answer (answers.Pends a g) h gave = absurd h.2.1
+  small_answer (answers.Halts trap) h gave = absurd (let clash : NoResult ≡ BufferResult b = of_effect (Halts (trap_view trap)) h gave in cc)
+  small_answer (answers.Ensures more) h gave = absurd (let clash : GivesBuffer access ≡ GivesInt = h.0 in cc)
+  small_answer (answers.Pushes capacity) h gave = absurd (let clash : GivesBuffer access ≡ GivesInt = h.0 in cc)
+  small_answer answers.RefusesFrames h gave = absurd (let clash : GivesBuffer access ≡ GivesInt = h.0 in cc)
+  small_answer (answers.Pops a) h gave = absurd (let clash : GivesBuffer access ≡ NewLocal = h.0 in cc)
+  small_answer (answers.Deletes key) h gave = absurd (let clash : GivesBuffer access ≡ GivesNothing = h.0 in cc)
+  small_answer (answers.MakesGlobal a) h gave = absurd (let clash : GivesBuffer access ≡ NewGlobal = h.0 in cc)
+  small_answer (answers.DeletesGlobal i) h gave = absurd (let clash : GivesBuffer access ≡ GivesNothing = h.0 in cc)
+  small_answer (answers.AcquiresCopy a) h gave =
+      small_copy h.1.name (numbers_of shared.heap h.1.name) brought.in_use.copied b h.1.words.fit (of_effect (copy_effect brought.in_use shared s h.1.name (numbers_of shared.heap h.1.name)) h.1.is gave)
+  small_answer (answers.AcquiresView a) h gave = small_view h.1.name brought.in_use.views b (of_effect (view_effect brought.in_use shared s h.1.name) h.1.is gave)
+  small_answer (answers.Releases r) h gave = absurd (let clash : GivesBuffer access ≡ GivesNothing = h.0 in cc)
+
+-- what is given is small
+pub small_given : (classes : Classes) (brought : Brought) (space : Space) (locals : LocalTable) (kind : ResultKind) (shared : Shared) (s : source.Thread) (answer : Answer) (effect : CallEffect) (refused : Bool) (b : variable.Buffer)
+    → IsBufferResult kind → IsAnswer classes brought space locals kind shared s answer effect → result_after kind refused effect ≡ BufferResult b → IsSmallCopy b
+small_given classes brought space locals kind shared s answer effect true b of_buffer h gave =
+    absurd (let clash : NullResult ≡ BufferResult b = ap (λ (k : ResultKind). result_after k true effect) (sym of_buffer.1) ∙ gave in cc)
+small_given classes brought space locals kind shared s answer effect false b of_buffer h gave =
+    small_answer classes brought space locals of_buffer.0 shared s effect b answer (subst (λ (k : ResultKind). IsAnswer classes brought space locals k shared s answer effect) of_buffer.1 h)
+    (ap (λ (k : ResultKind). result_after k false effect) (sym of_buffer.1) ∙ gave)

@@ -1,0 +1,119 @@
+-- The owners of local references that a call leaves.
+use Rattle.std.proofs.Common.{◌≡◌, ◌≢◌, ◌⊎◌, inl, inr, map, ℕ, false, List, length, Option, Some, None, refl, sym, ap, ◌∙◌, subst}
+use Rattle.std.specs.Prelude.{slice_get, slice_set, if◌then◌else◌}
+use Rattle.jni.specs.JniFunction.{JniFunction, DeleteLocalRef, PopLocalFrame}
+use Rattle.semantics.specs.Effect.{effect_of}
+use Rattle.semantics.specs.Task.{Task}
+use Rattle.semantics.specs.Thread as source
+use Rattle.semantics.specs.Thread.{Shared, sight_of}
+use Rattle.semantics.specs.World.{World}
+use Rattle.base.specs.Bytes.{Identifier}
+use Rattle.code.specs.Call.{Call, call_view}
+use Rattle.code.specs.declared.instr.Call.{Call as InMemory}
+use Rattle.code.specs.declared.instr.Operand.{Operand}
+use Rattle.code_meaning.specs.Lowered.{Lowered}
+use Rattle.code_meaning.specs.Slots.{Shows, visible_to}
+use Rattle.type_rules.specs.Sorts.{Ref}
+use Rattle.machine_calls.specs.declared.answer.Answer.{Answer}
+use Rattle.machine_calls.specs.declared.store.Store.{Store}
+use Rattle.machine_calls.specs.declared.activation.Activation.{Activation}
+use Rattle.machine_calls.specs.WorkedOut.{IsWorkedOut, deletes}
+use Rattle.machine_calls.specs.Asked.{references_of, scene_of}
+use Rattle.machine_calls.specs.CarriedOut.{IsLeft}
+use Rattle.machine_calls.specs.Given.{held_in, key_at}
+use Rattle.machine_steps.specs.Invoked.{AtCall}
+use Rattle.machine_steps.proofs.Calls.{Ready}
+use Rattle.machine_steps.specs.SlotsHold.{slots_of}
+use Rattle.machine_calls.proofs.KeyLaws.{name_there, set_cases}
+use Rattle.machine_steps.proofs.KeysLeft.{may_end, none_left_out, others_end_none, others_get}
+use Rattle.machine_calls.proofs.LocalFrames.{as_many_frames}
+use Rattle.machine_steps.proofs.OwnedKeys.{DeletesKey}
+use Rattle.code_meaning.proofs.OwnerLaws.{owner_lost_with_slot, owners_mapped}
+use Rattle.semantics_safety.specs.Owners.{Owners, other_than, left_by as left_by_call}
+use Rattle.std.specs.Str.{bytes_eq}
+use Rattle.machine_calls.specs.Buffers.{Acquired}
+use Rattle.machine_steps.proofs.AskedCalls.{CalledAs, called as called_at, deleted, r as ready_at}
+
+module _ (p : Lowered) (w : World) (store : Store) (pending : Option ℕ) (call : Activation) (in_memory : InMemory) (others : Acquired) (k : ℕ) (own : Owners) (shared : Shared) (s : source.Thread) (task : Task) (rest : List Task) (h : AtCall p w store pending call in_memory others k own shared s task rest) where
+  abbrev function : Call
+  function = call_view in_memory
+
+  abbrev r : Ready p w.classes store.heap store.elements k call h.code (visible_to own shared s) s.frames task rest
+  r = ready_at p w store pending call in_memory others k own shared s task rest h
+
+  abbrev called : CalledAs p w store pending call h.code function others k own shared s task rest r (effect_of (sight_of shared s) task)
+  called = called_at p w store pending call in_memory others k own shared s task rest h
+
+  -- owners that are left once function f has ended local references, and what shows them
+  pub record LeavesOwners (f : JniFunction) (answer : Answer) : Type 0 where
+    pub owners : List (Option ℕ)
+    pub shows : Shows h.code r.known (visible_to (left_by_call f called.args (length s.frames) own) shared s) (slots_of call (record r.meant { owners = owners }))
+    pub among : (i level : ℕ) → slice_get owners i ≡ Some (Some level) → slice_get r.meant.owners i ≡ Some (Some level)
+    pub left : (i key level : ℕ) → slice_get call.slots.references.items i ≡ Some (Some key) → slice_get owners i ≡ Some (Some level) → IsLeft answer (length call.locals.frames) key level
+
+  module _ (answer : Answer) (works : IsWorkedOut (scene_of w.classes store call pending) function called.f answer) where
+    abbrev Works : JniFunction → Type 0
+    Works f = IsWorkedOut (scene_of w.classes store call pending) function f answer
+
+    delete_leaves : called.f ≡ DeleteLocalRef → Works DeleteLocalRef → LeavesOwners DeleteLocalRef answer
+    delete_leaves e is =
+        let d = deleted p w store pending call in_memory others k own shared s task rest h e in
+        record {
+          owners = slice_set r.meant.owners d.slot None;
+          shows = subst (λ (x : Identifier). Shows h.code r.known (visible_to (λ y. if bytes_eq y x then None else own y) shared s) (slots_of call (record r.meant { owners = slice_set r.meant.owners d.slot None }))) (sym d.variable)
+              (owner_lost_with_slot h.code r.known (visible_to own shared s) (slots_of call r.meant) r.shows d.name d.slot (called.own_slots d.name (record { sort = Ref; index = d.slot }) d.at));
+          among = λ i level at. in_others d i level (set_cases r.meant.owners d.slot i None (Some level) at);
+          left = λ i key level found at. by_key d (slice_get call.slots.references.items d.slot) refl i key level found (set_cases r.meant.owners d.slot i None (Some level) at);
+        }
+      where
+        nothing : (level : ℕ) → ◌≡◌ {A = Option ℕ} None (Some level) → ⊥
+        nothing level same = cc
+
+        in_others : (d : DeletesKey p w.classes store.heap store.elements k call h.code own shared s task rest r function.operands called.args) (i level : ℕ) → ((i ≡ d.slot) × (◌≡◌ {A = Option ℕ} None (Some level))) ⊎ ((i ≢ d.slot) × (slice_get r.meant.owners i ≡ Some (Some level))) → slice_get r.meant.owners i ≡ Some (Some level)
+        in_others d i level (inl (same, none)) = absurd (nothing level none)
+        in_others d i level (inr (other, at)) = at
+
+        answered : (d : DeletesKey p w.classes store.heap store.elements k call h.code own shared s task rest r function.operands called.args) (o : Option (Option ℕ)) → slice_get call.slots.references.items d.slot ≡ o → answer ≡ deletes (held_in o)
+        answered d o at = is ∙ ap (λ (x : Operand). deletes (key_at (references_of store call) x)) d.is ∙ ap (λ (x : Option (Option ℕ)). deletes (held_in x)) at
+
+        by_key : (d : DeletesKey p w.classes store.heap store.elements k call h.code own shared s task rest r function.operands called.args) (o : Option (Option ℕ)) → slice_get call.slots.references.items d.slot ≡ o → (i key level : ℕ) → slice_get call.slots.references.items i ≡ Some (Some key)
+            → ((i ≡ d.slot) × (◌≡◌ {A = Option ℕ} None (Some level))) ⊎ ((i ≢ d.slot) × (slice_get r.meant.owners i ≡ Some (Some level))) → IsLeft answer (length call.locals.frames) key level
+        by_key d o at i key level found (inl (same, none)) = absurd (nothing level none)
+        by_key d None at i key level found (inr (other, owned)) = subst (λ (a : Answer). IsLeft a (length call.locals.frames) key level) (sym (answered d None at)) tt
+        by_key d (Some None) at i key level found (inr (other, owned)) = subst (λ (a : Answer). IsLeft a (length call.locals.frames) key level) (sym (answered d (Some None) at)) tt
+        by_key d (Some (Some k)) at i key level found (inr (other, owned)) =
+            subst (λ (a : Answer). IsLeft a (length call.locals.frames) key level) (sym (answered d (Some (Some k)) at))
+            (λ same.
+            let named = name_there store.heap call.locals call.slots.references.items r.meant.references r.meant.owners d.slot k r.holds.keys at in
+            let owner = d.owned named.0 named.1 in
+            other (r.holds.keys.apart i d.slot key level owner.0 found (at ∙ ap (λ (n : ℕ). Some (Some n)) (sym same)) owned owner.1))
+
+    pop_leaves : Works PopLocalFrame → LeavesOwners PopLocalFrame answer
+    pop_leaves is = record {
+      owners = map (other_than (length s.frames)) r.meant.owners;
+      shows = owners_mapped h.code r.known (visible_to own shared s) (slots_of call r.meant) r.shows (other_than (length s.frames)) refl;
+      among = λ i level at. (others_get (length s.frames) r.meant.owners i level at).0;
+      left = λ i key level found at.
+          subst (λ (a : Answer). IsLeft a (length call.locals.frames) key level) (sym is)
+          (λ same. (others_get (length s.frames) r.meant.owners i level at).1 (same ∙ as_many_frames store.heap call.locals s.frames r.frames_agree));
+    }
+
+    other_leaves : (f : JniFunction) → may_end f ≡ false → left_by_call f called.args (length s.frames) own ≡ own → Works f → LeavesOwners f answer
+    other_leaves f none same is = record {
+      owners = r.meant.owners;
+      shows = subst (λ (o : Owners). Shows h.code r.known (visible_to o shared s) (slots_of call r.meant)) (sym same) r.shows;
+      among = λ i level at. at;
+      left = λ i key level found at. none_left_out answer (length call.locals.frames) key level (others_end_none (scene_of w.classes store call pending) function f answer none is);
+    }
+
+    leaves : (f : JniFunction) → called.f ≡ f → Works f → LeavesOwners f answer
+    leaves DeleteLocalRef e is = delete_leaves e is
+    leaves PopLocalFrame e is = pop_leaves is
+    leaves f e is = other_leaves f refl refl is
+
+    pub leaves_owners : LeavesOwners called.f answer
+    leaves_owners = leaves called.f refl works
+
+    -- the call with fewer owners
+    abbrev pub left_own : Owners
+    left_own = left_by_call called.f called.args (length s.frames) own
