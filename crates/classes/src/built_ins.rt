@@ -80,6 +80,9 @@ pub const ARRAY_STORE_EXCEPTION: usize = 17;
 /// The number of `java/lang/NegativeArraySizeException`.
 pub const NEGATIVE_ARRAY_SIZE_EXCEPTION: usize = 18;
 
+/// The number of `java/lang/IllegalMonitorStateException`.
+pub const ILLEGAL_MONITOR_STATE_EXCEPTION: usize = 19;
+
 /// What is told of a throwable.
 const MESSAGE: BuiltInField = BuiltInField {
     name: b"message",

@@ -74,8 +74,8 @@ static FAULTS_20: [Explanation; 8] = [
     },
     Explanation {
         number: 24,
-        title: b"a function of the JNI isn't known, or isn't implemented",
-        text: b"fault 24: a function of the JNI isn't known, or isn't implemented\n\nREADME has the list of those that are (JNI Specification, chapter 4).\n\n    JNIEXPORT void JNICALL Java_A_f(JNIEnv *env, jclass cls)\n    {\n        jint version = (*env)->GetVersion(env);\n        return;\n    }\n\nfault 24 line 3\n",
+        title: b"a function of the JNI isn't known",
+        text: b"fault 24: a function of the JNI isn't known\n\nREADME has the list of those that are (JNI Specification, chapter 4).\n\n    JNIEXPORT void JNICALL Java_A_f(JNIEnv *env, jclass cls)\n    {\n        jint version = (*env)->GetVersion(env);\n        return;\n    }\n\nfault 24 line 3\n",
     },
     Explanation {
         number: 25,

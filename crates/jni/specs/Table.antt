@@ -4,7 +4,7 @@ use Rattle.std.specs.Borrow.{Bor}
 use Rattle.base.specs.Bytes.{Identifier}
 use Rattle.syntax.specs.Views.{element_tree}
 use Rattle.jni.specs.Access.{Access, ElementsCopy, ArrayView, CharsCopy, CharsView}
-use Rattle.jni.specs.JniFunction.{JniFunction, FindClass, GetSuperclass, GetObjectClass, IsInstanceOf, IsAssignableFrom, AllocObject, NewLocalRef, NewGlobalRef, DeleteLocalRef, DeleteGlobalRef, IsSameObject, EnsureLocalCapacity, PushLocalFrame, PopLocalFrame, GetFieldID, GetStaticFieldID, GetField, SetField, GetStaticField, SetStaticField, GetObjectField, SetObjectField, GetStaticObjectField, SetStaticObjectField, GetArrayLength, NewObjectArray, GetObjectArrayElement, SetObjectArrayElement, NewArray, GetArrayRegion, SetArrayRegion, GetBuffer, ReleaseBuffer, NewStringUTF, GetStringLength, GetStringRegion, Throw, ThrowNew, ExceptionOccurred, ExceptionCheck, ExceptionClear, FatalError, MonitorEnter, MonitorExit, is_allowed_pending, prototype, is_built_function, all_functions}
+use Rattle.jni.specs.JniFunction.{JniFunction, FindClass, GetSuperclass, GetObjectClass, IsInstanceOf, IsAssignableFrom, AllocObject, NewLocalRef, NewGlobalRef, DeleteLocalRef, DeleteGlobalRef, IsSameObject, EnsureLocalCapacity, PushLocalFrame, PopLocalFrame, GetFieldID, GetStaticFieldID, GetField, SetField, GetStaticField, SetStaticField, GetObjectField, SetObjectField, GetStaticObjectField, SetStaticObjectField, GetArrayLength, NewObjectArray, GetObjectArrayElement, SetObjectArrayElement, NewArray, GetArrayRegion, SetArrayRegion, GetBuffer, ReleaseBuffer, NewStringUTF, GetStringLength, GetStringRegion, Throw, ThrowNew, ExceptionOccurred, ExceptionCheck, ExceptionClear, FatalError, MonitorEnter, MonitorExit, is_allowed_pending, prototype, all_functions}
 use Rattle.jni.specs.Prototype.{Prototype, ParameterKind, Nullable, NonNull, ClassObject, AnyArray, ObjectArray, StringObject, NumberArray, LocalVariable, StaticVariable, FieldID, IntNumber, TextBytes, ArrayVariable, BufferVariable, Mode, IsCopy, ResultKind, NewLocal, NewGlobal, GivesFlag, GivesInt, GivesField, GivesNothing, GivesBuffer}
 use Rattle.jni.specs.StateEffect.{StateEffect, Gets, Releases, Deletes, Pops, Other, state_effect}
 use Rattle.jni.specs.declared.access.Access.{Access as AccessInMemory}
@@ -115,11 +115,10 @@ pub record Facts : Type 0 where
   pub prototype : Prototype
   pub effect : StateEffect
   pub pending : Bool
-  pub built : Bool
 
 -- by the definitions
 abbrev pub facts_of : JniFunction → Facts
-facts_of f = record { prototype = prototype f; effect = state_effect f; pending = is_allowed_pending f; built = is_built_function f }
+facts_of f = record { prototype = prototype f; effect = state_effect f; pending = is_allowed_pending f }
 
 -- of all functions, by the definitions
 abbrev pub all_rows : List Facts
@@ -127,7 +126,7 @@ all_rows = map facts_of all_functions
 
 -- in memory
 abbrev pub facts : PrototypeInMemory → Facts
-facts p = record { prototype = record { name = p.name.now; parameters = map parameter_value p.parameters.now; result = result_value p.result }; effect = effect_value p.effect; pending = p.pending; built = p.built }
+facts p = record { prototype = record { name = p.name.now; parameters = map parameter_value p.parameters.now; result = result_value p.result }; effect = effect_value p.effect; pending = p.pending }
 
 -- functions in memory
 abbrev pub functions_value : Bor (List FunctionInMemory) → List JniFunction

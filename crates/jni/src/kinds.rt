@@ -87,6 +87,4 @@ pub struct Prototype {
     pub effect: StateEffect,
     /// Whether it may be called while an exception is pending.
     pub pending: bool,
-    /// Whether it can be called today.
-    pub built: bool,
 }

@@ -10,15 +10,14 @@ ghost use Rattle.syntax.specs.Views.{expr_tree, right_side_tree, test_tree, form
 ghost use Rattle.jni.specs.JniFunction.{function_named};
 ghost use Rattle.jni.specs.Table.{function_value};
 ghost use Rattle.type_rules.specs.Sorts.{sort_in, is_unknown, sort_of, has_elements, is_index, is_jint, call_arguments_fit};
-ghost use Rattle.type_rules.specs.SortRules.{is_formed, value_sets, right_side_sets, buffer_begins, test_fits, return_fits, statement_fits, copies_reference, sort_rules, UnknownName, DeclaredTwice, SortMisfit, UnknownFunction, ArgumentCount, ReferenceCopied, BadMode, ReadOnlyWrite, breaks_sort_rule};
-ghost use Rattle.type_rules.specs.BuiltCalls.{calls_unbuilt, refused_at};
+ghost use Rattle.type_rules.specs.SortRules.{is_formed, value_sets, right_side_sets, buffer_begins, test_fits, return_fits, statement_fits, copies_reference, sort_rules, UnknownName, DeclaredTwice, SortMisfit, UnknownFunction, ArgumentCount, ReferenceCopied, BadMode, ReadOnlyWrite, breaks_sort_rule, broken_at};
 ghost use Rattle.types.specs.Called.{function_in, call_of_test, declared};
 ghost use Rattle.types.specs.Faults.{scope_of, sort_value, Finds, statement_place, refused_of};
 ghost use Rattle.type_rules.specs.Uses.{right_uses, test_uses, uses};
 
 use crate::calls::{
     call_arguments_fit, call_fits, call_formed, call_unknown, has_wrong_count, has_wrong_mode,
-    is_built, may_be_dropped, may_be_tested,
+    may_be_dropped, may_be_tested,
 };
 use crate::expressions::{has_unknown, is_null, name_sort, sort_of};
 use crate::fault::{SortRule, TypeFault, refuse_if};
@@ -251,14 +250,13 @@ fn misfits(
     !statement_fits(known, returns, form, function) || call_misfits(known, form, function)
 }
 
-/// Whether a statement calls a function that is not known, or can't be called today.
-#[tactic(auto, using(crate::proofs::StatementLemmas::unknown_calls))]
+/// Whether a statement calls a function that is not known.
 fn calls_unknown(form: &Form, function: Option<JniFunction>) -> bool
     requires { (line : ℕ) → option_map function_value function ≡ function_in (own_call (form_tree line form.now)) }
-    ensures { (line : ℕ) → result ≡ (breaks_sort_rule UnknownFunction [] [] Void (form_tree line form.now) || calls_unbuilt (form_tree line form.now)) }
+    ensures { (line : ℕ) → result ≡ breaks_sort_rule UnknownFunction [] [] Void (form_tree line form.now) }
 {
     match own_call(form) {
-        Some(_) => !is_built(function),
+        Some(_) => function.is_none(),
         None => false,
     }
 }
@@ -390,7 +388,7 @@ pub(crate) fn check_statement(
     returns: ResultType,
     stmt: &Stmt,
 ) -> Result<(), TypeFault>
-    ensures { Finds result (refused_at (statement_place (result_tree returns) (scope_of known.now) taken.now (stmt_tree stmt.now))) }
+    ensures { Finds result (broken_at (statement_place (result_tree returns) (scope_of known.now) taken.now (stmt_tree stmt.now))) }
 {
     check_form(known, taken, returns, &stmt.form, stmt.line)
 }
