@@ -71,7 +71,7 @@ pub found-static : (taken : List Identifier) (statics : Scope) (s : StaticInMemo
 unfolding static_place
 found-static taken statics s =
     found-next (static_place taken statics s) [] ∙ ap (λ xs. broken_at (static_place taken statics s) ++ xs) found-none ∙ append-nil (broken_at (static_place taken statics s))
-    ∙ listed (λ rule. breaks rule (static_place taken statics s) (StaticForm s)) s.line ∙ append-nil (broken_if (has_name taken s.name) DeclaredTwice s.line)
+    ∙ listed (λ rule. breaks rule (static_place taken statics s) (StaticForm (static_tree s))) s.line ∙ append-nil (broken_if (has_name taken s.name) DeclaredTwice s.line)
 
 -- ---- items
 
