@@ -9,6 +9,8 @@ use jni::{JniFunction, ParameterKind, ResultKind};
 use std::alloc::{AllocError, Global};
 use std::marker::Model;
 
+pub use base::ElementType;
+
 /// An operator on two words that has a result for all of them, at `uint32_t`, or at `jint` where it says so. A comparison
 /// gives a truth, which is the word 1 or 0; the words of two `jint`s, or of two flags, are equal where these are.
 #[derive(Clone, Copy)]
@@ -58,19 +60,6 @@ pub enum TrappingOperator {
     ShiftLeft,
     /// `>>`, a trap by 32 or more (6.5.7)
     ShiftRight,
-}
-
-/// The type of an array's elements (JNI Specification, chapter 3, "Primitive Types").
-#[derive(Clone, Copy)]
-pub enum ElementType {
-    /// `jint`
-    Int,
-    /// `jshort`
-    Short,
-    /// `jbyte`
-    Byte,
-    /// `jchar`
-    Char,
 }
 
 /// An array of a function: number slots one after another, each with an element as a `jint` (6.2.5).

@@ -14,8 +14,8 @@ use Rattle.code.specs.declared.instr.Operand.{Operand}
 use Rattle.code.specs.declared.instr.Operand.TheVariants as operand
 use Rattle.code.specs.declared.instr.ReleaseMode.{ReleaseMode as ModeOfCode}
 use Rattle.code.specs.declared.instr.ReleaseMode.TheVariants as mode
-use Rattle.code.specs.declared.instr.ElementType.{ElementType as ElementOfCode}
-use Rattle.code.specs.declared.instr.ElementType.TheVariants as element
+use Rattle.base.specs.declared.element.ElementType.{ElementType as ElementOfCode}
+use Rattle.base.specs.declared.element.ElementType.TheVariants as element
 use Rattle.code.specs.declared.instr.Operator.TheVariants as operator
 use Rattle.code.specs.declared.instr.TrappingOperator.TheVariants as trapping
 use Rattle.code.specs.declared.instr.NullableVariable.{NullableVariable}

@@ -20,7 +20,7 @@ use Rattle.code.specs.Call.{Call}
 use Rattle.code.specs.declared.instr.Operand.{Operand as Where}
 use Rattle.code.specs.declared.instr.Operand.TheVariants as operand
 use Rattle.code.specs.declared.instr.LocalArray.{LocalArray}
-use Rattle.code.specs.declared.instr.ElementType.{ElementType as ElementOfCode}
+use Rattle.base.specs.declared.element.ElementType.{ElementType as ElementOfCode}
 use Rattle.code.specs.declared.instr.ReleaseMode.{ReleaseMode}
 use Rattle.code.specs.declared.instr.NullableVariable.{NullableVariable}
 use Rattle.code.specs.declared.instr.ReferenceOperand.TheVariants.{Null, Local}

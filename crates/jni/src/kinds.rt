@@ -1,7 +1,7 @@
 //! What the table says of a function.
 
 use crate::access::Access;
-use syntax::ElementType;
+use base::ElementType;
 
 /// What an argument after `env` is.
 #[derive(Clone, Copy)]

@@ -1,7 +1,7 @@
 -- Sorts, slots and names in memory.
 use Rattle.std.specs.Prelude.{map}
 use Rattle.base.specs.Bytes.{ByName}
-use Rattle.syntax.specs.Views.{element_tree}
+use Rattle.base.specs.Element.{element_value}
 use Rattle.type_rules.specs.Sorts.{Sort, Word, Jint, Flag, Ref, Global, FieldId, Buffer, Array}
 use Rattle.lower_statements.specs.declared.names.Sort.{Sort as SortInMemory}
 use Rattle.lower_statements.specs.declared.names.Sort.TheVariants as sorts
@@ -16,8 +16,8 @@ sort_view sorts.Flag = Flag
 sort_view sorts.Reference = Ref
 sort_view sorts.Static = Global
 sort_view sorts.FieldId = FieldId
-sort_view (sorts.Buffer t writable) = Buffer (element_tree t) writable
-sort_view (sorts.Array t size) = Array (element_tree t) size
+sort_view (sorts.Buffer t writable) = Buffer (element_value t) writable
+sort_view (sorts.Array t size) = Array (element_value t) size
 
 -- a slot with its sort
 abbrev pub slot_view : SlotInMemory → Slot

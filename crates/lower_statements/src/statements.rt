@@ -15,7 +15,7 @@ ghost use Rattle.lower_statements.specs.Plain.{is_declaring, is_plain};
 
 use crate::emitting::{counted, emit, replace};
 use crate::names::{Names, Slot, Sort};
-use crate::terms::{element_type, emit_expr, nullable};
+use crate::terms::{emit_expr, nullable};
 use code::instr;
 use code::instr::{BoxedCall, Instr, LocalArray, Operand, ReferenceOperand, ReleaseMode, Target};
 use jni::{JniFunction, ParameterKind, function_named};
@@ -94,7 +94,7 @@ fn emit_declaring<'a>(
             emit_declaration(code, names, line, name, Sort::Buffer(*element, true), right)
         }
         Form::DeclareChars(name, right) => {
-            let sort = Sort::Buffer(ElementType::Jchar, false);
+            let sort = Sort::Buffer(ElementType::Char, false);
             emit_declaration(code, names, line, name, sort, right)
         }
         Form::DeclareArray(element, name, size) => {
@@ -301,6 +301,7 @@ fn emit_right(
 }
 
 /// Where a call's result for the variable of a slot goes.
+#[tactic(auto, using(code_meaning::proofs::ElementWords::element_same))]
 fn result_target(slot: Slot) -> Target
     ensures { result ≡ result_target (sort_view slot.sort) slot.index }
 {
@@ -308,7 +309,7 @@ fn result_target(slot: Slot) -> Target
         Sort::Reference => Target::Local(slot.index),
         Sort::Static => Target::Static(slot.index),
         Sort::FieldId => Target::FieldId(slot.index),
-        Sort::Buffer(element, _) => Target::Buffer(element_type(element), slot.index),
+        Sort::Buffer(element, _) => Target::Buffer(element, slot.index),
         _ => Target::Number(slot.index),
     }
 }
@@ -343,6 +344,7 @@ fn emit_print(
 }
 
 /// An element of a named array or buffer, after its index and its value.
+#[tactic(auto, using(code_meaning::proofs::ElementWords::element_same))]
 fn emit_write(
     code: &mut Vec<Instr>,
     names: &Names<'_>,
@@ -361,7 +363,7 @@ fn emit_write(
             let array = LocalArray { start: index, len };
             emit(
                 code,
-                Instr::StoreElement(element_type(element), array, line),
+                Instr::StoreElement(element, array, line),
             )
         }
         Some(
@@ -369,7 +371,7 @@ fn emit_write(
                 sort: Sort::Buffer(element, _),
                 index,
             },
-        ) => emit(code, Instr::StoreBuffer(element_type(element), index, line)),
+        ) => emit(code, Instr::StoreBuffer(element, index, line)),
         _ => Ok(()),
     }
 }

@@ -5,10 +5,10 @@ ghost use Rattle.std.specs.Option.{option_copied};
 ghost use Rattle.base.specs.Bytes.{lookup};
 ghost use Rattle.syntax.specs.Parts.{null_tested};
 ghost use Rattle.syntax.specs.Tree.{Binary, Equal, NotEqual};
-ghost use Rattle.syntax.specs.Views.{constant_tree, prefix_tree, binary_tree, element_tree, expr_tree};
+ghost use Rattle.syntax.specs.Views.{constant_tree, prefix_tree, binary_tree, expr_tree};
 ghost use Rattle.semantics.specs.Term as term;
 ghost use Rattle.semantics.specs.Term.{term_of};
-ghost use Rattle.code_meaning.specs.Coding.{nullable_of, element_of, element_code, null_code, of_slot, load_code, constant_code, prefix_code, operator_code, is_signed, skip_code, logical_code, term_code, expr_code};
+ghost use Rattle.code_meaning.specs.Coding.{nullable_of, element_code, null_code, of_slot, load_code, constant_code, prefix_code, operator_code, is_signed, skip_code, logical_code, term_code, expr_code};
 ghost use Rattle.lower_statements.specs.Names.{sort_view};
 
 use crate::emitting::{counted, emit, replace};
@@ -16,7 +16,7 @@ use crate::names::{Names, Slot, Sort};
 use code::instr;
 use code::instr::{Instr, LocalArray, NullableVariable, Operator, TrappingOperator};
 use std::alloc::AllocError;
-use syntax::{BinaryOp, Constant, ElementType, Expr, Name, PrefixOp};
+use syntax::{BinaryOp, Constant, Expr, Name, PrefixOp};
 
 /// An expression in a statement on this line. What no accepted program has becomes nothing.
 #[cycle(expressions)]
@@ -248,18 +248,6 @@ pub fn nullable(slot: Slot) -> Option<NullableVariable>
         Sort::FieldId => Some(NullableVariable::FieldId(slot.index)),
         Sort::Buffer(..) => Some(NullableVariable::Buffer(slot.index)),
         Sort::Word | Sort::Jint | Sort::Flag | Sort::Array(..) => None,
-    }
-}
-
-/// The element type of an instruction.
-pub fn element_type(element: ElementType) -> instr::ElementType
-    ensures { result ≡ element_of (element_tree element) }
-{
-    match element {
-        ElementType::Jint => instr::ElementType::Int,
-        ElementType::Jshort => instr::ElementType::Short,
-        ElementType::Jbyte => instr::ElementType::Byte,
-        ElementType::Jchar => instr::ElementType::Char,
     }
 }
 

@@ -8,7 +8,7 @@ use Rattle.class_rules.specs.Fields.{FieldId}
 use Rattle.classes.specs.declared.class.FieldHandle.{FieldHandle}
 use Rattle.code.specs.declared.instr.Operand.{Operand}
 use Rattle.code.specs.declared.instr.Operand.TheVariants as operand
-use Rattle.code.specs.declared.instr.ElementType.TheVariants as element
+use Rattle.base.specs.declared.element.ElementType.TheVariants as element
 use Rattle.code.specs.declared.instr.Target.{Target}
 use Rattle.code.specs.declared.instr.Target.TheVariants.{Buffer}
 use Rattle.heap.specs.Heap.{Space}

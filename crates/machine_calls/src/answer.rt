@@ -14,7 +14,7 @@ ghost use Rattle.machine_calls.specs.Checked.{arguments_fit, element_wanted};
 ghost use Rattle.machine_calls.specs.Given.{class_of_given, field_at, field_there, name_there, operand_at, operand_of, AreAddresses, AreHandles};
 ghost use Rattle.machine_calls.specs.Scenes.{scene_view};
 ghost use Rattle.machine_calls.specs.WorkedOut.{address_in, class_object, count_there, deletes, deletes_global, found_class, frame_for, held_reference, place_there, room_for, top_word, value_there, word_in, writes_there, IsFoundField, IsWorkedOut};
-ghost use Rattle.syntax.specs.Views.{element_tree};
+ghost use Rattle.base.specs.Element.{element_value};
 
 use crate::array_region::ArrayRegion;
 use crate::arrays::{stack_number, work_out_array};
@@ -648,23 +648,11 @@ pub(crate) fn top_word(stack: &Stack) -> u32
     if stack.is_empty() { 0 } else { stack.top() }
 }
 
-/// The same type, as elements of arrays have it.
-fn element_of(element: syntax::ElementType) -> ElementType
-    ensures { result ≡ element_of (element_tree element) }
-{
-    match element {
-        syntax::ElementType::Jint => ElementType::Int,
-        syntax::ElementType::Jshort => ElementType::Short,
-        syntax::ElementType::Jbyte => ElementType::Byte,
-        syntax::ElementType::Jchar => ElementType::Char,
-    }
-}
-
 /// How a cell of this type holds the word on the stack.
 fn stored(element: syntax::ElementType, stack: &Stack) -> Value
-    ensures { result ≡ Value.Number (element_word (element_of (element_tree element)) (top_word stack.now)) }
+    ensures { result ≡ Value.Number (element_word (element_of (element_value element)) (top_word stack.now)) }
 {
-    Value::Number(element_word(element_of(element), top_word(stack)))
+    Value::Number(element_word(element, top_word(stack)))
 }
 
 // ---- classes

@@ -81,7 +81,7 @@ use Rattle.machine_steps.proofs.CellsMade.{call_cells}
 use Rattle.machine_calls.proofs.Keeping.{keeps_same}
 use Rattle.machine_steps.specs.Executes.{in_use_with}
 use Rattle.base.specs.Element.{ElementType, JInt, JShort, JByte, JChar}
-use Rattle.code.specs.declared.instr.ElementType.{ElementType as ElementOfCode}
+use Rattle.base.specs.declared.element.ElementType.{ElementType as ElementOfCode}
 use Rattle.code_meaning.specs.Coding.{element_of}
 use Rattle.code_meaning.specs.Slots.{held_buffer, kind_of_variable}
 use Rattle.type_rules.specs.Sorts as sort

@@ -14,7 +14,7 @@ use Rattle.class_rules.specs.Class.{Classes}
 use Rattle.heap.specs.Heap.{Space, name_at, values_at, with_value}
 use Rattle.heap.specs.declared.value.Value.TheVariants.{Number as Word}
 use Rattle.jni.specs.JniFunction.{JniFunction}
-use Rattle.code.specs.declared.instr.ElementType.{ElementType as ElementOfCode}
+use Rattle.base.specs.declared.element.ElementType.{ElementType as ElementOfCode}
 use Rattle.code.specs.declared.instr.Instr.{Instr}
 use Rattle.code.specs.declared.instr.Instr.TheVariants as instr
 use Rattle.code.specs.declared.instr.Plain.{Plain}

@@ -22,7 +22,7 @@ ghost use Rattle.replay_calls.specs.Checked.{trap_found};
 ghost use Rattle.replay_calls.specs.WorkedOut.{element_given, element_set, ensured, fits_element, found_class, found_field, global_deleted, index_given, local_deleted, made_global, new_array, new_object_array, pushed, subject_of, worked_out};
 ghost use Rattle.replay_calls.specs.declared.answer.Subject.TheVariants as subject;
 ghost use Rattle.replay_terms.specs.Views.{in_use_view, trap_view, variables_view};
-ghost use Rattle.syntax.specs.Views.{element_tree};
+ghost use Rattle.base.specs.Element.{element_value};
 ghost use Rattle.world_values.specs.Views.{object_value_view};
 
 use crate::actual::{
@@ -30,7 +30,7 @@ use crate::actual::{
     variable_given,
 };
 use crate::buffers::buffer_answer;
-use crate::check::{check, element_type, fits_class};
+use crate::check::{check, fits_class};
 use crate::exceptions::exception_answer;
 use crate::field;
 use crate::regions::region_answer;
@@ -171,7 +171,7 @@ pub fn answer_or_trap<'a>(
 ) -> Answer<'a>
     requires built { IsTrue (is_built_function (function_value function)) }
     requires grown { IsGrown classes.now }
-    ensures { answer_view result ≡ answer_or_trap (trap_found classes.now store.now frames.now (is_some pending) (element_tree lending.element) (function_value function) (map actual_view actuals.now))
+    ensures { answer_view result ≡ answer_or_trap (trap_found classes.now store.now frames.now (is_some pending) (element_value lending.element) (function_value function) (map actual_view actuals.now))
         (worked_out classes.now (in_use_view lending.in_use) store.now (variables_view variables.now) frames.now pending (map actual_view actuals.now) (function_value function)) }
 {
     let is_pending = pending.is_some();
@@ -389,7 +389,7 @@ fn array_answer<'a>(
         }
         JniFunction::NewArray(element) => {
             new_array(
-                number_array(element_type(element)),
+                number_array(element),
                 number_given(actuals, 0),
             )
         }

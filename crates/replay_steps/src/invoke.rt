@@ -20,7 +20,7 @@ ghost use Rattle.replay_terms.specs.Views.{lent_view, variables_view};
 ghost use Rattle.semantics.specs.CallEffects.{BufferResult};
 ghost use Rattle.semantics.specs.CallStep.{tell_copy};
 ghost use Rattle.semantics.specs.Heap.{Heap};
-ghost use Rattle.syntax.specs.Views.{element_tree};
+ghost use Rattle.base.specs.Element.{element_value};
 
 use crate::activation::Locals;
 use crate::turn::Turn;
@@ -205,12 +205,12 @@ fn call<'a>(
 
 /// The element type of the buffer that a call is to fill; `jint` where there is none.
 fn wanted_element(variables: &Variables<'_>, purpose: Purpose<'_>) -> ElementType
-    ensures { element_tree result ≡ wanted_element variables.now purpose.entry }
+    ensures { element_value result ≡ wanted_element variables.now purpose.entry }
 {
     match purpose {
         Purpose::Put(Target::Declared(VariableKind::Buffer(kind), _)) => kind,
         Purpose::Put(Target::Assigned(name)) => variables.element_type(name.as_bytes()),
-        _ => ElementType::Jint,
+        _ => ElementType::Int,
     }
 }
 

@@ -12,7 +12,8 @@ use Rattle.syntax.specs.declared.stmt.Stmt.{Stmt as StmtInMemory}
 use Rattle.syntax.specs.Limits.{numbers_in_range}
 use Rattle.syntax.specs.Parts.{argument_expressions, statements_of, own_expressions, right_side_expressions, test_expressions, call_of_right_side}
 use Rattle.syntax.specs.Tree.{Argument, Call, Expr, RightSide, Test, TestExpr, TestCall, Stmt, If, IfElse, While, Block}
-use Rattle.syntax.specs.Views.{expr_tree, element_tree, stmt_tree, block_tree}
+use Rattle.base.specs.Element.{element_value}
+use Rattle.syntax.specs.Views.{expr_tree, stmt_tree, block_tree}
 use Rattle.jni.specs.JniFunction.{is_built_function}
 use Rattle.jni.specs.Table.{function_value}
 use Rattle.type_rules.specs.BuiltCalls.{is_built_call, calls_unbuilt}
@@ -36,7 +37,7 @@ task_view (task.Print e) = Print e.line (term_view e.term)
 task_view (task.Set a) = SetScalar a.line a.name.now (term_view a.term)
 task_view (task.SetElement a) = SetElement a.line a.name.now (term_view a.index) (term_view a.number)
 task_view (task.SetNull to) = SetNull (target_view to)
-task_view (task.MakeArray T x n) = MakeArray (element_tree T) x.now n
+task_view (task.MakeArray T x n) = MakeArray (element_value T) x.now n
 task_view (task.Invoke i) = Invoke i.line (purpose_view i.line i.purpose) (function_value i.function) (map operand_view i.operands.items)
 task_view (task.Branch c) = Branch c.line (term_view c.test) (block_tree c.block.now) (else_tree c.line c.otherwise)
 task_view (task.Loop i) = Loop i.line (expr_tree i.test.now) (term_view i.term) (block_tree i.body.now)

@@ -328,7 +328,7 @@ pub fn task_of(alloc: Global, s: &Stmt) -> Result<Task<'_>, AllocError>
             declaration(
                 alloc,
                 line,
-                VariableKind::Buffer(ElementType::Jchar),
+                VariableKind::Buffer(ElementType::Char),
                 x,
                 right,
             )

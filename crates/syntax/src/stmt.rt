@@ -1,7 +1,8 @@
 //! Statements and blocks.
 
 use crate::call::{Call, RightSide, Test};
-use crate::declared_type::{ElementType, VariableType};
+use crate::declared_type::VariableType;
+use base::ElementType;
 use crate::expr::Expr;
 use crate::name::Name;
 

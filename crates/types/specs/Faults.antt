@@ -6,7 +6,8 @@ use Rattle.class_rules.specs.Mangling.{unmangle}
 use Rattle.syntax.specs.declared.unit.Function.{Function as FunctionInMemory}
 use Rattle.syntax.specs.Parts.{line_of, statements_of, names_declared}
 use Rattle.syntax.specs.Tree.{ResultType, Void, Stmt, If, IfElse, While, Item, StaticItem, FunctionItem}
-use Rattle.syntax.specs.Views.{element_tree, parameter_type_tree}
+use Rattle.base.specs.Element.{element_value}
+use Rattle.syntax.specs.Views.{parameter_type_tree}
 use Rattle.types.specs.declared.fault.Fault.{Fault}
 use Rattle.types.specs.declared.fault.SortRule.{SortRule as RuleInMemory}
 use Rattle.types.specs.declared.fault.SortRule.TheVariants as rules
@@ -41,8 +42,8 @@ sort_value sorts.Truth = Truth
 sort_value sorts.Ref = Ref
 sort_value sorts.Global = Global
 sort_value sorts.FieldId = FieldId
-sort_value (sorts.Buffer t writable) = Buffer (element_tree t) writable
-sort_value (sorts.Array t size) = Array (element_tree t) size
+sort_value (sorts.Buffer t writable) = Buffer (element_value t) writable
+sort_value (sorts.Array t size) = Array (element_value t) size
 
 -- the names that are known
 abbrev pub scope_of : ByName SortInMemory → Scope

@@ -2,7 +2,8 @@
 
 ghost use Rattle.std.specs.Prelude.{◌≡◌};
 ghost use Rattle.std.specs.Option.{option_map};
-ghost use Rattle.syntax.specs.Views.{element_tree, variable_type_tree, parameter_type_tree};
+ghost use Rattle.base.specs.Element.{element_value};
+ghost use Rattle.syntax.specs.Views.{variable_type_tree, parameter_type_tree};
 ghost use Rattle.type_rules.specs.Sorts.{is_word, is_jint, is_flag, is_truth, is_ref, is_global, is_field, is_index, is_castable, has_elements, is_nullable, is_array_of, is_buffer_for, is_read_only};
 ghost use Rattle.type_rules.specs.SortRules.{variable_sort, parameter_sort};
 ghost use Rattle.jni.specs.Table.{access_value};
@@ -115,7 +116,7 @@ pub(crate) fn is_read_only(sort: Option<Sort>) -> bool
 
 /// A local array of this type.
 pub(crate) fn is_array_of(element: ElementType, sort: Option<Sort>) -> bool
-    ensures { result ≡ is_array_of (element_tree element) (option_map sort_value sort) }
+    ensures { result ≡ is_array_of (element_value element) (option_map sort_value sort) }
 {
     match sort {
         Some(Sort::Array(other, _)) => is_same_element(element, other),
@@ -137,8 +138,8 @@ pub(crate) fn is_buffer_for(access: Access, sort: Option<Sort>) -> bool
         Some(Sort::Buffer(element, false)) => match access {
             Access::ElementsCopy(_) => false,
             Access::ArrayView => false,
-            Access::CharsCopy => is_same_element(ElementType::Jchar, element),
-            Access::CharsView => is_same_element(ElementType::Jchar, element),
+            Access::CharsCopy => is_same_element(ElementType::Char, element),
+            Access::CharsView => is_same_element(ElementType::Char, element),
         },
         _ => false,
     }

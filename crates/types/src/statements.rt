@@ -109,7 +109,7 @@ pub(crate) fn declared(form: &Form) -> Option<(&Name, Sort)>
     match form {
         Form::Declare(t, x, _) => Some((x, variable_sort(*t))),
         Form::DeclareBuffer(t, x, _) => Some((x, Sort::Buffer(*t, true))),
-        Form::DeclareChars(x, _) => Some((x, Sort::Buffer(ElementType::Jchar, false))),
+        Form::DeclareChars(x, _) => Some((x, Sort::Buffer(ElementType::Char, false))),
         Form::DeclareArray(t, x, size) => Some((x, Sort::Array(*t, *size))),
         _ => None,
     }
@@ -211,7 +211,7 @@ fn statement_fits(
         Form::Declare(t, _, r) => { right_side_sets(known, Some(variable_sort(*t)), r, function) }
         Form::DeclareBuffer(t, _, r) => buffer_begins(Sort::Buffer(*t, true), r, function),
         Form::DeclareChars(_, r) => {
-            buffer_begins(Sort::Buffer(ElementType::Jchar, false), r, function)
+            buffer_begins(Sort::Buffer(ElementType::Char, false), r, function)
         }
         Form::DeclareArray(..) => true,
         Form::Assign(x, r) => right_side_sets(known, sort_in(known, x), r, function),

@@ -2,7 +2,7 @@ use Rattle.std.proofs.Common.{◌≡◌, List, IfOk, is_some, sym, ap, ◌∙◌
 use Rattle.std.specs.Option.{option_map}
 use Rattle.jni.specs.Table.{function_value}
 use Rattle.replay_calls.specs.Actuals.{actual_view}
-use Rattle.base.specs.Element.{ElementType}
+use Rattle.base.specs.Element.{ElementType, element_value}
 use Rattle.class_rules.specs.Class.{Classes}
 use Rattle.jni.specs.JniFunction.{JniFunction}
 use Rattle.semantics.specs.Arguments.{Actual}
@@ -10,7 +10,6 @@ use Rattle.semantics.specs.Heap.{Heap}
 use Rattle.semantics.specs.Object.{Reference}
 use Rattle.semantics.specs.Thread.{BuffersInUse, Frame}
 use Rattle.semantics.specs.Variable.{Variables}
-use Rattle.syntax.specs.Views.{element_tree}
 use Rattle.replay_calls.specs.Answers.{Answer, FitsArrays, FitsFrames, answer_or_trap, answer_view}
 use Rattle.replay_calls.specs.Checked.{trap_found}
 use Rattle.replay_calls.specs.WorkedOut.{worked_out}
@@ -37,7 +36,7 @@ complete-requires-clause-fits c =
     let locals = c.args.locals.now in
     let pending = c.args.pending.now in
     let in_use = in_use_view c.args.turn.in_use in
-    let element = element_tree c.wanted_element.result in
+    let element = element_value c.wanted_element.result in
     subst (FitsFrames locals.frames) (sym c.answer_or_trap-answer.ensures) (told_fits locals.frames classes in_use store (variables_view locals.variables) pending args f (trap_found classes store locals.frames (is_some pending) element f args))
 
 pub complete-requires-clause-arrays : goal.complete-requires-clause-arrays
@@ -49,7 +48,7 @@ complete-requires-clause-arrays c =
     let locals = c.args.locals.now in
     let pending = c.args.pending.now in
     let in_use = in_use_view c.args.turn.in_use in
-    let element = element_tree c.wanted_element.result in
+    let element = element_value c.wanted_element.result in
     subst (FitsArrays store (variables_view locals.variables)) (sym c.answer_or_trap-answer.ensures) (told_copies store (variables_view locals.variables) args classes in_use locals.frames pending f (trap_found classes store locals.frames (is_some pending) element f args))
 
 pub complete-requires-clause-goes : goal.complete-requires-clause-goes
@@ -66,7 +65,7 @@ returns-in-Some-clause-step c =
     let scene : Scene = scene_of turn s locals c.args.pending.now in
     subst (λ took. MakesCall turn.refused scene i.line i.purpose f args took scene) (sym c.unless_refused.ensures.step)
     (call_stopped turn.classes.now (in_use_view turn.in_use) turn.thread s locals.variables locals.frames c.args.pending.now i.line i.purpose f args c.requires.built turn.refused
-    (answer_view c.answer_or_trap-answer.result) c.in-Some.trap (answer_for (answer_view c.answer_or_trap-answer.result) turn.classes.now (in_use_view turn.in_use) s.heap (variables_view locals.variables) locals.frames c.args.pending.now f args (element_tree c.wanted_element.result) (wanted_element locals.variables i.purpose) c.wanted_element.ensures c.answer_or_trap-answer.ensures) (sym c.trap_in.ensures ∙ ap (option_map trap_view) c.in-Some.is))
+    (answer_view c.answer_or_trap-answer.result) c.in-Some.trap (answer_for (answer_view c.answer_or_trap-answer.result) turn.classes.now (in_use_view turn.in_use) s.heap (variables_view locals.variables) locals.frames c.args.pending.now f args (element_value c.wanted_element.result) (wanted_element locals.variables i.purpose) c.wanted_element.ensures c.answer_or_trap-answer.ensures) (sym c.trap_in.ensures ∙ ap (option_map trap_view) c.in-Some.is))
 
 pub returns-then-turn-clause-step : goal.returns-then-turn-clause-step
 returns-then-turn-clause-step c =
@@ -79,7 +78,7 @@ returns-then-turn-clause-step c =
     let before : Scene = scene_of turn s locals c.args.pending.now in
     let after : Scene = scene_of turn s locals c.refuse_object.new.pending in
     subst (λ b. MakesCall b before i.line i.purpose f args c.refuse_object.result after) (sym c.if-turn.true)
-    (c.refuse_object.ensures.step s locals args (c.requires.built, answer_for (answer_view c.answer_or_trap-answer.result) turn.classes.now (in_use_view turn.in_use) s.heap (variables_view locals.variables) locals.frames c.args.pending.now f args (element_tree c.wanted_element.result) (wanted_element locals.variables i.purpose) c.wanted_element.ensures c.answer_or_trap-answer.ensures))
+    (c.refuse_object.ensures.step s locals args (c.requires.built, answer_for (answer_view c.answer_or_trap-answer.result) turn.classes.now (in_use_view turn.in_use) s.heap (variables_view locals.variables) locals.frames c.args.pending.now f args (element_value c.wanted_element.result) (wanted_element locals.variables i.purpose) c.wanted_element.ensures c.answer_or_trap-answer.ensures))
 
 pub returns-clause-step : goal.returns-clause-step
 returns-clause-step c =
@@ -92,7 +91,7 @@ returns-clause-step c =
     let before : Scene = scene_of turn s locals c.args.pending.now in
     let after : Scene = scene_of turn (shared_view c.complete.new.shared) c.complete.new.locals c.complete.new.pending in
     subst (λ b. IfOk c.complete.result (λ o. MakesCall b before i.line i.purpose f args o after)) (sym c.if-turn.false)
-    (c.complete.ensures.step (c.requires.built, answer_for (answer_view c.answer_or_trap-answer.result) turn.classes.now (in_use_view turn.in_use) s.heap (variables_view locals.variables) locals.frames c.args.pending.now f args (element_tree c.wanted_element.result) (wanted_element locals.variables i.purpose) c.wanted_element.ensures c.answer_or_trap-answer.ensures))
+    (c.complete.ensures.step (c.requires.built, answer_for (answer_view c.answer_or_trap-answer.result) turn.classes.now (in_use_view turn.in_use) s.heap (variables_view locals.variables) locals.frames c.args.pending.now f args (element_value c.wanted_element.result) (wanted_element locals.variables i.purpose) c.wanted_element.ensures c.answer_or_trap-answer.ensures))
 
 pub answer_or_trap-answer-requires-clause-built : goal.answer_or_trap-answer-requires-clause-built
 answer_or_trap-answer-requires-clause-built c = c.requires.built
