@@ -10,6 +10,7 @@ use std::alloc::{AllocError, Global};
 use std::marker::Model;
 
 pub use base::ElementType;
+pub use jni::ReleaseMode;
 
 /// An operator on two words that has a result for all of them, at `uint32_t`, or at `jint` where it says so. A comparison
 /// gives a truth, which is the word 1 or 0; the words of two `jint`s, or of two flags, are equal where these are.
@@ -91,17 +92,6 @@ pub enum NullableVariable {
     FieldId(u32),
     /// The buffer in this slot.
     Buffer(u32),
-}
-
-/// How a buffer of copied elements is released (JNI Specification, chapter 4, "Release<PrimitiveType>ArrayElements Routines").
-#[derive(Clone, Copy)]
-pub enum ReleaseMode {
-    /// `0`
-    CopyBackAndFree,
-    /// `JNI_COMMIT`
-    CopyBack,
-    /// `JNI_ABORT`
-    FreeUncopied,
 }
 
 /// Where a call finds an argument, by its kind. Slots of each kind, and statics, are counted from 0.

@@ -21,7 +21,7 @@ use Rattle.code.specs.declared.instr.Operand.{Operand as Where}
 use Rattle.code.specs.declared.instr.Operand.TheVariants as operand
 use Rattle.code.specs.declared.instr.LocalArray.{LocalArray}
 use Rattle.base.specs.declared.element.ElementType.{ElementType as ElementOfCode}
-use Rattle.code.specs.declared.instr.ReleaseMode.{ReleaseMode}
+use Rattle.jni.specs.declared.mode.ReleaseMode.{ReleaseMode}
 use Rattle.code.specs.declared.instr.NullableVariable.{NullableVariable}
 use Rattle.code.specs.declared.instr.ReferenceOperand.TheVariants.{Null, Local}
 use Rattle.code.specs.declared.instr.Target.{Target as Destination}

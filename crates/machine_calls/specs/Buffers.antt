@@ -4,8 +4,8 @@ use Rattle.std.specs.Int.{w32}
 use Rattle.std.specs.Option.{option_to_list}
 use Rattle.std.specs.List.{AllZip, AllByRecursion}
 use Rattle.base.specs.Element.{ElementType}
-use Rattle.code.specs.declared.instr.ReleaseMode.{ReleaseMode}
-use Rattle.code.specs.declared.instr.ReleaseMode.TheVariants as mode
+use Rattle.jni.specs.declared.mode.ReleaseMode.{ReleaseMode}
+use Rattle.jni.specs.declared.mode.ReleaseMode.TheVariants as mode
 use Rattle.heap.specs.Heap.{Space, name_at, pins_at}
 use Rattle.semantics.specs.Heap.{Heap, values_of}
 use Rattle.semantics.specs.Thread.{BuffersInUse, Thread, copied_by, viewed_by}

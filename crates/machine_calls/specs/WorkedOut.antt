@@ -12,8 +12,8 @@ use Rattle.code.specs.Effect.{element_word, truth_word}
 use Rattle.code.specs.declared.instr.LocalArray.{LocalArray}
 use Rattle.code.specs.declared.instr.Operand.{Operand}
 use Rattle.code.specs.declared.instr.Operand.TheVariants as operand
-use Rattle.code.specs.declared.instr.ReleaseMode.{ReleaseMode}
-use Rattle.code.specs.declared.instr.ReleaseMode.TheVariants.{CopyBackAndFree, FreeUncopied}
+use Rattle.jni.specs.declared.mode.ReleaseMode.{ReleaseMode}
+use Rattle.jni.specs.declared.mode.ReleaseMode.TheVariants.{CopyBackAndFree, FreeUncopied}
 use Rattle.code_meaning.specs.Coding.{element_of}
 use Rattle.heap.specs.Heap.{Space, values_at}
 use Rattle.heap.specs.declared.value.Value.{Value}

@@ -34,7 +34,7 @@ use Rattle.code.specs.declared.instr.Call.{Call as InMemory}
 use Rattle.code.specs.declared.instr.LocalArray.{LocalArray}
 use Rattle.code.specs.declared.instr.Operand.{Operand}
 use Rattle.code.specs.declared.instr.Operand.TheVariants as operand
-use Rattle.code.specs.declared.instr.ReleaseMode.{ReleaseMode as ModeOfCode}
+use Rattle.jni.specs.declared.mode.ReleaseMode.{ReleaseMode as ModeOfCode}
 use Rattle.type_rules.specs.Sorts as sort
 use Rattle.type_rules.specs.Sorts.{Buffer}
 use Rattle.code_meaning.specs.Coding.{mode_code}

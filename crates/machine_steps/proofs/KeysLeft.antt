@@ -14,7 +14,7 @@ use Rattle.code.specs.declared.instr.Operand.TheVariants as operand
 use Rattle.heap.specs.Heap.{Space, values_at}
 use Rattle.heap.specs.declared.value.Value.{Value}
 use Rattle.jni.specs.Access.{Access, is_critical}
-use Rattle.code.specs.declared.instr.ReleaseMode.{ReleaseMode}
+use Rattle.jni.specs.declared.mode.ReleaseMode.{ReleaseMode}
 use Rattle.machine_calls.specs.declared.buffer.Buffer.{Buffer}
 use Rattle.jni.specs.JniFunction.{GetBuffer, ReleaseBuffer, JniFunction, FindClass, DeleteLocalRef, DeleteGlobalRef, EnsureLocalCapacity, PushLocalFrame, PopLocalFrame, GetFieldID, GetStaticFieldID, SetField, SetStaticField, SetObjectField, SetStaticObjectField, NewArray, NewObjectArray, GetObjectArrayElement, SetObjectArrayElement, GetArrayRegion, SetArrayRegion, GetStringRegion}
 use Rattle.semantics_safety.specs.Owners.{other_than}
