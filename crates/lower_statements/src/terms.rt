@@ -9,14 +9,14 @@ ghost use Rattle.syntax.specs.Views.{constant_tree, prefix_tree, binary_tree, ex
 ghost use Rattle.semantics.specs.Term as term;
 ghost use Rattle.semantics.specs.Term.{term_of};
 ghost use Rattle.code_meaning.specs.Coding.{nullable_of, element_code, null_code, of_slot, load_code, constant_code, prefix_code, operator_code, is_signed, skip_code, logical_code, term_code, expr_code};
-ghost use Rattle.lower_statements.specs.Names.{sort_view};
+ghost use Rattle.type_rules.specs.SortViews.{sort_value};
 
 use crate::emitting::{counted, emit, replace};
-use crate::names::{Names, Slot, Sort};
-use code::instr;
+use crate::names::{Names, Slot};
 use code::instr::{Instr, LocalArray, NullableVariable, Operator, TrappingOperator};
 use std::alloc::AllocError;
 use syntax::{BinaryOp, Constant, Expr, Name, PrefixOp};
+use type_rules::Sort;
 
 /// An expression in a statement on this line. What no accepted program has becomes nothing.
 #[cycle(expressions)]
@@ -240,14 +240,14 @@ fn emit_null_test(
 
 /// The variable of a slot, if it can be NULL.
 pub fn nullable(slot: Slot) -> Option<NullableVariable>
-    ensures { result ≡ nullable_of (sort_view slot.sort) slot.index }
+    ensures { result ≡ nullable_of (sort_value slot.sort) slot.index }
 {
     match slot.sort {
-        Sort::Reference => Some(NullableVariable::Local(slot.index)),
-        Sort::Static => Some(NullableVariable::Static(slot.index)),
+        Sort::Ref => Some(NullableVariable::Local(slot.index)),
+        Sort::Global => Some(NullableVariable::Static(slot.index)),
         Sort::FieldId => Some(NullableVariable::FieldId(slot.index)),
         Sort::Buffer(..) => Some(NullableVariable::Buffer(slot.index)),
-        Sort::Word | Sort::Jint | Sort::Flag | Sort::Array(..) => None,
+        Sort::Word | Sort::Jint | Sort::Flag | Sort::Truth | Sort::Array(..) => None,
     }
 }
 

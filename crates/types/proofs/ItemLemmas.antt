@@ -10,7 +10,7 @@ use Rattle.syntax.specs.declared.unit.Item.{Item as ItemInMemory}
 use Rattle.syntax.specs.Parts.{parameter_names, item_name}
 use Rattle.syntax.specs.Tree.{Void, Item, StaticItem, FunctionItem}
 use Rattle.syntax.specs.Views.{parameter_type_tree, parameter_tree, function_tree, static_tree, item_tree, result_tree, block_tree}
-use Rattle.types.specs.declared.sort.Sort.{Sort as SortInMemory}
+use Rattle.type_rules.specs.declared.sort.Sort.{Sort as SortInMemory}
 use Rattle.type_rules.specs.Sorts.{Sort, Ref, Scope}
 use Rattle.type_rules.specs.SortRules.{Place, StaticForm, HeadForm, UnknownName, DeclaredTwice, has_name, has_repeated, breaks, broken_at, parameter_sort, places_of, function_places, item_places}
 use Rattle.types.specs.Faults.{broken_if, found, scope_of, entry_scope, head_faults, own_places, with_static}

@@ -7,15 +7,16 @@ ghost use Rattle.syntax.specs.Tree.{Binary};
 ghost use Rattle.syntax.specs.Views.{expr_tree, constant_tree, prefix_tree, binary_tree};
 ghost use Rattle.type_rules.specs.Sorts.{is_word, is_jint, sort_of, constant_sort, prefix_sort, binary_sort, group, null_test_sort, is_null, name_sort, is_unknown};
 ghost use Rattle.type_rules.specs.SortRules.{is_formed};
-ghost use Rattle.types.specs.Faults.{sort_value, scope_of};
+ghost use Rattle.type_rules.specs.SortViews.{sort_value};
+ghost use Rattle.types.specs.Faults.{scope_of};
 ghost use Rattle.type_rules.specs.Uses.{expr_uses};
 
 use crate::scope::{is_unknown, sort_in};
 use crate::sort::{
-    Sort, has_elements, is_castable, is_flag, is_index, is_jint, is_nullable, is_truth, is_word,
+    has_elements, is_castable, is_flag, is_index, is_jint, is_nullable, is_truth, is_word,
 };
 use syntax::{BinaryOp, Constant, Expr, PrefixOp};
-use type_rules::Known;
+use type_rules::{Known, Sort};
 
 /// The flags; NULL and the modes have no sort.
 fn constant_sort(constant: Constant) -> Option<Sort>

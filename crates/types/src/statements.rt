@@ -12,7 +12,8 @@ ghost use Rattle.jni.specs.Table.{function_value};
 ghost use Rattle.type_rules.specs.Sorts.{sort_in, is_unknown, sort_of, has_elements, is_index, is_jint, call_arguments_fit};
 ghost use Rattle.type_rules.specs.SortRules.{is_formed, value_sets, right_side_sets, buffer_begins, test_fits, return_fits, statement_fits, copies_reference, sort_rules, UnknownName, DeclaredTwice, SortMisfit, UnknownFunction, ArgumentCount, ReferenceCopied, BadMode, ReadOnlyWrite, breaks_sort_rule, broken_at};
 ghost use Rattle.types.specs.Called.{function_in, call_of_test, declared};
-ghost use Rattle.types.specs.Faults.{scope_of, sort_value, Finds, statement_place, refused_of};
+ghost use Rattle.type_rules.specs.SortViews.{sort_value};
+ghost use Rattle.types.specs.Faults.{scope_of, Finds, statement_place, refused_of};
 ghost use Rattle.type_rules.specs.Uses.{right_uses, test_uses, uses};
 
 use crate::calls::{
@@ -23,12 +24,11 @@ use crate::expressions::{has_unknown, is_null, name_sort, sort_of};
 use crate::fault::{SortRule, TypeFault, refuse_if};
 use crate::scope::{has_name, is_unknown, sort_in};
 use crate::sort::{
-    Sort, has_elements, is_flag, is_index, is_jint, is_read_only, is_ref, is_truth, is_word,
-    variable_sort,
+    has_elements, is_flag, is_index, is_jint, is_read_only, is_ref, is_truth, is_word,
 };
 use jni::{JniFunction, function_named};
 use syntax::{Call, ElementType, Expr, Form, Name, ResultType, RightSide, Stmt, Test};
-use type_rules::{Known, own_call};
+use type_rules::{Known, Sort, own_call, variable_sort};
 
 /// The function that a statement calls, if it is known.
 fn function_called(form: &Form) -> Option<JniFunction>
