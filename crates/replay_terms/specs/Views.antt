@@ -237,10 +237,6 @@ NumbersInRange (term.And' p s q t) = NumbersInRange s × NumbersInRange t
 NumbersInRange (term.Or' p s q t) = NumbersInRange s × NumbersInRange t
 NumbersInRange (term.Binary' op p s q t) = NumbersInRange s × NumbersInRange t
 
--- an operator with this tested name compares it with NULL
-abbrev pub ComparesNull : (wanted : Bool) → Identifier → BinaryOp → (tested : Option Identifier) → Type 0
-ComparesNull wanted x op tested = (s t : Term) → binary_term op tested s t ≡ IsNull wanted x
-
 -- ---- the step of a term
 
 -- the other truth
