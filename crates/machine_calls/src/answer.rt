@@ -649,6 +649,7 @@ pub(crate) fn top_word(stack: &Stack) -> u32
 }
 
 /// How a cell of this type holds the word on the stack.
+#[tactic(auto, using(code_meaning::proofs::ElementWords::element_same))]
 fn stored(element: syntax::ElementType, stack: &Stack) -> Value
     ensures { result ≡ Value.Number (element_word (element_of (element_value element)) (top_word stack.now)) }
 {

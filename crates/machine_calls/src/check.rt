@@ -332,12 +332,7 @@ fn element_wanted(target: Target) -> ElementType
     ensures { element_value result ≡ element_wanted target }
 {
     match target {
-        Target::Buffer(element, _) => match element {
-            instr::ElementType::Int => ElementType::Int,
-            instr::ElementType::Short => ElementType::Short,
-            instr::ElementType::Byte => ElementType::Byte,
-            instr::ElementType::Char => ElementType::Char,
-        },
+        Target::Buffer(element, _) => element,
         _ => ElementType::Int,
     }
 }
