@@ -7,7 +7,7 @@ use Rattle.syntax.specs.NullTests.{NullTest, null_test_of, null_test_value}
 use Rattle.syntax.specs.Parts.{null_tested}
 use Rattle.syntax.specs.Tree.{Expr, Named, Null, Variable, Binary, Equal, NotEqual}
 
-name_of : Option NullTest → Option Identifier
+abbrev name_of : Option NullTest → Option Identifier
 name_of o = option_map (λ t. t.name) o
 
 pub tested_name : (e : Expr) → name_of (null_test_of e) ≡ null_tested e
