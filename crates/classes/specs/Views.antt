@@ -1,4 +1,5 @@
 -- The classes that lie in memory, as classes of the definitions.
+use Rattle.base.specs.Element.{element_value}
 pub use Rattle.classes.specs.HeldFields.{field_type_view, field_view}
 use Rattle.std.specs.Prelude.{ℕ, List, map}
 use Rattle.std.specs.Global.{Vec}
