@@ -388,10 +388,7 @@ fn array_answer<'a>(
             Answer::Gives(Given::Number(values.len() as i32))
         }
         JniFunction::NewArray(element) => {
-            new_array(
-                number_array(element),
-                number_given(actuals, 0),
-            )
+            new_array(number_array(element), number_given(actuals, 0))
         }
         JniFunction::NewObjectArray => new_object_array(actuals),
         JniFunction::GetObjectArrayElement => element(store, actuals),
