@@ -13,5 +13,8 @@ term_tested (Binary Equal (Variable x) (Named Null)) t h = cc
 term_tested (Binary NotEqual (Variable x) (Named Null)) t h = cc
 term_tested e t h = absurd (cc)
 
+abbrev name_of : Option NullTest → Option Identifier
+name_of o = option_map (λ t. t.name) o
+
 pub none_tested : (e : Expr) → null_test_of e ≡ None → null_tested e ≡ None
-none_tested e h = sym (tested_name e) ∙ ap (λ (o : Option NullTest). option_map {B = Identifier} (λ t. t.name) o) h
+none_tested e h = sym (tested_name e) ∙ ap name_of h
