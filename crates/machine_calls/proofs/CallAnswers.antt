@@ -913,6 +913,9 @@ module _ (p : Lowered) (w : World) (store : Store) (pending : Option ℕ) (call 
   not_owned : (m : source_state.Monitor) → Asked MonitorEnter → trap_of_call w.classes shared s target MonitorEnter args ≡ None → monitor_of shared.monitors (object_given args 0) ≡ Some m → m.owner ≡ k
   not_owned m h free is = same_number m.owner k (sym (λ i. is_none (free i) && is_owned_by_other k (is i)) ∙ h.ready)
 
+  abbrev GivesNumber : Answer → CallEffect → Type 0
+  GivesNumber x effect = IsAnswer w.classes brought store.heap call.locals GivesInt shared s x effect
+
   answers_enter : Asked MonitorEnter → trap_of_call w.classes shared s target MonitorEnter args ≡ None → (answer : Answer) → Works MonitorEnter answer → Does MonitorEnter answer
   unfolding call_effect
   answers_enter h free answer is =
@@ -928,13 +931,10 @@ module _ (p : Lowered) (w : World) (store : Store) (pending : Option ℕ) (call 
       agree : MonitorsAgree store.monitors shared.monitors
       agree = h.store_agrees.monitors
 
-      abbrev Enters : Answer → CallEffect → Type 0
-      Enters x effect = IsAnswer w.classes brought store.heap call.locals GivesInt shared s x effect
-
-      by_came : (a : ℕ) → name_at store.heap a ≡ Some n → (came : Enter) → entering k (table.monitor_of store.monitors n) ≡ came → Enters (entered_by (record { name = n; address = a }) came) (enter_effect k shared s n (monitor_of shared.monitors n))
+      by_came : (a : ℕ) → name_at store.heap a ≡ Some n → (came : Enter) → entering k (table.monitor_of store.monitors n) ≡ came → GivesNumber (entered_by (record { name = n; address = a }) came) (enter_effect k shared s n (monitor_of shared.monitors n))
       by_came a there enter.Entered e = let may = may_enter k store.monitors shared.monitors agree n (sym e) in (refl, record { there = there; own = may.own; few = may.few; is = refl })
       by_came a there enter.Limit e =
-          subst (Enters (replies.Gives (given.Number (2 ^ 32 - 1)))) (sym (limited k shared s store.monitors agree n (sym e)))
+          subst (GivesNumber (replies.Gives (given.Number (2 ^ 32 - 1)))) (sym (limited k shared s store.monitors agree n (sym e)))
           (refl, refl, (refl, record { sfits = omega arith }))
       by_came a there enter.Busy e = let other = busy k shared s store.monitors agree n (sym e) in absurd (other.2 (not_owned other.0 h free other.1))
 
@@ -952,13 +952,10 @@ module _ (p : Lowered) (w : World) (store : Store) (pending : Option ℕ) (call 
       agree : MonitorsAgree store.monitors shared.monitors
       agree = h.store_agrees.monitors
 
-      abbrev Leaves_so : Answer → CallEffect → Type 0
-      Leaves_so x effect = IsAnswer w.classes brought store.heap call.locals GivesInt shared s x effect
-
-      by_came : (came : Exit) → leaving k (table.monitor_of store.monitors n) ≡ came → Leaves_so (left_by n came) (exit_effect k shared s n (monitor_of shared.monitors n))
+      by_came : (came : Exit) → leaving k (table.monitor_of store.monitors n) ≡ came → GivesNumber (left_by n came) (exit_effect k shared s n (monitor_of shared.monitors n))
       by_came exit.Left e = let own = owns k store.monitors shared.monitors agree n (sym e) in (refl, record { monitor = own.monitor; owned = own.owned; own = own.own; is = refl })
       by_came exit.NotOwner e =
-          subst (Leaves_so (replies.Throws illegal_monitor_state)) (sym (refuses k shared s store.monitors agree n (sym e)))
+          subst (GivesNumber (replies.Throws illegal_monitor_state)) (sym (refuses k shared s store.monitors agree n (sym e)))
           (refl, built_in_class illegal_monitor_state (omega arith) (omega arith))
 
   -- ---- exceptions
