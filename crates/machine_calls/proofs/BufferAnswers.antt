@@ -19,7 +19,7 @@ use Rattle.semantics.specs.Variable.{Elements, NoBuffer, Copy, View}
 use Rattle.semantics.specs.Variable as source
 use Rattle.semantics_safety.specs.StepSafe.{came_from}
 use Rattle.semantics_typing.proofs.Arguments.{variable_typed}
-use Rattle.code.specs.declared.instr.ReleaseMode.TheVariants as modes
+use Rattle.jni.specs.declared.mode.ReleaseMode.TheVariants as modes
 use Rattle.machine_calls.specs.declared.buffer.Buffer.{Buffer}
 use Rattle.machine_calls.specs.declared.buffer.Buffer.TheVariants as held
 use Rattle.machine_calls.proofs.BufferOperands.{GivenBuffer, given_buffer, given_mode, numbers_fit}
