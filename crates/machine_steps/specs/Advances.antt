@@ -16,6 +16,7 @@ use Rattle.machine_steps.specs.declared.advance.Advanced.TheVariants as advanced
 use Rattle.machine_steps.specs.declared.thread.Thread.{Thread}
 use Rattle.machine_steps.specs.declared.thread.PendingCall.{PendingCall}
 use Rattle.machine_calls.specs.declared.store.Store.{Store}
+use Rattle.monitors.specs.Monitors.{kept_from, monitor_of, without_owner}
 use Rattle.machine_calls.specs.Buffers.{Acquired, KeepsCopies, acquired_by, beside}
 use Rattle.machine_calls.specs.CarriedOut.{IsShortOf}
 use Rattle.machine_calls.specs.StoreAgrees.{StoreAgrees, Keeps}
@@ -53,3 +54,14 @@ ending_after None (n ∷ rest) ending = ending
 abbrev pub calls_after : Option ℕ → List PendingCall → List PendingCall
 calls_after (Some class) calls = []
 calls_after None calls = calls
+
+-- thread k has given up the monitors that it owned, and nothing else changed
+pub record GivesUp (k : ℕ) (old store : Store) : Type 0 where
+  pub store : store ≡ record old { monitors = without_owner old.monitors k }
+  pub each : (n : ℕ) → monitor_of store.monitors n ≡ kept_from k (monitor_of old.monitors n)
+
+-- so it has where it has ended after a call, with an exception of this class pending or none, and these calls to come
+abbrev pub LeavesMonitors : Option ℕ → List PendingCall → (k : ℕ) → (old store : Store) → Type 0
+LeavesMonitors (Some class) calls k old store = GivesUp k old store
+LeavesMonitors None [] k old store = GivesUp k old store
+LeavesMonitors None (n ∷ rest) k old store = store ≡ old
