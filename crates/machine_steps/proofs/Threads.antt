@@ -36,7 +36,7 @@ use Rattle.semantics_safety.specs.Owners.{Owners, after_event, after_tasks}
 use Rattle.machine_calls.specs.declared.store.Store.{Store}
 use Rattle.machine_calls.specs.StoreAgrees.{StoreAgrees, Keeps}
 use Rattle.machine_steps.specs.ThreadAgrees.{CallsAgree, ThreadAgrees, buffers_of, ending_view}
-use Rattle.machine_steps.specs.Advances.{Advances, GivesUp, LeavesMonitors, ending_after, calls_after}
+use Rattle.machine_steps.specs.Advances.{Advances, GivesUp, LeavesMonitors, calls_after, ending_after, ends_with}
 use Rattle.machine_steps.specs.Executes.{CallStands, WorkAgrees, GoesOn, after_any, cells_made, event_view, in_use_with, owners_left}
 use Rattle.machine_calls.specs.CarriedOut.{IsShortOf}
 use Rattle.machine_calls.proofs.Keeping.{keeps_same}
@@ -201,7 +201,7 @@ module _ (p : Lowered) (w : World) (k : ℕ) (shared : Shared) (s : source.Threa
   })
 
   -- the store of a thread that has left its call
-  pub monitors_left : (classes : Classes) (made : ℕ) (class : Option ℕ) (nexts : List PendingCall) (calls : List Invocation) → CallsAgree p classes made nexts calls → LeavesMonitors class nexts k old store
+  pub monitors_left : (classes : Classes) (made : ℕ) (class : Option ℕ) (nexts : List PendingCall) (calls : List Invocation) → CallsAgree p classes made nexts calls → LeavesMonitors (ends_with class nexts) k old store
       → StoreAgrees p w store (record shared { monitors = monitors_after (ending_of class calls) k shared.monitors }) all
   unfolding ending_of
   monitors_left classes made (Some c) nexts calls h left = given_up left
@@ -211,10 +211,9 @@ module _ (p : Lowered) (w : World) (k : ℕ) (shared : Shared) (s : source.Threa
   monitors_left classes made None (n ∷ nexts) (c ∷ calls) h left = subst (λ (x : Store). StoreAgrees p w x shared all) (sym left) shares
 
 -- nothing else changes
-rest_left : (class : Option ℕ) (nexts : List PendingCall) (k : ℕ) (old store : Store) → LeavesMonitors class nexts k old store → (store.heap ≡ old.heap) × (store.elements ≡ old.elements)
-rest_left (Some c) nexts k old store g = (ap (λ (x : Store). x.heap) g.store, ap (λ (x : Store). x.elements) g.store)
-rest_left None [] k old store g = (ap (λ (x : Store). x.heap) g.store, ap (λ (x : Store). x.elements) g.store)
-rest_left None (n ∷ nexts) k old store same = (ap (λ (x : Store). x.heap) same, ap (λ (x : Store). x.elements) same)
+rest_left : (ended : Bool) (k : ℕ) (old store : Store) → LeavesMonitors ended k old store → (store.heap ≡ old.heap) × (store.elements ≡ old.elements)
+rest_left true k old store g = (ap (λ (x : Store). x.heap) g.store, ap (λ (x : Store). x.elements) g.store)
+rest_left false k old store same = (ap (λ (x : Store). x.heap) same, ap (λ (x : Store). x.elements) same)
 
 keeps_owned : (space : Space) (shared : Shared) (monitors : List source.Monitor) → Keeps space shared space (record shared { monitors = monitors })
 keeps_owned space shared monitors =
@@ -225,14 +224,14 @@ module _ (p : Lowered) (w : World) (old : Store) (others : Acquired) (k : ℕ) (
   pub returned : (store left : Store) (pending : Option ℕ) (after : Thread) (task : Task) (rest : List Task) → s.tasks ≡ Some (task ∷ rest) → StoreAgrees p w store shared (beside others (acquired_by s)) → store ≡ old → MayReturn s → ReferenceAgrees store.heap pending s.pending → t.ending ≡ Unfinished
       → effect_of (sight_of shared s) task ≡ Returns → after.call ≡ None → after.pending ≡ None → after.calls.items ≡ calls_after (option_and_then (class_at store.heap) pending) t.calls.items
       → after.ending ≡ ending_after (option_and_then (class_at store.heap) pending) t.calls.items t.ending
-      → LeavesMonitors (option_and_then (class_at store.heap) pending) t.calls.items k store left
+      → LeavesMonitors (ends_with (option_and_then (class_at store.heap) pending) t.calls.items) k store left
       → Advances p w old left others k own shared s after false event.Quiet
   returned store left pending after task rest tasks shares same may pends o is no_call no_pending calls ending monitors =
       let class : Option ℕ = option_and_then (class_at store.heap) pending in
       let made : ℕ = length (loaded_objects w) in
       let of : option_map (class_of shared.heap) s.pending ≡ class = class_pending store.heap shared.heap pending s.pending shares.heap.blocks pends in
       let next : Shared = record shared { monitors = monitors_after (ending_of class s.calls) k shared.monitors } in
-      let parts = rest_left class t.calls.items k store left monitors in
+      let parts = rest_left (ends_with class t.calls.items) k store left monitors in
       record {
         next_shared = next;
         next = idle class s.calls;

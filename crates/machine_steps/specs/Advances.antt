@@ -50,6 +50,12 @@ ending_after (Some class) calls ending = Uncaught class
 ending_after None [] ending = Ended
 ending_after None (n ∷ rest) ending = ending
 
+-- whether it has ended then
+abbrev pub ends_with : Option ℕ → List PendingCall → Bool
+ends_with (Some class) calls = true
+ends_with None [] = true
+ends_with None (n ∷ rest) = false
+
 -- its calls that are left
 abbrev pub calls_after : Option ℕ → List PendingCall → List PendingCall
 calls_after (Some class) calls = []
@@ -60,8 +66,7 @@ pub record GivesUp (k : ℕ) (old store : Store) : Type 0 where
   pub store : store ≡ record old { monitors = without_owner old.monitors k }
   pub each : (n : ℕ) → monitor_of store.monitors n ≡ kept_from k (monitor_of old.monitors n)
 
--- so it has where it has ended after a call, with an exception of this class pending or none, and these calls to come
-abbrev pub LeavesMonitors : Option ℕ → List PendingCall → (k : ℕ) → (old store : Store) → Type 0
-LeavesMonitors (Some class) calls k old store = GivesUp k old store
-LeavesMonitors None [] k old store = GivesUp k old store
-LeavesMonitors None (n ∷ rest) k old store = store ≡ old
+-- so it has where it has ended
+abbrev pub LeavesMonitors : (ended : Bool) → (k : ℕ) → (old store : Store) → Type 0
+LeavesMonitors true k old store = GivesUp k old store
+LeavesMonitors false k old store = store ≡ old

@@ -13,7 +13,7 @@ ghost use Rattle.code_meaning.specs.Lowered.{IsLowered};
 ghost use Rattle.machine_calls.specs.Buffers.{Acquired, acquired_by, beside};
 ghost use Rattle.machine_calls.specs.StoreAgrees.{StoreAgrees};
 ghost use Rattle.machine_steps.specs.ThreadAgrees.{ThreadAgrees};
-ghost use Rattle.machine_steps.specs.Advances.{AdvancesBy, LeavesMonitors, ending_after, calls_after};
+ghost use Rattle.machine_steps.specs.Advances.{AdvancesBy, LeavesMonitors, calls_after, ending_after, ends_with};
 ghost use Rattle.machine_steps.specs.Executes.{IsHindered, IsSteady, cells_made, in_use_with};
 ghost use Rattle.machine_steps.specs.Entry.{IsReady, Begins};
 
@@ -22,7 +22,7 @@ use crate::execute::{Event, Executed, execute};
 use crate::fault::StepFault;
 use crate::thread::{Ending, PendingCall, Thread};
 use code_meaning::Program;
-use heap::Addr;
+use heap::{Addr, Heap};
 use machine_calls::activation::Activation;
 use machine_calls::store::Store;
 use std::alloc::AllocError;
@@ -113,8 +113,7 @@ fn enter(program: &Program<'_>, loaded: &[Addr], thread: &mut Thread) -> Result<
     Ok(())
 }
 
-/// The end of a call. An exception that is pending ends the thread, which drops its other calls. A thread that has ended, which has
-/// this number, gives up the monitors that it owns.
+/// The end of a call of the thread of this number. A thread that has ended owns no monitor.
 #[inline(never)]
 fn leave(store: &mut Store, thread: &mut Thread, number: u8)
     requires { (a : ℕ) → thread.old.pending ≡ Some a → IsAddress store.old.heap a }
@@ -122,21 +121,36 @@ fn leave(store: &mut Store, thread: &mut Thread, number: u8)
     ensures pending { thread.new.pending ≡ None }
     ensures calls { thread.new.calls.items ≡ calls_after (option_and_then (class_at store.old.heap) thread.old.pending) thread.old.calls.items }
     ensures ending { thread.new.ending ≡ ending_after (option_and_then (class_at store.old.heap) thread.old.pending) thread.old.calls.items thread.old.ending }
-    ensures monitors { LeavesMonitors (option_and_then (class_at store.old.heap) thread.old.pending) thread.old.calls.items number store.old store.new }
+    ensures monitors { LeavesMonitors (ends_with (option_and_then (class_at store.old.heap) thread.old.pending) thread.old.calls.items) number store.old store.new }
+{
+    if ends(&store.heap, thread) {
+        store.monitors.drop_thread(number);
+    }
+}
+
+/// Ends a call. An exception that is pending ends the thread, which drops its other calls. Answers whether the thread has ended.
+fn ends(heap: &Heap, thread: &mut Thread) -> bool
+    requires { (a : ℕ) → thread.old.pending ≡ Some a → IsAddress heap.now a }
+    ensures call { thread.new.call ≡ None }
+    ensures pending { thread.new.pending ≡ None }
+    ensures calls { thread.new.calls.items ≡ calls_after (option_and_then (class_at heap.now) thread.old.pending) thread.old.calls.items }
+    ensures ending { thread.new.ending ≡ ending_after (option_and_then (class_at heap.now) thread.old.pending) thread.old.calls.items thread.old.ending }
+    ensures ended { result ≡ ends_with (option_and_then (class_at heap.now) thread.old.pending) thread.old.calls.items }
 {
     thread.call = None;
     match thread.pending {
         Some(exception) => {
             thread.pending = None;
             thread.calls.clear();
-            thread.ending = Ending::Uncaught(store.heap.class_of(exception) as usize);
-            store.monitors.drop_thread(number);
+            thread.ending = Ending::Uncaught(heap.class_of(exception) as usize);
+            true
         }
         None => {
-            if thread.calls.is_empty() {
+            let last = thread.calls.is_empty();
+            if last {
                 thread.ending = Ending::Ended;
-                store.monitors.drop_thread(number);
             }
+            last
         }
     }
 }
