@@ -184,7 +184,7 @@ class_pending space heap (Some a) (Some n) b h = found_class space.blocks b h
 
 module _ (p : Lowered) (w : World) (k : ℕ) (shared : Shared) (s : source.Thread) (old store : Store) (all : Acquired) (shares : StoreAgrees p w old shared all) where
   given_up : GivesUp k old store → StoreAgrees p w store (record shared { monitors = source.without_owner shared.monitors k }) all
-  given_up g = subst (λ (x : Store). StoreAgrees p w x (record shared { monitors = source.without_owner shared.monitors k }) all) (sym g.store) (record {
+  given_up g = subst (λ (x : Store). StoreAgrees p w x (record shared { monitors = source.without_owner shared.monitors k }) all) (sym g.is) (record {
     heap = shares.heap;
     laid_out = shares.laid_out;
     cells = shares.cells;
@@ -196,7 +196,7 @@ module _ (p : Lowered) (w : World) (k : ℕ) (shared : Shared) (s : source.Threa
     keys = shares.keys;
     globals = shares.globals;
     buffers = shares.buffers;
-    monitors = drops k shared s old.monitors shares.monitors (without_owner old.monitors k) (λ n. subst (λ (x : Store). monitor_of x.monitors n ≡ kept_from k (monitor_of old.monitors n)) g.store (g.each n));
+    monitors = drops k shared s old.monitors shares.monitors (without_owner old.monitors k) (λ n. subst (λ (x : Store). monitor_of x.monitors n ≡ kept_from k (monitor_of old.monitors n)) g.is (g.each n));
     monitored = there_dropped old.heap old.monitors k shares.monitored;
   })
 
@@ -212,7 +212,7 @@ module _ (p : Lowered) (w : World) (k : ℕ) (shared : Shared) (s : source.Threa
 
 -- nothing else changes
 rest_left : (ended : Bool) (k : ℕ) (old store : Store) → LeavesMonitors ended k old store → (store.heap ≡ old.heap) × (store.elements ≡ old.elements)
-rest_left true k old store g = (ap (λ (x : Store). x.heap) g.store, ap (λ (x : Store). x.elements) g.store)
+rest_left true k old store g = (ap (λ (x : Store). x.heap) g.is, ap (λ (x : Store). x.elements) g.is)
 rest_left false k old store same = (ap (λ (x : Store). x.heap) same, ap (λ (x : Store). x.elements) same)
 
 keeps_owned : (space : Space) (shared : Shared) (monitors : List source.Monitor) → Keeps space shared space (record shared { monitors = monitors })

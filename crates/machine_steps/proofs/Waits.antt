@@ -111,8 +111,8 @@ module _ (p : Lowered) (classes : Classes) (space : Space) (copies : List (Optio
       (λ g. refl) (λ trap line g. refl) refl (effect_of (sight_of shared s) task) r.does
     where
       other : (line : ℕ) (target : Target) (f : JniFunction) (args : List Actual) → (f ≡ MonitorEnter → ⊥) → waits_with classes k shared s (Calls line target f args) ≡ false
-      other line target MonitorEnter args no = absurd (no refl)
-      other line target f args no = refl
+      other line target MonitorEnter args another = absurd (another refl)
+      other line target f args another = refl
 
 -- ---- a call in progress
 
