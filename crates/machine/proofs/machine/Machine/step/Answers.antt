@@ -26,7 +26,7 @@ use Rattle.semantics.specs.Run.{made}
 use Rattle.syntax.specs.Views.{unit_tree}
 use Rattle.machine.proofs.Collected.{StandsBetween, lives_between, stands_between}
 use Rattle.machine.proofs.Standings.{waits_known}
-use Rattle.machine.proofs.Steps.{can_turn_here, counted, has_ended, short_by, steps_by, thread_there, threads_of, turn_holds}
+use Rattle.machine.proofs.Steps.{can_turn_here, counted_from, has_ended, short_by, steps_by, thread_there, threads_of, turn_holds}
 use Rattle.machine.proofs.machine.Machine.step.Goals as goal
 use Rattle.machine.proofs.machine.Machine.step.Goals.{After-index, After-make_room}
 
@@ -68,7 +68,7 @@ there : (c : After-index) (t : Thread) → t ≡ get_or c.self.inside.threads.it
 there c t h = thread_there c.self.inside.threads.items c.args.k c.from-index.result _ t c.from-index.ensures c.requires.counted c.requires.is_thread (threads_of _ _ _ c.self.invariant.count c.self.view_is) h
 
 number : (c : After-index) → c.args.k ≡ suc (c.from-index.result - 1)
-number c = counted c.args.k c.from-index.result c.from-index.ensures c.requires.counted
+number c = counted_from c.args.k c.from-index.result c.from-index.ensures c.requires.counted
 
 replays : (c : After-index) → replay_of c.args.self.now ≡ Some c.self.invariant.state
 replays c = subst (λ (r : Run). replay_of r ≡ Some c.self.invariant.state) c.self.view_is c.self.invariant.replays
