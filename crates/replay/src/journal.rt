@@ -53,7 +53,7 @@ fn follow<'a>(
 fn rows_of<'r>(alloc: Global, state: &'r State<'_>) -> Result<ReachedRows<'r, Store>, AllocError>
     ensures { IfOk result (ShowsRows state.now) }
 {
-    let names = root_names(alloc, &state.shared.globals, &state.threads)?;
+    let names = root_names(alloc, &state.shared, &state.threads)?;
     let loaded = made_before(state.world) + state.world.objects().len();
     reached_rows(
         alloc,

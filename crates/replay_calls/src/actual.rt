@@ -93,7 +93,7 @@ fn push_actuals<'a>(
 }
 
 /// What an argument for this parameter is.
-fn look_up<'a>(
+pub fn look_up<'a>(
     shared: &Shared<'_>,
     variables: &Variables<'a>,
     parameter: ParameterKind,

@@ -69,4 +69,5 @@ HasAnswer scene p f args a =
     (is_built_function f ≡ true)
     × (a ≡ answer_or_trap
     (trap_found scene.classes scene.shared.heap scene.frames (is_some scene.pending) (wanted_element scene.variables p) f args)
-    (worked_out scene.classes scene.in_use scene.shared.heap (variables_view scene.variables) scene.frames scene.pending args f))
+    (worked_out scene.classes scene.in_use scene.thread scene.shared.monitors scene.shared.heap (variables_view scene.variables) scene.frames
+    scene.pending args f))

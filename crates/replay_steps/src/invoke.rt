@@ -26,7 +26,7 @@ use crate::activation::Locals;
 use crate::turn::Turn;
 use replay_calls::actual::{Actual, actuals, address_given};
 use replay_calls::carry_out::{carry_out, makes_object, put_local, refuse};
-use replay_calls::{Answer, Lending, Shared, answer_or_trap, lent_in, tell_copy, trap_in};
+use replay_calls::{Answer, Caller, Shared, answer_or_trap, lent_in, tell_copy, trap_in};
 use replay_tasks::{Invocation, Outcome, Purpose, Target, VariableKind, reduced};
 use replay_terms::{Given, Lent, Operand, Reduction, Term, Variables, is_zero, reduce};
 use std::alloc::AllocError;
@@ -180,17 +180,18 @@ fn call<'a>(
         (scene_of turn.entry (shared_view shared.new) locals.new pending.new)) }
     ensures range { IfOk result OutcomeInRange }
 {
-    let lending = Lending {
+    let caller = Caller {
+        thread: turn.thread,
         in_use: turn.in_use,
         element: wanted_element(&locals.variables, i.purpose),
     };
     let answer = answer_or_trap(
         turn.classes,
-        &shared.store,
+        shared,
         &locals.variables,
         &locals.frames,
         *pending,
-        lending,
+        caller,
         i.function,
         actuals,
     );
@@ -267,6 +268,7 @@ fn complete<'a>(
         &mut locals.frames,
         pending,
         kind,
+        turn.thread,
         answer,
     )?;
     put_local(&mut locals.frames, kind, given)?;

@@ -12,7 +12,7 @@ ghost use Rattle.replay_threads.specs.Threads.{ending_view};
 ghost use Rattle.report.specs.ThreadStatus.{standing_view};
 ghost use Rattle.semantics.specs.ReportOf.{standing_by_ending};
 
-use crate::thread::{Ending, Step, Thread, is_unfinished, take_step};
+use crate::thread::{Ending, Step, Thread, is_unfinished, is_waiting, take_step};
 use classes::table::ClassTable;
 use functions::Functions;
 use replay_calls::Shared;
@@ -80,11 +80,18 @@ fn note(state: &mut State<'_>, k: u8, step: Step) -> Result<bool, AllocError>
     }
 }
 
-/// Whether a thread, counted from 1, waits for a monitor that another one owns. No function that waits can be called yet.
-fn waits(_state: &State<'_>, _k: usize) -> bool
-    ensures { Waits _state.now _k result }
+/// Whether thread `k`, counted from 1, is there and waits for a monitor that another one owns.
+fn waits(state: &State<'_>, k: usize) -> bool
+    ensures { Waits state.now k result }
 {
-    false
+    if k == 0 {
+        return false;
+    }
+    if state.threads.len() < k {
+        return false;
+    }
+    let classes = state.world.classes();
+    is_waiting(classes, k, &state.shared, &state.threads[k - 1])
 }
 
 /// The place of thread `k` if it can step: the machine hasn't stopped, and the thread is there, has not ended, and waits for no monitor.

@@ -11,17 +11,18 @@ ghost use Rattle.semantics.specs.Step.{is_unfinished};
 ghost use Rattle.semantics.specs.Thread.{Shared as SharedOfThreads};
 ghost use Rattle.semantics.specs.Variable.{LocalRef};
 ghost use Rattle.class_rules.specs.Grown.{IsGrown};
-ghost use Rattle.replay_threads.specs.Threads.{argument_content, ending_view, BeginsNext, IsBegun, EndsStep, HasLeft, TakesTurn, WorkInRange, step_of};
+ghost use Rattle.replay_threads.specs.Threads.{argument_content, ending_view, BeginsNext, IsBegun, EndsStep, HasLeft, TakesTurn, ThreadWaits, WorkInRange, step_of};
 ghost use Rattle.replay_tasks.specs.Tasks.{StatementsInRange};
 ghost use Rattle.syntax.specs.declared.stmt.Block.{out-Block};
 ghost use Rattle.replay_calls.specs.Shares.{shared_view};
 ghost use Rattle.replay_terms.specs.Views.{assign_all, content_view, variables_view};
 
 use class_rules::mangling::unmangle;
+use classes::table::ClassTable;
 use functions::Functions;
 use replay_calls::Shared;
 use replay_objects::{Frames, Names, Store};
-use replay_steps::{Activation, Locals, Turn, advance, work_of};
+use replay_steps::{Activation, Locals, Turn, advance, waits, work_of};
 use replay_tasks::Outcome;
 use replay_terms::{Content, Trap, Value, Variables};
 use std::alloc::{AllocError, Global};
@@ -289,31 +290,50 @@ fn ending_after(store: &Store, pending: Option<usize>, calls: &[Call]) -> Ending
     }
 }
 
-/// Ends the call in progress. With an exception pending, or no call to come, the thread has ended.
-fn leave(store: &Store, thread: &mut Thread<'_>)
-    ensures { HasLeft store.now thread.old thread.new }
+/// Ends the call in progress of thread `k`. With an exception pending, or no call to come, the thread has ended, and owns no monitor.
+fn leave(shared: &mut Shared<'_>, k: u8, thread: &mut Thread<'_>)
+    ensures { HasLeft k (shared_view shared.old) thread.old (shared_view shared.new) thread.new }
 {
-    let ending = ending_after(store, thread.pending, thread.calls);
+    let ending = ending_after(&shared.store, thread.pending, thread.calls);
     put_activation(&mut thread.activation, None);
     thread.pending = None;
     thread.ending = ending;
     match ending {
         Ending::Unfinished => {}
-        Ending::Ended | Ending::Uncaught(_) => thread.calls = &[],
+        Ending::Ended | Ending::Uncaught(_) => {
+            thread.calls = &[];
+            shared.monitors.drop_owner(k);
+        }
     }
 }
 
-/// Leaves the call in progress if it returned. Tells what others see of what it did.
+/// Leaves the call in progress of thread `k` if it returned. Tells what others see of what it did.
 #[inline]
-fn end_step(store: &Store, thread: &mut Thread<'_>, outcome: Outcome<'_>) -> Step
-    ensures { EndsStep store.now thread.old outcome.entry result thread.new }
+fn end_step(shared: &mut Shared<'_>, k: u8, thread: &mut Thread<'_>, outcome: Outcome<'_>) -> Step
+    ensures { EndsStep k (shared_view shared.old) thread.old outcome.entry result (shared_view shared.new) thread.new }
 {
     match outcome {
         Outcome::Returned => {
-            leave(store, thread);
+            leave(shared, k, thread);
             Step::Quiet
         }
         outcome => step_of(outcome),
+    }
+}
+
+/// Whether thread `k`, counted from 1, waits for a monitor that another thread owns.
+#[inline]
+pub(crate) fn is_waiting(
+    classes: &ClassTable,
+    k: usize,
+    shared: &Shared<'_>,
+    thread: &Thread<'_>,
+) -> bool
+    ensures { ThreadWaits classes.now k (shared_view shared.now) thread.now result }
+{
+    match &thread.activation {
+        None => false,
+        Some(activation) => waits(classes, k, shared, thread.pending, activation),
     }
 }
 
@@ -338,7 +358,7 @@ pub(crate) fn take_step<'a>(
         return enter(functions, world, turn, thread);
     };
     match advance(turn, shared, &mut thread.pending, activation) {
-        Ok(outcome) => Ok(end_step(&shared.store, thread, outcome)),
+        Ok(outcome) => Ok(end_step(shared, turn.thread, thread, outcome)),
         Err(error) => Err(error),
     }
 }
