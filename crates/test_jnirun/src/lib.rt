@@ -5,6 +5,8 @@
 #[cfg(test)]
 mod collections;
 #[cfg(test)]
+mod monitors;
+#[cfg(test)]
 mod tests;
 #[cfg(test)]
 mod workers;
