@@ -1,12 +1,12 @@
 -- What the machine works out of calls is what the source's calls do.
-use Rattle.std.proofs.Common.{◌≡◌, ℕ, pos, negsuc, zero, suc, ◌<◌, ◌≤◌, true, false, not, List, [], ◌∷◌, length, map, take, drop, ◌+◌, Option, Some, None, slice_get, refl, sym, ap, ◌∙◌, subst, arith, ℤ, Bool, ◌++◌}
+use Rattle.std.proofs.Common.{◌≡◌, ℕ, pos, negsuc, zero, suc, ◌<◌, ◌≤◌, true, false, not, is_none, List, [], ◌∷◌, length, map, take, drop, ◌+◌, ◌-◌, ◌^◌, Option, Some, None, slice_get, refl, sym, ap, ◌∙◌, subst, arith, ℤ, Bool, ◌++◌}
 use Rattle.std.specs.Prelude.{◌==◌, ◌&&◌, nat_lt, nat_le, if◌then◌else◌, unwrap_or, FitsSigned}
 use Rattle.std.specs.Int.{w32, cast_unsigned}
 use Rattle.std.specs.List.{AllByRecursion, AllZip}
 use Rattle.std.specs.Option.{option_map_or}
 use Rattle.std.proofs.Math.Facts.{to_z-of_z}
 use Rattle.std.proofs.lemmas.Bool.Decides.{nat_tests}
-use Rattle.class_rules.specs.BuiltIns.{array_index_out_of_bounds, array_store_exception, class_class, has_own_making, negative_array_size, no_class_def_found_error, no_such_field_error, number_array, string_class, string_index_out_of_bounds, throwable_class}
+use Rattle.class_rules.specs.BuiltIns.{array_index_out_of_bounds, array_store_exception, class_class, has_own_making, illegal_monitor_state, negative_array_size, no_class_def_found_error, no_such_field_error, number_array, string_class, string_index_out_of_bounds, throwable_class}
 use Rattle.class_rules.specs.Class.{ArrayOfObjects, Plain, array_class_of, array_name, class_kind, class_name, class_named, element_class, is_plain, superclass, assignable}
 use Rattle.class_rules.specs.Fields.{FieldId, find_field, find_static, layout, own_statics}
 use Rattle.class_rules.proofs.GrownTables.{grown_is_ordered}
@@ -17,16 +17,17 @@ use Rattle.code.specs.declared.instr.Operand.{Operand}
 use Rattle.code.specs.declared.instr.Operand.TheVariants as operand
 use Rattle.heap.specs.Heap.{name_at, values_at}
 use Rattle.jni.specs.Access.{Access, ElementsCopy, ArrayView, CharsCopy, CharsView}
-use Rattle.jni.specs.JniFunction.{GetBuffer, ReleaseBuffer, JniFunction, FindClass, AllocObject, NewLocalRef, NewGlobalRef, DeleteLocalRef, DeleteGlobalRef, IsSameObject, EnsureLocalCapacity, PushLocalFrame, PopLocalFrame, GetFieldID, GetStaticFieldID, GetArrayLength, NewArray, NewObjectArray, GetObjectArrayElement, SetObjectArrayElement, NewStringUTF, GetStringLength, Throw, ThrowNew, ExceptionOccurred, ExceptionCheck, ExceptionClear, FatalError, GetSuperclass, GetObjectClass, IsInstanceOf, IsAssignableFrom, GetField, SetField, GetObjectField, SetObjectField, GetStaticField, SetStaticField, GetStaticObjectField, SetStaticObjectField, prototype, is_built_function, GetArrayRegion, SetArrayRegion, GetStringRegion}
+use Rattle.jni.specs.JniFunction.{GetBuffer, ReleaseBuffer, JniFunction, FindClass, AllocObject, NewLocalRef, NewGlobalRef, DeleteLocalRef, DeleteGlobalRef, IsSameObject, EnsureLocalCapacity, PushLocalFrame, PopLocalFrame, GetFieldID, GetStaticFieldID, GetArrayLength, NewArray, NewObjectArray, GetObjectArrayElement, SetObjectArrayElement, NewStringUTF, GetStringLength, Throw, ThrowNew, ExceptionOccurred, ExceptionCheck, ExceptionClear, FatalError, GetSuperclass, GetObjectClass, IsInstanceOf, IsAssignableFrom, GetField, SetField, GetObjectField, SetObjectField, GetStaticField, SetStaticField, GetStaticObjectField, SetStaticObjectField, prototype, MonitorEnter, MonitorExit, GetArrayRegion, SetArrayRegion, GetStringRegion}
 use Rattle.jni.specs.Prototype.{owner, BufferVariable, IsCopy, Mode, ArrayVariable, NumberArray, StringObject, ParameterKind, ClassObject, FieldID, IntNumber, NonNull, ObjectArray, TextBytes, NewLocal, GivesField, GivesInt, Nullable, GivesNothing}
 use Rattle.semantics.specs.Arguments.{ReleaseMode, FreeUncopied, mode_given, Actual, variable_given, reference_given, object_given, name_or_zero, text_given, field_given, number_given}
-use Rattle.semantics.specs.CallEffects.{copy_effect, view_effect, release_effect, Halts, at_region, get_region_effect, local_array, set_region_effect, throw_new_effect, NoResult, ScalarResult, Leaves, ReferenceResult, Throws, at_index, new_array_effect, store_effect, string_object, delete_global_effect, delete_local_effect, ensure_effect, push_effect, found_class_effect, found_field_effect, heap_effect, same_reference, CallEffect, level_of}
-use Rattle.semantics.specs.CallStep.{trap_of_call}
+use Rattle.semantics.specs.CallEffects.{copy_effect, view_effect, release_effect, enter_effect, exit_effect, Halts, at_region, get_region_effect, local_array, set_region_effect, throw_new_effect, NoResult, ScalarResult, Leaves, ReferenceResult, Throws, at_index, new_array_effect, store_effect, string_object, delete_global_effect, delete_local_effect, ensure_effect, push_effect, found_class_effect, found_field_effect, heap_effect, same_reference, CallEffect, level_of}
+use Rattle.semantics.specs.CallStep.{is_owned_by_other, trap_of_call}
 use Rattle.semantics.specs.CallTable.{call_effect}
 use Rattle.semantics.specs.Heap.{class_of, fits_class, values_of, object_at, field_place, number_in, numbers_of, place_in, value_at, reference_in, static_place, with_value_at}
 use Rattle.semantics.specs.Object.{Object, Reference, ObjectValue, Number, Refers}
 use Rattle.semantics.specs.Task.{Target}
-use Rattle.semantics.specs.Thread.{Shared, Thread, BuffersInUse}
+use Rattle.semantics.specs.Thread as source_state
+use Rattle.semantics.specs.Thread.{Shared, Thread, BuffersInUse, monitor_of}
 use Rattle.semantics.specs.World.{World, fresh_object, loaded_objects}
 use Rattle.world_values.proofs.LoadedWorlds.{class_within as found_within}
 use Rattle.world_values.specs.SoundWorlds.{IsSound}
@@ -66,6 +67,16 @@ use Rattle.code.specs.declared.instr.LocalArray.{LocalArray as ArraySlots}
 use Rattle.semantics_typing.specs.Objects.{HasNumbers, element_type_of}
 use Rattle.machine_calls.proofs.RegionOperands.{all_words, GivenArray, TwoNumbers, array_numbers, numbers_alone, slots_there, two_numbers, words_brought, words_there, local_array as given_array}
 use Rattle.std.proofs.lemmas.Bool.{leb-true}
+use Rattle.monitors.specs.declared.monitors.Enter.{Enter}
+use Rattle.monitors.specs.declared.monitors.Enter.TheVariants as enter
+use Rattle.monitors.specs.declared.monitors.Exit.{Exit}
+use Rattle.monitors.specs.declared.monitors.Exit.TheVariants as exit
+use Rattle.monitors.specs.Monitors as table
+use Rattle.monitors.specs.Monitors.{entering, leaving}
+use Rattle.machine_monitors.specs.Fit.{MonitorsAgree}
+use Rattle.machine_monitors.proofs.FitLaws.{busy, limited, refuses}
+use Rattle.machine_monitors.proofs.Foretold.{may_enter, owns}
+use Rattle.machine_calls.specs.declared.answer.Given.TheVariants as given
 use Rattle.machine_calls.specs.declared.store.Store.{Store}
 use Rattle.machine_calls.specs.declared.activation.Activation.{Activation}
 use Rattle.machine_calls.specs.Answers.{IsCopyAcquired, IsViewAcquired, AreWordsOf, Brought, HoldsObject, IsAnswer}
@@ -75,12 +86,12 @@ use Rattle.machine_calls.specs.Statics.{References}
 use Rattle.machine_calls.specs.Checked.{some_misfit, some_missing, may_be_null}
 use Rattle.machine_calls.specs.Given.{HasElements, key_at, operand_at, operand_of, class_of_given, class_there, fits_there, name_there, field_at, field_there}
 use Rattle.machine_calls.specs.HeapAgrees.{HeapAgrees, ReferenceAgrees, ValueAgrees}
-use Rattle.machine_calls.specs.WorkedOut.{acquires, releases, array_in, copies_in, copies_out, next_number, region_in, deletes, deletes_global, frame_for, class_object, found_class, IsFoundField, IsWorkedOut, place_there, value_there, word_in, address_in, held_reference, room_for, top_word, writes_there, count_there, element_there, index_there, new_array, stack_number, stores_there}
+use Rattle.machine_calls.specs.WorkedOut.{acquires, releases, enters, entered_by, leaves, left_by, array_in, copies_in, copies_out, next_number, region_in, deletes, deletes_global, frame_for, class_object, found_class, IsFoundField, IsWorkedOut, place_there, value_there, word_in, address_in, held_reference, room_for, top_word, writes_there, count_there, element_there, index_there, new_array, stack_number, stores_there}
 use Rattle.machine_calls.proofs.CallChecks.{class_given_is, class_is, field_at_place, fits_is, name_is, reference_at_place, handle_of}
 use Rattle.machine_calls.proofs.BlocksOfNames.{Named, named, name_within}
 use Rattle.machine_calls.proofs.CallTraps.{same_pending, has_passed, none_deleted, none_lacking, none_unfit, handles_there}
 use Rattle.machine_calls.proofs.LongTables.{class_is_no_throwable, class_is_plain, classes_loaded, grown_long}
-use Rattle.machine_calls.proofs.CallOperands.{GivenObject, IsWordless, is_number_array, OnTop, count_is, few_there, class_object_is, super_known, only_text, second_text, two_texts, object_at_place, on_top, is_class, second_field, only_static, own_making}
+use Rattle.machine_calls.proofs.CallOperands.{GivenObject, IsWordless, is_number_array, OnTop, count_is, few_there, class_object_is, super_known, only_text, second_text, two_texts, object_at_place, on_top, is_class, second_field, only_static, own_making, same_number}
 
 -- a call that is asked and passed its checks
 module _ (p : Lowered) (w : World) (store : Store) (pending : Option ℕ) (call : Activation) (function : Call) (others : Acquired) (k : ℕ) (shared : Shared) (s : Thread) (target : Target) (sound : IsSound w) (args : List Actual) where
@@ -106,7 +117,7 @@ module _ (p : Lowered) (w : World) (store : Store) (pending : Option ℕ) (call 
 
   -- what is worked out for it
   abbrev Works : JniFunction → Answer → Type 0
-  Works f answer = IsWorkedOut (scene_of w.classes store call pending) function f answer
+  Works f answer = IsWorkedOut (scene_of w.classes store call k pending) function f answer
 
   -- the answer is what it does
   abbrev Does : JniFunction → Answer → Type 0
@@ -896,6 +907,60 @@ module _ (p : Lowered) (w : World) (store : Store) (pending : Option ℕ) (call 
       let b = buffer_given CharsView [] refl h in
       subst (λ (x : Answer). Does f x) (sym (is ∙ (λ i. releases call.slots.buffers.items (g.at i) (b.at i) modes.FreeUncopied))) (released f h g b FreeUncopied (λ back. absurd (cc)))
 
+  -- ---- monitors
+
+  -- thread k doesn't wait, so no other thread owns the object
+  not_owned : (m : source_state.Monitor) → Asked MonitorEnter → trap_of_call w.classes shared s target MonitorEnter args ≡ None → monitor_of shared.monitors (object_given args 0) ≡ Some m → m.owner ≡ k
+  not_owned m h free is = same_number m.owner k (sym (λ i. is_none (free i) && is_owned_by_other k (is i)) ∙ h.ready)
+
+  answers_enter : Asked MonitorEnter → trap_of_call w.classes shared s target MonitorEnter args ≡ None → (answer : Answer) → Works MonitorEnter answer → Does MonitorEnter answer
+  unfolding call_effect
+  answers_enter h free answer is =
+      let g = object_given_at MonitorEnter [] NonNull [] tt refl refl h free in
+      let there = object_there MonitorEnter h g in
+      let name : name_there store.heap (Some g.address) ≡ n = ap (λ (o : Option ℕ). unwrap_or o 0) there in
+      subst (λ (x : Answer). Does MonitorEnter x) (sym (is ∙ ap (enters store.heap store.monitors k) g.at ∙ ap (λ (m : ℕ). entered_by (record { name = m; address = g.address }) (entering k (table.monitor_of store.monitors m))) name))
+      (by_came g.address there (entering k (table.monitor_of store.monitors n)) refl)
+    where
+      n : ℕ
+      n = object_given args 0
+
+      agree : MonitorsAgree store.monitors shared.monitors
+      agree = h.store_agrees.monitors
+
+      abbrev Enters : Answer → CallEffect → Type 0
+      Enters x effect = IsAnswer w.classes brought store.heap call.locals GivesInt shared s x effect
+
+      by_came : (a : ℕ) → name_at store.heap a ≡ Some n → (came : Enter) → entering k (table.monitor_of store.monitors n) ≡ came → Enters (entered_by (record { name = n; address = a }) came) (enter_effect k shared s n (monitor_of shared.monitors n))
+      by_came a there enter.Entered e = let may = may_enter k store.monitors shared.monitors agree n (sym e) in (refl, record { there = there; own = may.own; few = may.few; is = refl })
+      by_came a there enter.Limit e =
+          subst (Enters (replies.Gives (given.Number (2 ^ 32 - 1)))) (sym (limited k shared s store.monitors agree n (sym e)))
+          (refl, refl, (refl, record { sfits = omega arith }))
+      by_came a there enter.Busy e = let other = busy k shared s store.monitors agree n (sym e) in absurd (other.2 (not_owned other.0 h free other.1))
+
+  answers_exit : Asked MonitorExit → trap_of_call w.classes shared s target MonitorExit args ≡ None → (answer : Answer) → Works MonitorExit answer → Does MonitorExit answer
+  unfolding call_effect
+  answers_exit h free answer is =
+      let g = object_given_at MonitorExit [] NonNull [] tt refl refl h free in
+      let name : name_there store.heap (Some g.address) ≡ n = ap (λ (o : Option ℕ). unwrap_or o 0) (object_there MonitorExit h g) in
+      subst (λ (x : Answer). Does MonitorExit x) (sym (is ∙ ap (leaves store.heap store.monitors k) g.at ∙ ap (λ (m : ℕ). left_by m (leaving k (table.monitor_of store.monitors m))) name))
+      (by_came (leaving k (table.monitor_of store.monitors n)) refl)
+    where
+      n : ℕ
+      n = object_given args 0
+
+      agree : MonitorsAgree store.monitors shared.monitors
+      agree = h.store_agrees.monitors
+
+      abbrev Leaves_so : Answer → CallEffect → Type 0
+      Leaves_so x effect = IsAnswer w.classes brought store.heap call.locals GivesInt shared s x effect
+
+      by_came : (came : Exit) → leaving k (table.monitor_of store.monitors n) ≡ came → Leaves_so (left_by n came) (exit_effect k shared s n (monitor_of shared.monitors n))
+      by_came exit.Left e = let own = owns k store.monitors shared.monitors agree n (sym e) in (refl, record { monitor = own.monitor; owned = own.owned; own = own.own; is = refl })
+      by_came exit.NotOwner e =
+          subst (Leaves_so (replies.Throws illegal_monitor_state)) (sym (refuses k shared s store.monitors agree n (sym e)))
+          (refl, built_in_class illegal_monitor_state (omega arith) (omega arith))
+
   -- ---- exceptions
 
   answers_throw : Asked Throw → (answer : Answer) → Works Throw answer → Does Throw answer
@@ -974,4 +1039,5 @@ module _ (p : Lowered) (w : World) (store : Store) (pending : Option ℕ) (call 
   answers GetStringRegion h free answer is keyed held = answers_string_region h free answer is
   answers (GetBuffer access) h free answer is keyed held = answers_get_buffer access h free answer is
   answers (ReleaseBuffer access) h free answer is keyed held = answers_release access h free answer is
-  answers f h free answer is keyed held = absurd (let no : is_built_function f ≡ true = h.answered in cc)
+  answers MonitorEnter h free answer is keyed held = answers_enter h free answer is
+  answers MonitorExit h free answer is keyed held = answers_exit h free answer is

@@ -27,6 +27,7 @@ pub mod LocalFrames
 pub mod LongTables
 pub mod LookUps
 pub mod Makes
+pub mod MonitorCarries
 pub mod NewValues
 pub mod ObjectsAtAddresses
 pub mod Overlays
