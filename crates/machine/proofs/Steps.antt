@@ -1,8 +1,9 @@
 -- A step of the machine is a step of the state that its journal leads to.
-use Rattle.std.proofs.Common.{◌≡◌, ℕ, suc, ◌<◌, ◌≤◌, ◌-◌, Bool, true, false, List, [], ◌∷◌, ◌++◌, ◌+◌, length, drop, arith, inl, inr, length-append, Option, Some, None, refl, sym, ap, ◌∙◌, subst}
+use Rattle.std.proofs.Common.{◌≡◌, ℕ, suc, ◌<◌, ◌≤◌, ◌-◌, Bool, true, false, List, [], ◌∷◌, ◌++◌, ◌+◌, get_or, length, drop, arith, inl, inr, length-append, Option, Some, None, refl, sym, ap, ◌∙◌, subst}
 use Rattle.std.specs.Prelude.{slice_get, slice_set}
 use Rattle.std.specs.Option.{option_map}
 use Rattle.std.proofs.Math.ListN.{length-set}
+use Rattle.std.proofs.lemmas.Option.{slice_get_read}
 use Rattle.syntax.specs.declared.unit.Item.{Item}
 use Rattle.syntax.specs.Views.{unit_tree}
 use Rattle.class_rules.specs.Class.{Classes}
@@ -100,6 +101,18 @@ made_cells s k (source.Advances shared t source.Quiet) = refl
 made_cells s k (source.Advances shared t (source.PrintedNumber z)) = refl
 made_cells s k (source.Advances shared t (source.Trapped trap line)) = refl
 made_cells s k source.NoAdvance = refl
+
+-- ---- thread k is the one at k - 1
+
+pub thread_there : (ts : List Thread) (k n count : ℕ) (t : Thread) → n ≡ k → 0 < k → k ≤ count → length ts ≡ count → t ≡ get_or ts (n - 1) t → slice_get ts (n - 1) ≡ Some t
+thread_there ts k n count t same low high long h = slice_get_read ts count (n - 1) t (sym long) (omega arith) h
+
+pub counted : (k n : ℕ) → n ≡ k → 0 < k → k ≡ suc (n - 1)
+counted k n same h = omega arith
+
+-- how many threads there are
+pub threads_of : (a b : Run) (threads : List Thread) → length threads ≡ length a.world.threads → a ≡ b → length threads ≡ length b.world.threads
+threads_of a b threads h e = h ∙ ap (λ (r : Run). length r.world.threads) e
 
 -- ---- thread k of the state that the journal leads to, which is the machine's at i
 
