@@ -8,7 +8,6 @@ ghost use Rattle.classes.specs.Views.{kind_view};
 ghost use Rattle.class_rules.specs.Class.{Classes, element_class};
 ghost use Rattle.class_rules.specs.Fields.{find_field, find_static};
 ghost use Rattle.class_rules.specs.Grown.{IsGrown};
-ghost use Rattle.jni.specs.JniFunction.{is_built_function};
 ghost use Rattle.jni.specs.Table.{function_value};
 ghost use Rattle.semantics.specs.CallEffects.{level_of, same_reference};
 ghost use Rattle.semantics.specs.Heap.{Heap, field_place, fits_class, number_in, reference_in, static_place};
@@ -180,8 +179,7 @@ pub fn answer_or_trap<'a>(
     function: JniFunction,
     actuals: &[Actual<'a>],
 ) -> Answer<'a>
-    requires built { IsTrue (is_built_function (function_value function)) }
-    requires grown { IsGrown classes.now }
+    requires { IsGrown classes.now }
     ensures { answer_view result ≡ answer_or_trap (trap_found classes.now shared.now.store frames.now (is_some pending) (element_tree caller.element) (function_value function) (map actual_view actuals.now))
         (worked_out classes.now (in_use_view caller.in_use) caller.thread shared.now.monitors shared.now.store (variables_view variables.now) frames.now pending (map actual_view actuals.now) (function_value function)) }
 {
@@ -233,8 +231,7 @@ fn work_out<'a>(
     function: JniFunction,
     actuals: &[Actual<'a>],
 ) -> Answer<'a>
-    requires built { IsTrue (is_built_function (function_value function)) }
-    requires grown { IsGrown classes.now }
+    requires { IsGrown classes.now }
     ensures { answer_view result ≡ worked_out classes.now (in_use_view caller.in_use) caller.thread shared.now.monitors shared.now.store (variables_view variables.now) frames.now pending (map actual_view actuals.now) (function_value function) }
 {
     let store = &shared.store;
@@ -259,8 +256,7 @@ fn class_answer<'a>(
     function: JniFunction,
     actuals: &[Actual<'a>],
 ) -> Answer<'a>
-    requires built { IsTrue (is_built_function (function_value function)) }
-    requires subject { subject_of (function_value function) ≡ subject.Classes }
+    requires { subject_of (function_value function) ≡ subject.Classes }
     ensures { (in_use : InUse) (k : ℕ) (monitors : List MonitorOfThread) (variables : VariablesOfCall) (frames : List Frame) (pending : Reference) → answer_view result ≡ worked_out classes.now in_use k monitors store.now variables frames pending (map actual_view actuals.now) (function_value function) }
 {
     let first = object_given(actuals, 0);

@@ -8,7 +8,7 @@ use Rattle.class_rules.specs.BuiltIns.{array_index_out_of_bounds, illegal_monito
 use Rattle.class_rules.specs.Class.{Classes}
 use Rattle.class_rules.specs.Fields.{FieldId}
 use Rattle.jni.specs.Access.{Access, ElementsCopy, ArrayView, CharsCopy, CharsView}
-use Rattle.jni.specs.JniFunction.{is_built_function, JniFunction, FindClass, NewGlobalRef, DeleteLocalRef, DeleteGlobalRef, EnsureLocalCapacity, PushLocalFrame, GetFieldID, GetStaticFieldID, prototype, NewArray, NewObjectArray, GetObjectArrayElement, SetObjectArrayElement, GetArrayRegion, SetArrayRegion, GetStringRegion, GetBuffer, ReleaseBuffer, MonitorEnter, MonitorExit}
+use Rattle.jni.specs.JniFunction.{JniFunction, FindClass, NewGlobalRef, DeleteLocalRef, DeleteGlobalRef, EnsureLocalCapacity, PushLocalFrame, GetFieldID, GetStaticFieldID, prototype, NewArray, NewObjectArray, GetObjectArrayElement, SetObjectArrayElement, GetArrayRegion, SetArrayRegion, GetStringRegion, GetBuffer, ReleaseBuffer, MonitorEnter, MonitorExit}
 use Rattle.jni.specs.Prototype.{ResultKind, NewLocal}
 use Rattle.semantics.specs.Arguments.{Actual, ReleaseMode, CopyBackAndFree, CopyBack, FreeUncopied, mode_given, number_given, object_given, reference_given, variable_given, address_given}
 use Rattle.semantics.specs.CallEffects.{CallResult, NoResult, ReferenceResult, ScalarResult, enter_effect, exit_effect, monitor, monitors_effect, BufferResult, CallEffect, copy_effect, freed, release_effect, view_effect, Leaves, Throws, at_index, at_region, delete_global_effect, delete_local_effect, ensure_effect, found_class_effect, found_field_effect, get_region_effect, level_of, local_array, new_array_effect, out_of_memory, push_effect, refuses_frames, set_region_effect, store_effect, with_capacity, without_local}
@@ -227,34 +227,34 @@ module _ (classes : Classes) (in_use : BuffersInUse) (k : ℕ) (s : Shared) (t :
       by_owner false = refl
 
   -- what is worked out is the effect
-  effects : (f : JniFunction) → is_built_function f ≡ true → call_effect classes in_use k s t args f ≡ effect_as classes k s t (worked_out classes in_use k s.monitors s.heap t.variables t.frames t.pending args f)
+  effects : (f : JniFunction) → call_effect classes in_use k s t args f ≡ effect_as classes k s t (worked_out classes in_use k s.monitors s.heap t.variables t.frames t.pending args f)
   unfolding call_effect
-  effects FindClass built = class_found _
-  effects NewGlobalRef built = makes_global _
-  effects DeleteLocalRef built = deletes_local (lookup (variable_given args 0) t.variables) (reference_given args 0)
-  effects DeleteGlobalRef built = deletes_global _ _
-  effects EnsureLocalCapacity built = ensures _
-  effects PushLocalFrame built = pushes _
-  effects GetFieldID built = field_found _
-  effects GetStaticFieldID built = field_found _
-  effects (NewArray T) built = new_arrays (number_array T) (number_given args 0)
-  effects NewObjectArray built = new_object_arrays (object_given args 1) (reference_given args 2) (number_given args 0)
-  effects GetObjectArrayElement built = gets (number_given args 1)
-  effects SetObjectArrayElement built = sets (fits_element classes s.heap args) (reference_given args 2) (number_given args 1)
-  effects (GetArrayRegion T) built = gets_region array_index_out_of_bounds array (variable_given args 3) count (number_given args 1) (number_given args 2)
-  effects (SetArrayRegion T) built = sets_region array (variable_given args 3) count (number_given args 1) (number_given args 2)
-  effects GetStringRegion built = gets_region string_index_out_of_bounds array (variable_given args 3) count (number_given args 1) (number_given args 2)
-  effects (GetBuffer (ElementsCopy T)) built = lends (ElementsCopy T) (object_given args 0)
-  effects (GetBuffer ArrayView) built = lends ArrayView (object_given args 0)
-  effects (GetBuffer CharsCopy) built = lends CharsCopy (object_given args 0)
-  effects (GetBuffer CharsView) built = lends CharsView (object_given args 0)
-  effects (ReleaseBuffer (ElementsCopy T)) built = releases (object_given args 0) (variable_given args 1) (mode_given args 2)
-  effects (ReleaseBuffer ArrayView) built = refl
-  effects (ReleaseBuffer CharsCopy) built = refl
-  effects (ReleaseBuffer CharsView) built = refl
-  effects MonitorEnter built = enters (object_given args 0) (monitor_of s.monitors (object_given args 0)) refl
-  effects MonitorExit built = leaves (object_given args 0) (monitor_of s.monitors (object_given args 0))
-  effects f built = cc
+  effects FindClass = class_found _
+  effects NewGlobalRef = makes_global _
+  effects DeleteLocalRef = deletes_local (lookup (variable_given args 0) t.variables) (reference_given args 0)
+  effects DeleteGlobalRef = deletes_global _ _
+  effects EnsureLocalCapacity = ensures _
+  effects PushLocalFrame = pushes _
+  effects GetFieldID = field_found _
+  effects GetStaticFieldID = field_found _
+  effects (NewArray T) = new_arrays (number_array T) (number_given args 0)
+  effects NewObjectArray = new_object_arrays (object_given args 1) (reference_given args 2) (number_given args 0)
+  effects GetObjectArrayElement = gets (number_given args 1)
+  effects SetObjectArrayElement = sets (fits_element classes s.heap args) (reference_given args 2) (number_given args 1)
+  effects (GetArrayRegion T) = gets_region array_index_out_of_bounds array (variable_given args 3) count (number_given args 1) (number_given args 2)
+  effects (SetArrayRegion T) = sets_region array (variable_given args 3) count (number_given args 1) (number_given args 2)
+  effects GetStringRegion = gets_region string_index_out_of_bounds array (variable_given args 3) count (number_given args 1) (number_given args 2)
+  effects (GetBuffer (ElementsCopy T)) = lends (ElementsCopy T) (object_given args 0)
+  effects (GetBuffer ArrayView) = lends ArrayView (object_given args 0)
+  effects (GetBuffer CharsCopy) = lends CharsCopy (object_given args 0)
+  effects (GetBuffer CharsView) = lends CharsView (object_given args 0)
+  effects (ReleaseBuffer (ElementsCopy T)) = releases (object_given args 0) (variable_given args 1) (mode_given args 2)
+  effects (ReleaseBuffer ArrayView) = refl
+  effects (ReleaseBuffer CharsCopy) = refl
+  effects (ReleaseBuffer CharsView) = refl
+  effects MonitorEnter = enters (object_given args 0) (monitor_of s.monitors (object_given args 0)) refl
+  effects MonitorExit = leaves (object_given args 0) (monitor_of s.monitors (object_given args 0))
+  effects f = cc
 
 -- ---- what a call leaves
 
@@ -459,9 +459,9 @@ module _ (classes : Classes) (in_use : BuffersInUse) (k : ℕ) (s : Shared) (t :
       plain s vs frames (Some (out_of_memory classes)) (failure kind) g new same
       ∙ ap (λ (fs : List Frame). left_by k s (in_locals t vs fs (Some (out_of_memory classes))) rest (outcome_for line purpose g) new) (ap (λ (c : CallResult). frames_with kind c frames) same ∙ failed_frames kind frames)
 
--- ---- the call of a function that is implemented
+-- ---- the call of a function
 
-module _ (classes : Classes) (in_use : BuffersInUse) (k : ℕ) (s : Shared) (vs : Contents) (frames : List Frame) (pending : Reference) (line : ℕ) (purpose : PurposeInMemory) (f : JniFunction) (args : List Actual) (built : is_built_function f ≡ true) where
+module _ (classes : Classes) (in_use : BuffersInUse) (k : ℕ) (s : Shared) (vs : Contents) (frames : List Frame) (pending : Reference) (line : ℕ) (purpose : PurposeInMemory) (f : JniFunction) (args : List Actual) where
   abbrev scene : Scene
   scene = scene_with classes in_use k s vs frames pending
 
@@ -491,7 +491,7 @@ module _ (classes : Classes) (in_use : BuffersInUse) (k : ℕ) (s : Shared) (vs 
     steps true = refl
 
     checks_alike : (o : Option Trap) → checks o ≡ effect_as classes k s calls (answer_or_trap o (untrapped (variables_view vs)))
-    checks_alike None = effects classes in_use k s calls args f built
+    checks_alike None = effects classes in_use k s calls args f
     checks_alike (Some found) = refl
 
     -- the step goes by an answer that is told

@@ -1,9 +1,8 @@
 //! The state of a replay, and what an entry does to it.
 
-ghost use Rattle.std.specs.Prelude.{◌≡◌, [], IfOk, IfSome, IfNone, IsTrue, map, ◌≤◌, length};
+ghost use Rattle.std.specs.Prelude.{◌≡◌, [], IfOk, IfSome, IfNone, map, ◌≤◌, length};
 ghost use Rattle.syntax.specs.Limits.{IsTree};
 ghost use Rattle.syntax.specs.Views.{unit_tree};
-ghost use Rattle.type_rules.specs.BuiltCalls.{calls_are_built};
 ghost use Rattle.type_rules.specs.SortRules.{IsSorted};
 ghost use Rattle.semantics.specs.declared.journal.Entry.TheVariants as journal;
 ghost use Rattle.replay_threads.specs.States.{AreInRange, IsLiveAt, TakesEntry, TakesNone, IsNoted, AreStandings, Waits, in_use_by, is_possible, standing_in, copied_in, viewed_in};
@@ -165,7 +164,6 @@ fn take_turn<'a>(
 ) -> Result<bool, AllocError>
     requires tree { IsTree (unit_tree functions.now) }
     requires sorted { IsSorted (unit_tree functions.now) }
-    requires calls { IsTrue (calls_are_built (unit_tree functions.now)) }
     requires range { AreInRange state.old.threads.items }
     requires live { IsLiveAt state.old k place }
     ensures step { IfOk result (λ possible. TakesEntry (unit_tree functions.now) state.old (journal.Step k refused) possible state.new) }
@@ -194,7 +192,6 @@ pub fn take_entry<'a>(
 ) -> Result<bool, AllocError>
     requires tree { IsTree (unit_tree functions.now) }
     requires sorted { IsSorted (unit_tree functions.now) }
-    requires calls { IsTrue (calls_are_built (unit_tree functions.now)) }
     requires range { AreInRange state.old.threads.items }
     ensures step { IfOk result (λ possible. TakesEntry (unit_tree functions.now) state.old entry possible state.new) }
     ensures range { IfOk result (λ _. AreInRange state.new.threads.items) }

@@ -1,9 +1,8 @@
 //! Threads: calls in progress and to come.
 
-ghost use Rattle.std.specs.Prelude.{◌≡◌, ◌++◌, ◌∷◌, [], IfOk, IsTrue, Some, None, filter_map, map, zip};
+ghost use Rattle.std.specs.Prelude.{◌≡◌, ◌++◌, ◌∷◌, [], IfOk, Some, None, filter_map, map, zip};
 ghost use Rattle.syntax.specs.Limits.{IsTree};
 ghost use Rattle.syntax.specs.Views.{function_tree, parameter_tree, unit_tree};
-ghost use Rattle.type_rules.specs.BuiltCalls.{calls_are_built};
 ghost use Rattle.type_rules.specs.SortRules.{IsSorted};
 ghost use Rattle.world_values.specs.Views.{object_value_view};
 ghost use Rattle.semantics.specs.Activation.{parameter_variables, class_of_function, named_object, entry_frame, ending_after};
@@ -212,7 +211,6 @@ fn begin_next<'a>(
 ) -> Result<bool, AllocError>
     requires tree { IsTree (unit_tree functions.now) }
     requires sorted { IsSorted (unit_tree functions.now) }
-    requires calls { IsTrue (calls_are_built (unit_tree functions.now)) }
     ensures { IfOk result (λ begun. BeginsNext (unit_tree functions.now) world.now.classes call.now begun place.old place.new) }
 {
     let Some(found) = functions.find(call.function()) else {
@@ -237,7 +235,6 @@ fn enter<'a>(
 ) -> Result<Step, AllocError>
     requires tree { IsTree (unit_tree functions.now) }
     requires sorted { IsSorted (unit_tree functions.now) }
-    requires calls { IsTrue (calls_are_built (unit_tree functions.now)) }
     requires classes { turn.classes.now ≡ world.now.classes }
     requires idle { thread.old.activation ≡ None }
     ensures step { IfOk result (λ took. (shared : SharedOfThreads) → TakesTurn (unit_tree functions.now) turn.entry shared thread.old took shared thread.new) }
@@ -347,7 +344,6 @@ pub(crate) fn take_step<'a>(
 ) -> Result<Step, AllocError>
     requires tree { IsTree (unit_tree functions.now) }
     requires sorted { IsSorted (unit_tree functions.now) }
-    requires calls { IsTrue (calls_are_built (unit_tree functions.now)) }
     requires classes { turn.classes.now ≡ world.now.classes }
     requires grown { IsGrown turn.classes.now }
     requires range { WorkInRange thread.old.activation }

@@ -65,7 +65,7 @@ returns-in-Some-clause-step c =
     let args = map actual_view c.args.actuals.now in
     let scene : Scene = scene_of turn s locals c.args.pending.now in
     subst (λ took. MakesCall turn.refused scene i.line i.purpose f args took scene) (sym c.unless_refused.ensures.step)
-    (call_stopped turn.classes.now (in_use_view turn.in_use) turn.thread s locals.variables locals.frames c.args.pending.now i.line i.purpose f args c.requires.built turn.refused
+    (call_stopped turn.classes.now (in_use_view turn.in_use) turn.thread s locals.variables locals.frames c.args.pending.now i.line i.purpose f args turn.refused
     (answer_view c.answer_or_trap-answer.result) c.in-Some.trap (answer_for (answer_view c.answer_or_trap-answer.result) turn.classes.now (in_use_view turn.in_use) turn.thread s.monitors s.heap (variables_view locals.variables) locals.frames c.args.pending.now f args (element_tree c.wanted_element.result) (wanted_element locals.variables i.purpose) c.wanted_element.ensures c.answer_or_trap-answer.ensures) (sym c.trap_in.ensures ∙ ap (option_map trap_view) c.in-Some.is))
 
 pub returns-then-turn-clause-step : goal.returns-then-turn-clause-step
@@ -79,7 +79,7 @@ returns-then-turn-clause-step c =
     let before : Scene = scene_of turn s locals c.args.pending.now in
     let after : Scene = scene_of turn s locals c.refuse_object.new.pending in
     subst (λ b. MakesCall b before i.line i.purpose f args c.refuse_object.result after) (sym c.if-turn.true)
-    (c.refuse_object.ensures.step s locals args (c.requires.built, answer_for (answer_view c.answer_or_trap-answer.result) turn.classes.now (in_use_view turn.in_use) turn.thread s.monitors s.heap (variables_view locals.variables) locals.frames c.args.pending.now f args (element_tree c.wanted_element.result) (wanted_element locals.variables i.purpose) c.wanted_element.ensures c.answer_or_trap-answer.ensures))
+    (c.refuse_object.ensures.step s locals args (answer_for (answer_view c.answer_or_trap-answer.result) turn.classes.now (in_use_view turn.in_use) turn.thread s.monitors s.heap (variables_view locals.variables) locals.frames c.args.pending.now f args (element_tree c.wanted_element.result) (wanted_element locals.variables i.purpose) c.wanted_element.ensures c.answer_or_trap-answer.ensures))
 
 pub returns-clause-step : goal.returns-clause-step
 returns-clause-step c =
@@ -92,13 +92,10 @@ returns-clause-step c =
     let before : Scene = scene_of turn s locals c.args.pending.now in
     let after : Scene = scene_of turn (shared_view c.complete.new.shared) c.complete.new.locals c.complete.new.pending in
     subst (λ b. IfOk c.complete.result (λ o. MakesCall b before i.line i.purpose f args o after)) (sym c.if-turn.false)
-    (c.complete.ensures.step (c.requires.built, answer_for (answer_view c.answer_or_trap-answer.result) turn.classes.now (in_use_view turn.in_use) turn.thread s.monitors s.heap (variables_view locals.variables) locals.frames c.args.pending.now f args (element_tree c.wanted_element.result) (wanted_element locals.variables i.purpose) c.wanted_element.ensures c.answer_or_trap-answer.ensures))
+    (c.complete.ensures.step (answer_for (answer_view c.answer_or_trap-answer.result) turn.classes.now (in_use_view turn.in_use) turn.thread s.monitors s.heap (variables_view locals.variables) locals.frames c.args.pending.now f args (element_tree c.wanted_element.result) (wanted_element locals.variables i.purpose) c.wanted_element.ensures c.answer_or_trap-answer.ensures))
 
-pub answer_or_trap-answer-requires-clause-built : goal.answer_or_trap-answer-requires-clause-built
-answer_or_trap-answer-requires-clause-built c = c.requires.built
-
-pub answer_or_trap-answer-requires-clause-grown : goal.answer_or_trap-answer-requires-clause-grown
-answer_or_trap-answer-requires-clause-grown c = c.requires.grown
+pub answer_or_trap-answer-requires : goal.answer_or_trap-answer-requires
+answer_or_trap-answer-requires c = c.requires.grown
 
 pub refuse_object-requires : goal.refuse_object-requires
 refuse_object-requires c = c.requires.ways
