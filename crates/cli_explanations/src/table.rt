@@ -75,7 +75,7 @@ static FAULTS_20: [Explanation; 8] = [
     Explanation {
         number: 24,
         title: b"a function of the JNI isn't known",
-        text: b"fault 24: a function of the JNI isn't known\n\nREADME has the list of those that are (JNI Specification, chapter 4).\n\n    JNIEXPORT void JNICALL Java_A_f(JNIEnv *env, jclass cls)\n    {\n        jint version = (*env)->GetVersion(env);\n        return;\n    }\n\nfault 24 line 3\n",
+        text: b"fault 24: a function of the JNI isn't known\n\nREADME has the list of those that are (JNI Specification, chapter 4). Mend the name, or do without the function.\n\n    JNIEXPORT void JNICALL Java_A_f(JNIEnv *env, jclass cls)\n    {\n        jint version = (*env)->GetVersion(env);\n        return;\n    }\n\nfault 24 line 3\n",
     },
     Explanation {
         number: 25,
@@ -307,12 +307,12 @@ static TRAPS_0: [Explanation; 9] = [
     Explanation {
         number: 4,
         title: b"NULL where an object is wanted",
-        text: b"trap 4: NULL where an object is wanted\n\nThe JNI doesn't check its arguments (JNI Specification, chapter 2, \"Reporting Programming Errors\"). Test the reference first.\n\n    JNIEXPORT void JNICALL Java_A_f(JNIEnv *env, jclass cls, jintArray array)\n    {\n        jint length = (*env)->GetArrayLength(env, array);\n        return;\n    }\n\n    heap 512\n    class A\n    thread Java_A_f null\n\nT1 trap 4 line 3\n",
+        text: b"trap 4: NULL where an object is wanted\n\nThe JNI doesn't check its arguments (JNI Specification, chapter 2, \"Reporting Programming Errors\"). Test the reference first. A thread that would enter the monitor of NULL doesn't wait, but traps.\n\n    JNIEXPORT void JNICALL Java_A_f(JNIEnv *env, jclass cls, jintArray array)\n    {\n        jint length = (*env)->GetArrayLength(env, array);\n        return;\n    }\n\n    heap 512\n    class A\n    thread Java_A_f null\n\nT1 trap 4 line 3\n\n    static jobject lock = NULL;\n    \n    JNIEXPORT void JNICALL Java_A_f(JNIEnv *env, jclass cls)\n    {\n        (*env)->MonitorEnter(env, lock);\n        return;\n    }\n\n    heap 512\n    class A\n    thread Java_A_f\n\nT1 trap 4 line 5\n",
     },
     Explanation {
         number: 5,
         title: b"a call while an exception is pending",
-        text: b"trap 5: a call while an exception is pending\n\nOnly the functions that ask for an exception, clear it or release what is held, and PushLocalFrame, may be called then (JNI Specification, chapter 2, \"Exceptions\"). Test for the exception after the call that may throw\nit, and return or clear it.\n\n    JNIEXPORT void JNICALL Java_A_f(JNIEnv *env, jclass cls)\n    {\n        jclass missing = (*env)->FindClass(env, \"B\");\n        jclass above = (*env)->GetSuperclass(env, cls);\n        return;\n    }\n\n    heap 512\n    class A\n    thread Java_A_f\n\nT1 trap 5 line 4\n",
+        text: b"trap 5: a call while an exception is pending\n\nOnly the functions that ask for an exception, clear it or release what is held (a buffer, a reference, a frame, a monitor), and PushLocalFrame, may be called then (JNI Specification, chapter 2, \"Exceptions\"). Test for the exception after the call that may throw\nit, and return or clear it. MonitorExit throws where the thread doesn't own the monitor.\n\n    JNIEXPORT void JNICALL Java_A_f(JNIEnv *env, jclass cls)\n    {\n        jclass missing = (*env)->FindClass(env, \"B\");\n        jclass above = (*env)->GetSuperclass(env, cls);\n        return;\n    }\n\n    heap 512\n    class A\n    thread Java_A_f\n\nT1 trap 5 line 4\n\n    JNIEXPORT void JNICALL Java_A_f(JNIEnv *env, jclass cls)\n    {\n        (*env)->MonitorExit(env, cls);\n        (*env)->MonitorEnter(env, cls);\n        return;\n    }\n\n    heap 512\n    class A\n    thread Java_A_f\n\nT1 trap 5 line 4\n",
     },
     Explanation {
         number: 6,
@@ -322,7 +322,7 @@ static TRAPS_0: [Explanation; 9] = [
     Explanation {
         number: 7,
         title: b"a deleted global reference",
-        text: b"trap 7: a deleted global reference\n\nWhat DeleteGlobalRef was given refers to nothing (JNI Specification, chapter 4, \"DeleteGlobalRef\"). Delete it after its last use, and set the static to NULL.\n\n    static jclass kept = NULL;\n    \n    JNIEXPORT void JNICALL Java_A_f(JNIEnv *env, jclass cls)\n    {\n        kept = (*env)->NewGlobalRef(env, cls);\n        (*env)->DeleteGlobalRef(env, kept);\n        jobject object = (*env)->AllocObject(env, kept);\n        return;\n    }\n\n    heap 512\n    class A\n    thread Java_A_f\n\nT1 trap 7 line 7\n",
+        text: b"trap 7: a deleted global reference\n\nWhat DeleteGlobalRef was given refers to nothing (JNI Specification, chapter 4, \"DeleteGlobalRef\"). Delete it after its last use, and set the static to NULL.\n\n    static jclass kept = NULL;\n    \n    JNIEXPORT void JNICALL Java_A_f(JNIEnv *env, jclass cls)\n    {\n        kept = (*env)->NewGlobalRef(env, cls);\n        (*env)->DeleteGlobalRef(env, kept);\n        jobject object = (*env)->AllocObject(env, kept);\n        return;\n    }\n\n    heap 512\n    class A\n    thread Java_A_f\n\nT1 trap 7 line 7\n\n    static jobject lock = NULL;\n    \n    JNIEXPORT void JNICALL Java_A_f(JNIEnv *env, jclass cls)\n    {\n        lock = (*env)->NewGlobalRef(env, cls);\n        (*env)->MonitorEnter(env, lock);\n        (*env)->DeleteGlobalRef(env, lock);\n        (*env)->MonitorExit(env, lock);\n        return;\n    }\n\n    heap 512\n    class A\n    thread Java_A_f\n\nT1 trap 7 line 8\n",
     },
     Explanation {
         number: 8,

@@ -7,6 +7,8 @@ mod collections;
 #[cfg(test)]
 mod lowering;
 #[cfg(test)]
+mod monitors;
+#[cfg(test)]
 mod tests;
 #[cfg(test)]
 mod workers;
