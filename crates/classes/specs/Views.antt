@@ -1,6 +1,6 @@
 -- The classes that lie in memory, as classes of the definitions.
-use Rattle.base.specs.Element.{element_value}
 pub use Rattle.classes.specs.HeldFields.{field_type_view, field_view}
+use Rattle.base.specs.Element.{element_value}
 use Rattle.std.specs.Prelude.{ℕ, List, map}
 use Rattle.std.specs.Global.{Vec}
 use Rattle.classes.specs.declared.class.ClassKind.{ClassKind as KindInMemory}

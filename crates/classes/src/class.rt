@@ -1,7 +1,6 @@
 //! What a class is made of.
 
 use crate::own_fields::OwnFields;
-
 pub use base::ElementType;
 
 /// What the objects of a class are made of.

@@ -5,12 +5,11 @@ ghost use Rattle.std.specs.List.{list_all, list_any};
 ghost use Rattle.jni.specs.Table.{function_value, parameter_value};
 ghost use Rattle.code.specs.Call.{call_view, is_static, takes_any, IsPrepared};
 
+pub use base::ElementType;
+pub use jni::ReleaseMode;
 use jni::{JniFunction, ParameterKind, ResultKind};
 use std::alloc::{AllocError, Global};
 use std::marker::Model;
-
-pub use base::ElementType;
-pub use jni::ReleaseMode;
 
 /// An operator on two words that has a result for all of them, at `uint32_t`, or at `jint` where it says so. A comparison
 /// gives a truth, which is the word 1 or 0; the words of two `jint`s, or of two flags, are equal where these are.

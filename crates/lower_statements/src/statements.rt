@@ -20,9 +20,7 @@ use code::instr;
 use code::instr::{BoxedCall, Instr, LocalArray, Operand, ReferenceOperand, ReleaseMode, Target};
 use jni::{JniFunction, ParameterKind, function_named};
 use std::alloc::{AllocError, Global};
-use syntax::{
-    Argument, Block, Call, Constant, ElementType, Expr, Form, Name, RightSide, Test,
-};
+use syntax::{Argument, Block, Call, Constant, ElementType, Expr, Form, Name, RightSide, Test};
 use type_rules::{Sort, variable_sort};
 
 /// A statement on this line, with the names that are known after it.
@@ -349,10 +347,7 @@ fn emit_write(
             },
         ) => {
             let array = LocalArray { start: index, len };
-            emit(
-                code,
-                Instr::StoreElement(element, array, line),
-            )
+            emit(code, Instr::StoreElement(element, array, line))
         }
         Some(
             Slot {

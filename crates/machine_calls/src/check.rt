@@ -21,8 +21,8 @@ ghost use Rattle.semantics.specs.Heap.{holds_number, holds_reference};
 ghost use Rattle.semantics.specs.Value.{Trap as SourceTrap};
 
 use crate::operands::{
-    class_of_given, declaring, field_in, fits_there, handle_at, is_static,
-    name_there, reference_at, reference_in, type_of,
+    class_of_given, declaring, field_in, fits_there, handle_at, is_static, name_there,
+    reference_at, reference_in, type_of,
 };
 use crate::references::{Held, References};
 use crate::scene::Scene;

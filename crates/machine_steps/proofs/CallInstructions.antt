@@ -152,7 +152,7 @@ module _ (p : Lowered) (w : World) (store : Store) (pending : Option ℕ) (call 
   no_target destination.Test kind target x nothing goes is = let clash : GivesNothing ≡ GivesInt = sym nothing ∙ goes.0 in cc
   no_target destination.Dropped kind target x nothing goes is = let clash : false ≡ true = sym (ap (λ (t : Target). is_target t x) goes.0) ∙ is in cc
 
-  module _ (answer : Answer) (works : IsWorkedOut (scene_of w.classes store call pending) function called.f answer) where
+  module _ (answer : Answer) (works : IsWorkedOut (scene_of w.classes store call k pending) function called.f answer) where
     abbrev left_own : Owners
     left_own = owners_left p w store pending call in_memory others k own shared s task rest h answer works
 
@@ -383,7 +383,7 @@ module _ (p : Lowered) (w : World) (store : Store) (pending : Option ℕ) (call 
           let next = shared_after w.classes refused shared effect in
           let left = frames_left refused s effect in
           let q = pending_after w.classes refused shared s effect in
-          let left_frames : kind ≡ NewLocal → left ≡ source_frames_after called.f s.frames = λ local. left_is w.classes in_use k shared s called.args called.f called.asked.answered local refused carried.could_refuse in
+          let left_frames : kind ≡ NewLocal → left ≡ source_frames_after called.f s.frames = λ local. left_is w.classes in_use k shared s called.args called.f local refused carried.could_refuse in
           let ready_left = left_ready sound gave told_variables told_numbers slots left_shown count in
           let keyed = keys_left store.heap store'.heap call.locals locals call.slots.references.items ready_left.meant.references ready_left.meant.owners ready_left.holds.keys
           (λ i key n level at_key owned is. carried.left key n level is (owners.left i key level at_key (subst (λ (l : List (Option ℕ)). slice_get l i ≡ Some (Some level)) (left_owners sound gave told_variables told_numbers slots left_shown count) owned))) in

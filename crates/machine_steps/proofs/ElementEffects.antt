@@ -144,6 +144,7 @@ written_store p w store shared all k key zs place z there h = record {
   globals = h.globals;
   buffers = record { copied = written_lengths store.elements k key zs there place z ∙ h.buffers.copied; many = h.buffers.many; pins = h.buffers.pins; made = h.buffers.made; there = h.buffers.there };
   monitors = h.monitors;
+  monitored = h.monitored;
 }
 
 -- ---- steps

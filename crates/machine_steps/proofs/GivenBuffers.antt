@@ -174,6 +174,8 @@ module _ (classes : Classes) (brought : Brought) (space : Space) (locals : Local
   small_answer (answers.AcquiresCopy a) h gave =
       small_copy h.1.name (numbers_of shared.heap h.1.name) brought.in_use.copied b h.1.words.fit (of_effect (copy_effect brought.in_use shared s h.1.name (numbers_of shared.heap h.1.name)) h.1.is gave)
   small_answer (answers.AcquiresView a) h gave = small_view h.1.name brought.in_use.views b (of_effect (view_effect brought.in_use shared s h.1.name) h.1.is gave)
+  small_answer (answers.Enters o) h gave = absurd (let clash : GivesBuffer access ≡ GivesInt = h.0 in cc)
+  small_answer (answers.Exits n) h gave = absurd (let clash : GivesBuffer access ≡ GivesInt = h.0 in cc)
   small_answer (answers.Releases r) h gave = absurd (let clash : GivesBuffer access ≡ GivesNothing = h.0 in cc)
 
 -- what is given is small

@@ -19,12 +19,11 @@ ghost use Rattle.replay_calls.specs.Shares.{shared_view, sight_in};
 
 use crate::shared::Shared;
 use classes::fields::FieldId;
+pub use jni::ReleaseMode;
 use jni::{JniFunction, ParameterKind};
 use replay_terms::{Content, Operand, StaticReference, Term, Value, Variables};
 use std::alloc::{AllocError, Global};
 use syntax::{Argument, Constant, Expr, Name};
-
-pub use jni::ReleaseMode;
 
 /// An argument of a call, looked up.
 #[derive(Clone, Copy)]
@@ -87,7 +86,7 @@ fn push_actuals<'a>(
 }
 
 /// What an argument for this parameter is.
-fn look_up<'a>(
+pub fn look_up<'a>(
     shared: &Shared<'_>,
     variables: &Variables<'a>,
     parameter: ParameterKind,

@@ -172,8 +172,7 @@ fn fit_together(
     match function {
         JniFunction::AllocObject => !classes.has_own_making(object_given(actuals, 0)),
         JniFunction::GetField(element) | JniFunction::SetField(element) => {
-            has_field(classes, store, actuals)
-                && holds_number(element, type_of(field))
+            has_field(classes, store, actuals) && holds_number(element, type_of(field))
         }
         JniFunction::GetObjectField => {
             has_field(classes, store, actuals) && holds_reference(type_of(field))

@@ -2,9 +2,9 @@
 
 use crate::call::{Call, RightSide, Test};
 use crate::declared_type::VariableType;
-use base::ElementType;
 use crate::expr::Expr;
 use crate::name::Name;
+use base::ElementType;
 
 /// Statements in braces.
 #[cycle(statements)]

@@ -15,9 +15,7 @@ ghost use Rattle.type_rules.specs.Uses.{argument_uses, call_uses};
 
 use crate::expressions::{has_unknown, is_formed, is_null, name_sort, sort_of};
 use crate::scope::{is_unknown, sort_in};
-use crate::sort::{
-    is_array_of, is_buffer_for, is_field, is_flag, is_global, is_jint, is_ref,
-};
+use crate::sort::{is_array_of, is_buffer_for, is_field, is_flag, is_global, is_jint, is_ref};
 use jni::{JniFunction, ParameterKind, ResultKind};
 use syntax::{Argument, Call, Constant, Expr, Name};
 use type_rules::{Known, Sort};

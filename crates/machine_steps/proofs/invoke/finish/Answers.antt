@@ -53,7 +53,7 @@ use Rattle.machine_steps.proofs.CallInstructions.{goes_on}
 use Rattle.machine_steps.proofs.invoke.finish.Goals as goal
 
 -- the machine is at a call that no check stops
-module _ (p : Lowered) (w : World) (store : Store) (pending : Option ℕ) (call : Activation) (function : Call) (others : Acquired) (k : ℕ) (own : Owners) (shared : Shared) (s : Thread) (task : Task) (rest : List Task) (h : AtCall p w store pending call function others k own shared s task rest) (answer : Answer) (given : IsAnswered w store pending call function answer) where
+module _ (p : Lowered) (w : World) (store : Store) (pending : Option ℕ) (call : Activation) (function : Call) (others : Acquired) (k : ℕ) (own : Owners) (shared : Shared) (s : Thread) (task : Task) (rest : List Task) (h : AtCall p w store pending call function others k own shared s task rest) (answer : Answer) (given : IsAnswered w store pending call k function answer) where
   abbrev effect : CallEffect
   effect = does p w store pending call function others k own shared s task rest h answer given
 

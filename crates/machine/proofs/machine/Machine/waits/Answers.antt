@@ -1,14 +1,13 @@
-use Rattle.std.proofs.Common.{length, false, sym, subst}
-use Rattle.syntax.specs.Views.{unit_tree}
-use Rattle.semantics.specs.World.{loaded_objects}
-use Rattle.semantics_safety.specs.Owners.{owners_after}
+use Rattle.std.proofs.Common.{◌≡◌, ℕ, suc, ◌-◌, get_or, Some, sym, ◌∙◌, subst}
+use Rattle.std.specs.Prelude.{slice_get}
 use Rattle.machine.specs.Run.{Run, Waits}
-use Rattle.machine.proofs.Reports.{never_blocked}
+use Rattle.machine_steps.specs.declared.thread.Thread.{Thread}
+use Rattle.machine.proofs.Steps.{counted_from, owners, rest, shared_agrees, steady, the_thread, thread_there, threads_of, waits_here}
 use Rattle.machine.proofs.machine.Machine.waits.Goals as goal
+use Rattle.machine.proofs.machine.Machine.waits.Goals.{After-index-thread}
 
-pub returns : goal.returns
-returns c =
-    let i = c.self.inside in
-    let m = c.self.invariant in
-    subst (λ (r : Run). Waits r c.args._k false) c.self.view_is
-    (m.state, m.replays, sym (never_blocked i.program i.world.classes i.store.heap i.store.elements (length (loaded_objects i.world)) (owners_after (unit_tree i.program.unit) i.world i.journal.items) m.state i.threads.items m.threads_agree c.args._k))
+there : (c : After-index-thread) → slice_get c.self.inside.threads.items (c.from-index.result - 1) ≡ Some c.index-thread.result.now
+there c = thread_there c.self.inside.threads.items c.args.k c.from-index.result _ c.index-thread.result.now c.from-index.ensures c.requires.counted c.requires.is_thread (threads_of _ _ _ c.self.invariant.count c.self.view_is) c.index-thread.ensures
+
+number : (c : After-index-thread) → c.args.k ≡ suc (c.from-index.result - 1)
+number c = counted_from c.args.k c.from-index.result c.from-index.ensures c.requires.counted
