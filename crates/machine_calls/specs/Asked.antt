@@ -1,5 +1,5 @@
 -- A call of a function with the arguments that the source's call has.
-use Rattle.std.specs.Prelude.{◌≡◌, ◌≢◌, ℕ, true, List, [], length, Option, Some}
+use Rattle.std.specs.Prelude.{◌≡◌, ◌≢◌, ℕ, false, true, List, [], length, Option, Some}
 use Rattle.std.specs.List.{AllZip}
 use Rattle.base.specs.Bytes.{lookup}
 use Rattle.class_rules.specs.Class.{Classes}
