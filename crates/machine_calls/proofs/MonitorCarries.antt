@@ -35,7 +35,7 @@ use Rattle.machine_calls.proofs.HeldSums.{beside_nothing}
 use Rattle.machine_calls.proofs.Keeping.{none_made}
 
 -- other monitors
-agrees_monitors : (p : Lowered) (w : World) (store : Store) (shared : Shared) (all : Acquired) → StoreAgrees p w store shared all → (ms : List Monitor) (ss : List source.Monitor) → MonitorsAgree ms ss → AreThere store.heap ms
+pub agrees_monitors : (p : Lowered) (w : World) (store : Store) (shared : Shared) (all : Acquired) → StoreAgrees p w store shared all → (ms : List Monitor) (ss : List source.Monitor) → MonitorsAgree ms ss → AreThere store.heap ms
     → StoreAgrees p w (record store { monitors = ms }) (record shared { monitors = ss }) all
 agrees_monitors p w store shared all h ms ss agree there = record {
   heap = h.heap;
@@ -53,7 +53,7 @@ agrees_monitors p w store shared all h ms ss agree there = record {
   monitored = there;
 }
 
-keeps_monitors : (space : Space) (shared : Shared) (ss : List source.Monitor) → Keeps space shared space (record shared { monitors = ss })
+pub keeps_monitors : (space : Space) (shared : Shared) (ss : List source.Monitor) → Keeps space shared space (record shared { monitors = ss })
 keeps_monitors space shared ss = record {
   names = λ a n e. e;
   statics = inl refl;

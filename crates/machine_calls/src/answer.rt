@@ -310,7 +310,7 @@ fn work_out_field(scene: &Scene<'_>, function: &Call) -> Answer
 
 /// The reference of the operand at a place.
 #[inline(always)]
-pub(crate) fn argument(
+pub fn argument(
     heap: &Heap,
     references: &References<'_>,
     function: &Call,

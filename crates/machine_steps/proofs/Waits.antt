@@ -42,6 +42,7 @@ use Rattle.machine_calls.specs.Given.{operand_at, operand_of}
 use Rattle.machine_calls.specs.StoreAgrees.{StoreAgrees}
 use Rattle.machine_calls.proofs.CallOperands.{GivenObject, object_at_place}
 use Rattle.machine_calls.proofs.CallTraps.{none_deleted, none_lacking}
+use Rattle.machine_calls.proofs.MonitorCarries.{agrees_monitors}
 use Rattle.machine_steps.specs.declared.thread.Thread.{Thread}
 use Rattle.machine_steps.specs.Executes.{IsExecuting, IsSteady}
 use Rattle.machine_steps.specs.SlotsHold.{slots_of}
@@ -65,21 +66,7 @@ never_waits classes k shared s e = refl
 
 -- all else agrees
 pub unowned_agrees : (p : Lowered) (w : World) (store : Store) (shared : Shared) (all : Acquired) → StoreAgrees p w store shared all → StoreAgrees p w (store_unowned store) (unowned shared) all
-unowned_agrees p w store shared all h = record {
-  heap = h.heap;
-  laid_out = h.laid_out;
-  cells = h.cells;
-  table = h.table;
-  begun = h.begun;
-  births = h.births;
-  statics = h.statics;
-  named = h.named;
-  keys = h.keys;
-  globals = h.globals;
-  buffers = h.buffers;
-  monitors = record { at = λ n. tt; different = tt };
-  monitored = tt;
-}
+unowned_agrees p w store shared all h = agrees_monitors p w store shared all h [] [] (record { at = λ n. tt; different = tt }) tt
 
 pub unowned_steady : (classes : Classes) (own : Owners) (shared : Shared) (s : source.Thread) → IsSteady classes own shared s → IsSteady classes own (unowned shared) s
 unowned_steady classes own shared s h = record {
@@ -111,8 +98,8 @@ module _ (p : Lowered) (classes : Classes) (space : Space) (copies : List (Optio
       (λ g. refl) (λ trap line g. refl) refl (effect_of (sight_of shared s) task) r.does
     where
       other : (line : ℕ) (target : Target) (f : JniFunction) (args : List Actual) → (f ≡ MonitorEnter → ⊥) → waits_with classes k shared s (Calls line target f args) ≡ false
-      other line target MonitorEnter args no = absurd (no refl)
-      other line target f args no = refl
+      other line target MonitorEnter args another = absurd (another refl)
+      other line target f args another = refl
 
 -- ---- a call in progress
 

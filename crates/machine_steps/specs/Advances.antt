@@ -63,7 +63,7 @@ calls_after None calls = calls
 
 -- thread k has given up the monitors that it owned, and nothing else changed
 pub record GivesUp (k : ℕ) (old store : Store) : Type 0 where
-  pub store : store ≡ record old { monitors = without_owner old.monitors k }
+  pub is : store ≡ record old { monitors = without_owner old.monitors k }
   pub each : (n : ℕ) → monitor_of store.monitors n ≡ kept_from k (monitor_of old.monitors n)
 
 -- so it has where it has ended

@@ -37,8 +37,8 @@ pub enum Advanced {
     Refused,
 }
 
-/// Takes one step of a thread, which has this number, has not ended, and doesn't wait for a monitor. Only the entry into a call, a new frame, a new global reference
-/// and a copy of elements take host memory.
+/// Takes one step of a thread, which has this number, has not ended and doesn't wait for a monitor. Only the entry into a call, a
+/// new frame, a new global reference, a copy of elements and a monitor that is entered take host memory.
 ///
 /// Where the step's objects have no room, its allocation is refused if it may be. Else `NoRoom` says so, before anything has
 /// changed: room can be made then, and the same step asked for again. It takes no host memory.

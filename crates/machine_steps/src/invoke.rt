@@ -42,9 +42,9 @@ pub enum Invoked {
     Trapped(Trap),
 }
 
-/// The instruction that calls a function, in the thread of this number. Only a new frame, a new global reference and a copy of elements
-/// take host memory. Where what is made has no
-/// room, the call is refused if it may be, and else the fault says so.
+/// The instruction that calls a function, in the thread of this number. Only a new frame, a new global reference, a copy of elements
+/// and a monitor that is entered take host memory. Where what is made has no room, the call is refused if it may be, and else the
+/// fault says so.
 #[inline(never)]
 pub fn invoke(
     world: &World,

@@ -85,16 +85,16 @@ returns-in-MonitorEnter c others own shared s shares h steady =
     (may_wait p w store others c.args.number own shared c.args.thread.now s c.in-Some.call shares h c.in-Some.is steady c.instr_at-instr.result.now f c.call-function.result.now (c.in-Call.is ∙ ap (λ (x : Call). instr.Call x) (sym c.call-function.ensures.view)))
     ∙ waits_by p w store others c.args.number own shared c.args.thread.now s c.in-Some.call shares h c.in-Some.is steady
 
-pub returns-in_default : goal.returns-in_default
-returns-in_default c others own shared s shares h steady =
-    let f = fetched (goal.at.returns-in_default c).After-instr_at-instr in
+pub returns-in_default-function : goal.returns-in_default-function
+returns-in_default-function c others own shared s shares h steady =
+    let f = fetched (goal.at.returns-in_default-function c).After-instr_at-instr in
     sym (goes_on c.args.program.now c.args.world.now c.args.store.now others c.args.number own shared c.args.thread.now s c.in-Some.call shares h c.in-Some.is steady c.instr_at-instr.result.now f
     (λ (x : Call) is enters.
     let same : call_view c.call-function.result.now ≡ x = let both : instr.Call (call_view c.call-function.result.now) ≡ instr.Call x = sym (c.in-Call.is ∙ ap (λ (y : Call). instr.Call y) (sym c.call-function.ensures.view)) ∙ is in cc in
-    c.in_default.not-MonitorEnter (value_enters c.call-function.result.now.function (ap (λ (y : Call). y.function) same ∙ enters))))
+    c.in_default-function.not-MonitorEnter (value_enters c.call-function.result.now.function (ap (λ (y : Call). y.function) same ∙ enters))))
 
-pub returns-in_default-2 : goal.returns-in_default-2
-returns-in_default-2 c others own shared s shares h steady =
-    let f = fetched (goal.at.returns-in_default-2 c).After-instr_at-instr in
+pub returns-in_default : goal.returns-in_default
+returns-in_default c others own shared s shares h steady =
+    let f = fetched (goal.at.returns-in_default c).After-instr_at-instr in
     sym (goes_on c.args.program.now c.args.world.now c.args.store.now others c.args.number own shared c.args.thread.now s c.in-Some.call shares h c.in-Some.is steady c.instr_at-instr.result.now f
     (λ (x : Call) is enters. c.in_default.not-Call x is))
