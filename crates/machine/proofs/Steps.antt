@@ -107,8 +107,8 @@ made_cells s k source.NoAdvance = refl
 pub thread_there : (ts : List Thread) (k n count : ℕ) (t : Thread) → n ≡ k → 0 < k → k ≤ count → length ts ≡ count → t ≡ get_or ts (n - 1) t → slice_get ts (n - 1) ≡ Some t
 thread_there ts k n count t same low high long h = slice_get_read ts count (n - 1) t (sym long) (omega arith) h
 
-pub counted : (k n : ℕ) → n ≡ k → 0 < k → k ≡ suc (n - 1)
-counted k n same h = omega arith
+pub counted_from : (k n : ℕ) → n ≡ k → 0 < k → k ≡ suc (n - 1)
+counted_from k n same h = omega arith
 
 -- how many threads there are
 pub threads_of : (a b : Run) (threads : List Thread) → length threads ≡ length a.world.threads → a ≡ b → length threads ≡ length b.world.threads
@@ -123,7 +123,7 @@ module _ (p : Lowered) (world : World) (store : Store) (ts : List Thread) (print
   abbrev count_made : ℕ
   count_made = length (loaded_objects world)
 
-  abbrev owners : AllOwners
+  abbrev pub owners : AllOwners
   owners = owners_after (unit_tree p.unit) world journal
 
   placed : k ≡ 1 + i
