@@ -46,6 +46,7 @@ emit_expr-emit_binary-requires t c =
     let first = left_size c.in-Binary.operator c.in-Binary.operands in
     let second = right_size c.in-Binary.operator c.in-Binary.operands in
     let none : null_tested (expr_tree c.args.expr.now) ≡ None = none_tested (expr_tree c.args.expr.now) (sym c.null_test.ensures ∙ ap (λ (o : Option NullTest). option_map null_test_value o) c.in-None.is) in
-    let plain : null_tested (expr_tree (Binary c.in-Binary.operator c.in-Binary.operands)) ≡ None = ap (λ (e : ExprInMemory). null_tested (expr_tree e)) (sym c.in-Binary.is) ∙ none in
-    (omega (arith, c.decreases, first, second, ap size-Expr c.in-Binary.is, ap (λ (o : ExprInMemory × ExprInMemory). size-Expr o.0) c.deref-in-None.ensures, ap (λ (o : ExprInMemory × ExprInMemory). size-Expr o.1) c.deref-in-None-2.ensures),
-    (λ i. null_tested (tree.Binary (binary_tree c.in-Binary.operator) (expr_tree (c.deref-in-None.ensures i).0) (expr_tree (c.deref-in-None-2.ensures i).1))) ∙ plain)
+    let plain : null_tested (expr_tree (Binary c.in-Binary.operator c.in-Binary.operands)) ≡ None = ap (λ (e : ExprInMemory). null_tested (expr_tree e)) (sym c.in-Binary.is) ∙ none in (
+      omega (arith, c.decreases, first, second, ap size-Expr c.in-Binary.is, ap (λ (o : ExprInMemory × ExprInMemory). size-Expr o.0) c.deref-in-None.ensures, ap (λ (o : ExprInMemory × ExprInMemory). size-Expr o.1) c.deref-in-None-2.ensures),
+      (λ i. null_tested (tree.Binary (binary_tree c.in-Binary.operator) (expr_tree (c.deref-in-None.ensures i).0) (expr_tree (c.deref-in-None-2.ensures i).1))) ∙ plain,
+    )

@@ -40,5 +40,5 @@ returns c =
       m.replays,
       c.waits.ensures (rest _ _ _ _ _ _ _ m c.args.k i t (number a) (there a)) (owners _ _ _ _ _ _ _ m c.args.k i t (number a) (there a) c.args.k) m.state.shared f.source (shared_agrees _ _ _ _ _ _ _ m c.args.k i t (number a) (there a)) f.agrees
           (steady _ _ _ _ _ _ _ m c.args.k i t (number a) (there a))
-      ∙ sym (waits_here _ _ _ _ _ _ _ m c.args.k i t (number a) (there a)),
+          ∙ sym (waits_here _ _ _ _ _ _ _ m c.args.k i t (number a) (there a)),
     )
