@@ -1,5 +1,5 @@
 -- The objects whose monitors are owned: where they lie, and what they are named in the source.
-use Rattle.std.proofs.Common.{◌≡◌, ℕ, Bool, true, false, cond, eqb, List, [], ◌∷◌, map, Option, Some, None, refl, sym, ap, ◌∙◌, subst, ⊎_elim}
+use Rattle.std.proofs.Common.{◌≡◌, ℕ, Bool, true, false, cond, eqb, List, [], ◌∷◌, map, Option, Some, None, refl, sym, ap, ◌∙◌, subst, ◌⊎◌, ⊎_elim}
 use Rattle.std.specs.Prelude.{◌||◌}
 use Rattle.std.proofs.lemmas.Bool.{false≢true}
 use Rattle.std.proofs.lemmas.Bool.Decides.{eqb_tells}
@@ -78,16 +78,16 @@ module _ (space : Space) where
   has_monitor (x ∷ ms) a there k =
       ⊎_elim
       (λ (same : x.address ≡ a). let r = first (eqb x.object x.object) (eqb_tells x.object x.object) in (x.object, x, ap (name_at space) (sym same) ∙ there.0, r))
-      (λ (l : In (monitor_addresses ms) a). let r = has_monitor ms a there.1 l in let s = later (eqb x.object r.0) r.1 r.3 in (r.0, s.0, r.2, s.1))
+      (λ (l : In (monitor_addresses ms) a). let r = has_monitor ms a there.1 l in let s = later (eqb x.object r.0) r.0 r.1 r.3 in (r.0, s.0, r.2, s.1))
       (in_cases x.address (monitor_addresses ms) a k)
     where
       first : (b : Bool) → ((b ≡ true) × (x.object ≡ x.object)) ⊎ ((b ≡ false) × (x.object ≡ x.object → ⊥)) → cond b (Some x) (monitor_of ms x.object) ≡ Some x
       first true t = refl
       first false t = ⊎_elim (λ (u : (false ≡ true) × (x.object ≡ x.object)). absurd (false≢true u.0)) (λ (u : (false ≡ false) × (x.object ≡ x.object → ⊥)). absurd (u.1 refl)) t
 
-      later : (b : Bool) {n : ℕ} (m : Monitor) → monitor_of ms n ≡ Some m → (y : Monitor) × (cond b (Some x) (monitor_of ms n) ≡ Some y)
-      later true m is = (x, refl)
-      later false m is = (m, is)
+      later : (b : Bool) (n : ℕ) (m : Monitor) → monitor_of ms n ≡ Some m → (y : Monitor) × (cond b (Some x) (monitor_of ms n) ≡ Some y)
+      later true n m is = (x, refl)
+      later false n m is = (m, is)
 
   -- an object that has an owner in the source lies at an address of the monitors
   pub monitors_place : (ms : List Monitor) (ss : List source.Monitor) (n : ℕ) → MonitorsAgree ms ss → AreThere space ms → In (monitor_names ss) n → (a : ℕ) × (name_at space a ≡ Some n) × In (monitor_addresses ms) a

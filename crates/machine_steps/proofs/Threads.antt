@@ -39,7 +39,7 @@ use Rattle.machine_steps.specs.ThreadAgrees.{CallsAgree, ThreadAgrees, buffers_o
 use Rattle.machine_steps.specs.Advances.{Advances, GivesUp, LeavesMonitors, calls_after, ending_after, ends_with}
 use Rattle.machine_steps.specs.Executes.{CallStands, WorkAgrees, GoesOn, after_any, cells_made, event_view, in_use_with, owners_left}
 use Rattle.machine_calls.specs.CarriedOut.{IsShortOf}
-use Rattle.machine_calls.proofs.Keeping.{keeps_same}
+use Rattle.machine_calls.proofs.MonitorCarries.{agrees_monitors, keeps_monitors}
 use Rattle.machine_calls.specs.HeapAgrees.{ReferenceAgrees, BlocksAgree}
 use Rattle.machine_steps.proofs.Acquisitions.{nothing_lent, store_same}
 
@@ -184,21 +184,11 @@ class_pending space heap (Some a) (Some n) b h = found_class space.blocks b h
 
 module _ (p : Lowered) (w : World) (k : ℕ) (shared : Shared) (s : source.Thread) (old store : Store) (all : Acquired) (shares : StoreAgrees p w old shared all) where
   given_up : GivesUp k old store → StoreAgrees p w store (record shared { monitors = source.without_owner shared.monitors k }) all
-  given_up g = subst (λ (x : Store). StoreAgrees p w x (record shared { monitors = source.without_owner shared.monitors k }) all) (sym g.is) (record {
-    heap = shares.heap;
-    laid_out = shares.laid_out;
-    cells = shares.cells;
-    table = shares.table;
-    begun = shares.begun;
-    births = shares.births;
-    statics = shares.statics;
-    named = shares.named;
-    keys = shares.keys;
-    globals = shares.globals;
-    buffers = shares.buffers;
-    monitors = drops k shared s old.monitors shares.monitors (without_owner old.monitors k) (λ n. subst (λ (x : Store). monitor_of x.monitors n ≡ kept_from k (monitor_of old.monitors n)) g.is (g.each n));
-    monitored = there_dropped old.heap old.monitors k shares.monitored;
-  })
+  given_up g =
+      subst (λ (x : Store). StoreAgrees p w x (record shared { monitors = source.without_owner shared.monitors k }) all) (sym g.is)
+      (agrees_monitors p w old shared all shares (without_owner old.monitors k) (source.without_owner shared.monitors k)
+      (drops k shared s old.monitors shares.monitors (without_owner old.monitors k) (λ n. subst (λ (x : Store). monitor_of x.monitors n ≡ kept_from k (monitor_of old.monitors n)) g.is (g.each n)))
+      (there_dropped old.heap old.monitors k shares.monitored))
 
   -- the store of a thread that has left its call
   pub monitors_left : (classes : Classes) (made : ℕ) (class : Option ℕ) (nexts : List PendingCall) (calls : List Invocation) → CallsAgree p classes made nexts calls → LeavesMonitors (ends_with class nexts) k old store
@@ -214,11 +204,6 @@ module _ (p : Lowered) (w : World) (k : ℕ) (shared : Shared) (s : source.Threa
 rest_left : (ended : Bool) (k : ℕ) (old store : Store) → LeavesMonitors ended k old store → (store.heap ≡ old.heap) × (store.elements ≡ old.elements)
 rest_left true k old store g = (ap (λ (x : Store). x.heap) g.is, ap (λ (x : Store). x.elements) g.is)
 rest_left false k old store same = (ap (λ (x : Store). x.heap) same, ap (λ (x : Store). x.elements) same)
-
-keeps_owned : (space : Space) (shared : Shared) (monitors : List source.Monitor) → Keeps space shared space (record shared { monitors = monitors })
-keeps_owned space shared monitors =
-    let same = keeps_same space shared in
-    record { names = same.names; statics = same.statics; shapes = same.shapes; room = same.room; few = same.few }
 
 module _ (p : Lowered) (w : World) (old : Store) (others : Acquired) (k : ℕ) (own : Owners) (shared : Shared) (t : Thread) (s : source.Thread) (h : ThreadAgrees p w.classes old.heap old.elements (length (loaded_objects w)) k own shared t s) where
   pub returned : (store left : Store) (pending : Option ℕ) (after : Thread) (task : Task) (rest : List Task) → s.tasks ≡ Some (task ∷ rest) → StoreAgrees p w store shared (beside others (acquired_by s)) → store ≡ old → MayReturn s → ReferenceAgrees store.heap pending s.pending → t.ending ≡ Unfinished
@@ -237,7 +222,7 @@ module _ (p : Lowered) (w : World) (old : Store) (others : Acquired) (k : ℕ) (
         next = idle class s.calls;
         steps = steps_by p w old others k own shared t s h false task rest tasks ∙ ap (after_effect w.classes (in_use_with others s) k shared s rest) is ∙ returns_by k shared s class of;
         store_agrees = store_same p w left next others s.variables [] (sym (nothing_lent s.variables may.0)) (monitors_left p w k shared s store left (beside others (acquired_by s)) shares w.classes made class t.calls.items s.calls h.calls monitors);
-        keeps = subst (λ (space : Space). Keeps old.heap shared space next) (sym (parts.0 ∙ ap (λ (x : Store). x.heap) same)) (keeps_owned old.heap shared next.monitors);
+        keeps = subst (λ (space : Space). Keeps old.heap shared space next) (sym (parts.0 ∙ ap (λ (x : Store). x.heap) same)) (keeps_monitors old.heap shared next.monitors);
         keeps_copies = λ key c there other. subst (λ (copies : List (Option OwnedNumbers)). value_at copies key ≡ Some c) (sym (parts.1 ∙ ap (λ (x : Store). x.elements) same)) there;
         agrees = record {
           calls = subst (λ (ns : List PendingCall). CallsAgree p w.classes made ns (activation.calls_after (ending_of class s.calls) s.calls)) (sym calls) (calls_left p w.classes made class t.calls.items s.calls h.calls);

@@ -1,5 +1,5 @@
 -- Which steps wait for a monitor.
-use Rattle.std.proofs.Common.{◌≡◌, ℕ, Bool, true, false, not, eqb, List, [], ◌∷◌, length, Option, Some, None, is_none, refl, sym, ap, ◌∙◌, subst, cond}
+use Rattle.std.proofs.Common.{◌≡◌, ℕ, Bool, true, false, not, eqb, List, [], length, Option, Some, None, is_none, refl, sym, ap, ◌∙◌, subst, cond}
 use Rattle.std.specs.Prelude.{◌&&◌, nat_lt, slice_get}
 use Rattle.std.specs.List.{AllZip}
 use Rattle.class_rules.specs.Class.{Classes}
@@ -24,7 +24,7 @@ use Rattle.code.specs.Depth.{Listing}
 use Rattle.code.specs.declared.instr.Call.{Call as InMemory}
 use Rattle.code.specs.declared.instr.Instr.{Instr}
 use Rattle.code.specs.declared.instr.Instr.TheVariants as instr
-use Rattle.code_meaning.specs.Does.{CallsFunction, OperandFits}
+use Rattle.code_meaning.specs.Does.{OperandFits}
 use Rattle.code_meaning.specs.Lowered.{Lowered}
 use Rattle.code_meaning.specs.Slots.{visible_to}
 use Rattle.tables.specs.Elements.{OwnedNumbers}
@@ -42,6 +42,7 @@ use Rattle.machine_calls.specs.Given.{operand_at, operand_of}
 use Rattle.machine_calls.specs.StoreAgrees.{StoreAgrees}
 use Rattle.machine_calls.proofs.CallOperands.{GivenObject, object_at_place}
 use Rattle.machine_calls.proofs.CallTraps.{none_deleted, none_lacking}
+use Rattle.machine_calls.proofs.MonitorCarries.{agrees_monitors}
 use Rattle.machine_steps.specs.declared.thread.Thread.{Thread}
 use Rattle.machine_steps.specs.Executes.{IsExecuting, IsSteady}
 use Rattle.machine_steps.specs.SlotsHold.{slots_of}
@@ -59,27 +60,13 @@ and_false true = refl
 and_false false = refl
 
 -- nobody waits
-pub never_waits : (classes : Classes) (k : ℕ) (shared : Shared) (s : source.Thread) (e : Effect) → waits_with classes k (unowned shared) s e ≡ false
-never_waits classes k shared s (Calls line target MonitorEnter args) = and_false (is_none (trap_of_call classes (unowned shared) s target MonitorEnter args))
-never_waits classes k shared s e = refl
+pub nobody_waits : (classes : Classes) (k : ℕ) (shared : Shared) (s : source.Thread) (e : Effect) → waits_with classes k (unowned shared) s e ≡ false
+nobody_waits classes k shared s (Calls line target MonitorEnter args) = and_false (is_none (trap_of_call classes (unowned shared) s target MonitorEnter args))
+nobody_waits classes k shared s e = refl
 
 -- all else agrees
 pub unowned_agrees : (p : Lowered) (w : World) (store : Store) (shared : Shared) (all : Acquired) → StoreAgrees p w store shared all → StoreAgrees p w (store_unowned store) (unowned shared) all
-unowned_agrees p w store shared all h = record {
-  heap = h.heap;
-  laid_out = h.laid_out;
-  cells = h.cells;
-  table = h.table;
-  begun = h.begun;
-  births = h.births;
-  statics = h.statics;
-  named = h.named;
-  keys = h.keys;
-  globals = h.globals;
-  buffers = h.buffers;
-  monitors = record { at = λ n. tt; different = tt };
-  monitored = tt;
-}
+unowned_agrees p w store shared all h = agrees_monitors p w store shared all h [] [] (record { at = λ n. tt; different = tt }) tt
 
 pub unowned_steady : (classes : Classes) (own : Owners) (shared : Shared) (s : source.Thread) → IsSteady classes own shared s → IsSteady classes own (unowned shared) s
 unowned_steady classes own shared s h = record {
@@ -129,7 +116,7 @@ module _ (p : Lowered) (w : World) (store : Store) (others : Acquired) (k : ℕ)
     pending_agrees = h.pending;
     views = subst (λ (c : Option Activation). AreViewed store.heap (buffers_of c) s) is h.views;
     steady = unowned_steady w.classes own shared s steady;
-    ready = never_waits w.classes k shared s (effect_of (sight_of shared s) work.task);
+    ready = nobody_waits w.classes k shared s (effect_of (sight_of shared s) work.task);
   }
 
   -- whether it waits is by its first task

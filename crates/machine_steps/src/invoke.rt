@@ -1,6 +1,6 @@
 //! Calls of functions of the JNI (JNI Specification, chapter 4).
 
-ghost use Rattle.std.specs.Prelude.{◌≡◌, ◌+◌, ◌<◌, ◌^◌, ◌||◌, ℕ, nat_le, false, true, List, Option, Some, Ok, slice_get, IfOk, IfErr, OnErr};
+ghost use Rattle.std.specs.Prelude.{◌≡◌, ◌+◌, ◌<◌, ◌^◌, ◌||◌, nat_le, false, true, List, Option, Some, Ok, slice_get, IfOk, IfErr, OnErr};
 ghost use Rattle.code.specs.Call.{IsPrepared};
 ghost use Rattle.heap.specs.Heap.{left_of};
 ghost use Rattle.semantics.specs.Effect.{effect_of};

@@ -1,6 +1,6 @@
 //! Whether a thread waits for a monitor.
 
-ghost use Rattle.std.specs.Prelude.{◌≡◌, ℕ, List, Option, length};
+ghost use Rattle.std.specs.Prelude.{◌≡◌, List, length};
 ghost use Rattle.code.specs.Call.{IsPrepared};
 ghost use Rattle.jni.specs.JniFunction.{MonitorEnter};
 ghost use Rattle.jni.specs.Table.{function_value};

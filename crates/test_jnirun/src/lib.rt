@@ -5,9 +5,9 @@
 #[cfg(test)]
 mod collections;
 #[cfg(test)]
-mod lowering;
+mod contention;
 #[cfg(test)]
-mod monitors;
+mod lowering;
 #[cfg(test)]
 mod tests;
 #[cfg(test)]

@@ -4,9 +4,10 @@ ghost use Rattle.std.specs.Prelude.{◌<◌, ◌≤◌};
 
 use code::code::Code;
 use code::instr::Instr;
-use lower::{Program, lower};
+use lower::{LowerFault, Program, lower};
 use lower_parallel::{Watch, lower_parallel};
 use program_check::read_program;
+use region_rules::Checked;
 use std::alloc::{AllocError, Global};
 use std::sync::atomic::{AtomicBool, AtomicU64, Ordering};
 use std::test::*;
@@ -14,7 +15,7 @@ use std::thread;
 use std::thread::Threads;
 use std::time::{Clock, Duration};
 
-/// The text of so many functions, each of which prints its number, after a static of its own; and of one static more.
+/// The text of so many functions, each of which prints its number, after a static of its own.
 fn text(alloc: Global, functions: usize) -> Result<Vec<u8>, AllocError> {
     let mut text = Vec::new(alloc);
     for k in 0..functions {
@@ -23,7 +24,22 @@ fn text(alloc: Global, functions: usize) -> Result<Vec<u8>, AllocError> {
         )?;
         text.extend_from_slice(item.as_bytes())?;
     }
-    text.extend_from_slice(b"static jobject last = NULL;\n")?;
+    Ok(text)
+}
+
+/// The text of so many functions, each of 66,301 steps: 3,900 statements of 17 steps each, and a return.
+fn long_text(alloc: Global, functions: usize) -> Result<Vec<u8>, AllocError> {
+    let mut text = Vec::new(alloc);
+    for k in 0..functions {
+        let head = format!(in alloc;
+            "JNIEXPORT void JNICALL Java_A_f{k}(JNIEnv *env, jclass cls) {{"
+        )?;
+        text.extend_from_slice(head.as_bytes())?;
+        for _ in 0..3900 {
+            text.extend_from_slice(b"put_jint((jint)(((1u+1u)+(1u+1u))+((1u+1u)+(1u+1u))));")?;
+        }
+        text.extend_from_slice(b" return; }\n")?;
+    }
     Ok(text)
 }
 
@@ -78,81 +94,68 @@ impl Watch for Counted {
     }
 }
 
-/// Whether so many workers lower so many functions as `lower` does. The sum of all numbers, too.
-fn summed<R: Threads + Sync>(
+impl Counted {
+    fn new() -> Counted {
+        Counted {
+            begun: AtomicU64::new(0),
+            sum: AtomicU64::new(0),
+        }
+    }
+}
+
+/// Whether so many workers make the program that `lower` made of these functions, with one call of the watch for each.
+fn made_by<R: Threads + Sync>(
+    rt: &R,
+    alloc: Global,
+    checked: &Checked,
+    functions: usize,
+    workers: usize,
+) -> Result<bool, LowerFault>
+    requires { (0 < workers) × (workers ≤ 8) }
+{
+    let watch = Counted::new();
+    let one = lower(alloc, checked)?;
+    let other = lower_parallel(rt, alloc, checked, workers, &watch)?;
+    let begun = watch.begun.load(Ordering::SeqCst);
+    let sum = watch.sum.load(Ordering::SeqCst);
+    let numbers = (functions * functions.saturating_sub(1) / 2) as u64;
+    Ok(begun == functions as u64 && sum == numbers && same_program(functions, &one, &other))
+}
+
+/// Whether so many functions are lowered by 1, 2 and 8 workers as `lower` lowers them.
+fn same_of<R: Threads + Sync>(
     rt: &R,
     alloc: Global,
     functions: usize,
-    workers: usize,
-) -> Result<Option<u64>, AllocError>
-    requires { (0 < workers) × (workers ≤ 8) }
+) -> Result<[bool; 3], LowerFault>
+    requires { functions ≤ 256 }
 {
     let Ok(checked) = read_program(alloc, text(alloc, functions)?.as_slice()) else {
-        return Err(AllocError);
+        return Err(LowerFault::Memory);
     };
-    let watch = Counted {
-        begun: AtomicU64::new(0),
-        sum: AtomicU64::new(0),
-    };
-    let Ok(one) = lower(alloc, &checked) else {
-        return Err(AllocError);
-    };
-    let Ok(other) = lower_parallel(rt, alloc, &checked, workers, &watch) else {
-        return Err(AllocError);
-    };
-    let all_begun = watch.begun.load(Ordering::SeqCst) == functions as u64;
-    if all_begun && same_program(functions, &one, &other) {
-        Ok(Some(watch.sum.load(Ordering::SeqCst)))
-    } else {
-        Ok(None)
+    Ok([
+        made_by(rt, alloc, &checked, functions, 1)?,
+        made_by(rt, alloc, &checked, functions, 2)?,
+        made_by(rt, alloc, &checked, functions, 8)?,
+    ])
+}
+
+#[test]
+fn workers_lower_as_lower_does(rt: HostRuntime) {
+    let alloc = rt.alloc();
+    for functions in [0, 1, 7, 256] {
+        assert!(rt; matches!(same_of(&rt, alloc, functions), Ok([true, true, true])));
     }
 }
 
 #[test]
-fn one_worker_lowers_as_lower_does(rt: HostRuntime) -> Result<(), Fail> {
+fn long_functions_are_refused(rt: HostRuntime) -> Result<(), Fail> {
     let alloc = rt.alloc();
-    let sums = [
-        summed(&rt, alloc, 0, 1)?,
-        summed(&rt, alloc, 1, 1)?,
-        summed(&rt, alloc, 7, 1)?,
-        summed(&rt, alloc, 256, 1)?,
-    ];
-    assert_eq!(rt;
-        sums.as_slice(),
-        [Some(0), Some(0), Some(21), Some(32640)].as_slice()
-    );
-    Ok(())
-}
-
-#[test]
-fn two_workers_lower_as_lower_does(rt: HostRuntime) -> Result<(), Fail> {
-    let alloc = rt.alloc();
-    let sums = [
-        summed(&rt, alloc, 0, 2)?,
-        summed(&rt, alloc, 1, 2)?,
-        summed(&rt, alloc, 7, 2)?,
-        summed(&rt, alloc, 256, 2)?,
-    ];
-    assert_eq!(rt;
-        sums.as_slice(),
-        [Some(0), Some(0), Some(21), Some(32640)].as_slice()
-    );
-    Ok(())
-}
-
-#[test]
-fn eight_workers_lower_as_lower_does(rt: HostRuntime) -> Result<(), Fail> {
-    let alloc = rt.alloc();
-    let sums = [
-        summed(&rt, alloc, 0, 8)?,
-        summed(&rt, alloc, 1, 8)?,
-        summed(&rt, alloc, 7, 8)?,
-        summed(&rt, alloc, 256, 8)?,
-    ];
-    assert_eq!(rt;
-        sums.as_slice(),
-        [Some(0), Some(0), Some(21), Some(32640)].as_slice()
-    );
+    let Ok(checked) = read_program(alloc, long_text(alloc, 2)?.as_slice()) else {
+        return Err(AllocError.into());
+    };
+    let lowered = lower_parallel(&rt, alloc, &checked, 2, &Counted::new());
+    assert!(rt; matches!(lowered, Err(LowerFault::TooLong)));
     Ok(())
 }
 

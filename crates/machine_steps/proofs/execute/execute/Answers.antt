@@ -1,39 +1,26 @@
-use Rattle.std.proofs.Common.{rules, Option, ◌≡◌, ◌≢◌, ◌≤◌, ℕ, ◌+◌, Some, ◌∷◌, List, length, refl, sym, ap, ◌∙◌, subst, arith, ℤ, ◌⊎◌, ⊎_elim}
-use Rattle.std.specs.Prelude.{slice_get}
+use Rattle.std.proofs.Common.{rules, ◌≡◌, ◌≤◌, ℕ, ◌+◌, Some, List, length, refl, sym, ap, ◌∙◌, subst, arith, ℤ, ◌⊎◌, ⊎_elim}
 use Rattle.std.specs.Int.{w32, cast_signed, cast_unsigned}
 use Rattle.std.specs.Vec.{with_items}
 use Rattle.std.proofs.Math.Facts.{to_z-of_z}
 use Rattle.std.proofs.lemmas.List.{length-map, with_items_is, places}
 use Rattle.std.proofs.lemmas.Option.{slice_get_within}
-use Rattle.code.specs.Call.{Call, call_view}
+use Rattle.code.specs.Call.{Call}
 use Rattle.code.specs.declared.instr.Instr.{Instr}
 use Rattle.code.specs.declared.instr.Instr.TheVariants as instr
 use Rattle.code.specs.declared.instr.Plain.{Plain}
 use Rattle.code.specs.declared.instr.ReferenceOperand.{ReferenceOperand}
 use Rattle.code.specs.declared.instr.Plain.TheVariants as plain
-use Rattle.code.specs.Depth.{Listing, LeadsInside}
-use Rattle.semantics.specs.Effect.{NoEffect, effect_of}
-use Rattle.semantics.specs.ThreadStep.{next_effect}
-use Rattle.code_meaning.specs.Slots.{SeesBuffers}
-use Rattle.code_meaning.proofs.BufferLaws.{sees_buffers}
-use Rattle.machine_calls.specs.Buffers.{Acquired, acquired_by, beside}
-use Rattle.semantics.specs.Task.{Task}
+use Rattle.code.specs.Depth.{LeadsInside}
+use Rattle.semantics.specs.Effect.{effect_of}
 use Rattle.semantics.specs.Thread.{sight_of}
 use Rattle.code_meaning.specs.Slots.{visible_to}
 use Rattle.code_meaning.specs.Does.{IsReturn}
-use Rattle.semantics_safety.specs.Owners.{Owners}
-use Rattle.code_meaning.specs.Lowered.{Lowered, IsLowered}
 use Rattle.machine_calls.specs.declared.activation.Activation.{Activation}
 use Rattle.machine_steps.specs.declared.execute.Event.TheVariants.{Printed}
 use Rattle.machine_steps.specs.declared.execute.Executed.{Executed}
 use Rattle.machine_steps.specs.declared.execute.Executed.TheVariants.{Did}
 use Rattle.std.specs.Prelude.{◌<◌, ◌^◌}
-use Rattle.semantics.specs.Thread.{Shared, Thread}
-use Rattle.machine_steps.specs.Executes.{IsExecuting, Executes}
-use Rattle.semantics.specs.World.{World}
-use Rattle.code.specs.declared.instr.Call.{Call as CallInMemory}
-use Rattle.machine_calls.specs.declared.store.Store.{Store}
-use Rattle.machine_steps.specs.Invoked.{AtCall}
+use Rattle.machine_steps.specs.Executes.{Executes}
 use Rattle.machine_steps.specs.Moved.{IsReachable}
 use Rattle.machine_calls.specs.Statics.{all_held, held}
 use Rattle.machine_calls.specs.declared.statics.StaticReference.{StaticReference}
@@ -42,7 +29,7 @@ use Rattle.machine_steps.specs.Variables.{HasSlot, nulled_statics}
 use Rattle.machine_steps.proofs.Calls.{ready, here, room, leads, one_word, positive, two_words}
 use Rattle.machine_steps.proofs.Fetched.{Fetched, at_call, possible, ready_for, seeing}
 use Rattle.machine_steps.proofs.ElementEffects.{load_executes, store_executes as element_store_executes}
-use Rattle.machine_steps.proofs.SlotBuffers.{elements_fit, slot_of_block}
+use Rattle.machine_steps.proofs.SlotBuffers.{slot_of_block}
 use Rattle.machine_steps.proofs.Effects.{few_words, slot_there as variable_there, plain_executes, test_executes, store_executes, put_executes, return_executes}
 use Rattle.machine_steps.proofs.execute.execute.Goals as goal
 use Rattle.machine_steps.proofs.execute.execute.Goals.{After-instr_at-instr}

@@ -1,9 +1,7 @@
-use Rattle.std.proofs.Common.{◌≡◌, ℕ, ◌≤◌, List, Option, Some, sym, ap, ◌∙◌, arith}
+use Rattle.std.proofs.Common.{◌≡◌, ◌≤◌, List, Option, sym, ap, ◌∙◌, arith}
 use Rattle.std.proofs.lemmas.Option.{slice_get_within}
 use Rattle.code.specs.Call.{Call, call_view}
 use Rattle.code.specs.declared.instr.Instr.TheVariants as instr
-use Rattle.jni.specs.JniFunction.{JniFunction}
-use Rattle.jni.specs.Table.{function_value}
 use Rattle.semantics.specs.CallStep.{waits_with}
 use Rattle.semantics.specs.Task.{Task}
 use Rattle.semantics.specs.ThreadStep.{next_effect}

@@ -18,7 +18,7 @@ use Rattle.machine.specs.Stops.{stop_after, stop_view}
 use Rattle.machine_steps.specs.declared.thread.Thread.{Thread}
 use Rattle.machine_steps.specs.declared.advance.Advanced.{Advanced}
 use Rattle.machine_steps.specs.declared.advance.Advanced.TheVariants as advanced
-use Rattle.machine.specs.Run.{has_ended as ended, AdvancesAlways, AdvancesFrom, Corresponds, Run, InState, CouldStep, HadNoRoom, LeavesAll, TurnHolds, Waits, turn_at_rest, replay_of, printed_after, can_turn, event_of, is_refused}
+use Rattle.machine.specs.Run.{has_ended as ended, AdvancesAlways, AdvancesFrom, CanAdvance, Corresponds, Run, InState, CouldStep, HadNoRoom, LeavesAll, TurnHolds, Waits, turn_at_rest, replay_of, printed_after, can_turn, event_of, is_refused}
 use Rattle.machine_calls.specs.declared.store.Store.{Store}
 use Rattle.semantics.specs.Object.{sizes}
 use Rattle.semantics.specs.Reachable.{live_size}
@@ -168,16 +168,16 @@ advance_or_collect-requires-clause-stands c =
     let a = (goal.at.advance_or_collect-requires-clause-stands c).After-index in
     let free = tested (goal.at.advance_or_collect-requires-clause-stands c).After-make_room in
     let i = c.self.inside in
-    record {
+    subst (λ (ts : List Thread). CanAdvance i.program i.world i.store ts (c.from-index.result - 1)) (sym c.deref_mut.ensures.value) (record {
       printed = i.printed.items;
       stop = i.stop;
       journal = i.journal.items;
-      stands = subst (λ (ts : List Thread). Corresponds i.program i.world i.store ts i.printed.items i.stop i.journal.items) (sym c.deref_mut.ensures.value) c.self.invariant;
+      stands = c.self.invariant;
       thread = c.index.result.now;
-      at = ap (λ (ts : List Thread). slice_get ts (c.from-index.result - 1)) c.deref_mut.ensures.value ∙ there a c.index.result.now c.index.ensures;
+      at = there a c.index.result.now c.index.ensures;
       lives = live a free;
       ready = subst (λ (n : ℕ). is_blocked i.world.classes c.self.invariant.state n ≡ false) (number a) free.free;
-    }
+    })
 
 -- few objects have been made
 pub advance_or_collect-requires-clause-few : goal.advance_or_collect-requires-clause-few
