@@ -30,7 +30,6 @@ use crate::trap::Trap;
 use classes::built_ins::{CLASS, STRING, THROWABLE, number_array};
 use classes::class::{ClassKind, ElementType, FieldHandle, FieldType};
 use classes::table::ClassTable;
-use code::instr;
 use code::instr::{Call, Operand, Target};
 use heap::{Addr, Heap};
 use jni::{Access, JniFunction, ParameterKind, ResultKind};

@@ -1,10 +1,9 @@
 -- Values, terms and variables that lie in memory, as those of the language.
-use Rattle.std.specs.Prelude.{◌≡◌, ◌<◌, ◌≤◌, ◌+◌, ℕ, ℤ, Bool, not, length, List, [], ◌∷◌, map, slice_get, slice_set, Option, Some, None}
+use Rattle.std.specs.Prelude.{◌≡◌, ◌<◌, ◌≤◌, ◌+◌, ℕ, ℤ, not, length, List, [], ◌∷◌, map, slice_get, slice_set, Option, Some, None}
 use Rattle.std.specs.Option.{option_map}
 use Rattle.std.specs.Borrow.{Bor}
 use Rattle.base.specs.Bytes.{Identifier, ByName, lookup}
 use Rattle.base.specs.Element.{ElementType, element_value}
-use Rattle.syntax.specs.Tree.{BinaryOp}
 use Rattle.syntax.specs.Views.{argument_tree, constant_tree, prefix_tree, binary_tree}
 use Rattle.syntax.specs.Limits.{number_limit}
 use Rattle.classes.specs.FieldViews.{field_id_view}
@@ -13,7 +12,7 @@ use Rattle.semantics.specs.Heap.{Heap, number_in, numbers_of}
 use Rattle.semantics.specs.Sight.{Sight, in_range}
 use Rattle.semantics.specs.Task.{Operand, NumberOperand}
 use Rattle.semantics.specs.Task as task
-use Rattle.semantics.specs.Term.{Term, Done, Number, Named, Read, Element, IsNull, Prefix, And, Or, Binary, Reduction, binary_term, done, reduce}
+use Rattle.semantics.specs.Term.{Term, Done, Number, Named, Read, Element, IsNull, Prefix, And, Or, Binary, Reduction, done, reduce}
 use Rattle.semantics.specs.Value.{Value, Word, Int, Flag, Truth, Trap, DivisionByZero, ShiftTooFar, OutOfRange, NullReference, ExceptionPending, WrongObject, DeletedReference, NoCapacity, Fatal, Outcome, Gives, Traps, Stuck, outcome_then, outcome_map, convert}
 use Rattle.semantics.specs.Variable.{Variable, Scalar, LocalRef, FieldHandle, Elements, LocalArray, Buffer, NoBuffer, Copy, View, StaticReference, Empty, Live, Deleted, Variables, Statics, assign, copied_length, viewed}
 use Rattle.semantics.specs.Thread.{BuffersInUse}

@@ -1,7 +1,6 @@
 pub mod AccountLaws
 pub mod HeapGrows
 pub mod NoObjects
-pub mod NullTerms
 pub mod LiveSizes
 pub mod ReachableLemmas
 pub mod RunLaws

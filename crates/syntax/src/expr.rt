@@ -146,7 +146,6 @@ fn comparison<'a>(op: BinaryOp, left: &'a Expr, right: &Expr) -> Option<NullTest
 
 impl Expr {
     /// The comparison of a bare name with NULL that this is as a whole: `x == NULL` or `x != NULL`.
-    #[tactic(auto, using(crate::proofs::NullTests::name_tested))]
     pub fn null_test(&self) -> Option<NullTest<'_>>
         ensures test { option_map null_test_value result ≡ null_test_of (expr_tree self.now) }
         ensures name { option_map (λ t. t.name.now) result ≡ null_tested (expr_tree self.now) }

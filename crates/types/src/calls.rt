@@ -5,7 +5,6 @@ ghost use Rattle.std.specs.List.{list_all};
 ghost use Rattle.std.specs.Option.{option_map};
 ghost use Rattle.syntax.specs.Parts.{call_expressions};
 ghost use Rattle.syntax.specs.Views.{expr_tree, argument_tree, call_tree};
-ghost use Rattle.base.specs.Options.{some_passes};
 ghost use Rattle.type_rules.specs.Sorts.{is_unknown, is_null, is_reference, name_sort, value_fits, address_fits, text_fits, argument_fits, arguments_fit, call_arguments_fit};
 ghost use Rattle.type_rules.specs.SortRules.{is_formed, is_mode, modes_fit, has_wrong_count, has_wrong_mode, result_fits, is_droppable, is_push, call_fits, may_be_dropped, may_be_tested};
 ghost use Rattle.jni.specs.Table.{function_value, parameter_value, result_value};
