@@ -7,7 +7,7 @@ use denote.Param.Send.{IsSend, IsSync, view_sync, struct_sync, recorded_sync, se
 use denote.Struct.Declared.{shape}
 use denote.Struct.Tuple.{TupleAt, field_at, type_at}
 use denote.RattleType.{RattleType}
-use Rattle.syntax.proofs.declared_type.ElementType.TheSendSync as element
+use Rattle.base.proofs.element.ElementType.TheSendSync as element
 use Rattle.syntax.proofs.declared_type.VariableType.TheSendSync as variable-type
 use Rattle.syntax.proofs.expr.BinaryOp.TheSendSync as binary
 use Rattle.syntax.proofs.expr.Constant.TheSendSync as constant
