@@ -2,7 +2,6 @@
 
 ghost use Rattle.std.specs.Prelude.{◌≡◌, ℕ, Some, IsSome};
 ghost use Rattle.classes.specs.FieldViews.{field_of};
-ghost use Rattle.base.specs.Element.{element_value};
 ghost use Rattle.classes.specs.Views.{field_type_view};
 ghost use Rattle.heap.specs.Heap.{IsAddress};
 ghost use Rattle.machine_calls.specs.Given.{operand_at, key_at, field_at, operand_of, class_of_given, name_there, fits_there, field_there, AreAddresses, AreHandles};
