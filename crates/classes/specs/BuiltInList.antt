@@ -2,14 +2,15 @@
 use Rattle.std.specs.Prelude.{ℕ, Bool, ◌&&◌, List, [], ◌++◌, map, length, nat_lt}
 use Rattle.std.specs.List.{list_all, enumerate_from}
 use Rattle.std.specs.Borrow.{Bor}
-use Rattle.classes.specs.declared.class.ElementType.{ElementType}
+use Rattle.base.specs.declared.element.ElementType.{ElementType}
 use Rattle.classes.specs.declared.built_ins.BuiltIn.{BuiltIn}
 use Rattle.classes.specs.declared.built_ins.BuiltInField.{BuiltInField}
 use Rattle.class_rules.specs.Class.{Field, Plain, ArrayOfNumbers, Class, Classes}
 use Rattle.class_rules.specs.BuiltIns.{array_class, number_array_classes, object_array_class}
 use Rattle.class_rules.specs.Mangling.{is_class_name}
 use Rattle.classes.specs.Tables.{names_differ, has_few_fields, declares_once}
-use Rattle.classes.specs.Views.{element_view, field_type_view}
+use Rattle.base.specs.Element.{element_value}
+use Rattle.classes.specs.Views.{field_type_view}
 
 abbrev pub listed_field : BuiltInField → Field
 listed_field f = record { name = f.name.now; type = field_type_view f.field_type }
@@ -19,7 +20,7 @@ listed_class b = record { name = b.name.now; superclass = b.superclass; kind = P
 
 -- a class of arrays of numbers, by its name and the type of the numbers
 abbrev pub listed_number_array : Bor (List ℕ) × ElementType → Class
-listed_number_array (name, element) = array_class name.now (ArrayOfNumbers (element_view element))
+listed_number_array (name, element) = array_class name.now (ArrayOfNumbers (element_value element))
 
 -- the array classes of these, of which the first has this number
 abbrev pub array_classes : Classes → Classes

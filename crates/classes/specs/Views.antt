@@ -1,5 +1,6 @@
 -- The classes that lie in memory, as classes of the definitions.
-pub use Rattle.classes.specs.HeldFields.{element_view, field_type_view, field_view}
+pub use Rattle.classes.specs.HeldFields.{field_type_view, field_view}
+use Rattle.base.specs.Element.{element_value}
 use Rattle.std.specs.Prelude.{ℕ, List, map}
 use Rattle.std.specs.Global.{Vec}
 use Rattle.classes.specs.declared.class.ClassKind.{ClassKind as KindInMemory}
@@ -9,7 +10,7 @@ use Rattle.class_rules.specs.Class.{ClassKind, Plain, ArrayOfNumbers, ArrayOfObj
 
 abbrev pub kind_view : KindInMemory → ClassKind
 kind_view kind.Plain = Plain
-kind_view (kind.ArrayOfNumbers t) = ArrayOfNumbers (element_view t)
+kind_view (kind.ArrayOfNumbers t) = ArrayOfNumbers (element_value t)
 kind_view (kind.ArrayOfObjects c) = ArrayOfObjects c
 
 -- a class, by its name and what is kept of it

@@ -6,7 +6,8 @@ ghost use Rattle.class_rules.specs.BuiltIns.{array_class, built_ins, number_arra
 ghost use Rattle.classes.specs.BuiltInList.{listed_field, listed_class, listed_number_array, array_classes, listed_classes, is_class_list};
 ghost use Rattle.classes.specs.Tables.{names_differ, field_names_differ, declares_once};
 ghost use Rattle.class_rules.specs.Class.{class_named};
-ghost use Rattle.classes.specs.Views.{element_view, kind_view};
+ghost use Rattle.base.specs.Element.{element_value};
+ghost use Rattle.classes.specs.Views.{kind_view};
 
 use crate::class::{ClassKind, ElementType, Entry, FieldType};
 use crate::entries::{Entries, array_name};
@@ -79,6 +80,9 @@ pub const ARRAY_STORE_EXCEPTION: usize = 17;
 
 /// The number of `java/lang/NegativeArraySizeException`.
 pub const NEGATIVE_ARRAY_SIZE_EXCEPTION: usize = 18;
+
+/// The number of `java/lang/IllegalMonitorStateException`.
+pub const ILLEGAL_MONITOR_STATE_EXCEPTION: usize = 19;
 
 /// What is told of a throwable.
 const MESSAGE: BuiltInField = BuiltInField {
@@ -202,7 +206,7 @@ pub fn is_after_built_ins(class: usize) -> bool
 
 /// The number of the class of arrays of such numbers.
 pub fn number_array(element: ElementType) -> usize
-    ensures { result ≡ number_array (element_view element) }
+    ensures { result ≡ number_array (element_value element) }
 {
     match element {
         ElementType::Byte => 20,

@@ -1,19 +1,7 @@
 //! What a class is made of.
 
 use crate::own_fields::OwnFields;
-
-/// The type of the numbers of an array or a field (JNI Specification, chapter 3, "Primitive Types").
-#[derive(Clone, Copy, PartialEq, Eq)]
-pub enum ElementType {
-    /// `jint`
-    Int,
-    /// `jshort`
-    Short,
-    /// `jbyte`
-    Byte,
-    /// `jchar`
-    Char,
-}
+pub use base::ElementType;
 
 /// What the objects of a class are made of.
 #[derive(Clone, Copy, PartialEq, Eq)]

@@ -8,7 +8,8 @@ ghost use Rattle.base.specs.Options.{option_filter};
 ghost use Rattle.class_rules.specs.Class.{NumberField, ReferenceField, class_named, class_kind, is_plain};
 ghost use Rattle.classes.specs.FieldViews.{field_id_view, declared_as, find_as};
 ghost use Rattle.class_rules.specs.Fields.{signature, type_of_signature, own_statics};
-ghost use Rattle.classes.specs.Views.{element_view, field_type_view};
+ghost use Rattle.base.specs.Element.{element_value};
+ghost use Rattle.classes.specs.Views.{field_type_view};
 
 use crate::class::{ElementType, Field, FieldType};
 use crate::own_fields::OwnFields;
@@ -76,7 +77,7 @@ fn reference_to(class: Option<usize>) -> Option<FieldType>
 
 /// Whether the text is the signature of numbers of this type.
 fn is_number_signature(element: ElementType, text: &[u8]) -> bool
-    ensures { (classes : _) → result ≡ bytes_eq (signature classes (NumberField (element_view element))) text.now }
+    ensures { (classes : _) → result ≡ bytes_eq (signature classes (NumberField (element_value element))) text.now }
 {
     let letter: &[u8] = match element {
         ElementType::Int => b"I",

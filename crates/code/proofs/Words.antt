@@ -9,8 +9,8 @@ use Rattle.std.proofs.lemmas.Bool.{le-ltb}
 use Rattle.std.proofs.lemmas.Bool.Decides.{Decides-eqb, Decides-int_eq, same_from_decides}
 use Rattle.std.proofs.lemmas.Int.{ints, to_z-of_z, of_z-to_z}
 use Rattle.code.specs.declared.instr.Operator.TheVariants.{Equal, NotEqual, SignedLess, SignedLessEqual, SignedGreater, SignedGreaterEqual}
-use Rattle.code.specs.declared.instr.ElementType.{ElementType}
-use Rattle.code.specs.declared.instr.ElementType.TheVariants.{Int, Short, Byte, Char}
+use Rattle.base.specs.declared.element.ElementType.{ElementType}
+use Rattle.base.specs.declared.element.ElementType.TheVariants.{Int, Short, Byte, Char}
 use Rattle.code.specs.Effect.{truth_word, operate, element_word}
 
 -- a `jint` is in the range of its type

@@ -5,6 +5,8 @@ ghost use Rattle.std.specs.List.{list_all, list_any};
 ghost use Rattle.jni.specs.Table.{function_value, parameter_value};
 ghost use Rattle.code.specs.Call.{call_view, is_static, takes_any, IsPrepared};
 
+pub use base::ElementType;
+pub use jni::ReleaseMode;
 use jni::{JniFunction, ParameterKind, ResultKind};
 use std::alloc::{AllocError, Global};
 use std::marker::Model;
@@ -60,19 +62,6 @@ pub enum TrappingOperator {
     ShiftRight,
 }
 
-/// The type of an array's elements (JNI Specification, chapter 3, "Primitive Types").
-#[derive(Clone, Copy)]
-pub enum ElementType {
-    /// `jint`
-    Int,
-    /// `jshort`
-    Short,
-    /// `jbyte`
-    Byte,
-    /// `jchar`
-    Char,
-}
-
 /// An array of a function: number slots one after another, each with an element as a `jint` (6.2.5).
 #[derive(Clone, Copy)]
 pub struct LocalArray {
@@ -102,17 +91,6 @@ pub enum NullableVariable {
     FieldId(u32),
     /// The buffer in this slot.
     Buffer(u32),
-}
-
-/// How a buffer of copied elements is released (JNI Specification, chapter 4, "Release<PrimitiveType>ArrayElements Routines").
-#[derive(Clone, Copy)]
-pub enum ReleaseMode {
-    /// `0`
-    CopyBackAndFree,
-    /// `JNI_COMMIT`
-    CopyBack,
-    /// `JNI_ABORT`
-    FreeUncopied,
 }
 
 /// Where a call finds an argument, by its kind. Slots of each kind, and statics, are counted from 0.

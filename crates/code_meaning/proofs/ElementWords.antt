@@ -1,13 +1,21 @@
--- What is left of a `jint` in an element is its conversion to the element type, as a word.
+-- The element type of an instruction is the one in memory; what is left of a `jint` in an element is its conversion to the element type, as a word.
 use Rattle.std.proofs.Common.{◌≡◌, ℕ, ℤ, ◌<◌, ◌^◌, ◌%◌, lit<, refl, sym, arith}
 use Rattle.std.specs.Prelude.{FitsSigned}
 use Rattle.std.specs.Int.{w8, w16, w32, cast_unsigned}
 use Rattle.std.proofs.Math.Nat.{mod-lt}
 use Rattle.std.proofs.Math.Facts.{Fits-of_lt, Fits-of_z, Fits-lt-pow, of_z-to_z, sfits_to_z}
-use Rattle.base.specs.Element.{ElementType, JInt, JShort, JByte, JChar}
+use Rattle.base.specs.declared.element.ElementType.{ElementType as ElementInMemory}
+use Rattle.base.specs.declared.element.ElementType.TheVariants as element
+use Rattle.base.specs.Element.{ElementType, JInt, JShort, JByte, JChar, element_value}
 use Rattle.code.specs.Effect.{element_word}
 use Rattle.semantics.specs.Value.{convert}
 use Rattle.code_meaning.specs.Coding.{element_of}
+
+pub element_same : (t : ElementInMemory) → element_of (element_value t) ≡ t
+element_same element.Int = refl
+element_same element.Short = refl
+element_same element.Byte = refl
+element_same element.Char = refl
 
 in_range : (n : ℕ) → n < 2 ^ 32 → n % 2 ^ 32 ≡ n
 in_range n h = omega arith

@@ -12,10 +12,10 @@ use Rattle.jni.specs.JniFunction.{JniFunction, prototype, function_named}
 use Rattle.jni.specs.Prototype.{ParameterKind, IntNumber, Mode}
 use Rattle.code.specs.declared.instr.Operand.{Operand}
 use Rattle.code.specs.declared.instr.Operand.TheVariants as operand
-use Rattle.code.specs.declared.instr.ReleaseMode.{ReleaseMode as ModeOfCode}
-use Rattle.code.specs.declared.instr.ReleaseMode.TheVariants as mode
-use Rattle.code.specs.declared.instr.ElementType.{ElementType as ElementOfCode}
-use Rattle.code.specs.declared.instr.ElementType.TheVariants as element
+use Rattle.jni.specs.declared.mode.ReleaseMode.{ReleaseMode as ModeOfCode}
+use Rattle.jni.specs.declared.mode.ReleaseMode.TheVariants as mode
+use Rattle.base.specs.declared.element.ElementType.{ElementType as ElementOfCode}
+use Rattle.base.specs.declared.element.ElementType.TheVariants as element
 use Rattle.code.specs.declared.instr.Operator.TheVariants as operator
 use Rattle.code.specs.declared.instr.TrappingOperator.TheVariants as trapping
 use Rattle.code.specs.declared.instr.NullableVariable.{NullableVariable}

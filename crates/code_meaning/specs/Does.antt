@@ -7,7 +7,7 @@ use Rattle.base.specs.Bytes.{Identifier, lookup}
 use Rattle.base.specs.Element.{ElementType}
 use Rattle.syntax.specs.Tree.{Block}
 use Rattle.jni.specs.Access.{Access}
-use Rattle.jni.specs.JniFunction.{JniFunction, is_built_function, prototype}
+use Rattle.jni.specs.JniFunction.{JniFunction, prototype}
 use Rattle.jni.specs.Prototype.{ParameterKind, FieldID, IntNumber, TextBytes, ArrayVariable, BufferVariable, Mode, IsCopy, ResultKind, NewLocal, NewGlobal, GivesInt, GivesField}
 use Rattle.type_rules.specs.SortRules.{is_droppable}
 use Rattle.type_rules.specs.Sorts.{Sort, Flag, Ref, Global, FieldId, Buffer}
@@ -302,7 +302,6 @@ module _ (code : Listing) (known : Known) (place : ℕ) (stack : List ℕ) (slot
     pub at : slice_get code.instrs place ≡ Some (instr.Call call)
     pub same_line : call.line ≡ line
     pub same_function : call.function ≡ f
-    pub built : is_built_function f ≡ true
     pub words : stack ≡ words_given args
     pub texts : call.texts ≡ texts_given args
     pub count : length args ≡ length (prototype f).parameters

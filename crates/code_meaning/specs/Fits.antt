@@ -6,7 +6,7 @@ use Rattle.base.specs.Element.{ElementType, JChar}
 use Rattle.syntax.specs.Tree as tree
 use Rattle.syntax.specs.Tree.{LogicalNot, Complement, ToWord, ToInt, Expr, Argument, Call, RightSide, FromExpr, FromCall, Test, TestExpr, TestCall, Stmt, Block, End, Next, Function}
 use Rattle.jni.specs.Access.{Access}
-use Rattle.jni.specs.JniFunction.{JniFunction, is_built_function, function_named, prototype}
+use Rattle.jni.specs.JniFunction.{JniFunction, function_named, prototype}
 use Rattle.jni.specs.Prototype.{ParameterKind, Nullable, NonNull, ClassObject, AnyArray, ObjectArray, StringObject, NumberArray, LocalVariable, StaticVariable, FieldID, IntNumber, TextBytes, ArrayVariable, BufferVariable, Mode, IsCopy, ResultKind, NewLocal, NewGlobal, GivesFlag, GivesInt, GivesField, GivesBuffer, GivesNothing}
 use Rattle.type_rules.specs.Sorts.{Sort, Word, Jint, Flag, Truth, Ref, Global, FieldId, Buffer, Array, OperatorGroup, Logic, Equality, Order, OnWords, group, is_buffer_for}
 use Rattle.type_rules.specs.SortRules.{variable_sort, is_droppable, is_mode}
@@ -225,11 +225,10 @@ ArgumentFits known IsCopy (tree.AddressOf x) = IsVariable known x Flag
 ArgumentFits known p (tree.Value e) = ReferenceFits known e
 ArgumentFits known p a = ⊥
 
--- a call of a function that is built, with an argument for each parameter
+-- a call of a function that is known, with an argument for each parameter
 pub record CallFits (known : Known) (c : Call) : Type 0 where
   pub function : JniFunction
   pub named : function_named c.function ≡ Some function
-  pub built : is_built_function function ≡ true
   pub arguments : AllZip (ArgumentFits known) (prototype function).parameters c.arguments
 
 -- a value for a variable of this sort

@@ -6,7 +6,7 @@ use Rattle.base.specs.Element.{ElementType}
 use Rattle.syntax.specs.Tree as tree
 use Rattle.syntax.specs.Tree.{BitOr, Expr, Stmt, Block, End, Next}
 use Rattle.jni.specs.Access.{Access}
-use Rattle.jni.specs.JniFunction.{JniFunction, is_built_function, prototype}
+use Rattle.jni.specs.JniFunction.{JniFunction, prototype}
 use Rattle.jni.specs.Prototype.{ParameterKind, FieldID, IntNumber, TextBytes, ArrayVariable, BufferVariable, Mode, IsCopy, ResultKind, NewLocal, NewGlobal, GivesFlag, GivesInt, GivesField, GivesBuffer}
 use Rattle.type_rules.specs.Sorts.{Sort, Jint, Ref, Global, FieldId, Buffer, Array}
 use Rattle.type_rules.specs.Sorts as sort
@@ -20,8 +20,8 @@ use Rattle.code.specs.Call.{Call}
 use Rattle.code.specs.declared.instr.Operand.{Operand as Where}
 use Rattle.code.specs.declared.instr.Operand.TheVariants as operand
 use Rattle.code.specs.declared.instr.LocalArray.{LocalArray}
-use Rattle.code.specs.declared.instr.ElementType.{ElementType as ElementOfCode}
-use Rattle.code.specs.declared.instr.ReleaseMode.{ReleaseMode}
+use Rattle.base.specs.declared.element.ElementType.{ElementType as ElementOfCode}
+use Rattle.jni.specs.declared.mode.ReleaseMode.{ReleaseMode}
 use Rattle.code.specs.declared.instr.NullableVariable.{NullableVariable}
 use Rattle.code.specs.declared.instr.ReferenceOperand.TheVariants.{Null, Local}
 use Rattle.code.specs.declared.instr.Target.{Target as Destination}
@@ -348,7 +348,6 @@ pub record InvokeStands (code : Listing) (known : Known) (place : ℕ) (stack : 
   pub at : HasAt code.instrs place (operands_rest known line operands ++ instr.Call call ∷ [])
   pub same_line : call.line ≡ line
   pub same_function : call.function ≡ f
-  pub built : is_built_function f ≡ true
   pub begun : AreBegun operands
   pub held : stack ≡ operands_held operands
   pub texts : call.texts ≡ operands_texts operands

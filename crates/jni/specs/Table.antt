@@ -2,9 +2,9 @@
 use Rattle.std.specs.Prelude.{Bool, List, map, bytes_eq}
 use Rattle.std.specs.Borrow.{Bor}
 use Rattle.base.specs.Bytes.{Identifier}
-use Rattle.syntax.specs.Views.{element_tree}
+use Rattle.base.specs.Element.{element_value}
 use Rattle.jni.specs.Access.{Access, ElementsCopy, ArrayView, CharsCopy, CharsView}
-use Rattle.jni.specs.JniFunction.{JniFunction, FindClass, GetSuperclass, GetObjectClass, IsInstanceOf, IsAssignableFrom, AllocObject, NewLocalRef, NewGlobalRef, DeleteLocalRef, DeleteGlobalRef, IsSameObject, EnsureLocalCapacity, PushLocalFrame, PopLocalFrame, GetFieldID, GetStaticFieldID, GetField, SetField, GetStaticField, SetStaticField, GetObjectField, SetObjectField, GetStaticObjectField, SetStaticObjectField, GetArrayLength, NewObjectArray, GetObjectArrayElement, SetObjectArrayElement, NewArray, GetArrayRegion, SetArrayRegion, GetBuffer, ReleaseBuffer, NewStringUTF, GetStringLength, GetStringRegion, Throw, ThrowNew, ExceptionOccurred, ExceptionCheck, ExceptionClear, FatalError, MonitorEnter, MonitorExit, is_allowed_pending, prototype, is_built_function, all_functions}
+use Rattle.jni.specs.JniFunction.{JniFunction, FindClass, GetSuperclass, GetObjectClass, IsInstanceOf, IsAssignableFrom, AllocObject, NewLocalRef, NewGlobalRef, DeleteLocalRef, DeleteGlobalRef, IsSameObject, EnsureLocalCapacity, PushLocalFrame, PopLocalFrame, GetFieldID, GetStaticFieldID, GetField, SetField, GetStaticField, SetStaticField, GetObjectField, SetObjectField, GetStaticObjectField, SetStaticObjectField, GetArrayLength, NewObjectArray, GetObjectArrayElement, SetObjectArrayElement, NewArray, GetArrayRegion, SetArrayRegion, GetBuffer, ReleaseBuffer, NewStringUTF, GetStringLength, GetStringRegion, Throw, ThrowNew, ExceptionOccurred, ExceptionCheck, ExceptionClear, FatalError, MonitorEnter, MonitorExit, is_allowed_pending, prototype, all_functions}
 use Rattle.jni.specs.Prototype.{Prototype, ParameterKind, Nullable, NonNull, ClassObject, AnyArray, ObjectArray, StringObject, NumberArray, LocalVariable, StaticVariable, FieldID, IntNumber, TextBytes, ArrayVariable, BufferVariable, Mode, IsCopy, ResultKind, NewLocal, NewGlobal, GivesFlag, GivesInt, GivesField, GivesNothing, GivesBuffer}
 use Rattle.jni.specs.StateEffect.{StateEffect, Gets, Releases, Deletes, Pops, Other, state_effect}
 use Rattle.jni.specs.declared.access.Access.{Access as AccessInMemory}
@@ -21,7 +21,7 @@ use Rattle.jni.specs.declared.kinds.Prototype.{Prototype as PrototypeInMemory}
 
 -- the access of the definitions
 abbrev pub access_value : AccessInMemory → Access
-access_value (access.ElementsCopy t) = ElementsCopy (element_tree t)
+access_value (access.ElementsCopy t) = ElementsCopy (element_value t)
 access_value access.ArrayView = ArrayView
 access_value access.CharsCopy = CharsCopy
 access_value access.CharsView = CharsView
@@ -44,10 +44,10 @@ function_value function.PushLocalFrame = PushLocalFrame
 function_value function.PopLocalFrame = PopLocalFrame
 function_value function.GetFieldID = GetFieldID
 function_value function.GetStaticFieldID = GetStaticFieldID
-function_value (function.GetField t) = GetField (element_tree t)
-function_value (function.SetField t) = SetField (element_tree t)
-function_value (function.GetStaticField t) = GetStaticField (element_tree t)
-function_value (function.SetStaticField t) = SetStaticField (element_tree t)
+function_value (function.GetField t) = GetField (element_value t)
+function_value (function.SetField t) = SetField (element_value t)
+function_value (function.GetStaticField t) = GetStaticField (element_value t)
+function_value (function.SetStaticField t) = SetStaticField (element_value t)
 function_value function.GetObjectField = GetObjectField
 function_value function.SetObjectField = SetObjectField
 function_value function.GetStaticObjectField = GetStaticObjectField
@@ -56,9 +56,9 @@ function_value function.GetArrayLength = GetArrayLength
 function_value function.NewObjectArray = NewObjectArray
 function_value function.GetObjectArrayElement = GetObjectArrayElement
 function_value function.SetObjectArrayElement = SetObjectArrayElement
-function_value (function.NewArray t) = NewArray (element_tree t)
-function_value (function.GetArrayRegion t) = GetArrayRegion (element_tree t)
-function_value (function.SetArrayRegion t) = SetArrayRegion (element_tree t)
+function_value (function.NewArray t) = NewArray (element_value t)
+function_value (function.GetArrayRegion t) = GetArrayRegion (element_value t)
+function_value (function.SetArrayRegion t) = SetArrayRegion (element_value t)
 function_value (function.GetBuffer a) = GetBuffer (access_value a)
 function_value (function.ReleaseBuffer a) = ReleaseBuffer (access_value a)
 function_value function.NewStringUTF = NewStringUTF
@@ -81,13 +81,13 @@ parameter_value parameter.ClassObject = ClassObject
 parameter_value parameter.AnyArray = AnyArray
 parameter_value parameter.ObjectArray = ObjectArray
 parameter_value parameter.StringObject = StringObject
-parameter_value (parameter.NumberArray t) = NumberArray (element_tree t)
+parameter_value (parameter.NumberArray t) = NumberArray (element_value t)
 parameter_value parameter.LocalVariable = LocalVariable
 parameter_value parameter.StaticVariable = StaticVariable
 parameter_value parameter.FieldID = FieldID
 parameter_value parameter.IntNumber = IntNumber
 parameter_value parameter.TextBytes = TextBytes
-parameter_value (parameter.ArrayVariable t) = ArrayVariable (element_tree t)
+parameter_value (parameter.ArrayVariable t) = ArrayVariable (element_value t)
 parameter_value (parameter.BufferVariable a) = BufferVariable (access_value a)
 parameter_value parameter.Mode = Mode
 parameter_value parameter.IsCopy = IsCopy
@@ -115,11 +115,10 @@ pub record Facts : Type 0 where
   pub prototype : Prototype
   pub effect : StateEffect
   pub pending : Bool
-  pub built : Bool
 
 -- by the definitions
 abbrev pub facts_of : JniFunction → Facts
-facts_of f = record { prototype = prototype f; effect = state_effect f; pending = is_allowed_pending f; built = is_built_function f }
+facts_of f = record { prototype = prototype f; effect = state_effect f; pending = is_allowed_pending f }
 
 -- of all functions, by the definitions
 abbrev pub all_rows : List Facts
@@ -127,7 +126,7 @@ all_rows = map facts_of all_functions
 
 -- in memory
 abbrev pub facts : PrototypeInMemory → Facts
-facts p = record { prototype = record { name = p.name.now; parameters = map parameter_value p.parameters.now; result = result_value p.result }; effect = effect_value p.effect; pending = p.pending; built = p.built }
+facts p = record { prototype = record { name = p.name.now; parameters = map parameter_value p.parameters.now; result = result_value p.result }; effect = effect_value p.effect; pending = p.pending }
 
 -- functions in memory
 abbrev pub functions_value : Bor (List FunctionInMemory) → List JniFunction

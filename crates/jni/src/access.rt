@@ -1,12 +1,11 @@
 //! How a buffer comes to an array's elements or a string's units.
 
 ghost use Rattle.std.specs.Prelude.{◌≡◌};
-ghost use Rattle.base.specs.Element.{same_element};
-ghost use Rattle.syntax.specs.Views.{element_tree};
+ghost use Rattle.base.specs.Element.{same_element, element_value};
 ghost use Rattle.jni.specs.Access.{is_critical, same_access};
 ghost use Rattle.jni.specs.Table.{access_value};
 
-use syntax::ElementType;
+use base::ElementType;
 
 /// How a buffer comes to an array's elements or a string's units: as a copy or as a view of them.
 #[derive(Clone, Copy)]
@@ -47,7 +46,7 @@ impl Access {
 
 /// Whether two element types are the same.
 pub fn is_same_element(a: ElementType, b: ElementType) -> bool
-    ensures { result ≡ same_element (element_tree a) (element_tree b) }
+    ensures { result ≡ same_element (element_value a) (element_value b) }
 {
     a == b
 }

@@ -2,7 +2,7 @@
 
 ghost use Rattle.std.specs.Prelude.{◌≡◌, ◌<◌, ◌≤◌, ◌-◌, [], Some, length, map, find, get_or, take, drop, slice_get};
 ghost use Rattle.std.specs.Option.{option_map};
-ghost use Rattle.syntax.specs.Views.{element_tree};
+ghost use Rattle.base.specs.Element.{element_value};
 ghost use Rattle.jni.specs.JniFunction.{access_functions, all_functions, function_named, typed_functions};
 ghost use Rattle.jni.specs.Table.{access_value, all_rows, facts, facts_of, function_value, functions_value, has_name};
 
@@ -13,8 +13,8 @@ use crate::kinds::ParameterKind::*;
 use crate::kinds::Prototype;
 use crate::kinds::ResultKind::*;
 use crate::kinds::StateEffect::*;
-use syntax::ElementType;
-use syntax::ElementType::{Jbyte, Jchar, Jint, Jshort};
+use base::ElementType;
+use base::ElementType::{Byte, Char, Int, Short};
 
 /// A function of the JNI, where one is there for each element type or for each access.
 #[derive(Clone, Copy)]
@@ -74,148 +74,147 @@ pub enum JniFunction {
     MonitorExit,
 }
 
-const INTS: Access = ElementsCopy(Jint);
+const INTS: Access = ElementsCopy(Int);
 
-const SHORTS: Access = ElementsCopy(Jshort);
+const SHORTS: Access = ElementsCopy(Short);
 
-const BYTES: Access = ElementsCopy(Jbyte);
+const BYTES: Access = ElementsCopy(Byte);
 
-const CHARS: Access = ElementsCopy(Jchar);
+const CHARS: Access = ElementsCopy(Char);
 
 macro_rules! rows {
-    ($($name:literal [$($parameter:expr),*] => $result:expr, $effect:expr, $pending:expr, $built:expr;)*) => {
+    ($($name:literal [$($parameter:expr),*] => $result:expr, $effect:expr, $pending:expr;)*) => {
         [$(Prototype {
             name: $name,
             parameters: &[$($parameter),*],
             result: $result,
             effect: $effect,
             pending: $pending,
-            built: $built,
         }),*]
     };
 }
 
 // The functions in the order of their numbers, in groups. A row has the name, the parameters after `env`, the result, what a call does to buffers,
-// references and frames, whether it may be called while an exception is pending, and whether it can be called today.
+// references and frames, and whether it may be called while an exception is pending.
 
 /// Those of classes and references.
 static REFERENCE_ROWS: [Prototype; 14] = rows! {
-    b"FindClass"           [TextBytes]                => NewLocal,     Other,   false, true;
-    b"GetSuperclass"       [ClassObject]              => NewLocal,     Other,   false, true;
-    b"GetObjectClass"      [NonNull]                  => NewLocal,     Other,   false, true;
-    b"IsInstanceOf"        [Nullable, ClassObject]    => GivesFlag,    Other,   false, true;
-    b"IsAssignableFrom"    [ClassObject, ClassObject] => GivesFlag,    Other,   false, true;
-    b"AllocObject"         [ClassObject]              => NewLocal,     Other,   false, true;
-    b"NewLocalRef"         [Nullable]                 => NewLocal,     Other,   false, true;
-    b"NewGlobalRef"        [Nullable]                 => NewGlobal,    Other,   false, true;
-    b"DeleteLocalRef"      [LocalVariable]            => GivesNothing, Deletes, true,  true;
-    b"DeleteGlobalRef"     [StaticVariable]           => GivesNothing, Other,   true,  true;
-    b"IsSameObject"        [Nullable, Nullable]       => GivesFlag,    Other,   false, true;
-    b"EnsureLocalCapacity" [IntNumber]                => GivesInt,     Other,   false, true;
-    b"PushLocalFrame"      [IntNumber]                => GivesInt,     Other,   true,  true;
-    b"PopLocalFrame"       [Nullable]                 => NewLocal,     Pops,    true,  true;
+    b"FindClass"           [TextBytes]                => NewLocal,     Other,   false;
+    b"GetSuperclass"       [ClassObject]              => NewLocal,     Other,   false;
+    b"GetObjectClass"      [NonNull]                  => NewLocal,     Other,   false;
+    b"IsInstanceOf"        [Nullable, ClassObject]    => GivesFlag,    Other,   false;
+    b"IsAssignableFrom"    [ClassObject, ClassObject] => GivesFlag,    Other,   false;
+    b"AllocObject"         [ClassObject]              => NewLocal,     Other,   false;
+    b"NewLocalRef"         [Nullable]                 => NewLocal,     Other,   false;
+    b"NewGlobalRef"        [Nullable]                 => NewGlobal,    Other,   false;
+    b"DeleteLocalRef"      [LocalVariable]            => GivesNothing, Deletes, true;
+    b"DeleteGlobalRef"     [StaticVariable]           => GivesNothing, Other,   true;
+    b"IsSameObject"        [Nullable, Nullable]       => GivesFlag,    Other,   false;
+    b"EnsureLocalCapacity" [IntNumber]                => GivesInt,     Other,   false;
+    b"PushLocalFrame"      [IntNumber]                => GivesInt,     Other,   true;
+    b"PopLocalFrame"       [Nullable]                 => NewLocal,     Pops,    true;
 };
 
 /// Those of fields of references, arrays of objects, and the length of any array.
 static OBJECT_ROWS: [Prototype; 10] = rows! {
-    b"GetFieldID"            [ClassObject, TextBytes, TextBytes] => GivesField,   Other, false, true;
-    b"GetStaticFieldID"      [ClassObject, TextBytes, TextBytes] => GivesField,   Other, false, true;
-    b"GetObjectField"        [NonNull, FieldID]                  => NewLocal,     Other, false, true;
-    b"SetObjectField"        [NonNull, FieldID, Nullable]        => GivesNothing, Other, false, true;
-    b"GetStaticObjectField"  [ClassObject, FieldID]              => NewLocal,     Other, false, true;
-    b"SetStaticObjectField"  [ClassObject, FieldID, Nullable]    => GivesNothing, Other, false, true;
-    b"GetArrayLength"        [AnyArray]                          => GivesInt,     Other, false, true;
-    b"NewObjectArray"        [IntNumber, ClassObject, Nullable]  => NewLocal,     Other, false, true;
-    b"GetObjectArrayElement" [ObjectArray, IntNumber]            => NewLocal,     Other, false, true;
-    b"SetObjectArrayElement" [ObjectArray, IntNumber, Nullable]  => GivesNothing, Other, false, true;
+    b"GetFieldID"            [ClassObject, TextBytes, TextBytes] => GivesField,   Other, false;
+    b"GetStaticFieldID"      [ClassObject, TextBytes, TextBytes] => GivesField,   Other, false;
+    b"GetObjectField"        [NonNull, FieldID]                  => NewLocal,     Other, false;
+    b"SetObjectField"        [NonNull, FieldID, Nullable]        => GivesNothing, Other, false;
+    b"GetStaticObjectField"  [ClassObject, FieldID]              => NewLocal,     Other, false;
+    b"SetStaticObjectField"  [ClassObject, FieldID, Nullable]    => GivesNothing, Other, false;
+    b"GetArrayLength"        [AnyArray]                          => GivesInt,     Other, false;
+    b"NewObjectArray"        [IntNumber, ClassObject, Nullable]  => NewLocal,     Other, false;
+    b"GetObjectArrayElement" [ObjectArray, IntNumber]            => NewLocal,     Other, false;
+    b"SetObjectArrayElement" [ObjectArray, IntNumber, Nullable]  => GivesNothing, Other, false;
 };
 
 /// Those of strings, exceptions and monitors.
 static STRING_ROWS: [Prototype; 11] = rows! {
-    b"NewStringUTF"    [TextBytes]                                                => NewLocal,     Other, false, true;
-    b"GetStringLength" [StringObject]                                             => GivesInt,     Other, false, true;
-    b"GetStringRegion" [StringObject, IntNumber, IntNumber, ArrayVariable(Jchar)] => GivesNothing, Other, false, true;
-    b"Throw"             [NonNull]                => GivesInt,     Other, false, true;
-    b"ThrowNew"          [ClassObject, TextBytes] => GivesInt,     Other, false, true;
-    b"ExceptionOccurred" []                       => NewLocal,     Other, true,  true;
-    b"ExceptionCheck"    []                       => GivesFlag,    Other, true,  true;
-    b"ExceptionClear"    []                       => GivesNothing, Other, true,  true;
-    b"FatalError"        [TextBytes]              => GivesNothing, Other, false, true;
-    b"MonitorEnter"      [NonNull]                => GivesInt,     Other, false, false;
-    b"MonitorExit"       [NonNull]                => GivesInt,     Other, true,  false;
+    b"NewStringUTF"    [TextBytes]                                               => NewLocal,     Other, false;
+    b"GetStringLength" [StringObject]                                            => GivesInt,     Other, false;
+    b"GetStringRegion" [StringObject, IntNumber, IntNumber, ArrayVariable(Char)] => GivesNothing, Other, false;
+    b"Throw"             [NonNull]                => GivesInt,     Other, false;
+    b"ThrowNew"          [ClassObject, TextBytes] => GivesInt,     Other, false;
+    b"ExceptionOccurred" []                       => NewLocal,     Other, true;
+    b"ExceptionCheck"    []                       => GivesFlag,    Other, true;
+    b"ExceptionClear"    []                       => GivesNothing, Other, true;
+    b"FatalError"        [TextBytes]              => GivesNothing, Other, false;
+    b"MonitorEnter"      [NonNull]                => GivesInt,     Other, false;
+    b"MonitorExit"       [NonNull]                => GivesInt,     Other, true;
 };
 
 /// Those of elements of `jint`.
 static INT_ROWS: [Prototype; 9] = rows! {
-    b"GetIntField"             [NonNull, FieldID]                                             => GivesInt,          Other,          false, true;
-    b"SetIntField"             [NonNull, FieldID, IntNumber]                                  => GivesNothing,      Other,          false, true;
-    b"GetStaticIntField"       [ClassObject, FieldID]                                         => GivesInt,          Other,          false, true;
-    b"SetStaticIntField"       [ClassObject, FieldID, IntNumber]                              => GivesNothing,      Other,          false, true;
-    b"NewIntArray"             [IntNumber]                                                    => NewLocal,          Other,          false, true;
-    b"GetIntArrayRegion"       [NumberArray(Jint), IntNumber, IntNumber, ArrayVariable(Jint)] => GivesNothing,      Other,          false, true;
-    b"SetIntArrayRegion"       [NumberArray(Jint), IntNumber, IntNumber, ArrayVariable(Jint)] => GivesNothing,      Other,          false, true;
-    b"GetIntArrayElements"     [NumberArray(Jint), IsCopy]                                    => GivesBuffer(INTS), Gets(INTS),     false, true;
-    b"ReleaseIntArrayElements" [NumberArray(Jint), BufferVariable(INTS), Mode]                => GivesNothing,      Releases(INTS), true,  true;
+    b"GetIntField"             [NonNull, FieldID]                                           => GivesInt,          Other,          false;
+    b"SetIntField"             [NonNull, FieldID, IntNumber]                                => GivesNothing,      Other,          false;
+    b"GetStaticIntField"       [ClassObject, FieldID]                                       => GivesInt,          Other,          false;
+    b"SetStaticIntField"       [ClassObject, FieldID, IntNumber]                            => GivesNothing,      Other,          false;
+    b"NewIntArray"             [IntNumber]                                                  => NewLocal,          Other,          false;
+    b"GetIntArrayRegion"       [NumberArray(Int), IntNumber, IntNumber, ArrayVariable(Int)] => GivesNothing,      Other,          false;
+    b"SetIntArrayRegion"       [NumberArray(Int), IntNumber, IntNumber, ArrayVariable(Int)] => GivesNothing,      Other,          false;
+    b"GetIntArrayElements"     [NumberArray(Int), IsCopy]                                   => GivesBuffer(INTS), Gets(INTS),     false;
+    b"ReleaseIntArrayElements" [NumberArray(Int), BufferVariable(INTS), Mode]               => GivesNothing,      Releases(INTS), true;
 };
 
 /// Those of elements of `jshort`.
 static SHORT_ROWS: [Prototype; 9] = rows! {
-    b"GetShortField"             [NonNull, FieldID]                                                 => GivesInt,            Other,            false, true;
-    b"SetShortField"             [NonNull, FieldID, IntNumber]                                      => GivesNothing,        Other,            false, true;
-    b"GetStaticShortField"       [ClassObject, FieldID]                                             => GivesInt,            Other,            false, true;
-    b"SetStaticShortField"       [ClassObject, FieldID, IntNumber]                                  => GivesNothing,        Other,            false, true;
-    b"NewShortArray"             [IntNumber]                                                        => NewLocal,            Other,            false, true;
-    b"GetShortArrayRegion"       [NumberArray(Jshort), IntNumber, IntNumber, ArrayVariable(Jshort)] => GivesNothing,        Other,            false, true;
-    b"SetShortArrayRegion"       [NumberArray(Jshort), IntNumber, IntNumber, ArrayVariable(Jshort)] => GivesNothing,        Other,            false, true;
-    b"GetShortArrayElements"     [NumberArray(Jshort), IsCopy]                                      => GivesBuffer(SHORTS), Gets(SHORTS),     false, true;
-    b"ReleaseShortArrayElements" [NumberArray(Jshort), BufferVariable(SHORTS), Mode]                => GivesNothing,        Releases(SHORTS), true,  true;
+    b"GetShortField"             [NonNull, FieldID]                                               => GivesInt,            Other,            false;
+    b"SetShortField"             [NonNull, FieldID, IntNumber]                                    => GivesNothing,        Other,            false;
+    b"GetStaticShortField"       [ClassObject, FieldID]                                           => GivesInt,            Other,            false;
+    b"SetStaticShortField"       [ClassObject, FieldID, IntNumber]                                => GivesNothing,        Other,            false;
+    b"NewShortArray"             [IntNumber]                                                      => NewLocal,            Other,            false;
+    b"GetShortArrayRegion"       [NumberArray(Short), IntNumber, IntNumber, ArrayVariable(Short)] => GivesNothing,        Other,            false;
+    b"SetShortArrayRegion"       [NumberArray(Short), IntNumber, IntNumber, ArrayVariable(Short)] => GivesNothing,        Other,            false;
+    b"GetShortArrayElements"     [NumberArray(Short), IsCopy]                                     => GivesBuffer(SHORTS), Gets(SHORTS),     false;
+    b"ReleaseShortArrayElements" [NumberArray(Short), BufferVariable(SHORTS), Mode]               => GivesNothing,        Releases(SHORTS), true;
 };
 
 /// Those of elements of `jbyte`.
 static BYTE_ROWS: [Prototype; 9] = rows! {
-    b"GetByteField"             [NonNull, FieldID]                                               => GivesInt,           Other,           false, true;
-    b"SetByteField"             [NonNull, FieldID, IntNumber]                                    => GivesNothing,       Other,           false, true;
-    b"GetStaticByteField"       [ClassObject, FieldID]                                           => GivesInt,           Other,           false, true;
-    b"SetStaticByteField"       [ClassObject, FieldID, IntNumber]                                => GivesNothing,       Other,           false, true;
-    b"NewByteArray"             [IntNumber]                                                      => NewLocal,           Other,           false, true;
-    b"GetByteArrayRegion"       [NumberArray(Jbyte), IntNumber, IntNumber, ArrayVariable(Jbyte)] => GivesNothing,       Other,           false, true;
-    b"SetByteArrayRegion"       [NumberArray(Jbyte), IntNumber, IntNumber, ArrayVariable(Jbyte)] => GivesNothing,       Other,           false, true;
-    b"GetByteArrayElements"     [NumberArray(Jbyte), IsCopy]                                     => GivesBuffer(BYTES), Gets(BYTES),     false, true;
-    b"ReleaseByteArrayElements" [NumberArray(Jbyte), BufferVariable(BYTES), Mode]                => GivesNothing,       Releases(BYTES), true,  true;
+    b"GetByteField"             [NonNull, FieldID]                                             => GivesInt,           Other,           false;
+    b"SetByteField"             [NonNull, FieldID, IntNumber]                                  => GivesNothing,       Other,           false;
+    b"GetStaticByteField"       [ClassObject, FieldID]                                         => GivesInt,           Other,           false;
+    b"SetStaticByteField"       [ClassObject, FieldID, IntNumber]                              => GivesNothing,       Other,           false;
+    b"NewByteArray"             [IntNumber]                                                    => NewLocal,           Other,           false;
+    b"GetByteArrayRegion"       [NumberArray(Byte), IntNumber, IntNumber, ArrayVariable(Byte)] => GivesNothing,       Other,           false;
+    b"SetByteArrayRegion"       [NumberArray(Byte), IntNumber, IntNumber, ArrayVariable(Byte)] => GivesNothing,       Other,           false;
+    b"GetByteArrayElements"     [NumberArray(Byte), IsCopy]                                    => GivesBuffer(BYTES), Gets(BYTES),     false;
+    b"ReleaseByteArrayElements" [NumberArray(Byte), BufferVariable(BYTES), Mode]               => GivesNothing,       Releases(BYTES), true;
 };
 
 /// Those of elements of `jchar`.
 static CHAR_ROWS: [Prototype; 9] = rows! {
-    b"GetCharField"             [NonNull, FieldID]                                               => GivesInt,           Other,           false, true;
-    b"SetCharField"             [NonNull, FieldID, IntNumber]                                    => GivesNothing,       Other,           false, true;
-    b"GetStaticCharField"       [ClassObject, FieldID]                                           => GivesInt,           Other,           false, true;
-    b"SetStaticCharField"       [ClassObject, FieldID, IntNumber]                                => GivesNothing,       Other,           false, true;
-    b"NewCharArray"             [IntNumber]                                                      => NewLocal,           Other,           false, true;
-    b"GetCharArrayRegion"       [NumberArray(Jchar), IntNumber, IntNumber, ArrayVariable(Jchar)] => GivesNothing,       Other,           false, true;
-    b"SetCharArrayRegion"       [NumberArray(Jchar), IntNumber, IntNumber, ArrayVariable(Jchar)] => GivesNothing,       Other,           false, true;
-    b"GetCharArrayElements"     [NumberArray(Jchar), IsCopy]                                     => GivesBuffer(CHARS), Gets(CHARS),     false, true;
-    b"ReleaseCharArrayElements" [NumberArray(Jchar), BufferVariable(CHARS), Mode]                => GivesNothing,       Releases(CHARS), true,  true;
+    b"GetCharField"             [NonNull, FieldID]                                             => GivesInt,           Other,           false;
+    b"SetCharField"             [NonNull, FieldID, IntNumber]                                  => GivesNothing,       Other,           false;
+    b"GetStaticCharField"       [ClassObject, FieldID]                                         => GivesInt,           Other,           false;
+    b"SetStaticCharField"       [ClassObject, FieldID, IntNumber]                              => GivesNothing,       Other,           false;
+    b"NewCharArray"             [IntNumber]                                                    => NewLocal,           Other,           false;
+    b"GetCharArrayRegion"       [NumberArray(Char), IntNumber, IntNumber, ArrayVariable(Char)] => GivesNothing,       Other,           false;
+    b"SetCharArrayRegion"       [NumberArray(Char), IntNumber, IntNumber, ArrayVariable(Char)] => GivesNothing,       Other,           false;
+    b"GetCharArrayElements"     [NumberArray(Char), IsCopy]                                    => GivesBuffer(CHARS), Gets(CHARS),     false;
+    b"ReleaseCharArrayElements" [NumberArray(Char), BufferVariable(CHARS), Mode]               => GivesNothing,       Releases(CHARS), true;
 };
 
 /// Those of views of arrays and strings, and copies of strings.
 static VIEW_ROWS: [Prototype; 6] = rows! {
-    b"GetPrimitiveArrayCritical"     [NonNull, IsCopy]                          => GivesBuffer(ArrayView), Gets(ArrayView),     false, true;
-    b"ReleasePrimitiveArrayCritical" [NonNull, BufferVariable(ArrayView), Mode] => GivesNothing,           Releases(ArrayView), true,  true;
-    b"GetStringChars"                [StringObject, IsCopy]                     => GivesBuffer(CharsCopy), Gets(CharsCopy),     false, true;
-    b"ReleaseStringChars"            [StringObject, BufferVariable(CharsCopy)]  => GivesNothing,           Releases(CharsCopy), true,  true;
-    b"GetStringCritical"             [StringObject, IsCopy]                     => GivesBuffer(CharsView), Gets(CharsView),     false, true;
-    b"ReleaseStringCritical"         [StringObject, BufferVariable(CharsView)]  => GivesNothing,           Releases(CharsView), true,  true;
+    b"GetPrimitiveArrayCritical"     [NonNull, IsCopy]                          => GivesBuffer(ArrayView), Gets(ArrayView),     false;
+    b"ReleasePrimitiveArrayCritical" [NonNull, BufferVariable(ArrayView), Mode] => GivesNothing,           Releases(ArrayView), true;
+    b"GetStringChars"                [StringObject, IsCopy]                     => GivesBuffer(CharsCopy), Gets(CharsCopy),     false;
+    b"ReleaseStringChars"            [StringObject, BufferVariable(CharsCopy)]  => GivesNothing,           Releases(CharsCopy), true;
+    b"GetStringCritical"             [StringObject, IsCopy]                     => GivesBuffer(CharsView), Gets(CharsView),     false;
+    b"ReleaseStringCritical"         [StringObject, BufferVariable(CharsView)]  => GivesNothing,           Releases(CharsView), true;
 };
 
 /// The number of the first function of an element type in the table, each of which has nine.
 fn typed_number(element: ElementType) -> usize
-    ensures { take 9 (drop result all_functions) ≡ typed_functions (element_tree element) }
+    ensures { take 9 (drop result all_functions) ≡ typed_functions (element_value element) }
 {
     match element {
-        ElementType::Jint => 35,
-        ElementType::Jshort => 44,
-        ElementType::Jbyte => 53,
-        ElementType::Jchar => 62,
+        ElementType::Int => 35,
+        ElementType::Short => 44,
+        ElementType::Byte => 53,
+        ElementType::Char => 62,
     }
 }
 
@@ -413,9 +412,9 @@ static BY_LENGTH: [&[JniFunction]; 32] = [
         AllocObject,
         NewLocalRef,
         MonitorExit,
-        GetField(Jint),
-        SetField(Jint),
-        NewArray(Jint),
+        GetField(Int),
+        SetField(Int),
+        NewArray(Int),
     ],
     &[
         IsInstanceOf,
@@ -423,19 +422,19 @@ static BY_LENGTH: [&[JniFunction]; 32] = [
         IsSameObject,
         NewStringUTF,
         MonitorEnter,
-        GetField(Jbyte),
-        SetField(Jbyte),
-        NewArray(Jbyte),
-        GetField(Jchar),
-        SetField(Jchar),
-        NewArray(Jchar),
+        GetField(Byte),
+        SetField(Byte),
+        NewArray(Byte),
+        GetField(Char),
+        SetField(Char),
+        NewArray(Char),
     ],
     &[
         GetSuperclass,
         PopLocalFrame,
-        GetField(Jshort),
-        SetField(Jshort),
-        NewArray(Jshort),
+        GetField(Short),
+        SetField(Short),
+        NewArray(Short),
     ],
     &[
         GetObjectClass,
@@ -453,30 +452,30 @@ static BY_LENGTH: [&[JniFunction]; 32] = [
     &[IsAssignableFrom, GetStaticFieldID],
     &[
         ExceptionOccurred,
-        GetStaticField(Jint),
-        SetStaticField(Jint),
-        GetArrayRegion(Jint),
-        SetArrayRegion(Jint),
+        GetStaticField(Int),
+        SetStaticField(Int),
+        GetArrayRegion(Int),
+        SetArrayRegion(Int),
         GetBuffer(CharsView),
     ],
     &[
-        GetStaticField(Jbyte),
-        SetStaticField(Jbyte),
-        GetArrayRegion(Jbyte),
-        SetArrayRegion(Jbyte),
-        GetStaticField(Jchar),
-        SetStaticField(Jchar),
-        GetArrayRegion(Jchar),
-        SetArrayRegion(Jchar),
+        GetStaticField(Byte),
+        SetStaticField(Byte),
+        GetArrayRegion(Byte),
+        SetArrayRegion(Byte),
+        GetStaticField(Char),
+        SetStaticField(Char),
+        GetArrayRegion(Char),
+        SetArrayRegion(Char),
         ReleaseBuffer(CharsCopy),
     ],
     &[
         EnsureLocalCapacity,
         GetBuffer(INTS),
-        GetStaticField(Jshort),
-        SetStaticField(Jshort),
-        GetArrayRegion(Jshort),
-        SetArrayRegion(Jshort),
+        GetStaticField(Short),
+        SetStaticField(Short),
+        GetArrayRegion(Short),
+        SetArrayRegion(Short),
     ],
     &[
         GetStaticObjectField,

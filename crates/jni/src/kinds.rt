@@ -1,7 +1,7 @@
 //! What the table says of a function.
 
 use crate::access::Access;
-use syntax::ElementType;
+use base::ElementType;
 
 /// What an argument after `env` is.
 #[derive(Clone, Copy)]
@@ -87,6 +87,4 @@ pub struct Prototype {
     pub effect: StateEffect,
     /// Whether it may be called while an exception is pending.
     pub pending: bool,
-    /// Whether it can be called today.
-    pub built: bool,
 }

@@ -4,7 +4,9 @@
 mod access;
 mod function;
 mod kinds;
+mod mode;
 
 pub use access::{Access, is_same_element};
 pub use function::{JniFunction, function_named};
 pub use kinds::{ParameterKind, Prototype, ResultKind, StateEffect};
+pub use mode::ReleaseMode;

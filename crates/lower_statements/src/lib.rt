@@ -7,5 +7,5 @@ mod statements;
 mod terms;
 
 pub use emitting::emit;
-pub use names::{Names, Slot, Sort};
+pub use names::{Names, Slot};
 pub use statements::emit_block;

@@ -3,32 +3,17 @@
 ghost use Rattle.std.specs.Prelude.{◌≡◌, ◌+◌, ◌-◌, [], ◌++◌, length, drop, map, IfOk, OnOk};
 ghost use Rattle.std.specs.Option.{option_map};
 ghost use Rattle.base.specs.Bytes.{lookup};
-ghost use Rattle.syntax.specs.Views.{static_tree, function_tree, parameter_tree, parameter_type_tree};
-ghost use Rattle.type_rules.specs.SortRules.{parameter_sort};
+ghost use Rattle.syntax.specs.Views.{static_tree, function_tree, parameter_tree};
 ghost use Rattle.code_meaning.specs.Layout.{new_slot, with_static, parameter_slots, numbers_of, references_of, slots_after, with_name, entry_layout};
-ghost use Rattle.lower_statements.specs.Names.{sort_view, slot_view};
+ghost use Rattle.type_rules.specs.SortViews.{sort_value};
+ghost use Rattle.lower_statements.specs.Names.{slot_view};
 
 use crate::emitting::counted;
 use code::slots::SlotCounts;
 use std::alloc::{AllocError, Global};
 use std::marker::Model;
-use syntax::{ElementType, Function, Name, Parameter, ParameterType, Static};
-use type_rules::Known;
-
-/// What a name is.
-#[derive(Clone, Copy)]
-pub enum Sort {
-    Word,
-    Jint,
-    Flag,
-    Reference,
-    Static,
-    FieldId,
-    /// Its elements, and whether they may be written.
-    Buffer(ElementType, bool),
-    /// Its elements, and how many there are.
-    Array(ElementType, u32),
-}
+use syntax::{Function, Name, Parameter, Static};
+use type_rules::{Known, Sort, parameter_sort};
 
 /// A name's sort and where its value is, counted among the slots of its kind; the elements of an array begin there.
 #[derive(Clone, Copy)]
@@ -77,7 +62,7 @@ impl<'a> Names<'a> {
         ensures { OnOk result (self.new.known ≡ with_static (static_tree named.now) self.old.known) }
     {
         let index = counted(self.len())?;
-        let sort = Sort::Static;
+        let sort = Sort::Global;
         self.known.declare(&named.name, Slot { sort, index })
     }
 
@@ -94,7 +79,7 @@ impl<'a> Names<'a> {
         };
         self.declare_parameters(&function.parameters)?;
         let slot = Slot {
-            sort: Sort::Reference,
+            sort: Sort::Ref,
             index: 0,
         };
         self.known.declare(&function.class_name, slot)
@@ -127,21 +112,23 @@ impl<'a> Names<'a> {
 
     /// The slot of a name that is declared next.
     pub fn new_slot(&self, sort: Sort) -> Slot
-        ensures { slot_view result ≡ new_slot (sort_view sort) self.now }
+        ensures { slot_view result ≡ new_slot (sort_value sort) self.now }
     {
         let index = match sort {
-            Sort::Reference => self.slots.references,
-            Sort::Static => self.slots.statics,
+            Sort::Ref => self.slots.references,
+            Sort::Global => self.slots.statics,
             Sort::FieldId => self.slots.field_ids,
             Sort::Buffer(..) => self.slots.buffers,
-            Sort::Word | Sort::Jint | Sort::Flag | Sort::Array(..) => self.slots.numbers,
+            Sort::Word | Sort::Jint | Sort::Flag | Sort::Truth | Sort::Array(..) => {
+                self.slots.numbers
+            }
         };
         Slot { sort, index }
     }
 
     /// Declares a name. More slots than can be counted are no memory.
     pub fn declare(&mut self, name: &'a Name, sort: Sort) -> Result<(), AllocError>
-        ensures { OnOk result (self.new ≡ with_name name.now (sort_view sort) self.old) }
+        ensures { OnOk result (self.new ≡ with_name name.now (sort_value sort) self.old) }
     {
         let slots = slots_after(self.slots, sort)?;
         let slot = self.new_slot(sort);
@@ -172,15 +159,6 @@ impl<'a> Names<'a> {
     }
 }
 
-fn parameter_sort(kind: ParameterType) -> Sort
-    ensures { sort_view result ≡ parameter_sort (parameter_type_tree kind) }
-{
-    match kind {
-        ParameterType::Jint => Sort::Jint,
-        ParameterType::Reference(_) => Sort::Reference,
-    }
-}
-
 /// The count with `by` more, where that can be counted.
 fn more(count: u32, by: u32) -> Result<u32, AllocError>
     ensures { IfOk result (λ n. n ≡ count + by) }
@@ -193,16 +171,17 @@ fn more(count: u32, by: u32) -> Result<u32, AllocError>
 
 /// The slots with those of one variable more.
 fn slots_after(slots: SlotCounts, sort: Sort) -> Result<SlotCounts, AllocError>
-    ensures { IfOk result (λ s. s ≡ slots_after (sort_view sort) slots) }
+    ensures { IfOk result (λ s. s ≡ slots_after (sort_value sort) slots) }
 {
     let mut after = slots;
     match sort {
-        Sort::Reference => after.references = more(slots.references, 1)?,
-        Sort::Static => after.statics = more(slots.statics, 1)?,
+        Sort::Ref => after.references = more(slots.references, 1)?,
+        Sort::Global => after.statics = more(slots.statics, 1)?,
         Sort::FieldId => after.field_ids = more(slots.field_ids, 1)?,
         Sort::Buffer(..) => after.buffers = more(slots.buffers, 1)?,
         Sort::Word | Sort::Jint | Sort::Flag => after.numbers = more(slots.numbers, 1)?,
         Sort::Array(_, len) => after.numbers = more(slots.numbers, len)?,
+        Sort::Truth => {}
     }
     Ok(after)
 }

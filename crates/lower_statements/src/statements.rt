@@ -2,27 +2,26 @@
 
 ghost use Rattle.std.specs.Prelude.{◌≡◌, ◌+◌, ◌-◌, ◌<◌, ◌≤◌, [], ◌∷◌, ◌++◌, slice_set, vec_len, map, zip, IfOk, OnOk, IsTrue};
 ghost use Rattle.base.specs.Bytes.{lookup};
-ghost use Rattle.syntax.specs.Views.{expr_tree, argument_tree, call_tree, right_side_tree, test_tree, variable_type_tree, form_tree, block_tree};
+ghost use Rattle.syntax.specs.Views.{expr_tree, argument_tree, call_tree, right_side_tree, test_tree, form_tree, block_tree};
 ghost use Rattle.jni.specs.JniFunction.{function_named};
 ghost use Rattle.jni.specs.Table.{function_value, parameter_value};
-ghost use Rattle.type_rules.specs.SortRules.{variable_sort};
+ghost use Rattle.type_rules.specs.SortViews.{sort_value};
 ghost use Rattle.semantics.specs.Arguments.{mode_of};
 ghost use Rattle.semantics.specs.Term.{term_of};
 ghost use Rattle.code_meaning.specs.Layout.{closed, layout_after, block_layout, with_name, new_slot};
 ghost use Rattle.code_meaning.specs.Coding.{mode_code, operand_code, argument_code, arguments_code, arguments_texts, variable_operand, result_target, named_call_code, right_code, assign_code, write_code, of_slot, return_code, returned_code, test_code, first_code, loop_code, expr_code, stmt_code, block_code};
-ghost use Rattle.lower_statements.specs.Names.{sort_view, slot_view};
+ghost use Rattle.lower_statements.specs.Names.{slot_view};
 ghost use Rattle.lower_statements.specs.Plain.{is_declaring, is_plain};
 
 use crate::emitting::{counted, emit, replace};
-use crate::names::{Names, Slot, Sort};
-use crate::terms::{element_type, emit_expr, nullable};
+use crate::names::{Names, Slot};
+use crate::terms::{emit_expr, nullable};
 use code::instr;
 use code::instr::{BoxedCall, Instr, LocalArray, Operand, ReferenceOperand, ReleaseMode, Target};
 use jni::{JniFunction, ParameterKind, function_named};
 use std::alloc::{AllocError, Global};
-use syntax::{
-    Argument, Block, Call, Constant, ElementType, Expr, Form, Name, RightSide, Test, VariableType,
-};
+use syntax::{Argument, Block, Call, Constant, ElementType, Expr, Form, Name, RightSide, Test};
+use type_rules::{Sort, variable_sort};
 
 /// A statement on this line, with the names that are known after it.
 #[cycle(statements)]
@@ -94,7 +93,7 @@ fn emit_declaring<'a>(
             emit_declaration(code, names, line, name, Sort::Buffer(*element, true), right)
         }
         Form::DeclareChars(name, right) => {
-            let sort = Sort::Buffer(ElementType::Jchar, false);
+            let sort = Sort::Buffer(ElementType::Char, false);
             emit_declaration(code, names, line, name, sort, right)
         }
         Form::DeclareArray(element, name, size) => {
@@ -216,19 +215,6 @@ fn emit_test(
     }
 }
 
-/// The sort of a declared variable.
-fn variable_sort(kind: VariableType) -> Sort
-    ensures { sort_view result ≡ variable_sort (variable_type_tree kind) }
-{
-    match kind {
-        VariableType::Uint32 => Sort::Word,
-        VariableType::Jint | VariableType::Jsize => Sort::Jint,
-        VariableType::Jboolean => Sort::Flag,
-        VariableType::JfieldId => Sort::FieldId,
-        VariableType::Reference(_) => Sort::Reference,
-    }
-}
-
 /// What a new variable is set to, and its name.
 fn emit_declaration<'a>(
     code: &mut Vec<Instr>,
@@ -238,8 +224,8 @@ fn emit_declaration<'a>(
     sort: Sort,
     right: &RightSide,
 ) -> Result<(), AllocError>
-    ensures code { OnOk result (code.new.items ≡ code.old.items ++ right_code names.old.known line (new_slot (sort_view sort) names.old) (right_side_tree right.now)) }
-    ensures names { OnOk result (names.new ≡ with_name name.now (sort_view sort) names.old) }
+    ensures code { OnOk result (code.new.items ≡ code.old.items ++ right_code names.old.known line (new_slot (sort_value sort) names.old) (right_side_tree right.now)) }
+    ensures names { OnOk result (names.new ≡ with_name name.now (sort_value sort) names.old) }
 {
     emit_right(code, names, line, names.new_slot(sort), right)?;
     names.declare(name, sort)
@@ -254,7 +240,7 @@ fn emit_array<'a>(
     len: u32,
 ) -> Result<(), AllocError>
     ensures code { OnOk result (code.new.items ≡ code.old.items ++ Instr.ClearArray (record { start = names.old.slots.numbers; len = len }) ∷ []) }
-    ensures names { OnOk result (names.new ≡ with_name name.now (sort_view (Sort.Array element len)) names.old) }
+    ensures names { OnOk result (names.new ≡ with_name name.now (sort_value (Sort.Array element len)) names.old) }
 {
     let start = names.slots().numbers;
     emit(code, Instr::ClearArray(LocalArray { start, len }))?;
@@ -301,14 +287,15 @@ fn emit_right(
 }
 
 /// Where a call's result for the variable of a slot goes.
+#[tactic(auto, using(code_meaning::proofs::ElementWords::element_same))]
 fn result_target(slot: Slot) -> Target
-    ensures { result ≡ result_target (sort_view slot.sort) slot.index }
+    ensures { result ≡ result_target (sort_value slot.sort) slot.index }
 {
     match slot.sort {
-        Sort::Reference => Target::Local(slot.index),
-        Sort::Static => Target::Static(slot.index),
+        Sort::Ref => Target::Local(slot.index),
+        Sort::Global => Target::Static(slot.index),
         Sort::FieldId => Target::FieldId(slot.index),
-        Sort::Buffer(element, _) => Target::Buffer(element_type(element), slot.index),
+        Sort::Buffer(element, _) => Target::Buffer(element, slot.index),
         _ => Target::Number(slot.index),
     }
 }
@@ -343,6 +330,7 @@ fn emit_print(
 }
 
 /// An element of a named array or buffer, after its index and its value.
+#[tactic(auto, using(code_meaning::proofs::ElementWords::element_same))]
 fn emit_write(
     code: &mut Vec<Instr>,
     names: &Names<'_>,
@@ -359,17 +347,14 @@ fn emit_write(
             },
         ) => {
             let array = LocalArray { start: index, len };
-            emit(
-                code,
-                Instr::StoreElement(element_type(element), array, line),
-            )
+            emit(code, Instr::StoreElement(element, array, line))
         }
         Some(
             Slot {
                 sort: Sort::Buffer(element, _),
                 index,
             },
-        ) => emit(code, Instr::StoreBuffer(element_type(element), index, line)),
+        ) => emit(code, Instr::StoreBuffer(element, index, line)),
         _ => Ok(()),
     }
 }
@@ -519,11 +504,11 @@ fn release_mode(mode: &Expr) -> ReleaseMode
 
 /// A variable that isn't a number.
 fn variable_operand(sort: Sort, index: u32) -> Operand
-    ensures { result ≡ variable_operand (sort_view sort) index }
+    ensures { result ≡ variable_operand (sort_value sort) index }
 {
     match sort {
-        Sort::Reference => Operand::Local(index),
-        Sort::Static => Operand::Static(index),
+        Sort::Ref => Operand::Local(index),
+        Sort::Global => Operand::Static(index),
         Sort::FieldId => Operand::FieldId(index),
         Sort::Array(_, len) => Operand::Array(LocalArray { start: index, len }),
         Sort::Buffer(..) => Operand::Buffer(index),
@@ -575,7 +560,7 @@ fn emit_returned(code: &mut Vec<Instr>, names: &Names<'_>, name: &Name) -> Resul
     match names.slot_of(name) {
         Some(
             Slot {
-                sort: Sort::Reference,
+                sort: Sort::Ref,
                 index,
             },
         ) => emit(code, Instr::ReturnReference(ReferenceOperand::Local(index))),

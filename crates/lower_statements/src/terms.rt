@@ -1,22 +1,21 @@
 //! The code of expressions.
 
-ghost use Rattle.std.specs.Prelude.{◌≡◌, ◌-◌, ◌<◌, [], ◌∷◌, ◌++◌, slice_set, vec_len, OnOk};
-ghost use Rattle.std.specs.Option.{option_copied};
+ghost use Rattle.std.specs.Prelude.{◌≡◌, ◌-◌, ◌<◌, [], ◌∷◌, ◌++◌, slice_set, vec_len, None, OnOk};
 ghost use Rattle.base.specs.Bytes.{lookup};
 ghost use Rattle.syntax.specs.Parts.{null_tested};
-ghost use Rattle.syntax.specs.Tree.{Binary, Equal, NotEqual};
-ghost use Rattle.syntax.specs.Views.{constant_tree, prefix_tree, binary_tree, element_tree, expr_tree};
+ghost use Rattle.syntax.specs.Tree.{Binary};
+ghost use Rattle.syntax.specs.Views.{constant_tree, prefix_tree, binary_tree, expr_tree};
 ghost use Rattle.semantics.specs.Term as term;
 ghost use Rattle.semantics.specs.Term.{term_of};
-ghost use Rattle.code_meaning.specs.Coding.{nullable_of, element_of, element_code, null_code, of_slot, load_code, constant_code, prefix_code, operator_code, is_signed, skip_code, logical_code, term_code, expr_code};
-ghost use Rattle.lower_statements.specs.Names.{sort_view};
+ghost use Rattle.code_meaning.specs.Coding.{nullable_of, element_code, null_code, of_slot, load_code, constant_code, prefix_code, operator_code, is_signed, skip_code, logical_code, term_code, expr_code};
+ghost use Rattle.type_rules.specs.SortViews.{sort_value};
 
 use crate::emitting::{counted, emit, replace};
-use crate::names::{Names, Slot, Sort};
-use code::instr;
+use crate::names::{Names, Slot};
 use code::instr::{Instr, LocalArray, NullableVariable, Operator, TrappingOperator};
 use std::alloc::AllocError;
-use syntax::{BinaryOp, Constant, ElementType, Expr, Name, PrefixOp};
+use syntax::{BinaryOp, Constant, Expr, Name, PrefixOp};
+use type_rules::Sort;
 
 /// An expression in a statement on this line. What no accepted program has becomes nothing.
 #[cycle(expressions)]
@@ -40,9 +39,10 @@ pub fn emit_expr(
             emit_expr(code, names, line, operand)?;
             emit(code, prefix_instr(*operator))
         }
-        Expr::Binary(operator, operands) => {
-            emit_binary(code, names, line, *operator, &operands.0, &operands.1)
-        }
+        Expr::Binary(operator, operands) => match expr.null_test() {
+            Some(test) => emit_null_test(code, names, test.name, test.equal),
+            None => emit_binary(code, names, line, *operator, &operands.0, &operands.1),
+        },
         Expr::Paren(inner) => emit_expr(code, names, line, inner),
     }
 }
@@ -97,7 +97,7 @@ fn emit_element(
     }
 }
 
-/// A binary operator with its operands.
+/// A binary operator with its operands, which don't compare a bare name with NULL.
 #[cycle(expressions)]
 fn emit_binary(
     code: &mut Vec<Instr>,
@@ -107,20 +107,15 @@ fn emit_binary(
     left: &Expr,
     right: &Expr,
 ) -> Result<(), AllocError>
+    requires { null_tested (Binary (binary_tree operator) (expr_tree left.now) (expr_tree right.now)) ≡ None }
     ensures { OnOk result (code.new.items ≡ code.old.items ++ expr_code names.now.known line (Binary (binary_tree operator) (expr_tree left.now) (expr_tree right.now))) }
 {
     match operator {
         BinaryOp::LogicalAnd => emit_logical(code, names, line, true, left, right),
         BinaryOp::LogicalOr => emit_logical(code, names, line, false, left, right),
-        BinaryOp::Equal => match tested_name(left, right) {
-            Some(name) => emit_null_test(code, names, name, true),
-            None => emit_operator(code, names, line, operator, left, right),
-        },
-        BinaryOp::NotEqual => match tested_name(left, right) {
-            Some(name) => emit_null_test(code, names, name, false),
-            None => emit_operator(code, names, line, operator, left, right),
-        },
-        BinaryOp::BitOr
+        BinaryOp::Equal
+        | BinaryOp::NotEqual
+        | BinaryOp::BitOr
         | BinaryOp::BitXor
         | BinaryOp::BitAnd
         | BinaryOp::Less
@@ -207,20 +202,7 @@ fn skip(conjunction: bool, skipped: u32) -> Instr
     }
 }
 
-/// The name in `x == NULL` or `x != NULL`.
-fn tested_name<'a>(left: &'a Expr, right: &Expr) -> Option<&'a Name>
-    ensures equal { option_copied result ≡ null_tested (Binary Equal (expr_tree left.now) (expr_tree right.now)) }
-    ensures unequal { option_copied result ≡ null_tested (Binary NotEqual (expr_tree left.now) (expr_tree right.now)) }
-{
-    match left {
-        Expr::Variable(name) => match right {
-            Expr::Named(Constant::Null) => Some(name),
-            _ => None,
-        },
-        _ => None,
-    }
-}
-
+/// The comparison of a name with NULL, by `==` or by `!=`.
 fn emit_null_test(
     code: &mut Vec<Instr>,
     names: &Names<'_>,
@@ -240,26 +222,14 @@ fn emit_null_test(
 
 /// The variable of a slot, if it can be NULL.
 pub fn nullable(slot: Slot) -> Option<NullableVariable>
-    ensures { result ≡ nullable_of (sort_view slot.sort) slot.index }
+    ensures { result ≡ nullable_of (sort_value slot.sort) slot.index }
 {
     match slot.sort {
-        Sort::Reference => Some(NullableVariable::Local(slot.index)),
-        Sort::Static => Some(NullableVariable::Static(slot.index)),
+        Sort::Ref => Some(NullableVariable::Local(slot.index)),
+        Sort::Global => Some(NullableVariable::Static(slot.index)),
         Sort::FieldId => Some(NullableVariable::FieldId(slot.index)),
         Sort::Buffer(..) => Some(NullableVariable::Buffer(slot.index)),
-        Sort::Word | Sort::Jint | Sort::Flag | Sort::Array(..) => None,
-    }
-}
-
-/// The element type of an instruction.
-pub fn element_type(element: ElementType) -> instr::ElementType
-    ensures { result ≡ element_of (element_tree element) }
-{
-    match element {
-        ElementType::Jint => instr::ElementType::Int,
-        ElementType::Jshort => instr::ElementType::Short,
-        ElementType::Jbyte => instr::ElementType::Byte,
-        ElementType::Jchar => instr::ElementType::Char,
+        Sort::Word | Sort::Jint | Sort::Flag | Sort::Truth | Sort::Array(..) => None,
     }
 }
 

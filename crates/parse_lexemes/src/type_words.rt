@@ -2,7 +2,8 @@
 
 ghost use Rattle.std.specs.Prelude.{◌≡◌};
 ghost use Rattle.std.specs.Option.{option_map};
-ghost use Rattle.syntax.specs.Views.{reference_tree, result_tree, element_tree, parameter_type_tree, variable_type_tree};
+ghost use Rattle.base.specs.Element.{element_value};
+ghost use Rattle.syntax.specs.Views.{reference_tree, result_tree, parameter_type_tree, variable_type_tree};
 ghost use Rattle.parse_lexemes.specs.Lexemes.{views};
 ghost use Rattle.parse_lexemes.specs.Reading.{reference_of_word, result_of_word, element_of_word, parameter_of_word, variable_of_word, reference_type_at, result_type_at, element_type_at, parameter_type_at, variable_type_at};
 
@@ -46,13 +47,13 @@ fn result_of(word: Word) -> Option<ResultType>
 
 /// The element's type of a word.
 fn element_of(word: Word) -> Option<ElementType>
-    ensures { option_map element_tree result ≡ element_of_word word }
+    ensures { option_map element_value result ≡ element_of_word word }
 {
     match word {
-        Word::Jint => Some(ElementType::Jint),
-        Word::Jshort => Some(ElementType::Jshort),
-        Word::Jbyte => Some(ElementType::Jbyte),
-        Word::Jchar => Some(ElementType::Jchar),
+        Word::Jint => Some(ElementType::Int),
+        Word::Jshort => Some(ElementType::Short),
+        Word::Jbyte => Some(ElementType::Byte),
+        Word::Jchar => Some(ElementType::Char),
         _ => None,
     }
 }
@@ -108,7 +109,7 @@ pub fn result_type(lexemes: Cursor<'_>) -> Option<ResultType>
 
 /// The type of an element, where one comes next.
 pub fn element_type(lexemes: Cursor<'_>) -> Option<ElementType>
-    ensures { option_map element_tree result ≡ element_type_at (views lexemes.entry) }
+    ensures { option_map element_value result ≡ element_type_at (views lexemes.entry) }
 {
     match word_at(lexemes) {
         Some(word) => element_of(word),

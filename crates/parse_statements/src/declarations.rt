@@ -1,7 +1,8 @@
 //! Declarations of variables (ISO/IEC 9899:1999, 6.7).
 
 ghost use Rattle.std.specs.Prelude.{◌≡◌, ◌≤◌};
-ghost use Rattle.syntax.specs.Views.{element_tree, variable_type_tree, stmt_tree};
+ghost use Rattle.base.specs.Element.{element_value};
+ghost use Rattle.syntax.specs.Views.{variable_type_tree, stmt_tree};
 ghost use Rattle.parse_lexemes.specs.Results.{Gives};
 ghost use Rattle.parse_lexemes.specs.Lexemes.{views};
 ghost use Rattle.parse_statements.specs.Steps.{array_head_at};
@@ -60,7 +61,7 @@ fn array(
     element: ElementType,
     lexemes: Cursor<'_>,
 ) -> Result<(Stmt, Cursor<'_>), ParseFault>
-    ensures { Gives (λ x. (stmt_tree x.0, views x.1)) result (array_at line (element_tree element) (views lexemes.entry)) }
+    ensures { Gives (λ x. (stmt_tree x.0, views x.1)) result (array_at line (element_value element) (views lexemes.entry)) }
 {
     let (name, size, rest) = array_head(lexemes)?;
     let rest = zeros(rest)?;
@@ -73,11 +74,11 @@ fn array(
 
 /// Whether an array is declared after an element's type, of which `jint` alone is a variable's too.
 fn is_array(element: ElementType, lexemes: Cursor<'_>) -> bool
-    ensures { result ≡ is_array (element_tree element) (views lexemes.entry) }
+    ensures { result ≡ is_array (element_value element) (views lexemes.entry) }
 {
     match element {
-        ElementType::Jint => starts_with(Fixed::Mark(Mark::OpenBracket), rest_of(lexemes)),
-        ElementType::Jshort | ElementType::Jbyte | ElementType::Jchar => true,
+        ElementType::Int => starts_with(Fixed::Mark(Mark::OpenBracket), rest_of(lexemes)),
+        ElementType::Short | ElementType::Byte | ElementType::Char => true,
     }
 }
 
@@ -91,7 +92,7 @@ fn after_element(
     lexemes: Cursor<'_>,
 ) -> Result<(Stmt, Cursor<'_>), ParseFault>
     requires { room ≤ 32 }
-    ensures { Gives (λ x. (stmt_tree x.0, views x.1)) result (after_element room line (element_tree element) (views lexemes.entry)) }
+    ensures { Gives (λ x. (stmt_tree x.0, views x.1)) result (after_element room line (element_value element) (views lexemes.entry)) }
 {
     if starts_with(Fixed::Mark(Mark::Star), lexemes) {
         return match setting(alloc, room, rest_of(lexemes)) {

@@ -1,10 +1,9 @@
 -- A pass refuses the text of an accepted program for want of memory alone.
-use Rattle.std.proofs.Common.{◌≡◌, List, ℕ, IsTrue, Ok, refl, subst}
+use Rattle.std.proofs.Common.{◌≡◌, List, ℕ, Ok, refl, subst}
 use Rattle.syntax.specs.Tree.{SourceUnit}
 use Rattle.parse_lexemes.specs.declared.fault.ParseFault.{ParseFault}
 use Rattle.parse_lexemes.specs.declared.fault.ParseFault.TheVariants as parsing
 use Rattle.parse_lexemes.specs.Results.{Fails}
-use Rattle.type_rules.specs.BuiltCalls.{calls_are_built}
 use Rattle.type_rules.specs.SortRules.{IsSorted}
 use Rattle.region_rules.specs.Regions.{HasRegions}
 use Rattle.program_check.specs.declared.fault.RunError.TheVariants.{Memory}
@@ -19,9 +18,6 @@ parse_accepts unit (parsing.Found fault line) h = absurd (cc h)
 module _ (text : List ℕ) (unit found : SourceUnit) (p : IsProgram text unit) (same : unit ≡ found) where
   pub is_sorted : IsSorted found
   is_sorted = subst IsSorted same p.sorted
-
-  pub has_built_calls : IsTrue (calls_are_built found)
-  has_built_calls = subst (λ (u : SourceUnit). IsTrue (calls_are_built u)) same p.calls
 
   pub has_regions : HasRegions found
   has_regions = subst HasRegions same p.regions

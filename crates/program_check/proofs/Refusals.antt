@@ -1,5 +1,5 @@
 -- The fault of a pass is one that the text earns.
-use Rattle.std.proofs.Common.{◌≡◌, List, ℕ, Some, IsTrue}
+use Rattle.std.proofs.Common.{◌≡◌, List, ℕ, Some}
 use Rattle.syntax.specs.Tree.{SourceUnit}
 use Rattle.scan.specs.declared.token.Token.{Token}
 use Rattle.scan.specs.declared.fault.ScanFault.{ScanFault}
@@ -15,8 +15,7 @@ use Rattle.parse.specs.Spelling.{SpellsUnit}
 use Rattle.types.specs.declared.fault.TypeFault.{TypeFault}
 use Rattle.types.specs.declared.fault.TypeFault.TheVariants as sorting
 use Rattle.types.specs.Faults.{IfBroken, fault_of, rule_of}
-use Rattle.type_rules.specs.BuiltCalls.{calls_are_built, first_refused}
-use Rattle.type_rules.specs.SortRules.{IsSorted}
+use Rattle.type_rules.specs.SortRules.{IsSorted, first_broken}
 use Rattle.regions.specs.declared.fault.CheckFault.{CheckFault}
 use Rattle.regions.specs.declared.fault.CheckFault.TheVariants as region_checking
 use Rattle.region_rules.specs.FirstFaults.{IsFirstRegionFault}
@@ -33,10 +32,10 @@ pub parse_refusal : (text : List ℕ) (tokens : List Token) (f : ParseFault) →
 parse_refusal text tokens parsing.Memory s h = tt
 parse_refusal text tokens (parsing.Found fault line) s h = by_parse tokens fault line s h
 
-pub types_refusal : (text : List ℕ) (unit : SourceUnit) (f : TypeFault) → SpellsUnit text unit → IfBroken f (λ g. first_refused unit ≡ Some (fault_of g)) → IsRefusal text (of_types f)
+pub types_refusal : (text : List ℕ) (unit : SourceUnit) (f : TypeFault) → SpellsUnit text unit → IfBroken f (λ g. first_broken unit ≡ Some (fault_of g)) → IsRefusal text (of_types f)
 types_refusal text unit sorting.Memory s h = tt
 types_refusal text unit (sorting.Broken fault) s h = by_sorts unit (rule_of fault.rule) fault.line s h
 
-pub regions_refusal : (text : List ℕ) (unit : SourceUnit) (f : CheckFault) → SpellsUnit text unit → IsSorted unit → IsTrue (calls_are_built unit) → findings.IfBroken f (λ g. IsFirstRegionFault (findings.rule_of g.rule) g.line unit) → IsRefusal text (of_regions f)
-regions_refusal text unit region_checking.Memory s t b h = tt
-regions_refusal text unit (region_checking.Broken fault) s t b h = by_regions unit (findings.rule_of fault.rule) fault.line s t b h
+pub regions_refusal : (text : List ℕ) (unit : SourceUnit) (f : CheckFault) → SpellsUnit text unit → IsSorted unit → findings.IfBroken f (λ g. IsFirstRegionFault (findings.rule_of g.rule) g.line unit) → IsRefusal text (of_regions f)
+regions_refusal text unit region_checking.Memory s t h = tt
+regions_refusal text unit (region_checking.Broken fault) s t h = by_regions unit (findings.rule_of fault.rule) fault.line s t h

@@ -1,5 +1,5 @@
 -- Which program texts are accepted, and which fault another earns.
-use Rattle.std.specs.Prelude.{◌≡◌, ℕ, IsTrue, List, Some, Err}
+use Rattle.std.specs.Prelude.{◌≡◌, ℕ, List, Some, Err}
 use Rattle.syntax.specs.Tree.{SourceUnit}
 use Rattle.scan.specs.declared.token.Token.{Token}
 use Rattle.scan.specs.declared.fault.Fault.{Fault as BadToken}
@@ -13,17 +13,15 @@ use Rattle.parse_lexemes.specs.Faults as parse_faults
 use Rattle.parse_lexemes.specs.Lexemes.{lexemes}
 use Rattle.parse.specs.Reading.{unit_at}
 use Rattle.parse.specs.Spelling.{SpellsUnit}
-use Rattle.type_rules.specs.BuiltCalls.{calls_are_built, first_refused}
-use Rattle.type_rules.specs.SortRules.{SortRule, sort_rule_number, IsSorted}
+use Rattle.type_rules.specs.SortRules.{SortRule, sort_rule_number, IsSorted, first_broken}
 use Rattle.region_rules.specs.RegionRules.{RegionRule, region_rule_number}
 use Rattle.region_rules.specs.Regions.{HasRegions}
 use Rattle.region_rules.specs.FirstFaults.{IsFirstRegionFault}
 
--- the unit is the tree that the text spells, it keeps the rules of sorts and regions, and it calls functions that are built
+-- the unit is the tree that the text spells, and it keeps the rules of sorts and regions
 pub record IsProgram (text : List ℕ) (unit : SourceUnit) : Type 0 where
   pub spelled : SpellsUnit text unit
   pub sorted : IsSorted unit
-  pub calls : IsTrue (calls_are_built unit)
   pub regions : HasRegions unit
 
 -- The text is refused with this number at this line, by the first pass that finds a fault.
@@ -32,7 +30,7 @@ pub data IsRefusedProgram (text : List ℕ) : (number line : ℕ) → Type 0 whe
   by_scan : (fault : BadToken) (line : ℕ) → IsFirstFault text (scanning.Found fault line) → IsRefusedProgram text (scan_faults.number_of_kind fault) line
   -- its tokens form no tree
   by_parse : (tokens : List Token) (fault : BadForm) (line : ℕ) → Spells text tokens → unit_at (lexemes text 1 tokens) ≡ Err (parsing.Found fault line) → IsRefusedProgram text (parse_faults.number_of_kind fault) line
-  -- a rule of sorts is broken, or a function is called that is not built
-  by_sorts : (unit : SourceUnit) (rule : SortRule) (line : ℕ) → SpellsUnit text unit → first_refused unit ≡ Some (line, rule) → IsRefusedProgram text (sort_rule_number rule) line
+  -- a rule of sorts is broken
+  by_sorts : (unit : SourceUnit) (rule : SortRule) (line : ℕ) → SpellsUnit text unit → first_broken unit ≡ Some (line, rule) → IsRefusedProgram text (sort_rule_number rule) line
   -- a rule of regions is broken
-  by_regions : (unit : SourceUnit) (rule : RegionRule) (line : ℕ) → SpellsUnit text unit → IsSorted unit → IsTrue (calls_are_built unit) → IsFirstRegionFault rule line unit → IsRefusedProgram text (region_rule_number rule) line
+  by_regions : (unit : SourceUnit) (rule : RegionRule) (line : ℕ) → SpellsUnit text unit → IsSorted unit → IsFirstRegionFault rule line unit → IsRefusedProgram text (region_rule_number rule) line

@@ -1,10 +1,9 @@
 //! Units that are accepted.
 
-ghost use Rattle.std.specs.Prelude.{◌≡◌, IsTrue};
+ghost use Rattle.std.specs.Prelude.{◌≡◌};
 ghost use Rattle.syntax.specs.Limits.{IsTree};
 ghost use Rattle.syntax.specs.Views.{unit_tree};
 ghost use Rattle.type_rules.specs.SortRules.{IsSorted};
-ghost use Rattle.type_rules.specs.BuiltCalls.{calls_are_built};
 ghost use Rattle.region_rules.specs.Regions.{HasRegions};
 ghost use Rattle.region_rules.specs.Endings.{AreEnded};
 
@@ -49,7 +48,6 @@ impl Checked {
         ensures same { result.now ≡ self.now }
         ensures tree { IsTree (unit_tree result.now) }
         ensures sorted { IsSorted (unit_tree result.now) }
-        ensures calls { IsTrue (calls_are_built (unit_tree result.now)) }
         ensures regions { HasRegions (unit_tree result.now) }
         ensures ends { AreEnded (unit_tree result.now) }
     {

@@ -4,7 +4,8 @@ use Rattle.std.specs.Prelude.{reverse}
 use Rattle.std.proofs.lemmas.List.{reverse-append}
 use Rattle.base.specs.Bytes.{Identifier}
 use Rattle.syntax.specs.Tree.{Test, TestExpr, TestCall, ReferenceVariable, Stmt, Declare, DeclareBuffer, DeclareChars, Assign}
-use Rattle.region_states.specs.Changes.{Tested, IsNull, IsNotNull, taught_true, taught_false, null_test_of}
+use Rattle.syntax.specs.NullTests.{NullTest, null_test_of}
+use Rattle.region_states.specs.Changes.{taught_true, taught_false}
 use Rattle.region_rules.specs.RegionStates.{RegionState, VariableState, ReferenceAt, BufferIn, buffer_set_to, FunctionCall, Release, with_each, with_changed, with_some_changed, with_new, with_set, after_pop, after_release, after_call, release_of, deleted_name, pops, killed, killed_from, made_free, function_called, state_after}
 use Rattle.region_rules.specs.Regions.{where_true, where_false}
 use Rattle.region_states.specs.SameStates.{NamedState}
@@ -32,15 +33,13 @@ some_names state (Some x) change = changed_names state x change
 
 -- ---- tests
 
-true_names : (state : RegionState) (tested : Option Tested) → names_of (taught_true state tested) ≡ names_of state
+true_names : (state : RegionState) (tested : Option NullTest) → names_of (taught_true state tested) ≡ names_of state
 true_names state None = refl
-true_names state (Some (IsNull x)) = changed_names state x _
-true_names state (Some (IsNotNull x)) = changed_names state x _
+true_names state (Some test) = changed_names state test.name _
 
-false_names : (state : RegionState) (tested : Option Tested) → names_of (taught_false state tested) ≡ names_of state
+false_names : (state : RegionState) (tested : Option NullTest) → names_of (taught_false state tested) ≡ names_of state
 false_names state None = refl
-false_names state (Some (IsNull x)) = changed_names state x _
-false_names state (Some (IsNotNull x)) = changed_names state x _
+false_names state (Some test) = changed_names state test.name _
 
 pub where_true_names : (state : RegionState) (test : Test) → names_of (where_true state test) ≡ names_of state
 where_true_names state (TestExpr e) = ap names_of (true_is state e) ∙ true_names state (null_test_of e)

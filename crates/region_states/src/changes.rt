@@ -3,8 +3,8 @@
 ghost use Rattle.std.specs.Prelude.{◌≡◌, ℕ, true, false, bytes_eq, OnOk};
 ghost use Rattle.std.specs.List.{list_any};
 ghost use Rattle.std.specs.Option.{option_map};
-ghost use Rattle.syntax.specs.Views.{expr_tree, binary_tree, test_tree, form_tree};
-ghost use Rattle.type_rules.specs.Sorts.{is_null};
+ghost use Rattle.syntax.specs.NullTests.{null_test_value};
+ghost use Rattle.syntax.specs.Views.{test_tree, form_tree};
 ghost use Rattle.region_rules.specs.Regions.{where_true, where_false};
 ghost use Rattle.region_rules.specs.RegionStates.{ReferenceAt, BufferIn, buffer_from, with_new, with_changed, with_some_changed, after_release, killed, state_after};
 ghost use Rattle.region_states.specs.StatesInMemory.{names_of};
@@ -12,7 +12,7 @@ ghost use Rattle.region_states.specs.VariableChanges.{set_from};
 ghost use Rattle.region_states.specs.NewNames.{own_names, AreNew};
 ghost use Rattle.region_states.specs.StateEffects.{got, made_value, release_value};
 ghost use Rattle.region_states.specs.Judgements.{effected, settled};
-ghost use Rattle.region_states.specs.Changes.{variable_of, tested_by, null_test_of, test_value, taught_true, taught_false};
+ghost use Rattle.region_states.specs.Changes.{made, taught_true, taught_false};
 
 use crate::calls::{MadeCall, Release, called, deleted, got, popped, released};
 use crate::states::{StaticState, VariableState, add, frames};
@@ -20,16 +20,7 @@ use crate::variables::{
     Change, buffer_after, change_one, free_one, pop_frame, push_frame, set_one,
 };
 use std::alloc::AllocError;
-use syntax::{BinaryOp, Constant, Expr, Form, Name, Test, VariableType};
-
-/// A test of a variable for NULL.
-#[derive(Clone, Copy)]
-pub enum NullTest<'a> {
-    /// `x == NULL`
-    Is(&'a [u8]),
-    /// `x != NULL`
-    IsNot(&'a [u8]),
-}
+use syntax::{Form, Name, NullTest, Test, VariableType};
 
 /// A release frees its buffer, but not a copy that is committed.
 fn release<'a>(state: &mut StaticState<'a>, release: Option<Release<'a>>)
@@ -145,87 +136,33 @@ pub fn pass<'a>(state: &mut StaticState<'a>, form: &'a Form) -> Result<(), Alloc
     settle(state, form, call)
 }
 
-/// The bare name that an expression is.
-fn variable_of(e: &Expr) -> Option<&[u8]>
-    ensures { option_map (λ x. x.now) result ≡ variable_of (expr_tree e.now) }
+/// What is known of a variable that turned out to be NULL, or not.
+fn learn<'a>(state: &mut StaticState<'a>, name: &'a Name, null: bool)
+    ensures { state.new ≡ with_changed state.old name.now (made null) }
 {
-    match e {
-        Expr::Variable(x) => Some(x.as_bytes()),
-        Expr::Number { .. } => None,
-        Expr::Named(_) => None,
-        Expr::Element(..) => None,
-        Expr::Prefix(..) => None,
-        Expr::Binary(..) => None,
-        Expr::Paren(_) => None,
-    }
-}
-
-/// Whether an expression is NULL.
-fn is_null(e: &Expr) -> bool
-    ensures { result ≡ is_null (expr_tree e.now) }
-{
-    matches!(e, Expr::Named(Constant::Null))
-}
-
-/// What a comparison of this name with NULL tests.
-#[tactic(auto, using(crate::proofs::ChangeLemmas::test_rules))]
-fn tested_by(op: BinaryOp, name: Option<&[u8]>) -> Option<NullTest<'_>>
-    ensures { option_map test_value result ≡ tested_by (binary_tree op) (option_map (λ x. x.now) name.entry) true }
-{
-    match name {
-        Some(x) => match op {
-            BinaryOp::Equal => Some(NullTest::Is(x)),
-            BinaryOp::NotEqual => Some(NullTest::IsNot(x)),
-            _ => None,
-        },
-        None => None,
-    }
-}
-
-/// What a comparison of these operands tests.
-#[tactic(auto, using(crate::proofs::ChangeLemmas::test_rules))]
-fn comparison<'a>(op: BinaryOp, left: &'a Expr, right: &Expr) -> Option<NullTest<'a>>
-    ensures { option_map test_value result ≡ tested_by (binary_tree op) (variable_of (expr_tree left.now)) (is_null (expr_tree right.now)) }
-{
-    if is_null(right) {
-        return tested_by(op, variable_of(left));
-    }
-    None
-}
-
-/// What an expression tests for NULL as a whole.
-fn null_test(e: &Expr) -> Option<NullTest<'_>>
-    ensures { option_map test_value result ≡ null_test_of (expr_tree e.now) }
-{
-    match e {
-        Expr::Binary(op, operands) => comparison(*op, &operands.0, &operands.1),
-        Expr::Number { .. } => None,
-        Expr::Named(_) => None,
-        Expr::Variable(_) => None,
-        Expr::Element(..) => None,
-        Expr::Prefix(..) => None,
-        Expr::Paren(_) => None,
+    if null {
+        free_one(state, name.as_bytes());
+    } else {
+        change_one(state, name.as_bytes(), Change::Usable);
     }
 }
 
 /// What is known where the test holds.
 fn learn_true<'a>(state: &mut StaticState<'a>, tested: Option<NullTest<'a>>)
-    ensures { state.new ≡ taught_true state.old (option_map test_value tested.entry) }
+    ensures { state.new ≡ taught_true state.old (option_map null_test_value tested.entry) }
 {
     match tested {
-        Some(NullTest::Is(x)) => free_one(state, x),
-        Some(NullTest::IsNot(x)) => change_one(state, x, Change::Usable),
+        Some(test) => learn(state, test.name, test.equal),
         None => {}
     }
 }
 
 /// What is known where it does not.
 fn learn_false<'a>(state: &mut StaticState<'a>, tested: Option<NullTest<'a>>)
-    ensures { state.new ≡ taught_false state.old (option_map test_value tested.entry) }
+    ensures { state.new ≡ taught_false state.old (option_map null_test_value tested.entry) }
 {
     match tested {
-        Some(NullTest::Is(x)) => change_one(state, x, Change::Usable),
-        Some(NullTest::IsNot(x)) => free_one(state, x),
+        Some(test) => learn(state, test.name, !test.equal),
         None => {}
     }
 }
@@ -236,7 +173,7 @@ pub fn take_true<'a>(state: &mut StaticState<'a>, test: &'a Test) -> Result<(), 
 {
     match test {
         Test::Expr(e) => {
-            learn_true(state, null_test(e));
+            learn_true(state, e.null_test());
             Ok(())
         }
         Test::Call(_) => { push_frame(state) }
@@ -248,7 +185,7 @@ pub fn take_false<'a>(state: &mut StaticState<'a>, test: &'a Test)
     ensures { state.new ≡ where_false state.old (test_tree test.now) }
 {
     match test {
-        Test::Expr(e) => learn_false(state, null_test(e)),
+        Test::Expr(e) => learn_false(state, e.null_test()),
         Test::Call(_) => {}
     }
 }

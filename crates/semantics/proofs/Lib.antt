@@ -1,7 +1,7 @@
 pub mod AccountLaws
 pub mod HeapGrows
 pub mod NoObjects
-pub mod BuiltCalls
+pub mod NullTerms
 pub mod LiveSizes
 pub mod ReachableLemmas
 pub mod RunLaws

@@ -2,3 +2,4 @@ pub mod Tree
 pub mod Parts
 pub mod Limits
 pub mod Views
+pub mod NullTests

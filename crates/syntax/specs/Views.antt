@@ -1,6 +1,6 @@
 -- The trees that lie in memory, as trees of the language.
 use Rattle.std.specs.Prelude.{ℕ, List, [], ◌∷◌, map, Option, Some, None}
-use Rattle.base.specs.Element.{ElementType, JInt, JShort, JByte, JChar}
+use Rattle.base.specs.Element.{element_value}
 use Rattle.syntax.specs.declared.expr.Expr.{Expr as ExprInMemory}
 use Rattle.syntax.specs.declared.expr.Expr.TheVariants as expr
 use Rattle.syntax.specs.declared.expr.Constant.{Constant as ConstantInMemory}
@@ -18,8 +18,6 @@ use Rattle.syntax.specs.declared.call.Test.{Test as TestInMemory}
 use Rattle.syntax.specs.declared.call.Test.TheVariants as test
 use Rattle.syntax.specs.declared.declared_type.ReferenceType.{ReferenceType as ReferenceInMemory}
 use Rattle.syntax.specs.declared.declared_type.ReferenceType.TheVariants as reference
-use Rattle.syntax.specs.declared.declared_type.ElementType.{ElementType as ElementInMemory}
-use Rattle.syntax.specs.declared.declared_type.ElementType.TheVariants as element
 use Rattle.syntax.specs.declared.declared_type.ParameterType.{ParameterType as ParameterTypeInMemory}
 use Rattle.syntax.specs.declared.declared_type.ParameterType.TheVariants as parameter
 use Rattle.syntax.specs.declared.declared_type.VariableType.{VariableType as VariableTypeInMemory}
@@ -107,12 +105,6 @@ reference_tree reference.ByteArray = JByteArray
 reference_tree reference.CharArray = JCharArray
 reference_tree reference.ObjectArray = JObjectArray
 
-abbrev pub element_tree : ElementInMemory → ElementType
-element_tree element.Jint = JInt
-element_tree element.Jshort = JShort
-element_tree element.Jbyte = JByte
-element_tree element.Jchar = JChar
-
 abbrev pub parameter_type_tree : ParameterTypeInMemory → ParameterType
 parameter_type_tree parameter.Jint = IntParameter
 parameter_type_tree (parameter.Reference r) = ReferenceParameter (reference_tree r)
@@ -134,9 +126,9 @@ return_tree line (Some e) = ReturnValue line (expr_tree e)
 abbrev mutual
   pub form_tree : ℕ → Form → Stmt
   form_tree line (form.Declare t x r) = Declare line (variable_type_tree t) x (right_side_tree r)
-  form_tree line (form.DeclareBuffer t x r) = DeclareBuffer line (element_tree t) x (right_side_tree r)
+  form_tree line (form.DeclareBuffer t x r) = DeclareBuffer line (element_value t) x (right_side_tree r)
   form_tree line (form.DeclareChars x r) = DeclareChars line x (right_side_tree r)
-  form_tree line (form.DeclareArray t x size) = DeclareArray line (element_tree t) x size
+  form_tree line (form.DeclareArray t x size) = DeclareArray line (element_value t) x size
   form_tree line (form.Assign x r) = Assign line x (right_side_tree r)
   form_tree line (form.AssignElement x i e) = AssignElement line x (expr_tree i) (expr_tree e)
   form_tree line (form.Perform c) = Perform line (call_tree c)

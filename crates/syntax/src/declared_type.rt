@@ -25,19 +25,6 @@ pub enum ReferenceType {
     ObjectArray,
 }
 
-/// The type of the elements of a buffer or a local array (JNI Specification, chapter 3, "Primitive Types").
-#[derive(Clone, Copy)]
-pub enum ElementType {
-    /// `jint`
-    Jint,
-    /// `jshort`
-    Jshort,
-    /// `jbyte`
-    Jbyte,
-    /// `jchar`
-    Jchar,
-}
-
 /// The type of a parameter.
 #[derive(Clone, Copy)]
 pub enum ParameterType {

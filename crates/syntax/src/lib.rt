@@ -8,9 +8,10 @@ mod name;
 mod stmt;
 mod unit;
 
+pub use base::ElementType;
 pub use call::{Argument, Call, RightSide, Test};
-pub use declared_type::{ElementType, ParameterType, ReferenceType, VariableType};
-pub use expr::{BinaryOp, Constant, Expr, PrefixOp};
+pub use declared_type::{ParameterType, ReferenceType, VariableType};
+pub use expr::{BinaryOp, Constant, Expr, NullTest, PrefixOp};
 pub use name::Name;
 pub use stmt::{Block, Form, Stmt};
 pub use unit::{Function, Item, Parameter, ResultType, Static, Unit};

@@ -1,9 +1,10 @@
 //! Statements and blocks.
 
 use crate::call::{Call, RightSide, Test};
-use crate::declared_type::{ElementType, VariableType};
+use crate::declared_type::VariableType;
 use crate::expr::Expr;
 use crate::name::Name;
+use base::ElementType;
 
 /// Statements in braces.
 #[cycle(statements)]

@@ -1,5 +1,5 @@
 -- Which units are sorted: no rule is broken at any of their places.
-use Rattle.std.specs.Prelude.{◌≡◌, ℕ, Bool, true, false, not, ◌&&◌, ◌||◌, List, [], ◌∷◌, ◌++◌, length, map, Option, Some, None, bytes_eq, ◌==◌, filter, flat_map, Contains, IsTrue}
+use Rattle.std.specs.Prelude.{◌≡◌, ℕ, Bool, true, false, not, ◌&&◌, ◌||◌, List, [], ◌∷◌, ◌++◌, length, map, Option, Some, None, bytes_eq, ◌==◌, filter, flat_map, slice_get, Contains, IsTrue}
 use Rattle.std.specs.List.{list_any, list_all}
 use Rattle.std.specs.Option.{is_some, is_none, option_to_list}
 use Rattle.base.specs.Bytes.{Identifier}
@@ -281,6 +281,10 @@ broken_at place = map (λ rule. (place.line, rule)) (filter (λ rule. breaks rul
 -- the lines at which rules are broken, in text order and at one place the least number first
 abbrev pub broken : SourceUnit → List (ℕ × SortRule)
 broken unit = flat_map broken_at (places unit)
+
+-- the fault that is answered: of the first place, and there of the least number
+abbrev pub first_broken : SourceUnit → Option (ℕ × SortRule)
+first_broken unit = slice_get (broken unit) 0
 
 -- no rule on names and sorts is broken
 abbrev pub IsSorted : SourceUnit → Type 0

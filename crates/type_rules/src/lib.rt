@@ -3,8 +3,10 @@
 
 mod calls;
 mod known;
+mod sort;
 mod typed;
 
 pub use calls::own_call;
 pub use known::Known;
+pub use sort::{Sort, parameter_sort, variable_sort};
 pub use typed::Typed;

@@ -1,10 +1,9 @@
 //! Units whose names and sorts keep the rules.
 
-ghost use Rattle.std.specs.Prelude.{◌≡◌, IsTrue};
+ghost use Rattle.std.specs.Prelude.{◌≡◌};
 ghost use Rattle.syntax.specs.Limits.{IsTree};
 ghost use Rattle.syntax.specs.Views.{unit_tree};
 ghost use Rattle.type_rules.specs.SortRules.{IsSorted};
-ghost use Rattle.type_rules.specs.BuiltCalls.{calls_are_built};
 
 use std::marker::Model;
 use syntax::{Item, Unit};
@@ -16,14 +15,13 @@ pub struct Typed {
 }
 
 impl Model for Typed {
-    ghost use Rattle.std.specs.Prelude.{List, IsTrue};
+    ghost use Rattle.std.specs.Prelude.{List};
     ghost use Rattle.std.specs.Coded.{codes};
     ghost use Rattle.syntax.specs.declared.unit.Item.{Item};
     ghost use Rattle.syntax.specs.contracts.unit.Item as item;
     ghost use Rattle.syntax.specs.Limits.{IsTree};
     ghost use Rattle.syntax.specs.Views.{unit_tree};
     ghost use Rattle.type_rules.specs.SortRules.{IsSorted};
-    ghost use Rattle.type_rules.specs.BuiltCalls.{calls_are_built};
 
     ghost Value = { List Item };
 
@@ -31,14 +29,13 @@ impl Model for Typed {
 
     ghost view = { λ t. t.unit };
 
-    ghost invariant = { λ t. IsSorted (unit_tree t.unit) × IsTrue (calls_are_built (unit_tree t.unit)) };
+    ghost invariant = { λ t. IsSorted (unit_tree t.unit) };
 }
 
 impl Typed {
     /// A unit that is known to be sorted. `types` finds out.
     pub fn of(unit: Unit) -> Typed
-        requires sorted { IsSorted (unit_tree unit) }
-        requires calls { IsTrue (calls_are_built (unit_tree unit)) }
+        requires { IsSorted (unit_tree unit) }
         ensures { result ≡ unit }
     {
         Typed { unit }
@@ -49,7 +46,6 @@ impl Typed {
         ensures same { result.now ≡ self.now }
         ensures tree { IsTree (unit_tree result.now) }
         ensures sorted { IsSorted (unit_tree result.now) }
-        ensures calls { IsTrue (calls_are_built (unit_tree result.now)) }
     {
         self.unit.items()
     }

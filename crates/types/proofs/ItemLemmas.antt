@@ -10,10 +10,9 @@ use Rattle.syntax.specs.declared.unit.Item.{Item as ItemInMemory}
 use Rattle.syntax.specs.Parts.{parameter_names, item_name}
 use Rattle.syntax.specs.Tree.{Void, Item, StaticItem, FunctionItem}
 use Rattle.syntax.specs.Views.{parameter_type_tree, parameter_tree, function_tree, static_tree, item_tree, result_tree, block_tree}
-use Rattle.types.specs.declared.sort.Sort.{Sort as SortInMemory}
+use Rattle.type_rules.specs.declared.sort.Sort.{Sort as SortInMemory}
 use Rattle.type_rules.specs.Sorts.{Sort, Ref, Scope}
-use Rattle.type_rules.specs.SortRules.{Place, StaticForm, HeadForm, UnknownName, DeclaredTwice, has_name, has_repeated, parameter_sort, places_of, function_places, item_places}
-use Rattle.type_rules.specs.BuiltCalls.{refuses, refused_at}
+use Rattle.type_rules.specs.SortRules.{Place, StaticForm, HeadForm, UnknownName, DeclaredTwice, has_name, has_repeated, breaks, broken_at, parameter_sort, places_of, function_places, item_places}
 use Rattle.types.specs.Faults.{broken_if, found, scope_of, entry_scope, head_faults, own_places, with_static}
 use Rattle.types.proofs.RuleLemmas.{listed}
 use Rattle.types.proofs.PlaceLemmas.{found-none, found-append, found-next}
@@ -46,10 +45,10 @@ none_is (Some x) = refl
 head_place : List Identifier → Scope → FunctionInMemory → Place
 head_place taken statics f = record { line = f.line; known = statics; taken = taken; returns = result_tree f.result; form = HeadForm (function_tree f) }
 
-head : (taken : List Identifier) (statics : Scope) (f : FunctionInMemory) (entry : List Identifier) → parameter_names (function_tree f) ++ map (λ s. s.0) statics ≡ entry → refused_at (head_place taken statics f) ≡ head_faults taken entry f
+head : (taken : List Identifier) (statics : Scope) (f : FunctionInMemory) (entry : List Identifier) → parameter_names (function_tree f) ++ map (λ s. s.0) statics ≡ entry → broken_at (head_place taken statics f) ≡ head_faults taken entry f
 unfolding head_place
 head taken statics f entry e =
-    listed (λ rule. refuses rule (head_place taken statics f)) f.line
+    listed (λ rule. breaks rule (head_place taken statics f) (HeadForm (function_tree f))) f.line
     ∙ ap₂ (λ a names. broken_if a UnknownName f.line ++ (broken_if (has_name taken f.name || has_repeated names) DeclaredTwice f.line ++ [])) (none_is (unmangle f.name)) e
     ∙ ap (λ xs. broken_if (not (is_some (unmangle f.name))) UnknownName f.line ++ xs) (append-nil _)
 
@@ -71,8 +70,8 @@ static_place taken statics s = record { line = s.line; known = statics; taken = 
 pub found-static : (taken : List Identifier) (statics : Scope) (s : StaticInMemory) → found (own_places taken statics (StaticItem (static_tree s))) ≡ broken_if (has_name taken s.name) DeclaredTwice s.line
 unfolding static_place
 found-static taken statics s =
-    found-next (static_place taken statics s) [] ∙ ap (λ xs. refused_at (static_place taken statics s) ++ xs) found-none ∙ append-nil (refused_at (static_place taken statics s))
-    ∙ listed (λ rule. refuses rule (static_place taken statics s)) s.line ∙ append-nil (broken_if (has_name taken s.name) DeclaredTwice s.line)
+    found-next (static_place taken statics s) [] ∙ ap (λ xs. broken_at (static_place taken statics s) ++ xs) found-none ∙ append-nil (broken_at (static_place taken statics s))
+    ∙ listed (λ rule. breaks rule (static_place taken statics s) (StaticForm (static_tree s))) s.line ∙ append-nil (broken_if (has_name taken s.name) DeclaredTwice s.line)
 
 -- ---- items
 

@@ -10,10 +10,9 @@ use Rattle.syntax.specs.declared.stmt.Form.TheVariants as form
 use Rattle.syntax.specs.Parts.{line_of, own_call, used_names, assigned_name}
 use Rattle.syntax.specs.Tree.{Call, ResultType, Void, Stmt}
 use Rattle.syntax.specs.Views.{form_tree}
-use Rattle.jni.specs.JniFunction.{JniFunction, function_named, is_built_function}
+use Rattle.jni.specs.JniFunction.{function_named}
 use Rattle.type_rules.specs.Sorts.{Scope, is_unknown}
-use Rattle.type_rules.specs.SortRules.{UnknownName, UnknownFunction, sort_rules, breaks_sort_rule}
-use Rattle.type_rules.specs.BuiltCalls.{is_built_call, calls_unbuilt, refuses, refused_at}
+use Rattle.type_rules.specs.SortRules.{UnknownName, sort_rules, breaks_sort_rule, broken_at}
 use Rattle.types.specs.Faults.{statement_place, refused_of}
 use Rattle.type_rules.specs.Uses.{uses}
 use Rattle.types.proofs.RuleLemmas.{listed}
@@ -33,20 +32,8 @@ unknown_names known s =
     list_any-append (is_unknown known) (used_names s) (option_to_list (assigned_name s))
     ∙ ap₂ ◌||◌ (uses_is (is_unknown known) s) (any_of (is_unknown known) (assigned_name s))
 
--- a function that is not known is not built
-unknown_function : (o : Option JniFunction) → (is_none o || not (some_passes is_built_function o)) ≡ not (some_passes is_built_function o)
-unknown_function None = refl
-unknown_function (Some f) = refl
-
-unknown_call : (o : Option Call) → (some_passes (λ c. is_none (function_named c.function)) o || some_passes (λ c. not (is_built_call c)) o) ≡ some_passes (λ c. not (is_built_call c)) o
-unknown_call None = refl
-unknown_call (Some c) = unknown_function (function_named c.function)
-
-pub unknown_calls : (s : Stmt) → (breaks_sort_rule UnknownFunction [] [] Void s || calls_unbuilt s) ≡ some_passes (λ c. not (is_built_call c)) (own_call s)
-unknown_calls s = unknown_call (own_call s)
-
-pub statement-faults : (returns : ResultType) (known : Scope) (taken : List Identifier) (s : Stmt) → refused_at (statement_place returns known taken s) ≡ refused_of returns known taken s (line_of s) sort_rules
-statement-faults returns known taken s = listed (λ rule. refuses rule (statement_place returns known taken s)) (line_of s)
+pub statement-faults : (returns : ResultType) (known : Scope) (taken : List Identifier) (s : Stmt) → broken_at (statement_place returns known taken s) ≡ refused_of returns known taken s (line_of s) sort_rules
+statement-faults returns known taken s = listed (λ rule. breaks_sort_rule rule known taken returns s) (line_of s)
 
 -- a statement in memory has its line
 pub line-of : (line : ℕ) (f : FormInMemory) → line_of (form_tree line f) ≡ line

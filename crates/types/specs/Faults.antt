@@ -6,17 +6,16 @@ use Rattle.class_rules.specs.Mangling.{unmangle}
 use Rattle.syntax.specs.declared.unit.Function.{Function as FunctionInMemory}
 use Rattle.syntax.specs.Parts.{line_of, statements_of, names_declared}
 use Rattle.syntax.specs.Tree.{ResultType, Void, Stmt, If, IfElse, While, Item, StaticItem, FunctionItem}
-use Rattle.syntax.specs.Views.{element_tree, parameter_type_tree}
+use Rattle.syntax.specs.Views.{parameter_type_tree}
 use Rattle.types.specs.declared.fault.Fault.{Fault}
 use Rattle.types.specs.declared.fault.SortRule.{SortRule as RuleInMemory}
 use Rattle.types.specs.declared.fault.SortRule.TheVariants as rules
 use Rattle.types.specs.declared.fault.TypeFault.{TypeFault}
 use Rattle.types.specs.declared.fault.TypeFault.TheVariants.{Memory, Broken}
-use Rattle.types.specs.declared.sort.Sort.{Sort as SortInMemory}
-use Rattle.types.specs.declared.sort.Sort.TheVariants as sorts
-use Rattle.type_rules.specs.Sorts.{Sort, Word, Jint, Flag, Truth, Ref, Global, FieldId, Buffer, Array, Scope}
-use Rattle.type_rules.specs.SortRules.{SortRule, UnknownName, DeclaredTwice, SortMisfit, UnknownFunction, ArgumentCount, ReferenceCopied, BadMode, ReadOnlyWrite, Place, StaticForm, StatementForm, places_of, function_places, has_name, has_repeated, parameter_sort}
-use Rattle.type_rules.specs.BuiltCalls.{refuses, refused_at}
+use Rattle.type_rules.specs.declared.sort.Sort.{Sort as SortInMemory}
+use Rattle.type_rules.specs.Sorts.{Ref, Global, Scope}
+use Rattle.type_rules.specs.SortViews.{sort_value}
+use Rattle.type_rules.specs.SortRules.{SortRule, UnknownName, DeclaredTwice, SortMisfit, UnknownFunction, ArgumentCount, ReferenceCopied, BadMode, ReadOnlyWrite, Place, StaticForm, StatementForm, breaks_sort_rule, broken_at, places_of, function_places, has_name, has_repeated, parameter_sort}
 
 -- the rule of the definitions
 abbrev pub rule_of : RuleInMemory → SortRule
@@ -32,18 +31,6 @@ rule_of rules.ReadOnlyWrite = ReadOnlyWrite
 -- the line and the rule
 abbrev pub fault_of : Fault → ℕ × SortRule
 fault_of f = (f.line, rule_of f.rule)
-
--- the sort of the definitions
-abbrev pub sort_value : SortInMemory → Sort
-sort_value sorts.Word = Word
-sort_value sorts.Jint = Jint
-sort_value sorts.Flag = Flag
-sort_value sorts.Truth = Truth
-sort_value sorts.Ref = Ref
-sort_value sorts.Global = Global
-sort_value sorts.FieldId = FieldId
-sort_value (sorts.Buffer t writable) = Buffer (element_tree t) writable
-sort_value (sorts.Array t size) = Array (element_tree t) size
 
 -- the names that are known
 abbrev pub scope_of : ByName SortInMemory → Scope
@@ -84,7 +71,7 @@ broken_if false rule line = []
 
 -- what is refused at places, in their order
 unfoldable pub found : List Place → Faults
-found places = flat_map refused_at places
+found places = flat_map broken_at places
 
 -- the place of a statement of a function with this result, where these names are known and these are taken
 abbrev pub statement_place : ResultType → Scope → List Identifier → Stmt → Place
@@ -92,7 +79,7 @@ statement_place returns known taken s = record { line = line_of s; known = known
 
 -- what is refused at a statement on this line of these rules, one after the other
 abbrev pub refused_of : ResultType → Scope → List Identifier → Stmt → ℕ → List SortRule → Faults
-refused_of returns known taken s line rules = flat_map (λ rule. broken_if (refuses rule (statement_place returns known taken s)) rule line) rules
+refused_of returns known taken s line rules = flat_map (λ rule. broken_if (breaks_sort_rule rule known taken returns s) rule line) rules
 
 -- the places inside a statement
 abbrev pub places_inside : ResultType → Scope → List Identifier → Stmt → List Place

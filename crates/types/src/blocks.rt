@@ -8,10 +8,9 @@ ghost use Rattle.types.specs.Faults.{Finds, IsAbove, scope_of, found, places_ins
 
 use crate::fault::TypeFault;
 use crate::scope::take;
-use crate::sort::Sort;
 use crate::statements::{check_statement, declared};
 use syntax::{Block, Form, Name, ResultType};
-use type_rules::Known;
+use type_rules::{Known, Sort};
 
 /// The name that a statement declares is known and taken.
 fn declare<'a>(

@@ -6,21 +6,19 @@ ghost use Rattle.std.specs.Option.{option_map};
 ghost use Rattle.syntax.specs.Parts.{call_expressions};
 ghost use Rattle.syntax.specs.Views.{expr_tree, argument_tree, call_tree};
 ghost use Rattle.base.specs.Options.{some_passes};
-ghost use Rattle.jni.specs.JniFunction.{is_built_function};
 ghost use Rattle.type_rules.specs.Sorts.{is_unknown, is_null, is_reference, name_sort, value_fits, address_fits, text_fits, argument_fits, arguments_fit, call_arguments_fit};
 ghost use Rattle.type_rules.specs.SortRules.{is_formed, is_mode, modes_fit, has_wrong_count, has_wrong_mode, result_fits, is_droppable, is_push, call_fits, may_be_dropped, may_be_tested};
 ghost use Rattle.jni.specs.Table.{function_value, parameter_value, result_value};
-ghost use Rattle.types.specs.Faults.{scope_of, sort_value};
+ghost use Rattle.type_rules.specs.SortViews.{sort_value};
+ghost use Rattle.types.specs.Faults.{scope_of};
 ghost use Rattle.type_rules.specs.Uses.{argument_uses, call_uses};
 
 use crate::expressions::{has_unknown, is_formed, is_null, name_sort, sort_of};
 use crate::scope::{is_unknown, sort_in};
-use crate::sort::{
-    Sort, is_array_of, is_buffer_for, is_field, is_flag, is_global, is_jint, is_ref,
-};
+use crate::sort::{is_array_of, is_buffer_for, is_field, is_flag, is_global, is_jint, is_ref};
 use jni::{JniFunction, ParameterKind, ResultKind};
 use syntax::{Argument, Call, Constant, Expr, Name};
-use type_rules::Known;
+use type_rules::{Known, Sort};
 
 /// Whether an expression is NULL or the bare name of a reference.
 fn is_reference(known: &Known<'_, Sort>, e: &Expr) -> bool
@@ -130,16 +128,6 @@ pub(crate) fn call_arguments_fit(
     match function {
         None => true,
         Some(f) => arguments_fit(known, f.prototype().parameters, &call.arguments),
-    }
-}
-
-/// Whether a function is known, and can be called today.
-pub(crate) fn is_built(function: Option<JniFunction>) -> bool
-    ensures { result ≡ some_passes is_built_function (option_map function_value function) }
-{
-    match function {
-        None => false,
-        Some(f) => f.prototype().built,
     }
 }
 

@@ -3,19 +3,19 @@
 ghost use Rattle.std.specs.Prelude.{◌≡◌, ◌&&◌, ◌||◌, if◌then◌else◌};
 ghost use Rattle.std.specs.Option.{option_map, is_some};
 ghost use Rattle.syntax.specs.Parts.{null_tested};
-ghost use Rattle.syntax.specs.Tree.{Binary};
 ghost use Rattle.syntax.specs.Views.{expr_tree, constant_tree, prefix_tree, binary_tree};
 ghost use Rattle.type_rules.specs.Sorts.{is_word, is_jint, sort_of, constant_sort, prefix_sort, binary_sort, group, null_test_sort, is_null, name_sort, is_unknown};
 ghost use Rattle.type_rules.specs.SortRules.{is_formed};
-ghost use Rattle.types.specs.Faults.{sort_value, scope_of};
+ghost use Rattle.type_rules.specs.SortViews.{sort_value};
+ghost use Rattle.types.specs.Faults.{scope_of};
 ghost use Rattle.type_rules.specs.Uses.{expr_uses};
 
 use crate::scope::{is_unknown, sort_in};
 use crate::sort::{
-    Sort, has_elements, is_castable, is_flag, is_index, is_jint, is_nullable, is_truth, is_word,
+    has_elements, is_castable, is_flag, is_index, is_jint, is_nullable, is_truth, is_word,
 };
 use syntax::{BinaryOp, Constant, Expr, PrefixOp};
-use type_rules::Known;
+use type_rules::{Known, Sort};
 
 /// The flags; NULL and the modes have no sort.
 fn constant_sort(constant: Constant) -> Option<Sort>
@@ -88,13 +88,14 @@ pub(crate) fn name_sort(known: &Known<'_, Sort>, e: &Expr) -> Option<Sort>
     }
 }
 
-/// Whether an operator compares a bare name with NULL.
-fn is_null_test(known: &Known<'_, Sort>, op: BinaryOp, left: &Expr, right: &Expr) -> bool
-    ensures { result ≡ is_some (null_test_sort (scope_of known.now) (null_tested (Binary (binary_tree op) (expr_tree left.now) (expr_tree right.now)))) }
+/// Whether an expression compares a bare name, which may be NULL, with NULL.
+fn is_null_test(known: &Known<'_, Sort>, e: &Expr) -> bool
+    ensures { result ≡ is_some (null_test_sort (scope_of known.now) (null_tested (expr_tree e.now))) }
 {
-    matches!(op, BinaryOp::Equal | BinaryOp::NotEqual)
-        && is_null(right)
-        && is_nullable(name_sort(known, left))
+    match e.null_test() {
+        Some(test) => is_nullable(sort_in(known, test.name)),
+        None => false,
+    }
 }
 
 /// The sort of an expression, if it has one.
@@ -112,7 +113,7 @@ pub(crate) fn sort_of(known: &Known<'_, Sort>, e: &Expr) -> Option<Sort>
         Expr::Prefix(op, a) => prefix_sort(*op, sort_of(known, a)),
         Expr::Binary(op, operands) => {
             let (left, right) = &**operands;
-            if is_null_test(known, *op, left, right) {
+            if is_null_test(known, e) {
                 return Some(Sort::Truth);
             }
             binary_sort(*op, sort_of(known, left), sort_of(known, right))

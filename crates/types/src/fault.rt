@@ -18,7 +18,7 @@ pub enum SortRule {
     DeclaredTwice,
     /// A sort does not fit.
     SortMisfit,
-    /// A call is of no function of the JNI (JNI Specification, chapter 4), or of one that can't be called today.
+    /// A call is of no function of the JNI (JNI Specification, chapter 4).
     UnknownFunction,
     /// A call has another number of arguments than its function has parameters.
     ArgumentCount,

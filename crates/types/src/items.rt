@@ -4,16 +4,16 @@ ghost use Rattle.std.specs.Prelude.{◌≡◌, ◌∷◌, ◌++◌, OnOk, map};
 ghost use Rattle.syntax.specs.Parts.{item_name};
 ghost use Rattle.syntax.specs.Views.{block_tree, function_tree, item_tree, result_tree};
 ghost use Rattle.type_rules.specs.SortRules.{DeclaredTwice, has_name, places_of, function_places, item_places};
-ghost use Rattle.types.specs.Faults.{Finds, broken_if, scope_of, sort_value, found, head_faults, own_places, with_static};
+ghost use Rattle.type_rules.specs.SortViews.{sort_value};
+ghost use Rattle.types.specs.Faults.{Finds, broken_if, scope_of, found, head_faults, own_places, with_static};
 
 use crate::blocks::check_block;
 use crate::fault::{SortRule, TypeFault, refuse_if};
 use crate::scope::{enter, has_name, has_repeated};
-use crate::sort::Sort;
 use class_rules::mangling::is_mangled;
 use std::alloc::{AllocError, Global};
 use syntax::{Function, Item, Name, Static};
-use type_rules::Known;
+use type_rules::{Known, Sort};
 
 /// The head of a function after items of these names, where its parameters and the statics have those.
 fn check_head(names: &[Name], entry: &[Name], f: &Function) -> Result<(), TypeFault>

@@ -5,12 +5,12 @@ ghost use Rattle.std.specs.Option.{option_map};
 ghost use Rattle.type_rules.specs.Sorts.{sort_in, is_unknown};
 ghost use Rattle.type_rules.specs.SortRules.{has_name, has_repeated, parameter_sort};
 ghost use Rattle.syntax.specs.Views.{parameter_type_tree};
-ghost use Rattle.types.specs.Faults.{IsAbove, scope_of, sort_value, entry_scope};
+ghost use Rattle.type_rules.specs.SortViews.{sort_value};
+ghost use Rattle.types.specs.Faults.{IsAbove, scope_of, entry_scope};
 
-use crate::sort::{Sort, parameter_sort};
 use std::alloc::AllocError;
 use syntax::{Function, Name, Parameter};
-use type_rules::Known;
+use type_rules::{Known, Sort, parameter_sort};
 
 /// Whether two names are spelled alike.
 fn is_same(a: &Name, b: &Name) -> bool

@@ -1,37 +1,15 @@
-//! Sorts of names and expressions.
+//! Tests of sorts.
 
 ghost use Rattle.std.specs.Prelude.{◌≡◌};
 ghost use Rattle.std.specs.Option.{option_map};
-ghost use Rattle.syntax.specs.Views.{element_tree, variable_type_tree, parameter_type_tree};
+ghost use Rattle.base.specs.Element.{element_value};
 ghost use Rattle.type_rules.specs.Sorts.{is_word, is_jint, is_flag, is_truth, is_ref, is_global, is_field, is_index, is_castable, has_elements, is_nullable, is_array_of, is_buffer_for, is_read_only};
-ghost use Rattle.type_rules.specs.SortRules.{variable_sort, parameter_sort};
 ghost use Rattle.jni.specs.Table.{access_value};
-ghost use Rattle.types.specs.Faults.{sort_value};
+ghost use Rattle.type_rules.specs.SortViews.{sort_value};
 
 use jni::{Access, is_same_element};
-use syntax::{ElementType, ParameterType, VariableType};
-
-/// What a name or an expression is.
-#[derive(Clone, Copy)]
-pub(crate) enum Sort {
-    /// A number from 0 to 4294967295.
-    Word,
-    /// A number from -2147483648 to 2147483647.
-    Jint,
-    /// A `jboolean`.
-    Flag,
-    /// What comparisons and logic give, which no variable holds.
-    Truth,
-    /// A local reference.
-    Ref,
-    /// A reference that all functions share.
-    Global,
-    FieldId,
-    /// A buffer, and whether it may be written.
-    Buffer(ElementType, bool),
-    /// A local array, and its size.
-    Array(ElementType, u32),
-}
+use syntax::ElementType;
+use type_rules::Sort;
 
 pub(crate) fn is_word(sort: Option<Sort>) -> bool
     ensures { result ≡ is_word (option_map sort_value sort) }
@@ -115,7 +93,7 @@ pub(crate) fn is_read_only(sort: Option<Sort>) -> bool
 
 /// A local array of this type.
 pub(crate) fn is_array_of(element: ElementType, sort: Option<Sort>) -> bool
-    ensures { result ≡ is_array_of (element_tree element) (option_map sort_value sort) }
+    ensures { result ≡ is_array_of (element_value element) (option_map sort_value sort) }
 {
     match sort {
         Some(Sort::Array(other, _)) => is_same_element(element, other),
@@ -137,32 +115,9 @@ pub(crate) fn is_buffer_for(access: Access, sort: Option<Sort>) -> bool
         Some(Sort::Buffer(element, false)) => match access {
             Access::ElementsCopy(_) => false,
             Access::ArrayView => false,
-            Access::CharsCopy => is_same_element(ElementType::Jchar, element),
-            Access::CharsView => is_same_element(ElementType::Jchar, element),
+            Access::CharsCopy => is_same_element(ElementType::Char, element),
+            Access::CharsView => is_same_element(ElementType::Char, element),
         },
         _ => false,
-    }
-}
-
-/// The sort of a declared variable.
-pub(crate) fn variable_sort(kind: VariableType) -> Sort
-    ensures { sort_value result ≡ variable_sort (variable_type_tree kind) }
-{
-    match kind {
-        VariableType::Uint32 => Sort::Word,
-        VariableType::Jint | VariableType::Jsize => Sort::Jint,
-        VariableType::Jboolean => Sort::Flag,
-        VariableType::JfieldId => Sort::FieldId,
-        VariableType::Reference(_) => Sort::Ref,
-    }
-}
-
-/// The sort of a parameter.
-pub(crate) fn parameter_sort(kind: ParameterType) -> Sort
-    ensures { sort_value result ≡ parameter_sort (parameter_type_tree kind) }
-{
-    match kind {
-        ParameterType::Jint => Sort::Jint,
-        ParameterType::Reference(_) => Sort::Ref,
     }
 }

@@ -10,26 +10,25 @@ ghost use Rattle.syntax.specs.Views.{expr_tree, right_side_tree, test_tree, form
 ghost use Rattle.jni.specs.JniFunction.{function_named};
 ghost use Rattle.jni.specs.Table.{function_value};
 ghost use Rattle.type_rules.specs.Sorts.{sort_in, is_unknown, sort_of, has_elements, is_index, is_jint, call_arguments_fit};
-ghost use Rattle.type_rules.specs.SortRules.{is_formed, value_sets, right_side_sets, buffer_begins, test_fits, return_fits, statement_fits, copies_reference, sort_rules, UnknownName, DeclaredTwice, SortMisfit, UnknownFunction, ArgumentCount, ReferenceCopied, BadMode, ReadOnlyWrite, breaks_sort_rule};
-ghost use Rattle.type_rules.specs.BuiltCalls.{calls_unbuilt, refused_at};
+ghost use Rattle.type_rules.specs.SortRules.{is_formed, value_sets, right_side_sets, buffer_begins, test_fits, return_fits, statement_fits, copies_reference, sort_rules, UnknownName, DeclaredTwice, SortMisfit, UnknownFunction, ArgumentCount, ReferenceCopied, BadMode, ReadOnlyWrite, breaks_sort_rule, broken_at};
 ghost use Rattle.types.specs.Called.{function_in, call_of_test, declared};
-ghost use Rattle.types.specs.Faults.{scope_of, sort_value, Finds, statement_place, refused_of};
+ghost use Rattle.type_rules.specs.SortViews.{sort_value};
+ghost use Rattle.types.specs.Faults.{scope_of, Finds, statement_place, refused_of};
 ghost use Rattle.type_rules.specs.Uses.{right_uses, test_uses, uses};
 
 use crate::calls::{
     call_arguments_fit, call_fits, call_formed, call_unknown, has_wrong_count, has_wrong_mode,
-    is_built, may_be_dropped, may_be_tested,
+    may_be_dropped, may_be_tested,
 };
 use crate::expressions::{has_unknown, is_null, name_sort, sort_of};
 use crate::fault::{SortRule, TypeFault, refuse_if};
 use crate::scope::{has_name, is_unknown, sort_in};
 use crate::sort::{
-    Sort, has_elements, is_flag, is_index, is_jint, is_read_only, is_ref, is_truth, is_word,
-    variable_sort,
+    has_elements, is_flag, is_index, is_jint, is_read_only, is_ref, is_truth, is_word,
 };
 use jni::{JniFunction, function_named};
 use syntax::{Call, ElementType, Expr, Form, Name, ResultType, RightSide, Stmt, Test};
-use type_rules::{Known, own_call};
+use type_rules::{Known, Sort, own_call, variable_sort};
 
 /// The function that a statement calls, if it is known.
 fn function_called(form: &Form) -> Option<JniFunction>
@@ -110,7 +109,7 @@ pub(crate) fn declared(form: &Form) -> Option<(&Name, Sort)>
     match form {
         Form::Declare(t, x, _) => Some((x, variable_sort(*t))),
         Form::DeclareBuffer(t, x, _) => Some((x, Sort::Buffer(*t, true))),
-        Form::DeclareChars(x, _) => Some((x, Sort::Buffer(ElementType::Jchar, false))),
+        Form::DeclareChars(x, _) => Some((x, Sort::Buffer(ElementType::Char, false))),
         Form::DeclareArray(t, x, size) => Some((x, Sort::Array(*t, *size))),
         _ => None,
     }
@@ -212,7 +211,7 @@ fn statement_fits(
         Form::Declare(t, _, r) => { right_side_sets(known, Some(variable_sort(*t)), r, function) }
         Form::DeclareBuffer(t, _, r) => buffer_begins(Sort::Buffer(*t, true), r, function),
         Form::DeclareChars(_, r) => {
-            buffer_begins(Sort::Buffer(ElementType::Jchar, false), r, function)
+            buffer_begins(Sort::Buffer(ElementType::Char, false), r, function)
         }
         Form::DeclareArray(..) => true,
         Form::Assign(x, r) => right_side_sets(known, sort_in(known, x), r, function),
@@ -251,14 +250,13 @@ fn misfits(
     !statement_fits(known, returns, form, function) || call_misfits(known, form, function)
 }
 
-/// Whether a statement calls a function that is not known, or can't be called today.
-#[tactic(auto, using(crate::proofs::StatementLemmas::unknown_calls))]
+/// Whether a statement calls a function that is not known.
 fn calls_unknown(form: &Form, function: Option<JniFunction>) -> bool
     requires { (line : ℕ) → option_map function_value function ≡ function_in (own_call (form_tree line form.now)) }
-    ensures { (line : ℕ) → result ≡ (breaks_sort_rule UnknownFunction [] [] Void (form_tree line form.now) || calls_unbuilt (form_tree line form.now)) }
+    ensures { (line : ℕ) → result ≡ breaks_sort_rule UnknownFunction [] [] Void (form_tree line form.now) }
 {
     match own_call(form) {
-        Some(_) => !is_built(function),
+        Some(_) => function.is_none(),
         None => false,
     }
 }
@@ -390,7 +388,7 @@ pub(crate) fn check_statement(
     returns: ResultType,
     stmt: &Stmt,
 ) -> Result<(), TypeFault>
-    ensures { Finds result (refused_at (statement_place (result_tree returns) (scope_of known.now) taken.now (stmt_tree stmt.now))) }
+    ensures { Finds result (broken_at (statement_place (result_tree returns) (scope_of known.now) taken.now (stmt_tree stmt.now))) }
 {
     check_form(known, taken, returns, &stmt.form, stmt.line)
 }

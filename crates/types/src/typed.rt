@@ -1,9 +1,8 @@
 //! Whether a unit keeps the rules on names and sorts.
 
-ghost use Rattle.std.specs.Prelude.{◌≡◌, IfOk, IfErr, IsOkUnless, IsTrue, Some};
+ghost use Rattle.std.specs.Prelude.{◌≡◌, IfOk, IfErr, IsOkUnless, Some};
 ghost use Rattle.syntax.specs.Views.{unit_tree};
-ghost use Rattle.type_rules.specs.SortRules.{IsSorted};
-ghost use Rattle.type_rules.specs.BuiltCalls.{calls_are_built, refused, first_refused, EarnsSortFault};
+ghost use Rattle.type_rules.specs.SortRules.{IsSorted, BreaksSortRule, broken, first_broken};
 ghost use Rattle.types.specs.Faults.{Finds, IfBroken, fault_of, rule_of};
 
 use crate::fault::TypeFault;
@@ -13,27 +12,25 @@ use syntax::Unit;
 use type_rules::{Known, Typed};
 
 fn check_unit(alloc: Global, unit: &Unit) -> Result<(), TypeFault>
-    ensures { Finds result (refused (unit_tree unit.now)) }
+    ensures { Finds result (broken (unit_tree unit.now)) }
 {
     check_items(&mut Vec::new(alloc), &mut Known::new(alloc), unit.items())
 }
 
-/// The unit, where it keeps the rules on names and sorts, and calls functions that can be called today. A statement's
-/// expressions are read once for each rule; each name is compared with those that are known, which are 512 at most with
-/// the statics, and each item's name with those of the items before it.
+/// The unit, where it keeps the rules on names and sorts. A statement's expressions are read once for each rule; each
+/// name is compared with those that are known, which are 512 at most with the statics, and each item's name with those of
+/// the items before it.
 #[tactic(auto, using(crate::proofs::UnitLemmas::unit_rules))]
 pub fn type_unit(alloc: Global, unit: Unit) -> Result<Typed, TypeFault>
-    // A unit that is answered is the one given, it is sorted, and each of its calls is of a function that is built.
+    // A unit that is answered is the one given, and it is sorted.
     ensures same { IfOk result (λ t. t ≡ unit) }
     ensures sorted { IfOk result (λ _. IsSorted (unit_tree unit)) }
-    ensures calls { IfOk result (λ _. IsTrue (calls_are_built (unit_tree unit))) }
     // Such a unit is answered, unless memory runs out.
-    ensures only { IsSorted (unit_tree unit) → IsTrue (calls_are_built (unit_tree unit)) → IsOkUnless result TypeFault.Memory }
-    // The fault is the first in text order, and at one statement the one of the least number: a broken rule, or 24 for a
-    // call of a function that is not built.
-    ensures first { IfErr result (λ e. IfBroken e (λ f. first_refused (unit_tree unit) ≡ Some (fault_of f))) }
-    // Its rule is broken on its line, or a function that is not built is called there.
-    ensures earned { IfErr result (λ e. IfBroken e (λ f. EarnsSortFault (rule_of f.rule) f.line (unit_tree unit))) }
+    ensures only { IsSorted (unit_tree unit) → IsOkUnless result TypeFault.Memory }
+    // The fault is the first in text order, and at one statement the one of the least number.
+    ensures first { IfErr result (λ e. IfBroken e (λ f. first_broken (unit_tree unit) ≡ Some (fault_of f))) }
+    // Its rule is broken on its line.
+    ensures earned { IfErr result (λ e. IfBroken e (λ f. BreaksSortRule (rule_of f.rule) f.line (unit_tree unit))) }
 {
     check_unit(alloc, &unit)?;
     Ok(Typed::of(unit))

@@ -3,8 +3,7 @@
 ghost use Rattle.std.specs.Prelude.{◌≡◌, None, map, OnOk, IfOk, IsTrue};
 ghost use Rattle.std.specs.List.{list_all};
 ghost use Rattle.std.specs.Option.{option_map};
-ghost use Rattle.base.specs.Element.{JInt};
-ghost use Rattle.classes.specs.Views.{element_view};
+ghost use Rattle.base.specs.Element.{JInt, element_value};
 ghost use Rattle.world.specs.Gathered.{least_rule, with_line, call_with};
 ghost use Rattle.world.specs.GatheredViews.{gathered_of};
 ghost use Rattle.world_lines.specs.LineViews.{value_view, line_view};
@@ -57,8 +56,8 @@ impl WorldBuilder {
     }
 
     fn take_array(&mut self, alloc: Global, array: &ArrayWords) -> Result<(), AllocError>
-        requires { least_rule (gathered_of self.old) (ArrayLine array.now.name.now (element_view array.now.element) (map value_view array.now.values.items)) ≡ None }
-        ensures { OnOk result (gathered_of self.new ≡ with_line (gathered_of self.old) 0 (ArrayLine array.now.name.now (element_view array.now.element) (map value_view array.now.values.items))) }
+        requires { least_rule (gathered_of self.old) (ArrayLine array.now.name.now (element_value array.now.element) (map value_view array.now.values.items)) ≡ None }
+        ensures { OnOk result (gathered_of self.new ≡ with_line (gathered_of self.old) 0 (ArrayLine array.now.name.now (element_value array.now.element) (map value_view array.now.values.items))) }
     {
         let class = number_array(array.element);
         self.put_values(alloc, array.name, class, &array.values)

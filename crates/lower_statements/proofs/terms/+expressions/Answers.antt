@@ -1,7 +1,12 @@
-use Rattle.std.proofs.Common.{◌≡◌, ℕ, ◌-◌, ◌<◌, Bool, Box, Global, List, [], ◌∷◌, ◌++◌, length, refl, ◌∙◌, ap, rules, arith, length-append}
+use Rattle.std.proofs.Common.{◌≡◌, ℕ, ◌-◌, ◌<◌, Bool, Box, Global, List, [], ◌∷◌, ◌++◌, length, Option, None, refl, sym, ◌∙◌, ap, rules, arith, length-append}
 use Rattle.std.specs.Prelude.{slice_set, vec_len}
+use Rattle.std.specs.Option.{option_map}
 use Rattle.syntax.specs.declared.expr.BinaryOp.{BinaryOp}
 use Rattle.syntax.specs.declared.expr.Expr.{Expr as ExprInMemory, Binary, size-Expr, the_lemmas}
+use Rattle.syntax.specs.declared.expr.NullTest.{NullTest}
+use Rattle.syntax.specs.Parts.{null_tested}
+use Rattle.syntax.specs.Tree as tree
+use Rattle.syntax.specs.Views.{binary_tree, expr_tree}
 use Rattle.code.specs.declared.instr.Instr.{Instr}
 use Rattle.code_meaning.specs.Coding.{skip_code, logical_code}
 use Rattle.lower_statements.proofs.Jumps.{on_ok, side_made}
@@ -38,4 +43,8 @@ pub emit_expr-emit_binary-requires : goal.emit_expr-emit_binary-requires
 emit_expr-emit_binary-requires t c =
     let first = left_size c.in-Binary.operator c.in-Binary.operands in
     let second = right_size c.in-Binary.operator c.in-Binary.operands in
-    (omega (arith, c.decreases, first, second, ap size-Expr c.in-Binary.is, ap (λ (o : ExprInMemory × ExprInMemory). size-Expr o.0) c.deref-in-Binary.ensures, ap (λ (o : ExprInMemory × ExprInMemory). size-Expr o.1) c.deref-in-Binary-2.ensures), tt)
+    let none : null_tested (expr_tree c.args.expr.now) ≡ None = sym c.null_test.ensures.name ∙ ap (λ (o : Option NullTest). option_map (λ (t : NullTest). t.name.now) o) c.in-None.is in
+    let plain : null_tested (expr_tree (Binary c.in-Binary.operator c.in-Binary.operands)) ≡ None = ap (λ (e : ExprInMemory). null_tested (expr_tree e)) (sym c.in-Binary.is) ∙ none in (
+      omega (arith, c.decreases, first, second, ap size-Expr c.in-Binary.is, ap (λ (o : ExprInMemory × ExprInMemory). size-Expr o.0) c.deref-in-None.ensures, ap (λ (o : ExprInMemory × ExprInMemory). size-Expr o.1) c.deref-in-None-2.ensures),
+      (λ i. null_tested (tree.Binary (binary_tree c.in-Binary.operator) (expr_tree (c.deref-in-None.ensures i).0) (expr_tree (c.deref-in-None-2.ensures i).1))) ∙ plain,
+    )

@@ -8,4 +8,4 @@ use Rattle.region_states.proofs.changes.take_false.Goals as goal
 pub returns-in-Expr : goal.returns-in-Expr
 returns-in-Expr c =
     let old = c.args.state.now in
-    c.learn_false.ensures ∙ ap (taught_false old) c.null_test.ensures ∙ sym (false_is old (expr_tree c.in-Expr.e)) ∙ ap (λ t. where_false old (test_tree t)) (sym c.in-Expr.is)
+    c.learn_false.ensures ∙ ap (taught_false old) c.null_test.ensures.test ∙ sym (false_is old (expr_tree c.in-Expr.e)) ∙ ap (λ t. where_false old (test_tree t)) (sym c.in-Expr.is)

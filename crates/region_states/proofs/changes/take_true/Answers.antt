@@ -8,4 +8,4 @@ use Rattle.region_states.proofs.changes.take_true.Goals as goal
 pub returns-in-Expr : goal.returns-in-Expr
 returns-in-Expr c =
     let old = c.args.state.now in
-    c.learn_true.ensures ∙ ap (taught_true old) c.null_test.ensures ∙ sym (true_is old (expr_tree c.in-Expr.e)) ∙ ap (λ t. where_true old (test_tree t)) (sym c.in-Expr.is)
+    c.learn_true.ensures ∙ ap (taught_true old) c.null_test.ensures.test ∙ sym (true_is old (expr_tree c.in-Expr.e)) ∙ ap (λ t. where_true old (test_tree t)) (sym c.in-Expr.is)

@@ -8,8 +8,7 @@ use Rattle.syntax.specs.Tree.{Test, Block, IfElse}
 use Rattle.syntax.specs.Views.{form_tree, stmt_tree, block_tree, statements_tree, result_tree, test_tree}
 use Rattle.syntax.proofs.Blocks.{block_is}
 use Rattle.types.specs.declared.fault.TypeFault.{TypeFault}
-use Rattle.type_rules.specs.SortRules.{places_of, with_declared}
-use Rattle.type_rules.specs.BuiltCalls.{refused_at}
+use Rattle.type_rules.specs.SortRules.{broken_at, places_of, with_declared}
 use Rattle.types.specs.Faults.{Faults, Finds, Refuses, IsAbove, scope_of, found, statement_place, places_inside}
 use Rattle.types.proofs.FindsLemmas.{Refuses-first}
 use Rattle.types.proofs.PlaceLemmas.{found-none, past}
@@ -56,7 +55,7 @@ check_block-returns-in_err-check_statement-clause-finds t c =
     let s = c.stmt-item.result in
     let e = c.in_err-check_statement.field-0.0 in
     let given = err_from_is_err_and c.from_residual.result c.from_residual.ensures.1 in
-    let here = ap (λ (names : List Identifier). refused_at (statement_place returned known names (stmt_tree s))) c.deref.ensures.value in
+    let here = ap (λ (names : List Identifier). broken_at (statement_place returned known names (stmt_tree s))) c.deref.ensures.value in
     of_statement c.from_residual.result e _ _ _ _ (given.1 ∙ ap Err given.2)
     (c.loop-stmt.invariant.finds ∙ found-rest returned known taken c.deref-stmt-items.result.now c.loop-stmt.stmt-index s (out-Block c.args.block.now).end_line c.loop-stmt-test.true c.stmt-item.is)
     (subst (λ xs. Refuses e xs) here c.in_err-check_statement.ensures)
@@ -69,7 +68,7 @@ check_block-returns-in_err-check_inside-clause-finds t c =
     let s = c.stmt-item.result in
     let e = c.in_err-check_inside.field-0.0 in
     let given = err_from_is_err_and c.from_residual-in_err-check_inside.result c.from_residual-in_err-check_inside.ensures.1 in
-    let here = ap (λ (names : List Identifier). refused_at (statement_place returned known names (stmt_tree s))) c.deref.ensures.value in
+    let here = ap (λ (names : List Identifier). broken_at (statement_place returned known names (stmt_tree s))) c.deref.ensures.value in
     of_inside c.from_residual-in_err-check_inside.result e _ _ _ _ (given.1 ∙ ap Err given.2)
     (c.loop-stmt.invariant.finds ∙ found-rest returned known taken c.deref-stmt-items.result.now c.loop-stmt.stmt-index s (out-Block c.args.block.now).end_line c.loop-stmt-test.true c.stmt-item.is)
     (sym here ∙ c.in_ok-check_statement.ensures)
@@ -84,7 +83,7 @@ check_block-loop-stmt-preserved t c =
     let i = c.loop-stmt.stmt-index in
     let s = c.stmt-item.result in
     let end_line = (out-Block c.args.block.now).end_line in
-    let here = ap (λ (names : List Identifier). refused_at (statement_place returned known names (stmt_tree s))) c.deref.ensures.value in
+    let here = ap (λ (names : List Identifier). broken_at (statement_place returned known names (stmt_tree s))) c.deref.ensures.value in
     let inside = c.in_ok-check_inside.ensures in
     record {
       finds =

@@ -21,5 +21,5 @@ returns-else-is_null_test t c =
     ∙ ap₂ (binary_sort (group op))
     (c.sort_of-in-Binary.ensures ∙ ap (λ (o : ExprInMemory × ExprInMemory). sort_of scope (left o)) same)
     (c.sort_of-in-Binary-2.ensures ∙ ap (λ (o : ExprInMemory × ExprInMemory). sort_of scope (right o)) same)
-    ∙ sym (not-null scope op (left operands) (right operands) (sym (c.if-is_null_test.ensures ∙ ap (λ (o : ExprInMemory × ExprInMemory). is_some (null_test_sort scope (null_tested (Binary op (left o) (right o))))) same)))
+    ∙ sym (not-null scope op (left operands) (right operands) (sym (c.if-is_null_test.ensures ∙ ap (λ e. is_some (null_test_sort scope (null_tested (expr_tree e)))) c.in-Binary.is)))
     ∙ ap (λ e. sort_of scope (expr_tree e)) (sym c.in-Binary.is)

@@ -1,6 +1,6 @@
 use Rattle.std.proofs.Common.{◌-◌, ◌++◌, Result, Ok, Err, OnOk, drop, length, sym, ap, subst, ◌∙◌}
 use Rattle.syntax.specs.Views.{block_tree, result_tree}
-use Rattle.types.specs.declared.sort.Sort.{Sort as SortInMemory}
+use Rattle.type_rules.specs.declared.sort.Sort.{Sort as SortInMemory}
 use Rattle.base.specs.Bytes.{ByName}
 use Rattle.type_rules.specs.SortRules.{places_of}
 use Rattle.types.specs.Faults.{Finds, scope_of, found, head_faults}

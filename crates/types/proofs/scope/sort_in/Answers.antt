@@ -1,6 +1,6 @@
 use Rattle.std.proofs.Common.{ap, ◌∙◌}
 use Rattle.std.specs.Option.{option_map}
-use Rattle.types.specs.Faults.{sort_value}
+use Rattle.type_rules.specs.SortViews.{sort_value}
 use Rattle.type_rules.proofs.KnownDeclarations.{lookup-seen}
 use Rattle.types.proofs.scope.sort_in.Goals as goal
 

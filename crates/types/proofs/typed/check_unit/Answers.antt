@@ -1,7 +1,7 @@
 use Rattle.std.proofs.Common.{subst, ap, ap₂, ◌∙◌, List, [], map}
 use Rattle.base.specs.Bytes.{Identifier, ByName}
 use Rattle.syntax.specs.Views.{item_tree}
-use Rattle.types.specs.declared.sort.Sort.{Sort as SortInMemory}
+use Rattle.type_rules.specs.declared.sort.Sort.{Sort as SortInMemory}
 use Rattle.type_rules.specs.SortRules.{item_places}
 use Rattle.types.specs.Faults.{Finds, found, scope_of}
 use Rattle.types.proofs.PlaceLemmas.{found-is}
