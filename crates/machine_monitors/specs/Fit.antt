@@ -1,5 +1,6 @@
 -- How a table of monitors stands for the source's monitors: object by object.
 use Rattle.std.specs.Prelude.{◌≡◌, ℕ, List, [], ◌∷◌, Option, Some, None}
+use Rattle.heap.specs.Heap.{Space, name_at}
 use Rattle.monitors.specs.declared.monitors.Monitor.{Monitor}
 use Rattle.monitors.specs.Monitors.{monitor_of}
 use Rattle.semantics.specs.Thread as source
@@ -20,3 +21,8 @@ AreDifferent (s ∷ ss) = (source.monitor_of ss s.object ≡ None) × AreDiffere
 pub record MonitorsAgree (ms : List Monitor) (ss : List source.Monitor) : Type 0 where
   pub at : (n : ℕ) → MonitorAgrees (monitor_of ms n) (source.monitor_of ss n)
   pub different : AreDifferent ss
+
+-- the objects of monitors lie where the table says
+abbrev pub AreThere : Space → List Monitor → Type 0
+AreThere space [] = Unit {0}
+AreThere space (m ∷ ms) = (name_at space m.address ≡ Some m.object) × AreThere space ms
