@@ -9,7 +9,6 @@ use Rattle.syntax.specs.Parts.{functions_of, statements_of, own_expressions, par
 use Rattle.syntax.specs.Tree.{ParameterType, IntParameter, ReferenceParameter, Parameter, Function, Void, Item, StaticItem, FunctionItem, SourceUnit}
 use Rattle.type_rules.specs.Sorts.{Sort, Jint, Ref, Global, Scope}
 use Rattle.type_rules.specs.SortRules.{IsSorted, Place, StaticForm, HeadForm, has_name, parameter_sort, places_of, function_places, item_places}
-use Rattle.type_rules.specs.BuiltCalls.{calls_unbuilt, calls_are_built}
 use Rattle.code.specs.declared.instr.Instr.TheVariants as instr
 use Rattle.region_rules.specs.Regions.{AcceptedFunction, HasRegions}
 use Rattle.code_meaning.specs.Layout.{Slot, Known, with_static, parameter_slot, parameter_slots, numbers_after, references_after, entry_layout}
@@ -22,7 +21,6 @@ use Rattle.lower.proofs.EntryLayouts.{no_statics, one_static_more}
 use Rattle.lower.proofs.SortFacts.{scope_of, HasNoTruth}
 use Rattle.lower.proofs.PlaceFacts.{and_left, and_right, or_right, static_kept, AreKept, first_kept, front_kept, back_kept, rest_kept}
 use Rattle.lower.proofs.NameFacts.{AreTaken, taken_first}
-use Rattle.lower.proofs.BuiltCalls.{AreBuilt}
 use Rattle.lower.proofs.BodyFacts.{AreInRange, block_fits}
 use Rattle.lower.proofs.LengthFacts.{block_length}
 use Rattle.lower.proofs.RegionFacts.{function_returns}
@@ -108,15 +106,14 @@ module _ (statics : Known) (f : Function) (known : AreStatics statics) where
       let body = block_length f.result f.body l (parameter_names f ++ map (λ s. s.0) (scope_of statics)) fits kept in
       omega (arith, length-append (block_code l f.body) (instr.Return ∷ []))
 
-  function_fits : BodyIsKept → AreInRange (statements_of f.body) → AreBuilt (statements_of f.body) → block_well_formed f.body ≡ true → block_height f.body ≤ 32 → FunctionFits statics f
-  function_fits sorted numbers calls formed low =
+  function_fits : BodyIsKept → AreInRange (statements_of f.body) → block_well_formed f.body ≡ true → block_height f.body ≤ 32 → FunctionFits statics f
+  function_fits sorted numbers formed low =
       let l = entry_layout statics f in
       let sorts = entry_sorts statics f known in
       let taken = parameter_names f ++ map (λ s. s.0) (scope_of statics) in
       block_fits f.body l taken f.result (record {
         sorted = sorted;
         numbers = numbers;
-        calls = calls;
         formed = formed;
         low = low;
         names = taken_first (map (λ p. p.name) f.parameters ++ map (λ s. s.0) (scope_of statics)) (parameter_slots f.parameters 0 1 ++ statics) f.class_name (record { sort = Ref; index = 0 }) (parameters_taken f.parameters 0 1 statics);
@@ -129,10 +126,9 @@ module _ (statics : Known) (f : Function) (known : AreStatics statics) where
 abbrev functions_in : List Item → List Function
 functions_in items = functions_of (record { items = items })
 
--- what the limits and the calls of an accepted unit say of its functions
+-- what the limits and the ways of an accepted unit say of its functions
 record HoldAll (items : List Item) : Type 0 where
   numbers : list_all (λ f. list_all (λ s. list_all numbers_in_range (own_expressions s)) (statements_of f.body)) (functions_in items) ≡ true
-  calls : list_all (λ f. list_all (λ s. not (calls_unbuilt s)) (statements_of f.body)) (functions_in items) ≡ true
   formed : list_all (λ f. block_well_formed f.body) (functions_in items) ≡ true
   low : list_all (λ f. nat_le (block_height f.body) 32) (functions_in items) ≡ true
   regions : AllByRecursion AcceptedFunction (functions_in items)
@@ -144,7 +140,7 @@ all_fit (StaticItem s ∷ items) names statics known taken sorted h =
     let further = item_places (s.name ∷ names) (scope_of (with_static s statics)) items in (
       taken s.name (static_kept s.line (scope_of statics) names Void s (first_kept place further sorted)),
       all_fit items (s.name ∷ names) (with_static s statics) (one_static_more s statics known) (taken_first names statics s.name (record { sort = Global; index = length statics }) taken) (rest_kept place further sorted)
-          (record { numbers = h.numbers; calls = h.calls; formed = h.formed; low = h.low; regions = h.regions }),
+          (record { numbers = h.numbers; formed = h.formed; low = h.low; regions = h.regions }),
     )
 all_fit (FunctionItem f ∷ items) names statics known taken sorted h =
     let further = item_places (f.name ∷ names) (scope_of statics) items in
@@ -152,7 +148,6 @@ all_fit (FunctionItem f ∷ items) names statics known taken sorted h =
     let kept = body_kept statics f known names (front_kept (function_places names (scope_of statics) f) further sorted) in
     let fits = function_fits statics f known kept
     (and_left _ (list_all (λ f. list_all (λ s. list_all numbers_in_range (own_expressions s)) (statements_of f.body)) all) h.numbers)
-    (and_left _ (list_all (λ f. list_all (λ s. not (calls_unbuilt s)) (statements_of f.body)) all) h.calls)
     (and_left _ (list_all (λ f. block_well_formed f.body) all) h.formed)
     (leb-true (block_height f.body) 32 (and_left _ (list_all (λ f. nat_le (block_height f.body) 32) all) h.low)) in (
       known,
@@ -161,12 +156,11 @@ all_fit (FunctionItem f ∷ items) names statics known taken sorted h =
       function_counted statics f known fits kept,
       all_fit items (f.name ∷ names) statics known (λ x none. taken x (or_right (bytes_eq x f.name) (has_name names x) none)) (back_kept (function_places names (scope_of statics) f) further sorted) (record {
         numbers = and_right (list_all (λ s. list_all numbers_in_range (own_expressions s)) (statements_of f.body)) _ h.numbers;
-        calls = and_right (list_all (λ s. not (calls_unbuilt s)) (statements_of f.body)) _ h.calls;
         formed = and_right (block_well_formed f.body) _ h.formed;
         low = and_right (nat_le (block_height f.body) 32) _ h.low;
         regions = h.regions.1;
       }),
     )
 
-pub accepted_fits : (unit : SourceUnit) → IsTree unit → IsSorted unit → IsTrue (calls_are_built unit) → HasRegions unit → AllFit [] unit.items
-accepted_fits unit tree sorted calls regions = all_fit unit.items [] [] no_statics (λ x none. refl) sorted (record { numbers = tree.numbers; calls = calls; formed = tree.forms; low = tree.low; regions = regions })
+pub accepted_fits : (unit : SourceUnit) → IsTree unit → IsSorted unit → HasRegions unit → AllFit [] unit.items
+accepted_fits unit tree sorted regions = all_fit unit.items [] [] no_statics (λ x none. refl) sorted (record { numbers = tree.numbers; formed = tree.forms; low = tree.low; regions = regions })

@@ -245,7 +245,6 @@ module _ (code : Listing) (known : Known) (line place : ℕ) (tail : List Task) 
         at = subst (λ (l : List Instr). HasAt code.instrs place (l ++ instr.Call call ∷ [])) rest here;
         same_line = refl;
         same_function = refl;
-        built = fits.built;
         begun = untouched_are_begun (map operand given) untouched;
         held = sym (untouched_are_held (map operand given) untouched);
         texts = all_texts parameters c.arguments fits.arguments;

@@ -17,7 +17,6 @@ use Rattle.code_meaning.proofs.SlotLaws.{first_or_after}
 use Rattle.lower.proofs.SortFacts.{scope_of, HasNoTruth}
 use Rattle.lower.proofs.PlaceFacts.{and_left, and_right, IsKept, AreKept, own_kept, inside_kept, block_kept, ways_kept}
 use Rattle.lower.proofs.NameFacts.{AreTaken, taken_more, taken_after}
-use Rattle.lower.proofs.BuiltCalls.{AreBuilt, first_built, both_built, inside_built}
 use Rattle.lower.proofs.StatementFacts.{AreFine, are_fine, called_expressions, CallHolds, call_fits_name, right_fits, buffer_fits, assigned_fits, element_fits, jint_fits, truth_fits, tested_fits, returned_fits, size_fits}
 
 -- ---- what holds of a statement and of a block
@@ -30,7 +29,6 @@ AreInRange statements = list_all (λ s. list_all numbers_in_range (own_expressio
 pub record StmtHolds (l : Layout) (taken : List Identifier) (returns : ResultType) (s : Stmt) : Type 0 where
   pub sorted : AreKept (places_within returns (scope_of l.known) taken s)
   pub numbers : AreInRange (statements_within s)
-  pub calls : AreBuilt (statements_within s)
   pub formed : well_formed s ≡ true
   pub low : statement_height s ≤ 31
   pub names : AreTaken taken l.known
@@ -40,7 +38,6 @@ pub record StmtHolds (l : Layout) (taken : List Identifier) (returns : ResultTyp
 pub record BlockHolds (l : Layout) (taken : List Identifier) (returns : ResultType) (b : Block) : Type 0 where
   pub sorted : AreKept (places_of returns (scope_of l.known) taken b)
   pub numbers : AreInRange (statements_of b)
-  pub calls : AreBuilt (statements_of b)
   pub formed : block_well_formed b ≡ true
   pub low : block_height b ≤ 32
   pub names : AreTaken taken l.known
@@ -98,7 +95,7 @@ module _ (l : Layout) (taken : List Identifier) (returns : ResultType) where
   kept s h = own_kept returns (scope_of l.known) taken s h.sorted
 
   call_holds : (s : Stmt) → StmtHolds l taken returns s → CallHolds l.known (own_call s)
-  call_holds s h = record { built = first_built s h.calls; arguments = (kept s h).arguments; count = (kept s h).count; modes = (kept s h).modes; fine = called_fine s (all_fine s h) }
+  call_holds s h = record { function = (kept s h).function; arguments = (kept s h).arguments; count = (kept s h).count; modes = (kept s h).modes; fine = called_fine s (all_fine s h) }
 
 -- ---- after a statement
 
@@ -146,7 +143,6 @@ module _ (l : Layout) (taken : List Identifier) (returns : ResultType) (s : Stmt
   first_holds = record {
     sorted = (block_kept returns (scope_of l.known) taken s rest h.sorted).0;
     numbers = (both_in_range (statements_within s) (statements_of rest) h.numbers).0;
-    calls = (both_built (statements_within s) (statements_of rest) h.calls).0;
     formed = (next_formed s rest h.formed).0;
     low = omega (arith, h.low);
     names = h.names;
@@ -157,7 +153,6 @@ module _ (l : Layout) (taken : List Identifier) (returns : ResultType) (s : Stmt
   rest_holds = record {
     sorted = subst (λ scope. AreKept (places_of returns scope (taken ++ names_declared (statements_within s)) rest)) (scope_after s l) (block_kept returns (scope_of l.known) taken s rest h.sorted).1;
     numbers = (both_in_range (statements_within s) (statements_of rest) h.numbers).1;
-    calls = (both_built (statements_within s) (statements_of rest) h.calls).1;
     formed = (next_formed s rest h.formed).1;
     low = omega (arith, h.low);
     names = taken_after s l taken h.names;
@@ -205,7 +200,6 @@ mutual
         block_fits then' l taken returns (record {
           sorted = inside_kept returns (scope_of l.known) taken s h.sorted;
           numbers = inside_in_range s (statements_of then') h.numbers;
-          calls = inside_built s (statements_of then') h.calls;
           formed = h.formed;
           low = omega (arith, h.low);
           names = h.names;
@@ -215,13 +209,11 @@ mutual
   stmt_fits (tree.IfElse line test then' else') l taken returns h =
       let s = tree.IfElse line test then' else' in
       let sorted = ways_kept returns (scope_of l.known) taken line test then' else' h.sorted in
-      let numbers = both_in_range (statements_of then') (statements_of else') (inside_in_range s (statements_of then' ++ statements_of else') h.numbers) in
-      let calls = both_built (statements_of then') (statements_of else') (inside_built s (statements_of then' ++ statements_of else') h.calls) in (
+      let numbers = both_in_range (statements_of then') (statements_of else') (inside_in_range s (statements_of then' ++ statements_of else') h.numbers) in (
         tested_fits l.known h.no_truth test (all_fine l taken returns s h) (λ c e. subst (λ t. CallHolds l.known (own_call (tree.IfElse line t then' else'))) e (call_holds l taken returns s h)) (kept l taken returns s h).fits,
         block_fits then' l taken returns (record {
           sorted = sorted.0;
           numbers = numbers.0;
-          calls = calls.0;
           formed = and_left (block_well_formed then') (block_well_formed else') h.formed;
           low = omega (arith, h.low);
           names = h.names;
@@ -230,7 +222,6 @@ mutual
         block_fits else' (closed l (block_layout l then')) (taken ++ names_declared (statements_of then')) returns (record {
           sorted = sorted.1;
           numbers = numbers.1;
-          calls = calls.1;
           formed = and_right (block_well_formed then') (block_well_formed else') h.formed;
           low = omega (arith, h.low);
           names = taken_more taken (names_declared (statements_of then')) l.known h.names;
@@ -243,7 +234,6 @@ mutual
         block_fits body l taken returns (record {
           sorted = inside_kept returns (scope_of l.known) taken s h.sorted;
           numbers = inside_in_range s (statements_of body) h.numbers;
-          calls = inside_built s (statements_of body) h.calls;
           formed = h.formed;
           low = omega (arith, h.low);
           names = h.names;

@@ -459,7 +459,6 @@ module _ (code : Listing) (known : Known) (place : ℕ) (stack : List ℕ) (slot
           at = here.0;
           same_line = c.same_line;
           same_function = c.same_function;
-          built = c.built;
           words = c.held ∙ are_words c.call.operands (prototype f).parameters operands c.count ready c.operands_stand;
           texts = c.texts ∙ are_texts c.call.operands (prototype f).parameters operands c.count ready c.operands_stand;
           count = actual_count (prototype f).parameters operands c.count;
@@ -491,7 +490,6 @@ module _ (code : Listing) (known : Known) (place : ℕ) (stack : List ℕ) (slot
           at = subst (HasAt code.instrs p) (sym (ap (λ (l : List Instr). l ++ instr.Call c.call ∷ []) same ∙ append_assoc (term_code known line u) (rest_after known line operands) (instr.Call c.call ∷ []))) there;
           same_line = c.same_line;
           same_function = c.same_function;
-          built = c.built;
           begun = begun_with operands u unready c.begun begun;
           held = sym (held_with operands u unready c.begun);
           texts = c.texts ∙ sym (texts_with operands u);

@@ -5,7 +5,7 @@ use Rattle.std.proofs.lemmas.List.{append-nil}
 use Rattle.syntax.specs.Tree.{Function}
 use Rattle.semantics.specs.Object.{ObjectValue}
 use Rattle.code.specs.declared.instr.Instr.TheVariants as instr
-use Rattle.code.specs.Depth.{Listing, IsValid}
+use Rattle.code.specs.Depth.{IsValid}
 use Rattle.code.proofs.Pieces.{piece_moves, piece_jumps}
 use Rattle.semantics.specs.Task.{tasks_of}
 use Rattle.code_meaning.specs.Layout.{Known, entry_layout, block_layout, function_slots}
@@ -15,6 +15,7 @@ use Rattle.code_meaning.specs.Slots.{ArgumentsFit, HasRoom}
 use Rattle.code_meaning.specs.Fits.{HasRoomFor, AreStatics, FunctionFits}
 use Rattle.code_meaning.specs.Stands.{TasksStand, StandsFor, block_returns}
 use Rattle.code_meaning.specs.Lowered.{IsCodeOf}
+use Rattle.lower.specs.Listings.{listing_of}
 use Rattle.lower.proofs.CodePlaces.{has_front, has_all}
 use Rattle.lower.proofs.Layouts.{block_grows}
 use Rattle.lower.proofs.Bodies.{begins}
@@ -24,10 +25,6 @@ use Rattle.lower.proofs.Validity.{block_piece}
 use Rattle.lower.proofs.Within.{both_within, block_within}
 use Rattle.lower.proofs.EntryLaws.{entry_shows, counts}
 use Rattle.lower.proofs.EntryLayouts.{entry_laid}
-
--- the code of a function with its slots
-abbrev pub listing_of : Known → Function → Listing
-listing_of statics f = record { instrs = function_code statics f; slots = function_slots statics f }
 
 room_for_all : (statics : Known) (f : Function) → HasRoomFor (function_slots statics f) (block_layout (entry_layout statics f) f.body).slots
 room_for_all statics f = record { numbers = omega arith; references = omega arith; statics = omega arith; field_ids = omega arith; buffers = omega arith }

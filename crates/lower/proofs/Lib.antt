@@ -15,7 +15,6 @@ pub mod RegionFacts
 pub mod SortFacts
 pub mod PlaceFacts
 pub mod NameFacts
-pub mod BuiltCalls
 pub mod StatementFacts
 pub mod BodyFacts
 pub mod Left

@@ -1,6 +1,7 @@
 -- What is known of a statement that breaks no rule of sorts, and of the statements inside it.
 use Rattle.std.proofs.Common.{◌≡◌, ℕ, Bool, true, false, not, ◌&&◌, ◌||◌, List, [], ◌∷◌, ◌++◌, map, filter, flat_map, refl, sym, ◌∙◌, if◌then◌else◌}
 use Rattle.std.specs.List.{list_all, list_any}
+use Rattle.std.specs.Option.{is_none}
 use Rattle.std.proofs.lemmas.Grind.{flat_map-append}
 use Rattle.base.specs.Bytes.{Identifier}
 use Rattle.base.specs.Options.{some_passes}
@@ -59,6 +60,7 @@ pub record IsKept (known : Scope) (taken : List Identifier) (returns : ResultTyp
   pub new : some_passes (has_name taken) (declared_name s) ≡ false
   pub fits : statement_fits known returns s ≡ true
   pub arguments : some_passes (λ c. not (call_arguments_fit known c (function_named c.function))) (own_call s) ≡ false
+  pub function : some_passes (λ c. is_none (function_named c.function)) (own_call s) ≡ false
   pub count : some_passes (λ c. has_wrong_count c (function_named c.function)) (own_call s) ≡ false
   pub uncopied : copies_reference known (set_sort known s) (right_side s) ≡ false
   pub modes : some_passes (λ c. has_wrong_mode c (function_named c.function)) (own_call s) ≡ false
@@ -104,6 +106,7 @@ is_kept returns known taken s none =
       new = or_left (p DeclaredTwice) (list_any p after_twice) names;
       fits = fit.0;
       arguments = fit.1;
+      function = or_left (p UnknownFunction) (list_any p after_functions) sorts;
       count = or_left (p ArgumentCount) (list_any p after_counts) functions;
       uncopied = or_left (p ReferenceCopied) (list_any p after_copies) counts;
       modes = or_left (p BadMode) (list_any p (ReadOnlyWrite ∷ [])) copies;

@@ -1,6 +1,7 @@
 -- A statement that is sorted fits.
 use Rattle.std.proofs.Common.{◌≡◌, ℕ, ◌<◌, ◌≤◌, ◌⊎◌, inl, inr, Bool, true, false, not, ◌&&◌, ◌||◌, ◌==◌, List, [], ◌∷◌, ◌++◌, map, flat_map, length, nat_le, Option, Some, None, is_some, refl, sym, ap, ◌∙◌, subst, arith, eqb-true, leb-true}
 use Rattle.std.specs.List.{list_all, AllZip}
+use Rattle.std.specs.Option.{is_none}
 use Rattle.base.specs.Bytes.{Identifier, lookup}
 use Rattle.base.specs.Element.{ElementType, JInt, JShort, JByte, JChar, same_element}
 use Rattle.base.specs.Options.{some_passes}
@@ -9,7 +10,7 @@ use Rattle.syntax.specs.Parts.{call_of_right_side, argument_expressions, call_ex
 use Rattle.syntax.specs.Tree as tree
 use Rattle.syntax.specs.Tree.{ResultType, Void, IntResult, ReferenceResult, Expr, Argument, Call, RightSide, FromExpr, FromCall, Test, TestExpr, TestCall}
 use Rattle.jni.specs.Access.{Access, ElementsCopy, ArrayView, CharsCopy, CharsView}
-use Rattle.jni.specs.JniFunction.{function_named, prototype}
+use Rattle.jni.specs.JniFunction.{JniFunction, PushLocalFrame, function_named, prototype}
 use Rattle.jni.specs.Prototype.{ParameterKind, Nullable, NonNull, ClassObject, AnyArray, ObjectArray, StringObject, NumberArray, LocalVariable, StaticVariable, FieldID, IntNumber, TextBytes, ArrayVariable, BufferVariable, Mode, IsCopy, ResultKind, NewLocal, NewGlobal, GivesFlag, GivesInt, GivesField, GivesBuffer, GivesNothing}
 use Rattle.type_rules.specs.Sorts.{Sort, Word, Jint, Flag, Truth, Ref, Global, FieldId, Buffer, Array, sort_in, sort_of, is_word, is_jint, is_flag, is_truth, is_index, has_elements, is_null, is_ref, is_global, is_field, is_reference, is_array_of, is_buffer_for, name_sort, text_fits, address_fits, argument_fits, arguments_fit, call_arguments_fit}
 use Rattle.type_rules.specs.SortRules.{result_fits, is_push, call_fits, may_be_tested, value_sets, right_side_sets, buffer_begins, test_fits, return_fits, has_wrong_count, has_wrong_mode, is_mode, is_mode_parameter, modes_fit, copies_reference}
@@ -19,7 +20,6 @@ use Rattle.code_meaning.specs.Layout.{Slot, Known}
 use Rattle.code_meaning.specs.Fits.{IsVariable, IsIndexSort, HasElements, NumberFits, TakesLocal, TakesGlobal, NameFits, ReferenceFits, FieldFits, ArrayFits, BufferFits, ArgumentFits, CallFits, ResultFits, CallGives, ValueFits, RightFits, TestFits, ReturnFits}
 use Rattle.lower.proofs.SortFacts.{scope_of, slot_of_name, HasNoTruth, IsFine, elements, indexed, index_is_value, number_fits}
 use Rattle.lower.proofs.PlaceFacts.{and_left, and_right, not_false}
-use Rattle.lower.proofs.BuiltCalls.{BuiltCall, built_call, is_tested, IsBuilt}
 
 -- ---- sorts by their tests
 
@@ -111,9 +111,26 @@ abbrev pub called_expressions : Option Call → List Expr
 called_expressions None = []
 called_expressions (Some c) = call_expressions c
 
--- a call, where there is one, is built, with the right arguments
+-- the function of a call that is known
+record KnownCall (c : Call) : Type 0 where
+  function : JniFunction
+  named : function_named c.function ≡ Some function
+
+known_call : (c : Call) → is_none (function_named c.function) ≡ false → KnownCall c
+known_call c h = by_name (function_named c.function) refl h
+  where
+    by_name : (o : Option JniFunction) → function_named c.function ≡ o → is_none o ≡ false → KnownCall c
+    by_name (Some f) is known = record { function = f; named = is }
+    by_name None is known = absurd (cc)
+
+-- a call that is the test of an `if` gives a `jint`
+is_tested : (f : JniFunction) → may_be_tested (Some f) ≡ true → (prototype f).result ≡ GivesInt
+is_tested PushLocalFrame h = refl
+is_tested f h = absurd (cc)
+
+-- a call, where there is one, is of a function that is known, with the right arguments
 pub record CallHolds (known : Known) (call : Option Call) : Type 0 where
-  pub built : IsBuilt call
+  pub function : some_passes (λ c. is_none (function_named c.function)) call ≡ false
   pub arguments : some_passes (λ c. not (call_arguments_fit (scope_of known) c (function_named c.function))) call ≡ false
   pub count : some_passes (λ c. has_wrong_count c (function_named c.function)) call ≡ false
   pub modes : some_passes (λ c. has_wrong_mode c (function_named c.function)) call ≡ false
@@ -207,8 +224,8 @@ module _ (known : Known) where
           all_fit parameters arguments both.1 (and_right (argument_fits (scope_of known) p a) (arguments_fit (scope_of known) parameters arguments) h) (and_right (not (is_mode_parameter p) || is_mode a) (modes_fit parameters arguments) modes) (omega (arith, count)),
         )
 
-    -- a call of a built function
-    fits_with : (c : Call) → CallHolds known (Some c) → (is : BuiltCall c) → (fits : CallFits known c) × (fits.function ≡ is.function)
+    -- a call of a function that is known
+    fits_with : (c : Call) → CallHolds known (Some c) → (is : KnownCall c) → (fits : CallFits known c) × (fits.function ≡ is.function)
     fits_with c holds is =
         let parameters = (prototype is.function).parameters in
         let arguments : call_arguments_fit (scope_of known) c (Some is.function) ≡ true = sym (ap (call_arguments_fit (scope_of known) c) is.named) ∙ not_false (call_arguments_fit (scope_of known) c (function_named c.function)) holds.arguments in
@@ -217,14 +234,13 @@ module _ (known : Known) where
           record {
             function = is.function;
             named = is.named;
-            built = is.built;
             arguments = all_fit parameters c.arguments holds.fine arguments (not_false (modes_fit parameters c.arguments) modes) (eqb-true (length c.arguments) (length parameters) (not_false (length c.arguments == length parameters) count));
           },
           refl,
         )
 
     pub call_fits_name : (c : Call) → CallHolds known (Some c) → CallFits known c
-    call_fits_name c holds = (fits_with c holds (built_call c (not_false _ holds.built))).0
+    call_fits_name c holds = (fits_with c holds (known_call c holds.function)).0
 
     -- the sort of what takes a result
     result_sort : (o : Option Sort) (gives : ResultKind) → result_fits o gives ≡ true → (s : Sort) × (o ≡ Some s) × ResultFits s gives
@@ -239,7 +255,7 @@ module _ (known : Known) where
 
     call_gives : (o : Option Sort) (c : Call) → CallHolds known (Some c) → call_fits o (function_named c.function) ≡ true → (s : Sort) × (o ≡ Some s) × CallGives known s c
     call_gives o c holds h =
-        let is = built_call c (not_false _ holds.built) in
+        let is = known_call c holds.function in
         let fits = fits_with c holds is in
         let known_fits : call_fits o (Some is.function) ≡ true = sym (ap (call_fits o) is.named) ∙ h in
         let result = result_sort o (prototype is.function).result (and_right (not (is_push is.function)) (result_fits o (prototype is.function).result) known_fits) in
@@ -312,7 +328,7 @@ module _ (known : Known) where
     tested_fits (TestExpr e) fine holds h = truth_fits e fine.0 h
     tested_fits (TestCall c) fine holds h =
         let call = holds c refl in
-        let is = built_call c (not_false _ call.built) in
+        let is = known_call c call.function in
         let fits = fits_with c call is in
         let gives : (prototype fits.0.function).result ≡ GivesInt = ap (λ f. (prototype f).result) fits.1 ∙ is_tested is.function (sym (ap may_be_tested is.named) ∙ h) in
         record { fits = fits.0; result = subst (ResultFits Jint) (sym gives) refl }

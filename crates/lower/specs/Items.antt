@@ -8,6 +8,7 @@ use Rattle.code_meaning.specs.Fits.{AreStatics, FunctionFits}
 use Rattle.code_meaning.specs.Stands.{block_returns}
 use Rattle.code_meaning.specs.Length.{function_steps}
 use Rattle.code_meaning.specs.Lowered.{IsCodeOf}
+use Rattle.lower.specs.Listings.{listing_of}
 
 -- an item that can be lowered after these statics
 abbrev pub ItemFits : (statics : Known) → Item → Type 0
@@ -17,4 +18,4 @@ ItemFits statics (FunctionItem f) = AreStatics statics × FunctionFits statics f
 -- the statics and the codes after an item, where these were there before it
 abbrev pub IsItemDone : (statics : Known) → List Listing → Item → (after : Known) → List Listing → Type 0
 IsItemDone statics codes (StaticItem s) after done = (after ≡ with_static s statics) × (done ≡ codes)
-IsItemDone statics codes (FunctionItem f) after done = (after ≡ statics) × ((code : Listing) × (done ≡ codes ++ code ∷ []) × IsCodeOf statics f code)
+IsItemDone statics codes (FunctionItem f) after done = (after ≡ statics) × ((code : Listing) × (done ≡ codes ++ code ∷ []) × (code ≡ listing_of statics f) × IsCodeOf statics f code)

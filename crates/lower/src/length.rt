@@ -1,10 +1,8 @@
 //! Which functions are too long, told from the tree alone. A walk counts down from the limit, and stops where nothing is left.
 
-ghost use Rattle.std.specs.Prelude.{◌≡◌, ℕ, ◌+◌, ◌<◌, is_some, nat_lt, IfSome, IfNone, IsTrue, map, zip};
+ghost use Rattle.std.specs.Prelude.{◌≡◌, ℕ, ◌+◌, ◌<◌, nat_lt, IfSome, IfNone, IsTrue, map, zip};
 ghost use Rattle.std.specs.List.{list_any, sum_by};
-ghost use Rattle.syntax.specs.Parts.{null_tested};
-ghost use Rattle.syntax.specs.Tree.{Binary};
-ghost use Rattle.syntax.specs.Views.{expr_tree, binary_tree, argument_tree, call_tree, right_side_tree, test_tree, result_tree, form_tree, block_tree, function_tree, item_tree, unit_tree};
+ghost use Rattle.syntax.specs.Views.{expr_tree, argument_tree, call_tree, right_side_tree, test_tree, result_tree, form_tree, block_tree, function_tree, item_tree, unit_tree};
 ghost use Rattle.jni.specs.JniFunction.{function_named};
 ghost use Rattle.jni.specs.Table.{parameter_value};
 ghost use Rattle.lower_statements.specs.Plain.{is_plain};
@@ -14,8 +12,7 @@ use crate::lowering::MOST_STEPS;
 use jni::{ParameterKind, function_named};
 use region_rules::Checked;
 use syntax::{
-    Argument, BinaryOp, Block, Call, Constant, Expr, Form, Function, Item, ResultType, RightSide,
-    Test,
+    Argument, Block, Call, Constant, Expr, Form, Function, Item, ResultType, RightSide, Test,
 };
 
 /// What is left of `left` after one step, where there is one.
@@ -26,15 +23,6 @@ fn after_one(left: usize) -> Option<usize>
     left.checked_sub(1)
 }
 
-/// Whether an operator compares a bare name with NULL.
-fn is_null_test(op: BinaryOp, left: &Expr, right: &Expr) -> bool
-    ensures { result ≡ is_some (null_tested (Binary (binary_tree op) (expr_tree left.now) (expr_tree right.now))) }
-{
-    matches!(op, BinaryOp::Equal | BinaryOp::NotEqual)
-        && matches!(left, Expr::Variable(_))
-        && matches!(right, Expr::Named(Constant::Null))
-}
-
 /// The same after the steps of an expression.
 fn after_expr(left: usize, e: &Expr) -> Option<usize>
     ensures some { IfSome result (λ rest. rest + expr_steps (expr_tree e.now) ≡ left) }
@@ -43,8 +31,8 @@ fn after_expr(left: usize, e: &Expr) -> Option<usize>
     match e {
         Expr::Number { .. } | Expr::Named(_) | Expr::Variable(_) => after_one(left),
         Expr::Element(_, a) | Expr::Prefix(_, a) => after_one(after_expr(left, a)?),
-        Expr::Binary(op, operands) => {
-            if is_null_test(*op, &operands.0, &operands.1) {
+        Expr::Binary(_, operands) => {
+            if e.null_test().is_some() {
                 return after_one(left);
             }
             after_one(after_expr(after_expr(left, &operands.0)?, &operands.1)?)

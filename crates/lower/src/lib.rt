@@ -8,4 +8,4 @@ mod lowering;
 pub use code_meaning::Program;
 pub use fault::LowerFault;
 pub use length::has_long_function;
-pub use lowering::lower;
+pub use lowering::{lower, lower_function};

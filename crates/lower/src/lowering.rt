@@ -1,12 +1,13 @@
 //! From checked programs to code.
 
-ghost use Rattle.std.specs.Prelude.{◌≡◌, ◌<◌, Err, IfOk, OnOk, IsTrue};
+ghost use Rattle.std.specs.Prelude.{◌≡◌, ◌<◌, [], Err, IfOk, OnOk, IsTrue};
 ghost use Rattle.syntax.specs.Tree.{FunctionItem};
 ghost use Rattle.syntax.specs.Views.{function_tree, item_tree, unit_tree};
 ghost use Rattle.code.specs.Depth.{IsValid};
 ghost use Rattle.code_meaning.specs.Layout.{entry_layout, function_slots};
 ghost use Rattle.code_meaning.specs.Coding.{block_code};
 ghost use Rattle.lower.specs.Items.{ItemFits, IsItemDone};
+ghost use Rattle.lower.specs.Listings.{listing_of, listings_of};
 ghost use Rattle.code_meaning.specs.Length.{function_steps, step_limit, is_long, IsTooLong};
 ghost use Rattle.code_meaning.specs.Lowered.{IsCodeOf};
 
@@ -30,6 +31,7 @@ pub(crate) const MOST_STEPS: usize = 65_535;
 /// accepted program does, and where a jump leads over more instructions, as it can in a function alone that is too long.
 pub fn lower<'a>(alloc: Global, checked: &'a Checked) -> Result<Program<'a>, LowerFault>
     ensures ok { IfOk result (λ p. p.unit ≡ checked.now) }
+    ensures codes { IfOk result (λ p. p.codes ≡ listings_of [] (unit_tree checked.now).items) }
     ensures short { IfOk result (λ _. IsTooLong (unit_tree checked.now) → ⊥) }
     ensures too_long { result ≡ Err LowerFault.TooLong → IsTooLong (unit_tree checked.now) }
 {
@@ -62,14 +64,15 @@ fn lower_item<'a>(
     Ok(())
 }
 
-/// The code of a function, where the statics before it are known. After it they alone are known again.
-fn lower_function<'a>(
+/// The code of a function, where the statics before it are known. After it they alone are known again. Errors are those of `lower`.
+pub fn lower_function<'a>(
     alloc: Global,
     names: &mut Names<'a>,
     function: &'a Function,
 ) -> Result<Code, LowerFault>
     requires { ItemFits names.old.known (FunctionItem (function_tree function.now)) }
     ensures ok { IfOk result (IsCodeOf names.old.known (function_tree function.now)) }
+    ensures code { IfOk result (λ code. code ≡ listing_of names.old.known (function_tree function.now)) }
     ensures statics { OnOk result (names.new.known ≡ names.old.known) }
     ensures too_long { result ≡ Err LowerFault.TooLong → step_limit < function_steps (function_tree function.now) }
 {

@@ -1,17 +1,18 @@
-use Rattle.std.proofs.Common.{◌≡◌, ◌+◌, List, [], Result, Err, map, drop, sym, ap, subst}
+use Rattle.std.proofs.Common.{◌≡◌, ◌+◌, List, [], Result, Err, map, drop, sym, ap, ◌∙◌, subst}
 use Rattle.syntax.specs.declared.unit.Item.{Item as ItemInMemory}
 use Rattle.syntax.specs.Views.{item_tree, unit_tree}
 use Rattle.code_meaning.specs.Length.{IsTooLong}
 use Rattle.code_meaning.specs.Lowered.{AreCodesOf}
+use Rattle.lower.specs.Listings.{listings_of}
 use Rattle.lower.proofs.AcceptedFacts.{accepted_fits}
-use Rattle.lower.proofs.ItemSteps.{AreLeft, none_done, item_fits, item_done, item_long, none_long, all_done, next_item, last_item}
+use Rattle.lower.proofs.ItemSteps.{AreLeft, none_done, item_fits, item_done, item_long, none_long, all_done, all_listed, next_item, last_item}
 use Rattle.lower.proofs.lowering.lower.Goals as goal
 
 pub loop-item-init : goal.loop-item-init
 loop-item-init c =
     let items = c.items-item-items.result.now in
     let given = c.items-item-items.ensures in
-    rw (c.new-names.ensures, c.new-codes.ensures.items) (none_done (map item_tree items) (accepted_fits (unit_tree items) given.tree given.sorted given.calls given.regions))
+    rw (c.new-names.ensures, c.new-codes.ensures.items) (none_done (map item_tree items) (accepted_fits (unit_tree items) given.tree given.sorted given.regions))
 
 pub lower_item-requires : goal.lower_item-requires
 lower_item-requires c =
@@ -39,6 +40,14 @@ loop-item-preserved c =
     let next = next_item items i c.item-item.result c.loop-item-test.true c.item-item.is in
     let left = subst (λ rest. AreLeft all statics rest codes) next c.loop-item.invariant in
     item_done all statics (item_tree c.item-item.result) (map item_tree (drop (i + 1) items)) codes _ _ left c.in-Ok.ensures.done
+
+pub returns-clause-codes : goal.returns-clause-codes
+returns-clause-codes c =
+    let items = c.items-item-items.result.now in
+    let statics = c.loop-item.names.known in
+    let last = last_item items c.loop-item.item-index c.loop-item-test.false in
+    let left = subst (λ rest. AreLeft (map item_tree items) statics rest c.loop-item.codes.items) last c.loop-item.invariant in
+    c.of.ensures.codes ∙ subst (λ (all : List ItemInMemory). c.loop-item.codes.items ≡ listings_of [] (map item_tree all)) c.items-item-items.ensures.same (all_listed (map item_tree items) statics c.loop-item.codes.items left)
 
 pub returns-clause-short : goal.returns-clause-short
 returns-clause-short c =

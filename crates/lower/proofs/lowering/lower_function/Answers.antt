@@ -9,7 +9,8 @@ use Rattle.code_meaning.specs.Layout.{Known, entry_layout, function_slots}
 use Rattle.code_meaning.specs.Coding.{block_code, function_code}
 use Rattle.code_meaning.specs.Length.{function_steps, step_limit}
 use Rattle.code_meaning.specs.Lowered.{IsCodeOf}
-use Rattle.lower.proofs.Functions.{listing_of, function_valid, is_code_of}
+use Rattle.lower.specs.Listings.{listing_of}
+use Rattle.lower.proofs.Functions.{function_valid, is_code_of}
 use Rattle.lower.proofs.lowering.lower_function.Goals as goal
 
 -- the instructions of the body with the last one, and the slots, are the code of the function
@@ -37,6 +38,12 @@ returns-clause-ok c =
     let steps = steps_emitted statics f _ c.requires.3 c.in_ok-instrs.ensures.instrs in
     let few : function_steps f ≤ step_limit = omega (arith, c.len.ensures, c.if-len-gt-MOST_STEPS.false, c.in_ok-instrs.instrs.ok, steps) in
     subst (IsCodeOf statics f) (is ∙ sym c.in_ok-valid_code.ensures) (is_code_of statics f c.requires.0 c.requires.1 c.requires.2 c.requires.3 few)
+
+pub returns-clause-code : goal.returns-clause-code
+returns-clause-code c =
+    let statics = c.args.names.now.known in
+    let f = function_tree c.args.function.now in
+    c.in_ok-valid_code.ensures ∙ sym (listed statics f _ _ _ _ c.in_ok-instrs.ensures.instrs c.in_ok-emit.ensures c.in_ok-instrs.ensures.slots c.slots.ensures)
 
 pub returns-then-len-gt-MOST_STEPS-clause-too_long : goal.returns-then-len-gt-MOST_STEPS-clause-too_long
 returns-then-len-gt-MOST_STEPS-clause-too_long c =
