@@ -79,11 +79,11 @@ module _ (p : Lowered) (w : World) (store : Store) (pending : Option ℕ) (local
   abbrev Does : Answer → CallEffect → Type 0
   Does a effect = IsAnswer w.classes brought store.heap locals kind shared s a effect
 
-  abbrev Carries : Answer → CallEffect → Store → Given → Type 0
+  abbrev pub Carries : Answer → CallEffect → Store → Given → Type 0
   Carries a effect after g = CarriesOut p w store.heap locals a kind others k shared s effect false after pending locals g
 
   -- a thread that has the frames and the exception that it had, and objects that stay where they are
-  effected : (a : Answer) (after : Store) (g : Given) (s' : Shared) (t : Thread) (c : CallResult) → t.frames ≡ s.frames → t.pending ≡ s.pending → s'.statics ≡ shared.statics → Keeps store.heap shared after.heap s'
+  pub effected : (a : Answer) (after : Store) (g : Given) (s' : Shared) (t : Thread) (c : CallResult) → t.frames ≡ s.frames → t.pending ≡ s.pending → s'.statics ≡ shared.statics → Keeps store.heap shared after.heap s'
       → StoreAgrees p w after s' (beside others (beside (acquired_by t) (acquired_with c))) → ResultAgrees w.classes after k g kind c → Carries a (Leaves [] s' t c) after g
   effected a after g s' t c frames pends statics keeps agrees given = record {
     store_agrees = subst (λ (x : Shared). StoreAgrees p w after x (beside others (beside (acquired_by t) (acquired_with c)))) (sym same) agrees;

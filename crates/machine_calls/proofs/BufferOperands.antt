@@ -11,7 +11,7 @@ use Rattle.class_rules.specs.Class.{Classes}
 use Rattle.classes.specs.declared.class.FieldHandle.{FieldHandle}
 use Rattle.code.specs.declared.instr.Operand.{Operand}
 use Rattle.code.specs.declared.instr.Operand.TheVariants as operand
-use Rattle.code.specs.declared.instr.ReleaseMode.{ReleaseMode as ModeOfCode}
+use Rattle.jni.specs.declared.mode.ReleaseMode.{ReleaseMode as ModeOfCode}
 use Rattle.code_meaning.specs.Coding.{mode_code}
 use Rattle.code_meaning.specs.Does.{OperandFits}
 use Rattle.heap.specs.Heap.{Space}

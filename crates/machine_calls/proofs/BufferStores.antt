@@ -13,6 +13,7 @@ use Rattle.semantics.specs.Thread.{Shared}
 use Rattle.semantics.specs.World.{World}
 use Rattle.code_meaning.specs.Lowered.{Lowered}
 use Rattle.tables.specs.Elements.{OwnedNumbers}
+use Rattle.machine_monitors.proofs.Places.{there_stays}
 use Rattle.machine_calls.specs.declared.store.Store.{Store}
 use Rattle.machine_calls.specs.Buffers.{Acquired, IsTaken, SameAcquired}
 use Rattle.machine_calls.specs.HeapAgrees.{BlockAgrees, BlocksAgree, ValueAgrees, ValuesAgree}
@@ -73,6 +74,7 @@ module _ (p : Lowered) (w : World) (store : Store) (shared : Shared) (all : Acqu
     globals = h.globals;
     buffers = taken_same store.heap store.elements store.views (length shared.heap) all next same h.buffers;
     monitors = h.monitors;
+    monitored = h.monitored;
   }
 
   -- other lists
@@ -90,6 +92,7 @@ module _ (p : Lowered) (w : World) (store : Store) (shared : Shared) (all : Acqu
     globals = h.globals;
     buffers = taken;
     monitors = h.monitors;
+    monitored = h.monitored;
   }
 
   -- other pins of a block
@@ -110,6 +113,7 @@ module _ (p : Lowered) (w : World) (store : Store) (shared : Shared) (all : Acqu
     globals = slots_stay store.heap (with_pins store.heap a count) (names_pinned store.heap a count) store.globals shared.globals h.globals;
     buffers = taken;
     monitors = h.monitors;
+    monitored = there_stays store.heap (with_pins store.heap a count) (names_pinned store.heap a count) store.monitors h.monitored;
   }
 
   pub keeps_pinned : (a count : ℕ) → Keeps store.heap shared (with_pins store.heap a count) shared

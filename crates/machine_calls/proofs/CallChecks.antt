@@ -27,6 +27,7 @@ use Rattle.semantics.specs.Value.{NullReference, ExceptionPending, WrongObject, 
 use Rattle.semantics.specs.Variable.{StaticReference, Empty, Live, Deleted, as_static}
 use Rattle.code_meaning.specs.Does.{ActualFits}
 use Rattle.machine_calls.specs.declared.buffer.Buffer.{Buffer}
+use Rattle.monitors.specs.declared.monitors.Monitor.{Monitor}
 use Rattle.machine_calls.specs.FieldIds.{FieldAgrees}
 use Rattle.machine_calls.specs.StoreAgrees.{HeldAgrees}
 use Rattle.machine_calls.specs.Statics.{References, held_address, holds_deleted, holds_null, static_at}
@@ -409,11 +410,11 @@ module _ (classes : Classes) (space : Space) (references : References) (fields :
     room_is kind has_room frame h = refl
 
     -- the trap that is found is the source's
-    pub found_is : (loaded stack : List ℕ) (buffers : List Buffer) (pending : Option ℕ) (has_room : Bool) (wanted : ElementType) (f : JniFunction) (operands : List Operand) (args : List Actual) (s : Shared) (t : Thread) (target : Target) → wanted ≡ target_element t.variables target → s.heap ≡ heap → is_some pending ≡ is_some t.pending
+    pub found_is : (loaded stack : List ℕ) (buffers : List Buffer) (pending : Option ℕ) (monitors : List Monitor) (thread : ℕ) (has_room : Bool) (wanted : ElementType) (f : JniFunction) (operands : List Operand) (args : List Actual) (s : Shared) (t : Thread) (target : Target) → wanted ≡ target_element t.variables target → s.heap ≡ heap → is_some pending ≡ is_some t.pending
         → is_full (slice_get (frames_after f t.frames) 0) ≡ not has_room → AllZip ActualFits (prototype f).parameters args → AllZip (IsGiven classes space references fields) operands args
-        → trap_found (record { classes = classes; space = space; loaded = loaded; references = references; fields = fields; buffers = buffers; stack = stack; pending = pending }) has_room wanted f operands ≡ trap_of_call classes s t target f args
+        → trap_found (record { classes = classes; space = space; loaded = loaded; references = references; fields = fields; buffers = buffers; stack = stack; pending = pending; monitors = monitors; thread = thread }) has_room wanted f operands ≡ trap_of_call classes s t target f args
     unfolding call_trap
-    found_is loaded stack buffers exception has_room wanted f operands args s t target wants same pending room fit h =
+    found_is loaded stack buffers exception monitors thread has_room wanted f operands args s t target wants same pending room fit h =
         let buffer = target_element t.variables target in
         let deleted = all_deleted operands args h in
         let missing = all_missing (prototype f).parameters operands args fit h in

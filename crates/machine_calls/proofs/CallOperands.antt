@@ -76,7 +76,7 @@ super_known classes o c s h = by_class (class_at classes c) refl h
 
 -- ---- texts
 
-same_number : (n m : ℕ) → not (n == m) ≡ false → n ≡ m
+pub same_number : (n m : ℕ) → not (n == m) ≡ false → n ≡ m
 same_number n m same =
     ⊎_elim (λ (t : (eqb n m ≡ true) × (n ≡ m)). t.1)
     (λ (t : (eqb n m ≡ false) × (n ≡ m → ⊥)). absurd (let clash : not false ≡ false = ap not (sym t.0) ∙ same in cc))

@@ -147,9 +147,9 @@ module _ (p : Lowered) (w : World) (store : Store) (pending : Option ℕ) (call 
   pub handles_there : AreHandles w.classes call.slots.fields.items function.operands
   handles_there = all_handles w.classes store.heap (references_of store call) call.slots.fields.items function.operands args h.given
 
-  pub found_is : trap_found (scene_of w.classes store call pending) (has_room (locals_after f call.locals)) (element_wanted function.target) f function.operands ≡ trap_of_call w.classes shared s target f args
+  pub found_is : trap_found (scene_of w.classes store call k pending) (has_room (locals_after f call.locals)) (element_wanted function.target) f function.operands ≡ trap_of_call w.classes shared s target f args
   found_is =
-      checks.found_is w.classes store.heap (references_of store call) call.slots.fields.items shared.heap h.store_agrees.heap.blocks store.loaded.items call.stack call.slots.buffers.items pending (has_room (locals_after f call.locals)) (element_wanted function.target) f function.operands args shared s target h.wanted refl
+      checks.found_is w.classes store.heap (references_of store call) call.slots.fields.items shared.heap h.store_agrees.heap.blocks store.loaded.items call.stack call.slots.buffers.items pending store.monitors k (has_room (locals_after f call.locals)) (element_wanted function.target) f function.operands args shared s target h.wanted refl
       (same_pending store.heap pending s.pending h.pending_agrees) (full_where store.heap (locals_after f call.locals) (frames_after f s.frames) (frames_left store.heap f call.locals s.frames h.frames_agree)) h.fit h.given
 
   module _ (free : trap_of_call w.classes shared s target f args ≡ None) where

@@ -1,7 +1,8 @@
 -- What an answer makes takes as many cells as the objects of its effect.
-use Rattle.std.proofs.Common.{◌≡◌, ℕ, ◌≤◌, true, List, [], ◌∷◌, length, refl, ap, ◌∙◌, arith, ◌+◌, Some}
-use Rattle.std.specs.Prelude.{nat_le}
+use Rattle.std.proofs.Common.{◌≡◌, ℕ, ◌==◌, ◌≤◌, false, true, List, [], ◌∷◌, length, refl, ap, ◌∙◌, arith, ◌+◌, Option, None, Some}
+use Rattle.std.specs.Prelude.{nat_le, nat_lt}
 use Rattle.std.proofs.lemmas.Bool.{cond_both}
+use Rattle.std.proofs.lemmas.Bool.Decides.{nat_tests}
 use Rattle.std.proofs.lemmas.List.{length-set}
 use Rattle.std.proofs.lemmas.List.Sums.{sum_by-cons}
 use Rattle.class_rules.specs.Class.{Classes}
@@ -9,7 +10,7 @@ use Rattle.heap.specs.Heap.{Space, left_of}
 use Rattle.jni.specs.Prototype.{ResultKind}
 use Rattle.base.specs.Bytes.{Identifier}
 use Rattle.semantics.specs.Arguments.{ReleaseMode, CopyBackAndFree, CopyBack, FreeUncopied}
-use Rattle.semantics.specs.CallEffects.{release_effect, string_object, with_message, CallEffect, frames_effect, refuses_frames, with_capacity}
+use Rattle.semantics.specs.CallEffects.{enter_effect, exit_effect, release_effect, string_object, with_message, CallEffect, frames_effect, refuses_frames, with_capacity}
 use Rattle.semantics.specs.Heap.{next_name}
 use Rattle.semantics.specs.Object.{Object, Reference, Refers, size, sizes}
 use Rattle.semantics.specs.Thread as source
@@ -69,6 +70,16 @@ module _ (classes : Classes) (brought : Brought) (space : Space) (locals : Local
   of_release s' n x CopyBack = refl
   of_release s' n x FreeUncopied = refl
 
+  of_enter : (k n : ℕ) (o : Option source.Monitor) → Cells (enter_effect k shared s n o) ≡ 0
+  of_enter k n None = refl
+  of_enter k n (Some m) = cond_both (nat_lt m.count 255) _ _ (λ (e : CallEffect). Cells e ≡ 0) (λ e. refl) (λ e. refl)
+
+  of_exit : (k n : ℕ) (m : source.Monitor) → m.owner ≡ k → Cells (exit_effect k shared s n (Some m)) ≡ 0
+  of_exit k n m own = cond_both (m.owner == k) _ _ (λ (e : CallEffect). Cells e ≡ 0) (λ e. refl) (λ other. absurd (apart m.owner k other own))
+    where
+      apart : (x y : ℕ) → (x == y) ≡ false → x ≡ y → ⊥
+      apart x y other same = grind (arith, nat_tests, other, same)
+
   pub cells_made : (a : Answer) (effect : CallEffect) → IsAnswer classes brought space locals kind shared s a effect → Cells effect ≡ cells_of classes brought.texts a
   cells_made (answer.Gives g) effect does = ap Cells (gives_it classes brought space locals kind shared s g effect does).is
   cells_made (answer.Writes a place v) effect does = ap Cells (writes_it classes brought space locals kind shared s a place v effect does).is
@@ -91,6 +102,10 @@ module _ (classes : Classes) (brought : Brought) (space : Space) (locals : Local
   cells_made (answer.Deletes key) effect does = ap Cells does.1.3
   cells_made (answer.MakesGlobal a) effect does = ap Cells does.1.2
   cells_made (answer.DeletesGlobal i) effect does = ap Cells does.1.3
+  cells_made (answer.Enters o) effect does = ap Cells does.1.is ∙ of_enter brought.buffers.owner o.name (source.monitor_of shared.monitors o.name)
+  cells_made (answer.Exits n) effect does =
+      let it = does.1 in
+      ap Cells (it.is ∙ ap (exit_effect brought.buffers.owner shared s n) it.owned) ∙ of_exit brought.buffers.owner n it.monitor it.own
 
 -- what changes references or frames makes nothing
 pub references_free : (classes : Classes) (texts : List (List ℕ)) (a : Answer) → is_of_references a ≡ true → cells_of classes texts a ≡ 0
@@ -113,8 +128,11 @@ references_free classes texts (answer.Pops a) h = refl
 references_free classes texts (answer.Deletes key) h = refl
 references_free classes texts (answer.MakesGlobal a) h = refl
 references_free classes texts (answer.DeletesGlobal i) h = refl
+references_free classes texts (answer.Enters o) h = refl
+references_free classes texts (answer.Exits n) h = refl
 
 -- nor does what takes host memory
 pub memory_free : (classes : Classes) (texts : List (List ℕ)) (a : Answer) → takes_memory a ≡ true → cells_of classes texts a ≡ 0
 memory_free classes texts (answer.AcquiresCopy a) h = refl
+memory_free classes texts (answer.Enters o) h = refl
 memory_free classes texts a h = references_free classes texts a h

@@ -10,6 +10,9 @@ use Rattle.semantics.specs.Object.{Object, size}
 use Rattle.semantics.specs.Thread.{Shared}
 use Rattle.semantics.specs.World.{World, loaded_objects}
 use Rattle.code_meaning.specs.Lowered.{Lowered}
+use Rattle.monitors.specs.declared.monitors.Monitor.{Monitor}
+use Rattle.machine_monitors.specs.Fit.{AreThere, MonitorsAgree}
+use Rattle.machine_monitors.proofs.Places.{there_stays}
 use Rattle.machine_calls.specs.declared.store.Store.{Store}
 use Rattle.machine_calls.specs.HeapAgrees.{SlotsAgree}
 use Rattle.machine_calls.specs.Buffers.{Acquired}
@@ -65,7 +68,8 @@ module _ (p : Lowered) (w : World) (texts : List (List ℕ)) (store after : Stor
         globals = subst (λ (globals : List (Option ℕ)). SlotsAgree after.heap globals shared.globals) (sym made.globals) (slots_stay store.heap after.heap names_stay store.globals shared.globals h.globals);
         buffers = taken_as (with_block store.heap b) after.heap store.elements after.elements store.views after.views (length (shared.heap ++ o ∷ [])) all made.heap made.elements made.views
             (taken_push store.heap b store.elements store.views (length shared.heap) (length (shared.heap ++ o ∷ [])) all h.buffers count next.birth refl);
-        monitors = h.monitors;
+        monitors = subst (λ (ms : List Monitor). MonitorsAgree ms shared.monitors) (sym made.monitors) h.monitors;
+        monitored = subst (AreThere after.heap) (sym made.monitors) (there_stays store.heap after.heap names_stay store.monitors h.monitored);
       }
 
   pub made_keeps : Keeps store.heap shared after.heap with_object

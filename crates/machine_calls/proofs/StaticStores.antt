@@ -50,6 +50,7 @@ module _ (p : Lowered) (w : World) (store : Store) (shared : Shared) (all : Acqu
     globals = same;
     buffers = h.buffers;
     monitors = h.monitors;
+    monitored = h.monitored;
   }
 
   -- a static holds something else

@@ -17,6 +17,7 @@ use Rattle.semantics.specs.Object.{Object, ObjectValue, Number, Refers}
 use Rattle.semantics.specs.Thread.{Shared}
 use Rattle.semantics.specs.World.{World, loaded_objects}
 use Rattle.code_meaning.specs.Lowered.{Lowered}
+use Rattle.machine_monitors.proofs.Places.{there_stays}
 use Rattle.machine_calls.specs.declared.store.Store.{Store}
 use Rattle.machine_calls.specs.Buffers.{Acquired}
 use Rattle.machine_calls.specs.StoreAgrees.{StoreAgrees, Keeps}
@@ -208,6 +209,7 @@ module _ (p : Lowered) (w : World) (store : Store) (shared : Shared) (a : ℕ) (
     globals = slots_stay store.heap store_then.heap stays store.globals shared.globals h.globals;
     buffers = taken_changed store.heap a (λ (b : Block). record b { values = vs b.values }) store.elements store.views (length shared.heap) (length heap_then) all leaving (λ b. refl) (λ b. refl) count h.buffers;
     monitors = h.monitors;
+    monitored = there_stays store.heap store_then.heap stays store.monitors h.monitored;
   }
 
   pub values_keep : Keeps store.heap shared store_then.heap (record shared { heap = heap_then })

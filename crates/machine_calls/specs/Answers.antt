@@ -9,10 +9,10 @@ use Rattle.class_rules.specs.Class.{Classes}
 use Rattle.heap.specs.Heap.{Space, name_at, values_at}
 use Rattle.heap.specs.declared.value.Value.{Value}
 use Rattle.jni.specs.Prototype.{ResultKind, NewLocal, NewGlobal, GivesFlag, GivesInt, GivesField, GivesNothing}
-use Rattle.semantics.specs.CallEffects.{CallResult, NoResult, NullResult, ScalarResult, ReferenceResult, FieldResult, CallEffect, copy_effect, view_effect, release_effect, Halts, Leaves, Throws, throw_new_effect, delete_global_effect, frames_effect, refuses_frames, with_capacity, without_local, begun_with, heap_effect, overwritten}
+use Rattle.semantics.specs.CallEffects.{CallResult, NoResult, NullResult, ScalarResult, ReferenceResult, FieldResult, CallEffect, copy_effect, view_effect, release_effect, enter_effect, exit_effect, Halts, Leaves, Throws, throw_new_effect, delete_global_effect, frames_effect, refuses_frames, with_capacity, without_local, begun_with, heap_effect, overwritten}
 use Rattle.semantics.specs.Heap.{next_name, numbers_of, values_of, with_numbers, with_value_at}
 use Rattle.semantics.specs.Object.{ObjectValue, Number, Reference}
-use Rattle.semantics.specs.Thread.{BuffersInUse, Shared, Thread}
+use Rattle.semantics.specs.Thread.{BuffersInUse, Monitor, Shared, Thread, monitor_of}
 use Rattle.semantics.specs.Value.{Int, Flag}
 use Rattle.semantics.specs.Variable.{Live, change}
 use Rattle.semantics.specs.Arguments.{Actual, ReleaseMode, VariableActual}
@@ -20,6 +20,7 @@ use Rattle.code.specs.declared.instr.LocalArray.{LocalArray}
 use Rattle.code.specs.declared.instr.Operand.{Operand}
 use Rattle.code.specs.declared.instr.Operand.TheVariants as operand
 use Rattle.tables.specs.Locals.{LocalTable}
+use Rattle.monitors.specs.declared.monitors.Object.{Object}
 use Rattle.code_meaning.specs.Coding.{mode_code}
 use Rattle.code_meaning.specs.Slots.{word_of, static_index}
 use Rattle.code_meaning.specs.Stands.{IsBufferResult}
@@ -146,6 +147,22 @@ pub record IsReleased (brought : Brought) (space : Space) (s : Shared) (t : Thre
   pub coded : r.mode ≡ mode_code mode
   pub is : effect ≡ release_effect s t name variable mode
 
+-- ---- monitors
+
+-- Thread k enters the monitor of an object: no other thread owns it, and thread k has entered it fewer times than it may.
+pub record IsEntered (k : ℕ) (space : Space) (s : Shared) (t : Thread) (o : Object) (effect : CallEffect) : Type 0 where
+  pub there : name_at space o.address ≡ Some o.name
+  pub own : (m : Monitor) → monitor_of s.monitors o.name ≡ Some m → m.owner ≡ k
+  pub few : (m : Monitor) → monitor_of s.monitors o.name ≡ Some m → m.count < 255
+  pub is : effect ≡ enter_effect k s t o.name (monitor_of s.monitors o.name)
+
+-- thread k leaves the monitor of an object, which it owns
+pub record IsExited (k : ℕ) (s : Shared) (t : Thread) (n : ℕ) (effect : CallEffect) : Type 0 where
+  pub monitor : Monitor
+  pub owned : monitor_of s.monitors n ≡ Some monitor
+  pub own : monitor.owner ≡ k
+  pub is : effect ≡ exit_effect k s t n (monitor_of s.monitors n)
+
 -- ---- all answers
 
 -- The answer is what the call, which brings these, does to this state, all checks being passed.
@@ -173,5 +190,7 @@ IsAnswer classes brought space locals kind s t (answer.DeletesGlobal i) effect =
 IsAnswer classes brought space locals kind s t (answer.AcquiresCopy a) effect = IsBufferResult kind × IsCopyAcquired brought space s t a effect
 IsAnswer classes brought space locals kind s t (answer.AcquiresView a) effect = IsBufferResult kind × IsViewAcquired brought space s t a effect
 IsAnswer classes brought space locals kind s t (answer.Releases r) effect = (kind ≡ GivesNothing) × IsReleased brought space s t r effect
+IsAnswer classes brought space locals kind s t (answer.Enters o) effect = (kind ≡ GivesInt) × IsEntered brought.buffers.owner space s t o effect
+IsAnswer classes brought space locals kind s t (answer.Exits n) effect = (kind ≡ GivesInt) × IsExited brought.buffers.owner s t n effect
 IsAnswer classes brought space locals kind s t answer.RefusesFrames effect = (kind ≡ GivesInt) × (effect ≡ refuses_frames classes s t)
 IsAnswer classes brought space locals kind s t answer effect = ⊥

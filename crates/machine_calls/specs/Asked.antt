@@ -1,14 +1,15 @@
 -- A call of a function with the arguments that the source's call has.
-use Rattle.std.specs.Prelude.{◌≡◌, ◌≢◌, ℕ, true, List, [], length, Option, Some}
+use Rattle.std.specs.Prelude.{◌≡◌, ◌≢◌, ℕ, false, true, List, [], length, Option, Some}
 use Rattle.std.specs.List.{AllZip}
 use Rattle.base.specs.Bytes.{lookup}
 use Rattle.class_rules.specs.Class.{Classes}
 use Rattle.code.specs.Call.{Call}
 use Rattle.jni.specs.Access.{Access}
-use Rattle.jni.specs.JniFunction.{JniFunction, ReleaseBuffer, prototype, is_built_function}
+use Rattle.jni.specs.JniFunction.{JniFunction, ReleaseBuffer, prototype}
 use Rattle.region_rules.specs.RegionRules.{is_critical_call}
 use Rattle.semantics.specs.Arguments.{Actual, object_given, variable_given}
-use Rattle.semantics.specs.CallStep.{target_element}
+use Rattle.semantics.specs.CallStep.{target_element, waits_with}
+use Rattle.semantics.specs.Effect.{Calls}
 use Rattle.semantics.specs.Task.{Target}
 use Rattle.semantics.specs.Thread.{BuffersInUse, Shared, Thread, viewed_by}
 use Rattle.semantics.specs.World.{World}
@@ -32,10 +33,10 @@ use Rattle.machine_calls.specs.Statics.{References, all_held}
 abbrev pub references_of : Store → Activation → References
 references_of store call = record { keys = call.slots.references.items; locals = call.locals; statics = all_held store.globals store.statics.items }
 
--- what a call sees
-abbrev pub scene_of : Classes → Store → Activation → (pending : Option ℕ) → Scene
-scene_of classes store call pending =
-    record { classes = classes; space = store.heap; loaded = store.loaded.items; references = references_of store call; fields = call.slots.fields.items; buffers = call.slots.buffers.items; stack = call.stack; pending = pending }
+-- what a call of thread k sees
+abbrev pub scene_of : Classes → Store → Activation → (k : ℕ) → (pending : Option ℕ) → Scene
+scene_of classes store call k pending =
+    record { classes = classes; space = store.heap; loaded = store.loaded.items; references = references_of store call; fields = call.slots.fields.items; buffers = call.slots.buffers.items; stack = call.stack; pending = pending; monitors = store.monitors; thread = k }
 
 -- the buffers of a call of thread k
 abbrev pub buffers_of : Store → Activation → (k : ℕ) → HeldBuffers
@@ -47,13 +48,12 @@ brought_by store call k in_use function args = bringing function.texts call.slot
 
 -- Store, frames and pending exception of thread k agree with the source's, and each operand gives what the argument at its place is, and
 -- the target wants what the source's does. Objects and variables are typed. While the thread has a view, the function is critical, and a
--- release names the object that its buffer came from.
+-- release names the object that its buffer came from. The thread doesn't wait for a monitor.
 pub record IsAsked (p : Lowered) (w : World) (store : Store) (pending : Option ℕ) (call : Activation) (function : Call) (others : Acquired) (k : ℕ) (shared : Shared) (s : Thread) (target : Target) (f : JniFunction) (args : List Actual) : Type 0 where
   pub store_agrees : StoreAgrees p w store shared (beside others (acquired_by s))
   pub pending_agrees : ReferenceAgrees store.heap pending s.pending
   pub frames_agree : FramesAgree store.heap call.locals s.frames
   pub same_function : function.function ≡ f
-  pub answered : is_built_function f ≡ true
   pub count : length args ≡ length (prototype f).parameters
   pub kinds : AllZip OperandFits (prototype f).parameters function.operands
   pub fit : AllZip ActualFits (prototype f).parameters args
@@ -65,5 +65,6 @@ pub record IsAsked (p : Lowered) (w : World) (store : Store) (pending : Option �
   pub typed_variables : AreTypedVariables w.classes shared.heap s.variables
   pub critical : viewed_by s ≢ [] → is_critical_call f ≡ true
   pub release : (access : Access) → f ≡ ReleaseBuffer access → came_from (lookup (variable_given args 1) s.variables) ≡ Some (object_given args 0)
+  pub ready : waits_with w.classes k shared s (Calls function.line target f args) ≡ false
   pub words : call.stack ≡ words_given args
   pub texts : function.texts ≡ texts_given args

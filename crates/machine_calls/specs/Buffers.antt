@@ -1,11 +1,11 @@
 -- What the buffers of threads take, and how those in the slots of one stand for the source's.
-use Rattle.std.specs.Prelude.{◌≡◌, ◌≢◌, ℕ, ◌+◌, ◌<◌, ◌≤◌, Bool, true, false, ℤ, List, [], ◌∷◌, ◌++◌, length, slice_get, Option, Some, FitsSigned}
+use Rattle.std.specs.Prelude.{◌≡◌, ◌≢◌, ℕ, ◌+◌, ◌<◌, ◌≤◌, Bool, true, false, List, [], ◌∷◌, ◌++◌, length, slice_get, Option, Some, FitsSigned}
 use Rattle.std.specs.Int.{w32}
 use Rattle.std.specs.Option.{option_to_list}
 use Rattle.std.specs.List.{AllZip, AllByRecursion}
 use Rattle.base.specs.Element.{ElementType}
-use Rattle.code.specs.declared.instr.ReleaseMode.{ReleaseMode}
-use Rattle.code.specs.declared.instr.ReleaseMode.TheVariants as mode
+use Rattle.jni.specs.declared.mode.ReleaseMode.{ReleaseMode}
+use Rattle.jni.specs.declared.mode.ReleaseMode.TheVariants as mode
 use Rattle.heap.specs.Heap.{Space, name_at, pins_at}
 use Rattle.semantics.specs.Heap.{Heap, values_of}
 use Rattle.semantics.specs.Thread.{BuffersInUse, Thread, copied_by, viewed_by}

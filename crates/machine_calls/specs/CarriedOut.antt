@@ -150,16 +150,23 @@ is_of_references (answer.MakesGlobal a) = true
 is_of_references (answer.DeletesGlobal slot) = true
 is_of_references a = is_of_frames a
 
+-- or to monitors
+abbrev pub is_of_monitors : Answer → Bool
+is_of_monitors (answer.Enters o) = true
+is_of_monitors (answer.Exits n) = true
+is_of_monitors a = is_of_references a
+
 -- or to buffers
 abbrev pub is_of_buffers : Answer → Bool
 is_of_buffers (answer.AcquiresCopy a) = true
 is_of_buffers (answer.AcquiresView a) = true
 is_of_buffers (answer.Releases r) = true
-is_of_buffers a = is_of_references a
+is_of_buffers a = is_of_monitors a
 
 -- what an answer does may take host memory
 abbrev pub takes_memory : Answer → Bool
 takes_memory (answer.AcquiresCopy a) = true
+takes_memory (answer.Enters o) = true
 takes_memory a = is_of_references a
 
 -- an answer leaves a key of this level as it is, where there were this number of frames

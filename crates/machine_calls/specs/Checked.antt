@@ -1,14 +1,13 @@
 -- What is checked of a call before it does anything, by what is in memory.
 use Rattle.std.specs.Prelude.{ℕ, Bool, true, false, not, ◌&&◌, ◌||◌, ◌==◌, List, [], ◌∷◌, ◌++◌, is_none, is_some, Option, Some, None}
 use Rattle.std.specs.List.{list_any}
-use Rattle.base.specs.Element.{ElementType, JInt, JShort, JByte, JChar}
+use Rattle.base.specs.Element.{ElementType, JInt, element_value}
 use Rattle.class_rules.specs.BuiltIns.{class_class, has_own_making, string_class, throwable_class, number_array}
 use Rattle.class_rules.specs.Class.{Classes, FieldType, NumberField, ReferenceField, class_kind, is_plain, is_object_array, assignable}
 use Rattle.class_rules.specs.Fields.{FieldId}
 use Rattle.classes.specs.declared.class.FieldHandle.{FieldHandle}
 use Rattle.code.specs.declared.instr.Operand.{Operand}
 use Rattle.code.specs.declared.instr.Operand.TheVariants as operand
-use Rattle.code.specs.declared.instr.ElementType.TheVariants as element
 use Rattle.code.specs.declared.instr.Target.{Target}
 use Rattle.code.specs.declared.instr.Target.TheVariants.{Buffer}
 use Rattle.heap.specs.Heap.{Space}
@@ -79,10 +78,7 @@ fits_type_there classes space r (ReferenceField c) = fits_there classes space r 
 
 -- the element type of the buffer that a call is to fill
 abbrev pub element_wanted : Target → ElementType
-element_wanted (Buffer element.Int i) = JInt
-element_wanted (Buffer element.Short i) = JShort
-element_wanted (Buffer element.Byte i) = JByte
-element_wanted (Buffer element.Char i) = JChar
+element_wanted (Buffer element i) = element_value element
 element_wanted target = JInt
 
 -- a call with these operands

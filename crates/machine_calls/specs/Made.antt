@@ -39,6 +39,7 @@ pub record HasMade (classes : Classes) (texts : List (List ℕ)) (before : Store
   pub globals : after.globals ≡ before.globals
   pub elements : after.elements ≡ before.elements
   pub views : after.views ≡ before.views
+  pub monitors : after.monitors ≡ before.monitors
 
 -- a new object, where it has room, and else the store as it was
 abbrev pub Makes : Classes → (texts : List (List ℕ)) → Store → New → Store → Option ℕ → Type 0

@@ -12,6 +12,7 @@ use Rattle.semantics.specs.Thread.{Shared}
 use Rattle.semantics.specs.Variable.{StaticReference, Empty, Live, Deleted, Statics, assign}
 use Rattle.code_meaning.specs.Lowered.{Lowered}
 use Rattle.machine_calls.specs.declared.store.Store.{Store}
+use Rattle.machine_monitors.specs.Fit.{AreThere, MonitorsAgree}
 use Rattle.machine_calls.specs.Buffers.{Acquired, IsTaken}
 use Rattle.machine_calls.specs.HeapAgrees.{HeapAgrees, IsTable, SlotsAgree}
 use Rattle.machine_calls.specs.Statics.{HaveKeys, all_held}
@@ -55,8 +56,8 @@ pub record StoreAgrees (p : Lowered) (w : World) (store : Store) (shared : Share
   pub keys : HaveKeys store.globals store.statics.items
   pub globals : SlotsAgree store.heap store.globals shared.globals
   pub buffers : IsTaken store.heap store.elements store.views (length shared.heap) all
-  -- no call that can be made yet changes these
-  pub monitors : shared.monitors ≡ []
+  pub monitors : MonitorsAgree store.monitors shared.monitors
+  pub monitored : AreThere store.heap store.monitors
 
 -- at most one of the statics holds something else
 abbrev pub MayChange : Statics → Statics → Type 0

@@ -1,8 +1,8 @@
 -- What the machine works out of a call, by what is in memory.
-use Rattle.std.specs.Prelude.{◌==◌, ◌≡◌, ℕ, ◌+◌, ◌-◌, ℤ, pos, negsuc, nat_lt, nat_le, Bool, true, false, List, [], ◌∷◌, length, slice_get, unwrap_or, is_some, if◌then◌else◌, Option, Some, None}
+use Rattle.std.specs.Prelude.{◌==◌, ◌≡◌, ℕ, ◌+◌, ◌-◌, ◌^◌, ℤ, pos, negsuc, nat_lt, nat_le, Bool, true, false, List, [], ◌∷◌, length, slice_get, unwrap_or, is_some, if◌then◌else◌, Option, Some, None}
 use Rattle.std.specs.Int.{w32, cast_signed}
 use Rattle.base.specs.Element.{ElementType}
-use Rattle.class_rules.specs.BuiltIns.{array_index_out_of_bounds, array_store_exception, negative_array_size, string_index_out_of_bounds, no_class_def_found_error, no_such_field_error, number_array}
+use Rattle.class_rules.specs.BuiltIns.{array_index_out_of_bounds, array_store_exception, illegal_monitor_state, negative_array_size, string_index_out_of_bounds, no_class_def_found_error, no_such_field_error, number_array}
 use Rattle.class_rules.specs.Class.{Classes, array_class_of, assignable, class_kind, class_named, element_class, superclass}
 use Rattle.class_rules.specs.Fields.{FieldId, find_field, find_static, layout, own_statics}
 use Rattle.classes.specs.FieldViews.{field_of, place_among}
@@ -12,18 +12,25 @@ use Rattle.code.specs.Effect.{element_word, truth_word}
 use Rattle.code.specs.declared.instr.LocalArray.{LocalArray}
 use Rattle.code.specs.declared.instr.Operand.{Operand}
 use Rattle.code.specs.declared.instr.Operand.TheVariants as operand
-use Rattle.code.specs.declared.instr.ReleaseMode.{ReleaseMode}
-use Rattle.code.specs.declared.instr.ReleaseMode.TheVariants.{CopyBackAndFree, FreeUncopied}
+use Rattle.jni.specs.declared.mode.ReleaseMode.{ReleaseMode}
+use Rattle.jni.specs.declared.mode.ReleaseMode.TheVariants.{CopyBackAndFree, FreeUncopied}
 use Rattle.code_meaning.specs.Coding.{element_of}
 use Rattle.heap.specs.Heap.{Space, values_at}
 use Rattle.heap.specs.declared.value.Value.{Value}
 use Rattle.heap.specs.declared.value.Value.TheVariants as value
 use Rattle.jni.specs.Access.{Access, ElementsCopy, is_critical}
-use Rattle.jni.specs.JniFunction.{GetBuffer, ReleaseBuffer, JniFunction, FindClass, GetSuperclass, GetObjectClass, IsInstanceOf, IsAssignableFrom, AllocObject, NewLocalRef, NewGlobalRef, DeleteLocalRef, DeleteGlobalRef, IsSameObject, EnsureLocalCapacity, PushLocalFrame, PopLocalFrame, GetFieldID, GetStaticFieldID, GetField, SetField, GetStaticField, SetStaticField, GetObjectField, SetObjectField, GetStaticObjectField, SetStaticObjectField, GetArrayLength, GetStringLength, NewArray, NewObjectArray, GetObjectArrayElement, SetObjectArrayElement, NewStringUTF, Throw, ThrowNew, ExceptionOccurred, ExceptionCheck, ExceptionClear, FatalError, GetArrayRegion, SetArrayRegion, GetStringRegion}
+use Rattle.jni.specs.JniFunction.{GetBuffer, ReleaseBuffer, JniFunction, FindClass, GetSuperclass, GetObjectClass, IsInstanceOf, IsAssignableFrom, AllocObject, NewLocalRef, NewGlobalRef, DeleteLocalRef, DeleteGlobalRef, IsSameObject, EnsureLocalCapacity, PushLocalFrame, PopLocalFrame, GetFieldID, GetStaticFieldID, GetField, SetField, GetStaticField, SetStaticField, GetObjectField, SetObjectField, GetStaticObjectField, SetStaticObjectField, GetArrayLength, GetStringLength, NewArray, NewObjectArray, GetObjectArrayElement, SetObjectArrayElement, NewStringUTF, Throw, ThrowNew, ExceptionOccurred, ExceptionCheck, ExceptionClear, FatalError, MonitorEnter, MonitorExit, GetArrayRegion, SetArrayRegion, GetStringRegion}
+use Rattle.monitors.specs.declared.monitors.Enter.{Enter}
+use Rattle.monitors.specs.declared.monitors.Enter.TheVariants as enter
+use Rattle.monitors.specs.declared.monitors.Exit.{Exit}
+use Rattle.monitors.specs.declared.monitors.Exit.TheVariants as exit
+use Rattle.monitors.specs.declared.monitors.Monitor.{Monitor}
+use Rattle.monitors.specs.declared.monitors.Object.{Object}
+use Rattle.monitors.specs.Monitors.{entering, leaving, monitor_of}
 use Rattle.machine_calls.specs.declared.answer.Given.TheVariants.{Nothing, Number, Reference}
 use Rattle.machine_calls.specs.declared.answer.Given.TheVariants as given
 use Rattle.machine_calls.specs.declared.answer.Answer.{Answer}
-use Rattle.machine_calls.specs.declared.answer.Answer.TheVariants.{Gives, Writes, Makes, Throws, Raises, Pends, Halts, Ensures, Pushes, RefusesFrames, Pops, Deletes, MakesGlobal, DeletesGlobal, CopiesOut, CopiesIn, AcquiresCopy, AcquiresView, Releases}
+use Rattle.machine_calls.specs.declared.answer.Answer.TheVariants.{Gives, Writes, Makes, Throws, Raises, Pends, Halts, Ensures, Pushes, RefusesFrames, Pops, Deletes, MakesGlobal, DeletesGlobal, CopiesOut, CopiesIn, AcquiresCopy, AcquiresView, Releases, Enters, Exits}
 use Rattle.machine_calls.specs.declared.array_region.ArrayRegion.{ArrayRegion}
 use Rattle.machine_calls.specs.declared.buffer.Buffer.{Buffer}
 use Rattle.machine_calls.specs.declared.buffer.Buffer.TheVariants as buffer
@@ -192,6 +199,29 @@ abbrev pub releases : List Buffer → (object : Option ℕ) → Operand → Rele
 releases buffers None o mode = Gives Nothing
 releases buffers (Some a) o mode = Releases (record { object = a; slot = slot_of o; held = buffer_there buffers (slot_of o); mode = mode })
 
+-- ---- monitors
+
+-- the monitor of an object is entered, where it can be; else -1 is given
+abbrev pub entered_by : Object → Enter → Answer
+entered_by o enter.Entered = Enters o
+entered_by o e = Gives (Number (2 ^ 32 - 1))
+
+-- the monitor of an object is left, where the thread owns it; else it is an exception
+abbrev pub left_by : (name : ℕ) → Exit → Answer
+left_by name exit.Left = Exits name
+left_by name exit.NotOwner = Throws illegal_monitor_state
+
+-- a thread enters the monitor of the object at an address
+abbrev pub enters : Space → List Monitor → (thread : ℕ) → Option ℕ → Answer
+enters space monitors thread None = Gives Nothing
+enters space monitors thread (Some a) =
+    entered_by (record { name = name_there space (Some a); address = a }) (entering thread (monitor_of monitors (name_there space (Some a))))
+
+-- a thread leaves it
+abbrev pub leaves : Space → List Monitor → (thread : ℕ) → Option ℕ → Answer
+leaves space monitors thread None = Gives Nothing
+leaves space monitors thread (Some a) = left_by (name_there space (Some a)) (leaving thread (monitor_of monitors (name_there space (Some a))))
+
 -- ---- what a function does
 
 -- A call that sees this.
@@ -282,6 +312,8 @@ module _ (scene : Scene) (call : Call) where
   worked_out ExceptionCheck = Gives (Number (truth_word (is_some scene.pending)))
   worked_out ExceptionClear = Pends None Nothing
   worked_out FatalError = Halts Fatal
+  worked_out MonitorEnter = enters scene.space scene.monitors scene.thread (reference 0)
+  worked_out MonitorExit = leaves scene.space scene.monitors scene.thread (reference 0)
   worked_out f = Gives Nothing
 
   -- what is worked out of a call of a function

@@ -8,19 +8,19 @@ ghost use Rattle.code.specs.Call.{call_view};
 ghost use Rattle.code.specs.Effect.{element_word, truth_word};
 ghost use Rattle.code_meaning.specs.Coding.{element_of};
 ghost use Rattle.heap.specs.Heap.{IsAddress};
-ghost use Rattle.jni.specs.JniFunction.{is_built_function};
 ghost use Rattle.jni.specs.Table.{function_value};
 ghost use Rattle.machine_calls.specs.CallGroups.{is_further, is_of_objects};
 ghost use Rattle.machine_calls.specs.Checked.{arguments_fit, element_wanted};
 ghost use Rattle.machine_calls.specs.Given.{class_of_given, field_at, field_there, name_there, operand_at, operand_of, AreAddresses, AreHandles};
 ghost use Rattle.machine_calls.specs.Scenes.{scene_view};
 ghost use Rattle.machine_calls.specs.WorkedOut.{address_in, class_object, count_there, deletes, deletes_global, found_class, frame_for, held_reference, place_there, room_for, top_word, value_there, word_in, writes_there, IsFoundField, IsWorkedOut};
-ghost use Rattle.syntax.specs.Views.{element_tree};
+ghost use Rattle.base.specs.Element.{element_value};
 
 use crate::array_region::ArrayRegion;
 use crate::arrays::{stack_number, work_out_array};
 use crate::buffer::{Buffer, Release};
 use crate::exceptions::work_out_exception;
+use crate::monitor::work_out_monitor;
 use crate::new_object::{New, text_at};
 use crate::operands::{
     class_of_given, declaring, fits_there, handle_at, key_in, name_there, operand_of, reference_at,
@@ -37,6 +37,7 @@ use code::plain::element_word;
 use code::stack::Stack;
 use heap::{Addr, Heap, Value};
 use jni::JniFunction;
+use monitors::Object;
 use tables::Local;
 
 /// What a call gives.
@@ -97,6 +98,10 @@ pub enum Answer {
     MakesGlobal(Option<Addr>),
     /// The global reference of the static of this number ends, and the static is marked.
     DeletesGlobal(u32),
+    /// The thread owns the monitor of this object, or once more, and 0 is given.
+    Enters(Object),
+    /// The thread owns the monitor of the object of this birth number once less, and 0 is given.
+    Exits(u32),
 }
 
 /// What a function does, all checks being passed. It takes no host memory.
@@ -105,7 +110,6 @@ pub fn work_out(scene: &Scene<'_>, function: &Call) -> Answer
     requires loaded { (i a : ℕ) → slice_get scene.now.loaded.now i ≡ Some a → IsAddress scene.now.heap.now a }
     requires objects { AreAddresses scene.now.heap.now scene.now.references function.now.operands.items }
     requires handles { AreHandles scene.now.classes.now scene.now.fields.now function.now.operands.items }
-    requires answered { is_built_function (function_value function.now.function) ≡ true }
     requires passed { arguments_fit (scene_view scene.now) function.now.operands.items (element_wanted function.now.target) (function_value function.now.function) ≡ true }
     ensures { IsWorkedOut (scene_view scene.now) (call_view function.now) (function_value function.now.function) result }
 {
@@ -146,6 +150,7 @@ pub fn work_out(scene: &Scene<'_>, function: &Call) -> Answer
             work_out_exception(scene, function)
         }
         JniFunction::ExceptionClear => work_out_exception(scene, function),
+        JniFunction::MonitorEnter | JniFunction::MonitorExit => work_out_monitor(scene, function),
         _ => work_out_further(scene, function),
     }
 }
@@ -305,7 +310,7 @@ fn work_out_field(scene: &Scene<'_>, function: &Call) -> Answer
 
 /// The reference of the operand at a place.
 #[inline(always)]
-pub(crate) fn argument(
+pub fn argument(
     heap: &Heap,
     references: &References<'_>,
     function: &Call,
@@ -643,23 +648,12 @@ pub(crate) fn top_word(stack: &Stack) -> u32
     if stack.is_empty() { 0 } else { stack.top() }
 }
 
-/// The same type, as elements of arrays have it.
-fn element_of(element: syntax::ElementType) -> ElementType
-    ensures { result ≡ element_of (element_tree element) }
-{
-    match element {
-        syntax::ElementType::Jint => ElementType::Int,
-        syntax::ElementType::Jshort => ElementType::Short,
-        syntax::ElementType::Jbyte => ElementType::Byte,
-        syntax::ElementType::Jchar => ElementType::Char,
-    }
-}
-
 /// How a cell of this type holds the word on the stack.
+#[tactic(auto, using(code_meaning::proofs::ElementWords::element_same))]
 fn stored(element: syntax::ElementType, stack: &Stack) -> Value
-    ensures { result ≡ Value.Number (element_word (element_of (element_tree element)) (top_word stack.now)) }
+    ensures { result ≡ Value.Number (element_word (element_of (element_value element)) (top_word stack.now)) }
 {
-    Value::Number(element_word(element_of(element), top_word(stack)))
+    Value::Number(element_word(element, top_word(stack)))
 }
 
 // ---- classes

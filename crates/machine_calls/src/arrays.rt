@@ -18,7 +18,7 @@ use crate::array_class::array_class_of;
 use crate::buffers::work_out_buffer;
 use crate::copies::work_out_region;
 use crate::new_object::{New, NewArray};
-use crate::operands::{class_of_given, element_type, fits_there};
+use crate::operands::{class_of_given, fits_there};
 use crate::references::References;
 use crate::scene::Scene;
 use classes::built_ins::{
@@ -45,7 +45,7 @@ pub(crate) fn work_out_array(scene: &Scene<'_>, function: &Call) -> Answer
             Answer::Gives(Given::Number(count_there(scene.heap, first)))
         }
         JniFunction::NewArray(element) => {
-            let class = number_array(element_type(element));
+            let class = number_array(element);
             new_array(class, stack_number(scene.stack), Value::Number(0))
         }
         JniFunction::NewObjectArray => {

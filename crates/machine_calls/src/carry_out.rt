@@ -14,7 +14,7 @@ ghost use Rattle.tables.specs.declared.locals.TheConstants.{MOST_LOCALS};
 ghost use Rattle.tables.specs.Locals.{capacities, ensured, popped};
 ghost use Rattle.machine_calls.specs.Answers.{Brought, bringing, IsAnswer, is_halt};
 ghost use Rattle.machine_calls.specs.Buffers.{Acquired, acquired_by, beside, holding, in_use_of};
-ghost use Rattle.machine_calls.specs.CarriedOut.{CarriesOut, CopiesStay, IsNewCopy, IsPossible, buffers_after, failed, is_of_buffers, is_of_frames, is_of_references, slots_after, takes_memory};
+ghost use Rattle.machine_calls.specs.CarriedOut.{CarriesOut, CopiesStay, IsNewCopy, IsPossible, buffers_after, failed, is_of_buffers, is_of_frames, is_of_monitors, is_of_references, slots_after, takes_memory};
 ghost use Rattle.machine_calls.specs.Made.{cells_of};
 ghost use Rattle.machine_calls.specs.NewObjects.{texts_in};
 ghost use Rattle.machine_calls.specs.declared.answer.Given.TheVariants.{Number};
@@ -208,6 +208,48 @@ fn carry_out_buffers(
             );
             Ok(Carried {
                 given: Given::Nothing,
+                refused: false,
+            })
+        }
+        _ => carry_out_monitors(world, store, pending, locals, thread, answer),
+    }
+}
+
+/// Does to monitors, of a thread of this number, and to references what an answer of monitors, of references or of frames says.
+#[inline(always)]
+fn carry_out_monitors(
+    world: &World,
+    store: &mut Store,
+    pending: &mut Option<Addr>,
+    locals: &mut Locals,
+    thread: u8,
+    answer: Answer,
+) -> Result<Carried, AllocError>
+    requires of_monitors { is_of_monitors answer ≡ true }
+    requires possible { (p : Lowered) × (kind : SourceKind) × (brought : Brought) × (others : Acquired) × (shared : Shared) × (s : SourceThread) × (effect : CallEffect) × IsPossible p world.now store.old pending.old locals.old others shared s
+        × IsAnswer world.now.classes brought store.old.heap locals.old kind shared s answer effect × (brought.buffers.owner ≡ thread) }
+    ensures carried { IfOk result (λ carried. (p : Lowered) (kind : SourceKind) (brought : Brought) (others : Acquired) (shared : Shared) (s : SourceThread) (effect : CallEffect) → IsPossible p world.now store.old pending.old locals.old others shared s
+        → IsAnswer world.now.classes brought store.old.heap locals.old kind shared s answer effect → brought.buffers.owner ≡ thread
+        → CarriesOut p world.now store.old.heap locals.old answer kind others thread shared s effect carried.refused store.new pending.new locals.new carried.given) }
+    ensures elements { store.new.elements ≡ store.old.elements }
+    ensures new_copy { IfOk result (λ carried. (copies : List (Option OwnedNumbers)) → IsNewCopy copies carried.given) }
+    ensures store { OnErr result (store.new ≡ store.old) }
+    ensures pending { OnErr result (pending.new ≡ pending.old) }
+    ensures locals { OnErr result (locals.new ≡ locals.old) }
+    ensures memory { OnErr result (takes_memory answer ≡ true) }
+{
+    match answer {
+        Answer::Enters(object) => {
+            store.monitors.enter(object, thread)?;
+            Ok(Carried {
+                given: Given::Number(0),
+                refused: false,
+            })
+        }
+        Answer::Exits(name) => {
+            store.monitors.exit(name, thread);
+            Ok(Carried {
+                given: Given::Number(0),
                 refused: false,
             })
         }

@@ -4,7 +4,8 @@ ghost use Rattle.std.specs.Prelude.{◌≡◌, ℕ, Bool, List, ◌++◌, ◌&&�
 ghost use Rattle.std.specs.List.{list_any};
 ghost use Rattle.std.specs.Option.{option_map};
 ghost use Rattle.class_rules.specs.Class.{Classes};
-ghost use Rattle.classes.specs.Views.{element_view, field_type_view};
+ghost use Rattle.base.specs.Element.{element_value};
+ghost use Rattle.classes.specs.Views.{field_type_view};
 ghost use Rattle.heap.specs.Heap.{IsAddress};
 ghost use Rattle.code.specs.Call.{IsPrepared};
 ghost use Rattle.jni.specs.JniFunction.{is_allowed_pending, prototype};
@@ -20,8 +21,8 @@ ghost use Rattle.semantics.specs.Heap.{holds_number, holds_reference};
 ghost use Rattle.semantics.specs.Value.{Trap as SourceTrap};
 
 use crate::operands::{
-    class_of_given, declaring, element_type, field_in, fits_there, handle_at, is_static,
-    name_there, reference_at, reference_in, type_of,
+    class_of_given, declaring, field_in, fits_there, handle_at, is_static, name_there,
+    reference_at, reference_in, type_of,
 };
 use crate::references::{Held, References};
 use crate::scene::Scene;
@@ -108,7 +109,7 @@ fn class_misfits(classes: &ClassTable, parameter: ParameterKind, class: usize) -
 {
     match parameter {
         ParameterKind::ClassObject => class != CLASS,
-        ParameterKind::NumberArray(element) => class != number_array(element_type(element)),
+        ParameterKind::NumberArray(element) => class != number_array(element),
         ParameterKind::AnyArray => matches!(classes.kind(class), ClassKind::Plain),
         ParameterKind::ObjectArray => !matches!(classes.kind(class), ClassKind::ArrayOfObjects(_)),
         ParameterKind::StringObject => class != STRING,
@@ -175,7 +176,7 @@ fn some_misfit(
 
 /// Whether a type is that of these numbers.
 fn holds_number(element: ElementType, field_type: FieldType) -> bool
-    ensures { result ≡ holds_number (element_view element) (field_type_view field_type) }
+    ensures { result ≡ holds_number (element_value element) (field_type_view field_type) }
 {
     match field_type {
         FieldType::Number(numbers) => match (element, numbers) {
@@ -281,7 +282,7 @@ fn fit_together(
         }
         JniFunction::GetField(element) | JniFunction::SetField(element) => {
             has_field(classes, heap, references, fields, operands)
-                && holds_number(element_type(element), asked_type(classes, fields, operands))
+                && holds_number(element, asked_type(classes, fields, operands))
         }
         JniFunction::GetObjectField => {
             has_field(classes, heap, references, fields, operands)
@@ -294,7 +295,7 @@ fn fit_together(
         }
         JniFunction::GetStaticField(element) | JniFunction::SetStaticField(element) => {
             has_static(classes, heap, references, fields, operands)
-                && holds_number(element_type(element), asked_type(classes, fields, operands))
+                && holds_number(element, asked_type(classes, fields, operands))
         }
         JniFunction::GetStaticObjectField => {
             has_static(classes, heap, references, fields, operands)
@@ -328,15 +329,10 @@ fn fit_together(
 
 /// The element type of the buffer that a call is to fill.
 fn element_wanted(target: Target) -> ElementType
-    ensures { element_view result ≡ element_wanted target }
+    ensures { element_value result ≡ element_wanted target }
 {
     match target {
-        Target::Buffer(element, _) => match element {
-            instr::ElementType::Int => ElementType::Int,
-            instr::ElementType::Short => ElementType::Short,
-            instr::ElementType::Byte => ElementType::Byte,
-            instr::ElementType::Char => ElementType::Char,
-        },
+        Target::Buffer(element, _) => element,
         _ => ElementType::Int,
     }
 }

@@ -14,6 +14,7 @@ pub mod check;
 mod copies;
 mod exceptions;
 mod make;
+mod monitor;
 pub mod new_object;
 mod operands;
 pub mod references;

@@ -2,10 +2,10 @@
 
 ghost use Rattle.std.specs.Prelude.{◌≡◌, ℕ, Some, IsSome};
 ghost use Rattle.classes.specs.FieldViews.{field_of};
-ghost use Rattle.classes.specs.Views.{element_view, field_type_view};
+ghost use Rattle.base.specs.Element.{element_value};
+ghost use Rattle.classes.specs.Views.{field_type_view};
 ghost use Rattle.heap.specs.Heap.{IsAddress};
 ghost use Rattle.machine_calls.specs.Given.{operand_at, key_at, field_at, operand_of, class_of_given, name_there, fits_there, field_there, AreAddresses, AreHandles};
-ghost use Rattle.syntax.specs.Views.{element_tree};
 
 use crate::references::{Held, References};
 use classes::class::{ElementType, FieldHandle, FieldType};
@@ -83,18 +83,6 @@ pub fn handle_at(
 {
     let _ = classes;
     field_in(fields, operand_of(operands, place))
-}
-
-/// The same type, as classes have it.
-pub fn element_type(element: syntax::ElementType) -> ElementType
-    ensures { element_view result ≡ element_tree element }
-{
-    match element {
-        syntax::ElementType::Jint => ElementType::Int,
-        syntax::ElementType::Jshort => ElementType::Short,
-        syntax::ElementType::Jbyte => ElementType::Byte,
-        syntax::ElementType::Jchar => ElementType::Char,
-    }
 }
 
 /// The class of an object, and 0 for NULL.

@@ -6,6 +6,7 @@ use classes::class::FieldHandle;
 use classes::table::ClassTable;
 use code::stack::Stack;
 use heap::{Addr, Heap};
+use monitors::Monitors;
 
 /// What a call sees.
 #[derive(Drop)]
@@ -22,4 +23,8 @@ pub struct Scene<'a> {
     pub stack: &'a Stack,
     /// The exception that is pending.
     pub pending: Option<Addr>,
+    /// The monitors that threads own.
+    pub monitors: &'a Monitors,
+    /// The number of the thread whose call it is.
+    pub thread: u8,
 }

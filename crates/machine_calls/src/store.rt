@@ -2,6 +2,7 @@
 
 use crate::statics::StaticReference;
 use heap::{Addr, Heap};
+use monitors::Monitors;
 use tables::{Elements, Globals};
 
 /// The objects, and what else all threads share.
@@ -19,6 +20,8 @@ pub struct Store {
     pub elements: Elements,
     /// How many buffers of all threads are views, at most 64.
     pub views: u32,
+    /// The monitors that threads own.
+    pub monitors: Monitors,
 }
 
 // Written out, and not derived, so that crates above needn't prove it again.
@@ -32,11 +35,13 @@ impl Drop for Store {
             globals,
             elements,
             views: _,
+            monitors,
         } = self;
         drop(heap);
         drop(loaded);
         drop(statics);
         drop(globals);
         drop(elements);
+        drop(monitors);
     }
 }

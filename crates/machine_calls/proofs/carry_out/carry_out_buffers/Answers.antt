@@ -1,5 +1,5 @@
-use Rattle.std.proofs.Common.{◌<◌, length, Result, Ok, Err, ap, subst}
-use Rattle.std.specs.Prelude.{IfOk}
+use Rattle.std.proofs.Common.{◌<◌, length, ap, subst}
+use Rattle.std.proofs.lemmas.Result.{IfOk-weaker}
 use Rattle.machine_calls.specs.declared.answer.Answer.{Answer}
 use Rattle.machine_calls.specs.declared.answer.Answer.TheVariants as answer
 use Rattle.machine_calls.specs.Answers.{IsAnswer}
@@ -65,17 +65,13 @@ returns-in-Releases-clause-carried c p kind brought others shared s effect h doe
     carries.by_answer p w old.heap c.args.locals.now kind others c.args.thread shared s effect brought c.args.answer (answer.Releases r) c.in-Releases.is _ _ _ _ _ (λ releases.
     buffers.releases p w old c.args.pending.now c.args.locals.now kind others c.args.thread shared s h brought r effect releases (ap (λ (b : HeldBuffers). b.copies) buffers_are) (ap (λ (b : HeldBuffers). b.owner) buffers_are) c.release.new.heap c.release.new.elements c.release.new.views c.release.ensures.released) does
 
--- what is told of an answer of references
-told_on : {T E : Type 0} (P Q : T → Type 0) (r : Result T E) → ((x : T) → P x → Q x) → IfOk r P → IfOk r Q
-told_on P Q (Ok x) f h = f x h
-told_on P Q (Err e) f h = h
-
 pub returns-in_default-clause-carried : goal.returns-in_default-clause-carried
 returns-in_default-clause-carried c =
-    told_on _ _ c.carry_out_references.result (λ carried told p kind brought others shared s effect h does buffers_are uses. told p kind brought others c.args.thread shared s effect h does) c.carry_out_references.ensures.carried
+    IfOk-weaker c.carry_out_monitors.result _ _
+    (λ carried told p kind brought others shared s effect h does buffers_are uses. told p kind brought others shared s effect h does (ap (λ (b : HeldBuffers). b.owner) buffers_are)) c.carry_out_monitors.ensures.carried
 
 pub returns-in_default-clause-new_copy : goal.returns-in_default-clause-new_copy
-returns-in_default-clause-new_copy c = told_on _ _ c.carry_out_references.result (λ carried told. told c.args.store.now.elements) c.carry_out_references.ensures.new_copy
+returns-in_default-clause-new_copy c = IfOk-weaker c.carry_out_monitors.result _ _ (λ carried told. told c.args.store.now.elements) c.carry_out_monitors.ensures.new_copy
 
-pub carry_out_references-requires-clause-possible : goal.carry_out_references-requires-clause-possible
-carry_out_references-requires-clause-possible c = let r = c.requires.possible in (r.0, r.1, r.2, r.3, r.4, r.5, r.6, r.7, r.8)
+pub carry_out_monitors-requires-clause-possible : goal.carry_out_monitors-requires-clause-possible
+carry_out_monitors-requires-clause-possible c = let r = c.requires.possible in (r.0, r.1, r.2, r.3, r.4, r.5, r.6, r.7, r.8, ap (λ (b : HeldBuffers). b.owner) r.9)

@@ -1,0 +1,105 @@
+-- What is carried out of monitors is what the source's call leaves.
+use Rattle.std.proofs.Common.{◌≡◌, ℕ, pos, ◌∷◌, false, List, Option, Some, refl, sym, ◌∙◌, subst, arith, inl}
+use Rattle.std.specs.Prelude.{map}
+use Rattle.code_meaning.specs.Lowered.{Lowered}
+use Rattle.heap.specs.Heap.{Space}
+use Rattle.jni.specs.Prototype.{ResultKind, GivesInt}
+use Rattle.semantics.specs.CallEffects.{CallEffect, ScalarResult}
+use Rattle.semantics.specs.Thread as source
+use Rattle.semantics.specs.Thread.{Shared, Thread}
+use Rattle.semantics.specs.Value.{Int}
+use Rattle.semantics.specs.World.{World}
+use Rattle.monitors.specs.declared.monitors.Monitor.{Monitor}
+use Rattle.monitors.specs.declared.monitors.Object.{Object}
+use Rattle.monitors.specs.declared.monitors.Enter.{Enter}
+use Rattle.monitors.specs.declared.monitors.Enter.TheVariants.{Entered}
+use Rattle.monitors.specs.declared.monitors.Exit.{Exit}
+use Rattle.monitors.specs.declared.monitors.Exit.TheVariants.{Left}
+use Rattle.monitors.specs.Monitors.{AreOf, ChangesAt, entered, entering, left, leaving, monitor_of, object_of}
+use Rattle.machine_monitors.specs.Fit.{AreThere, MonitorsAgree}
+use Rattle.machine_monitors.proofs.FitLaws as fit
+use Rattle.machine_monitors.proofs.Foretold.{enters_so, leaves_so}
+use Rattle.machine_monitors.proofs.Places.{there_entered, there_left}
+use Rattle.tables.specs.Locals.{LocalTable}
+use Rattle.machine_calls.specs.declared.answer.Answer.{Answer}
+use Rattle.machine_calls.specs.declared.answer.Answer.TheVariants as answer
+use Rattle.machine_calls.specs.declared.answer.Given.TheVariants as given
+use Rattle.machine_calls.specs.declared.store.Store.{Store}
+use Rattle.machine_calls.specs.Answers.{Brought, GivenAgrees, IsAnswer, IsEntered, IsExited}
+use Rattle.machine_calls.specs.Buffers.{Acquired, acquired_by, beside, nothing_acquired}
+use Rattle.machine_calls.specs.CarriedOut.{CarriesOut, IsPossible}
+use Rattle.machine_calls.specs.StoreAgrees.{Keeps, StoreAgrees}
+use Rattle.machine_calls.proofs.BufferCarries.{effected}
+use Rattle.machine_calls.proofs.BufferStores.{agrees_same}
+use Rattle.machine_calls.proofs.HeldSums.{beside_nothing}
+use Rattle.machine_calls.proofs.Keeping.{none_made}
+
+-- other monitors
+pub agrees_monitors : (p : Lowered) (w : World) (store : Store) (shared : Shared) (all : Acquired) → StoreAgrees p w store shared all → (ms : List Monitor) (ss : List source.Monitor) → MonitorsAgree ms ss → AreThere store.heap ms
+    → StoreAgrees p w (record store { monitors = ms }) (record shared { monitors = ss }) all
+agrees_monitors p w store shared all h ms ss agree there = record {
+  heap = h.heap;
+  laid_out = h.laid_out;
+  cells = h.cells;
+  table = h.table;
+  begun = h.begun;
+  births = h.births;
+  statics = h.statics;
+  named = h.named;
+  keys = h.keys;
+  globals = h.globals;
+  buffers = h.buffers;
+  monitors = agree;
+  monitored = there;
+}
+
+pub keeps_monitors : (space : Space) (shared : Shared) (ss : List source.Monitor) → Keeps space shared space (record shared { monitors = ss })
+keeps_monitors space shared ss = record {
+  names = λ a n e. e;
+  statics = inl refl;
+  shapes = λ n o at. (o, at, refl, refl);
+  room = none_made space shared.heap shared.heap (omega arith);
+  few = omega arith;
+}
+
+module _ (p : Lowered) (w : World) (store : Store) (pending : Option ℕ) (locals : LocalTable) (kind : ResultKind) (others : Acquired) (k : ℕ) (shared : Shared) (s : Thread) (h : IsPossible p w store pending locals others shared s) (brought : Brought) (owner : brought.buffers.owner ≡ k) where
+  abbrev Does : Answer → CallEffect → Type 0
+  Does a effect = IsAnswer w.classes brought store.heap locals kind shared s a effect
+
+  abbrev Carries : Answer → CallEffect → List Monitor → Type 0
+  Carries a effect ms = CarriesOut p w store.heap locals a kind others k shared s effect false (record store { monitors = ms }) pending locals (given.Number 0)
+
+  -- other monitors, and 0 is given
+  changed : (a : Answer) (effect : CallEffect) (ms : List Monitor) → kind ≡ GivesInt → fit.Does effect shared s ms → AreThere store.heap ms → Carries a effect ms
+  changed a effect ms int does there =
+      let after : Store = record store { monitors = ms } in
+      let left_shared : Shared = record shared { monitors = does.monitors } in
+      let all = beside others (acquired_by s) in
+      subst (λ (e : CallEffect). Carries a e ms) (sym does.is)
+      (effected p w store pending locals kind others k shared s h brought a after (given.Number 0) left_shared s (ScalarResult (Int (pos 0))) refl refl refl (keeps_monitors store.heap shared does.monitors)
+      (agrees_same p w after left_shared all (agrees_monitors p w store shared all h.store_agrees ms does.monitors does.agree there) (beside others (beside (acquired_by s) nothing_acquired)) (beside_nothing others (acquired_by s)))
+      (subst (λ (r : ResultKind). GivenAgrees w.classes store.heap r (given.Number 0) (ScalarResult (Int (pos 0)))) (sym int) (refl, record { sfits = omega arith })))
+
+  -- what `enter` ensures of the object that is entered
+  module _ (o : Object) (effect : CallEffect) (does : Does (answer.Enters o) effect) where
+    may : IsEntered k store.heap shared s o effect
+    may = subst (λ (j : ℕ). IsEntered j store.heap shared s o effect) owner does.1
+
+    pub enters : (came : Enter) (ms : List Monitor) → came ≡ entering k (monitor_of store.monitors o.name) → (came ≡ Entered → ChangesAt store.monitors ms o.name (Some (entered o k (monitor_of store.monitors o.name)))) → AreOf (o ∷ map object_of store.monitors) ms → Carries (answer.Enters o) effect ms
+    enters came ms is changes objects =
+        let agree = h.store_agrees.monitors in
+        let answer_is : Entered ≡ entering k (monitor_of store.monitors o.name) = enters_so k store.monitors shared.monitors agree o.name (record { own = may.own; few = may.few }) in
+        let it = fit.enters k shared s store.monitors agree ms o answer_is (changes (is ∙ sym answer_is)) in
+        changed (answer.Enters o) effect ms does.0 (record { monitors = it.monitors; is = may.is ∙ it.is; agree = it.agree }) (there_entered store.heap store.monitors ms o may.there h.store_agrees.monitored objects)
+
+  -- what `exit` ensures of the object that is left
+  module _ (n : ℕ) (effect : CallEffect) (does : Does (answer.Exits n) effect) where
+    owned : IsExited k shared s n effect
+    owned = subst (λ (j : ℕ). IsExited j shared s n effect) owner does.1
+
+    pub exits : (came : Exit) (ms : List Monitor) → came ≡ leaving k (monitor_of store.monitors n) → (came ≡ Left → ChangesAt store.monitors ms n (left (monitor_of store.monitors n))) → AreOf (map object_of store.monitors) ms → Carries (answer.Exits n) effect ms
+    exits came ms is changes objects =
+        let agree = h.store_agrees.monitors in
+        let answer_is : Left ≡ leaving k (monitor_of store.monitors n) = leaves_so k store.monitors shared.monitors agree n (record { monitor = owned.monitor; owned = owned.owned; own = owned.own }) in
+        let it = fit.leaves k shared s store.monitors agree ms n answer_is (changes (is ∙ sym answer_is)) in
+        changed (answer.Exits n) effect ms does.0 (record { monitors = it.monitors; is = owned.is ∙ it.is; agree = it.agree }) (there_left store.heap store.monitors ms h.store_agrees.monitored objects)
