@@ -196,6 +196,7 @@ store_taken p w store shared a b same h = record {
   globals = h.globals;
   buffers = taken_same store.heap store.elements store.views (length shared.heap) a b same h.buffers;
   monitors = h.monitors;
+  monitored = h.monitored;
 }
 
 -- and with the same, where the thread's variables take what they did

@@ -35,7 +35,7 @@ use Rattle.machine_calls.proofs.CellsMade.{cells_made as cells_answered}
 use Rattle.machine_steps.proofs.AskedCalls.{CalledAs, called, effect_is, cells_wanted, r, held, possible, owned_key, trap_is}
 
 -- the machine is at a call that no check stops
-module _ (p : Lowered) (w : World) (store : Store) (pending : Option ℕ) (call : Activation) (function : Call) (others : Acquired) (k : ℕ) (own : Owners) (shared : Shared) (s : Thread) (task : Task) (rest : List Task) (h : AtCall p w store pending call function others k own shared s task rest) (answer : Answer) (given : IsAnswered w store pending call function answer) where
+module _ (p : Lowered) (w : World) (store : Store) (pending : Option ℕ) (call : Activation) (function : Call) (others : Acquired) (k : ℕ) (own : Owners) (shared : Shared) (s : Thread) (task : Task) (rest : List Task) (h : AtCall p w store pending call function others k own shared s task rest) (answer : Answer) (given : IsAnswered w store pending call k function answer) where
   abbrev pub it : CalledAs p w store pending call h.code (call_view function) others k own shared s task rest (r p w store pending call function others k own shared s task rest h) (effect_of (sight_of shared s) task)
   it = called p w store pending call function others k own shared s task rest h
 
@@ -50,8 +50,8 @@ module _ (p : Lowered) (w : World) (store : Store) (pending : Option ℕ) (call 
   pub free : trap_of_call w.classes shared s it.target it.f it.args ≡ None
   free = sym (trap_is p w store pending call function others k own shared s task rest h) ∙ given.free
 
-  pub worked : IsWorkedOut (scene_of w.classes store call pending) (call_view function) it.f answer
-  worked = subst (λ (x : JniFunction). IsWorkedOut (scene_of w.classes store call pending) (call_view function) x answer) it.asked.same_function given.works
+  pub worked : IsWorkedOut (scene_of w.classes store call k pending) (call_view function) it.f answer
+  worked = subst (λ (x : JniFunction). IsWorkedOut (scene_of w.classes store call k pending) (call_view function) x answer) it.asked.same_function given.works
 
   -- the effect of the source's call
   abbrev pub does : CallEffect
@@ -79,7 +79,7 @@ module _ (p : Lowered) (w : World) (store : Store) (pending : Option ℕ) (call 
         ∙ cells_answered w.classes brings store.heap call.locals kind shared s answer does answered
 
 -- the machine is at a call that stops it, all checks being passed
-module _ (p : Lowered) (w : World) (store : Store) (pending : Option ℕ) (call : Activation) (function : Call) (others : Acquired) (k : ℕ) (own : Owners) (shared : Shared) (s : Thread) (task : Task) (rest : List Task) (h : AtCall p w store pending call function others k own shared s task rest) (trap : Trap) (halted : IsAnswered w store pending call function (answer.Halts trap)) where
+module _ (p : Lowered) (w : World) (store : Store) (pending : Option ℕ) (call : Activation) (function : Call) (others : Acquired) (k : ℕ) (own : Owners) (shared : Shared) (s : Thread) (task : Task) (rest : List Task) (h : AtCall p w store pending call function others k own shared s task rest) (trap : Trap) (halted : IsAnswered w store pending call k function (answer.Halts trap)) where
   -- so does the source's
   pub halts : let it = called p w store pending call function others k own shared s task rest h in effect_of_call w.classes (in_use_with others s) k shared s it.line it.target it.f it.args rest ≡ Halts (trap_view trap)
   halts =

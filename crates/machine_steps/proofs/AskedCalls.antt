@@ -8,7 +8,7 @@ use Rattle.jni.specs.JniFunction.{JniFunction, DeleteLocalRef, DeleteGlobalRef, 
 use Rattle.jni.specs.Prototype.{ResultKind, NewLocal}
 use Rattle.semantics.specs.Arguments.{Actual, reference_given, variable_given}
 use Rattle.semantics.specs.CallEffects.{level_of}
-use Rattle.semantics.specs.CallStep.{trap_of_call}
+use Rattle.semantics.specs.CallStep.{trap_of_call, waits_with}
 use Rattle.semantics.specs.Effect.{Calls, Effect, effect_of}
 use Rattle.semantics.specs.Task.{Assigned, Declared, Dropped, Target, Task, Tested}
 use Rattle.semantics.specs.Thread as source
@@ -81,7 +81,7 @@ use Rattle.machine_steps.proofs.CellsMade.{call_cells}
 use Rattle.machine_calls.proofs.Keeping.{keeps_same}
 use Rattle.machine_steps.specs.Executes.{in_use_with}
 use Rattle.base.specs.Element.{ElementType, JInt, JShort, JByte, JChar}
-use Rattle.code.specs.declared.instr.ElementType.{ElementType as ElementOfCode}
+use Rattle.base.specs.declared.element.ElementType.{ElementType as ElementOfCode}
 use Rattle.code_meaning.specs.Coding.{element_of}
 use Rattle.code_meaning.specs.Slots.{held_buffer, kind_of_variable}
 use Rattle.type_rules.specs.Sorts as sort
@@ -275,7 +275,6 @@ module _ (p : Lowered) (w : World) (store : Store) (pending : Option ℕ) (call 
           pending_agrees = h.pending_agrees;
           frames_agree = r.frames_agree;
           same_function = ap (λ (x : Call). x.function) (sym same) ∙ c.same_function;
-          answered = c.built;
           count = c.count;
           kinds = subst (λ (x : Call). AllZip OperandFits (prototype f).parameters x.operands) same c.kinds;
           fit = c.fit;
@@ -286,6 +285,9 @@ module _ (p : Lowered) (w : World) (store : Store) (pending : Option ℕ) (call 
           typed = h.steady.objects;
           typed_variables = h.steady.variables;
           critical = λ views. subst MayMeetView (invoked (sight_of shared s) task line target f args step).is (h.steady.view task rest h.tasks views);
+          ready =
+              ap (λ (n : ℕ). waits_with w.classes k shared s (Calls n target f args)) (ap (λ (x : Call). x.line) (sym same) ∙ c.same_line)
+              ∙ ap (waits_with w.classes k shared s) (sym step) ∙ h.ready;
           release = λ access same_release. h.steady.release line target access args (ap (next_effect shared s) h.tasks ∙ step ∙ ap (λ (g : JniFunction). Calls line target g args) same_release);
           words = c.words;
           texts = ap (λ (x : Call). x.texts) (sym same) ∙ c.texts;
@@ -305,9 +307,9 @@ module _ (p : Lowered) (w : World) (store : Store) (pending : Option ℕ) (call 
   next_is = ap (next_effect shared s) h.tasks ∙ called.is
 
   -- the trap that is found of it is the source's
-  pub trap_is : trap_at w store pending call in_memory ≡ trap_of_call w.classes shared s called.target called.f called.args
+  pub trap_is : trap_at w store pending call k in_memory ≡ trap_of_call w.classes shared s called.target called.f called.args
   trap_is =
-      (λ i. trap_found (scene_of w.classes store call pending) (has_room (locals_after (called.asked.same_function i) call.locals)) (element_wanted function.target) (called.asked.same_function i) in_memory.operands.items)
+      (λ i. trap_found (scene_of w.classes store call k pending) (has_room (locals_after (called.asked.same_function i) call.locals)) (element_wanted function.target) (called.asked.same_function i) in_memory.operands.items)
       ∙ found_is p w store pending call function others k shared s called.target called.f called.args called.asked
 
   -- the key that DeleteLocalRef is given
@@ -376,7 +378,7 @@ module _ (p : Lowered) (w : World) (store : Store) (pending : Option ℕ) (call 
   pub room_after : (free : trap_of_call w.classes shared s called.target called.f called.args ≡ None) (refused : Bool) (store' : Store) (pending' : Option ℕ) (locals : LocalTable) (g : Given) (answer : Answer)
       → CarriesOut p w store.heap call.locals answer (prototype called.f).result others k shared s (call_effect w.classes in_use k shared s called.args called.f) refused store' pending' locals g → HasRoom (prototype called.f).result locals
   room_after free refused store' pending' locals g answer carried = room_by (prototype called.f).result locals (frames_left refused s (call_effect w.classes in_use k shared s called.args called.f)) (source_frames_after called.f s.frames) store'.heap
-      (λ local. left_is w.classes in_use k shared s called.args called.f called.asked.answered local refused carried.could_refuse) carried.frames_agree (source_room free)
+      (λ local. left_is w.classes in_use k shared s called.args called.f local refused carried.could_refuse) carried.frames_agree (source_room free)
 
   -- a trap stops the thread where it is
   -- a check found it

@@ -1,5 +1,5 @@
 -- A call that the machine makes does what the source's call does.
-use Rattle.std.proofs.Common.{◌≡◌, ◌≢◌, ◌⊎◌, inl, inr, ℕ, ◌+◌, ◌≤◌, Bool, true, false, List, [], ◌∷◌, length, Option, Some, None, refl, sym, ap, ◌∙◌, subst, arith, length-set}
+use Rattle.std.proofs.Common.{◌≡◌, ◌⊎◌, inl, inr, ℕ, ◌+◌, ◌≤◌, Bool, true, false, List, [], ◌∷◌, length, Option, Some, None, refl, sym, ap, ◌∙◌, subst, arith, length-set}
 use Rattle.std.specs.Global.{Vec}
 use Rattle.std.specs.Vec.{with_items}
 use Rattle.std.proofs.lemmas.List.{with_items_is}
@@ -8,19 +8,17 @@ use Rattle.heap.specs.Heap.{name_at}
 use Rattle.base.specs.Bytes.{Identifier, lookup}
 use Rattle.base.specs.Element.{ElementType}
 use Rattle.jni.specs.JniFunction.{JniFunction, GetBuffer, prototype}
-use Rattle.jni.specs.Prototype.{ResultKind, NewLocal, NewGlobal, GivesFlag, GivesInt, GivesField, GivesNothing, GivesBuffer}
+use Rattle.jni.specs.Prototype.{ResultKind, NewLocal, NewGlobal, GivesInt, GivesField, GivesNothing, GivesBuffer}
 use Rattle.semantics.specs.Arguments.{Actual, address_given}
-use Rattle.semantics.specs.CallEffects.{CallEffect, CallResult, BufferResult}
+use Rattle.semantics.specs.CallEffects.{CallEffect, CallResult}
 use Rattle.semantics.specs.CallStep.{call_step, tell_copy, trap_of_call}
 use Rattle.semantics.specs.CallTable.{call_effect}
 use Rattle.semantics.specs.Checks.{frames_after as source_frames_after}
 use Rattle.semantics.specs.Effect.{Calls, Effect, NoEffect, effect_of}
 use Rattle.semantics.specs.Object.{sizes}
-use Rattle.semantics.specs.Task.{Assigned, Declared, Dropped, Target, Task, Tested, VariableKind, BufferKind}
+use Rattle.semantics.specs.Task.{Assigned, Declared, Dropped, Target, Task, Tested}
 use Rattle.semantics.specs.Thread as source
 use Rattle.semantics.specs.Thread.{BuffersInUse, Shared, sight_of}
-use Rattle.semantics.specs.ThreadStep.{next_effect}
-use Rattle.semantics.specs.Variable as variable
 use Rattle.semantics.specs.Variable.{LocalRef, Variable, Variables}
 use Rattle.semantics.specs.World.{World}
 use Rattle.semantics_safety.specs.Owners.{Owners, is_target}
@@ -30,7 +28,7 @@ use Rattle.code.specs.declared.instr.Call.{Call as InMemory}
 use Rattle.code.specs.declared.instr.Instr.TheVariants as instr
 use Rattle.code.specs.declared.instr.Target.{Target as Destination}
 use Rattle.code.specs.declared.instr.Target.TheVariants as destination
-use Rattle.code_meaning.specs.Does.{CallsFunction, GoesInto, TakesBuffer, TakesResult}
+use Rattle.code_meaning.specs.Does.{CallsFunction, TakesBuffer, TakesResult}
 use Rattle.code_meaning.specs.Layout.{Known}
 use Rattle.code_meaning.specs.Lowered.{Lowered}
 use Rattle.code_meaning.specs.Slots.{SeesBuffers, Shows, kind_of_variable, visible_to}
@@ -52,15 +50,15 @@ use Rattle.machine_calls.specs.declared.store.Store.{Store}
 use Rattle.machine_calls.specs.Answers.{IsAnswer, is_halt}
 use Rattle.machine_calls.specs.Asked.{brought_by, scene_of}
 use Rattle.machine_calls.specs.Buffers.{Acquired, AreViewed, BuffersAgree, acquired_by, beside, gives_up}
-use Rattle.machine_calls.specs.CarriedOut.{CarriesOut, CopiesStay, GoesByRoom, IsNewCopy, IsShortOf, LeavesCopy, ResultAgrees, buffers_after, frames_left, made_by, pending_after, result_after, shared_after, slots_after, variables_left}
+use Rattle.machine_calls.specs.CarriedOut.{CarriesOut, CopiesStay, GoesByRoom, IsNewCopy, IsShortOf, buffers_after, frames_left, made_by, pending_after, result_after, shared_after, slots_after, variables_left}
 use Rattle.machine_calls.specs.WorkedOut.{IsWorkedOut}
 use Rattle.machine_calls.proofs.BufferLaws.{buffers_stay, keeps_others, new_apart}
 use Rattle.machine_calls.proofs.KeyLaws.{fewer_owned, keys_left}
 use Rattle.machine_steps.specs.declared.execute.Event.TheVariants as event
-use Rattle.machine_steps.specs.Executes.{CallStands, GoesOn, after_any, cells_made, in_use_with}
+use Rattle.machine_steps.specs.Executes.{CallStands, GoesOn, after_any, in_use_with}
 use Rattle.machine_steps.specs.Invoked.{AtCall}
 use Rattle.machine_steps.specs.Received.{Receives, numbers_with, statics_with, told_slot, told_with}
-use Rattle.machine_steps.specs.SlotsHold.{Meant, slots_of}
+use Rattle.machine_steps.specs.SlotsHold.{slots_of}
 use Rattle.machine_steps.proofs.Acquisitions.{taken_by}
 use Rattle.machine_steps.proofs.AskedCalls.{CalledAs, called as called_at, cells_wanted, effect_is, next_is, r as ready_at, room_after}
 use Rattle.machine_steps.proofs.Calls.{Ready, ready, ready_known, ready_owners}
@@ -152,7 +150,7 @@ module _ (p : Lowered) (w : World) (store : Store) (pending : Option ℕ) (call 
   no_target destination.Test kind target x nothing goes is = let clash : GivesNothing ≡ GivesInt = sym nothing ∙ goes.0 in cc
   no_target destination.Dropped kind target x nothing goes is = let clash : false ≡ true = sym (ap (λ (t : Target). is_target t x) goes.0) ∙ is in cc
 
-  module _ (answer : Answer) (works : IsWorkedOut (scene_of w.classes store call pending) function called.f answer) where
+  module _ (answer : Answer) (works : IsWorkedOut (scene_of w.classes store call k pending) function called.f answer) where
     abbrev left_own : Owners
     left_own = owners_left p w store pending call in_memory others k own shared s task rest h answer works
 
@@ -383,7 +381,7 @@ module _ (p : Lowered) (w : World) (store : Store) (pending : Option ℕ) (call 
           let next = shared_after w.classes refused shared effect in
           let left = frames_left refused s effect in
           let q = pending_after w.classes refused shared s effect in
-          let left_frames : kind ≡ NewLocal → left ≡ source_frames_after called.f s.frames = λ local. left_is w.classes in_use k shared s called.args called.f called.asked.answered local refused carried.could_refuse in
+          let left_frames : kind ≡ NewLocal → left ≡ source_frames_after called.f s.frames = λ local. left_is w.classes in_use k shared s called.args called.f local refused carried.could_refuse in
           let ready_left = left_ready sound gave told_variables told_numbers slots left_shown count in
           let keyed = keys_left store.heap store'.heap call.locals locals call.slots.references.items ready_left.meant.references ready_left.meant.owners ready_left.holds.keys
           (λ i key n level at_key owned is. carried.left key n level is (owners.left i key level at_key (subst (λ (l : List (Option ℕ)). slice_get l i ≡ Some (Some level)) (left_owners sound gave told_variables told_numbers slots left_shown count) owned))) in

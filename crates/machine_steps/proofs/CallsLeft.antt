@@ -1,5 +1,5 @@
 -- What an effect of a call leaves of its thread.
-use Rattle.std.proofs.Common.{◌≡◌, ℕ, pos, Bool, true, false, List, [], ◌∷◌, refl, sym, ap, ◌∙◌, subst, append-nil}
+use Rattle.std.proofs.Common.{◌≡◌, ℕ, pos, Bool, true, false, List, [], ◌∷◌, Option, refl, sym, ap, ◌∙◌, subst, append-nil}
 use Rattle.std.specs.Prelude.{nat_le, if◌then◌else◌}
 use Rattle.class_rules.specs.Class.{Classes}
 use Rattle.heap.specs.Heap.{Space}
@@ -20,9 +20,10 @@ use Rattle.machine_calls.specs.Answers.{Brought, IsAnswer, is_halt}
 use Rattle.machine_calls.specs.CarriedOut.{frames_left, pending_after, result_after, shared_after, variables_left}
 use Rattle.machine_calls.proofs.AnswerCases.{gives_it, makes_it, writes_it}
 use Rattle.tables.specs.Locals.{LocalTable}
-use Rattle.semantics.specs.CallEffects.{release_effect}
+use Rattle.semantics.specs.CallEffects.{enter_effect, exit_effect, release_effect}
 use Rattle.semantics.specs.Arguments.{ReleaseMode, CopyBackAndFree, CopyBack, FreeUncopied}
 use Rattle.machine_steps.proofs.Invocations.{resumption}
+use Rattle.machine_steps.proofs.MonitorEffects.{enter_cases, exit_cases}
 
 -- ---- the source's step
 
@@ -58,6 +59,12 @@ same_thread e = cc
 stays_same : (s t : source.Thread) → t ≡ s → t ≡ record s { frames = t.frames; pending = t.pending; variables = t.variables }
 stays_same s t e = subst (λ (u : source.Thread). t ≡ record u { frames = t.frames; pending = t.pending; variables = t.variables }) e refl
 
+stays_entered : (k : ℕ) (shared : Shared) (s : source.Thread) (n : ℕ) (o : Option source.Monitor) → StaysBut s (enter_effect k shared s n o)
+stays_entered k shared s n o = enter_cases k shared s n (StaysBut s) (λ monitors. refl) refl o
+
+stays_exited : (k : ℕ) (shared : Shared) (s : source.Thread) (n : ℕ) (o : Option source.Monitor) → StaysBut s (exit_effect k shared s n o)
+stays_exited k shared s n o = exit_cases k shared s n (StaysBut s) (λ monitors. refl) tt o
+
 pub stays_with : (classes : Classes) (brought : Brought) (space : Space) (locals : LocalTable) (kind : ResultKind) (shared : Shared) (s : source.Thread) (answer : Answer) (effect : CallEffect) → is_halt answer ≡ false → IsAnswer classes brought space locals kind shared s answer effect → StaysBut s effect
 stays_with classes brought space locals kind shared s answer (Throws c) runs h = tt
 stays_with classes brought space locals kind shared s answer (Halts trap) runs h = no_halt answer runs h
@@ -89,6 +96,8 @@ stays_with classes brought space locals kind shared s answer (Halts trap) runs h
     no_halt answers.RefusesFrames runs h = let e = h.1 in cc
     no_halt (answers.AcquiresCopy a) runs h = let e = h.1.is in cc
     no_halt (answers.AcquiresView a) runs h = let e = h.1.is in cc
+    no_halt (answers.Enters o) runs h = subst (StaysBut s) (sym h.1.is) (stays_entered brought.buffers.owner shared s o.name (source.monitor_of shared.monitors o.name))
+    no_halt (answers.Exits n) runs h = subst (StaysBut s) (sym h.1.is) (stays_exited brought.buffers.owner shared s n (source.monitor_of shared.monitors n))
     no_halt (answers.Releases r) runs h = no_halt_of_release h.1.mode h.1.is
       where
         no_halt_of_release : (mode : ReleaseMode) → Halts trap ≡ release_effect shared s h.1.name h.1.variable mode → ⊥
@@ -121,6 +130,8 @@ stays_with classes brought space locals kind shared s (answers.Deletes key) (Lea
 stays_with classes brought space locals kind shared s answers.RefusesFrames (Leaves made s' t' c) runs h = subst (StaysBut s) (sym h.1) refl
 stays_with classes brought space locals kind shared s (answers.AcquiresCopy a) (Leaves made s' t' c) runs h = subst (StaysBut s) (sym h.1.is) refl
 stays_with classes brought space locals kind shared s (answers.AcquiresView a) (Leaves made s' t' c) runs h = subst (StaysBut s) (sym h.1.is) refl
+stays_with classes brought space locals kind shared s (answers.Enters o) (Leaves made s' t' c) runs h = subst (StaysBut s) (sym h.1.is) (stays_entered brought.buffers.owner shared s o.name (source.monitor_of shared.monitors o.name))
+stays_with classes brought space locals kind shared s (answers.Exits n) (Leaves made s' t' c) runs h = subst (StaysBut s) (sym h.1.is) (stays_exited brought.buffers.owner shared s n (source.monitor_of shared.monitors n))
 stays_with classes brought space locals kind shared s (answers.Releases r) (Leaves made s' t' c) runs h = subst (StaysBut s) (sym h.1.is) (stays_released h.1.mode)
   where
     stays_released : (mode : ReleaseMode) → StaysBut s (release_effect shared s h.1.name h.1.variable mode)

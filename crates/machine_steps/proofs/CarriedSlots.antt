@@ -1,5 +1,5 @@
 -- What the slots show once an answer is carried out, and `isCopy` is told.
-use Rattle.std.proofs.Common.{◌≡◌, ◌≢◌, ◌⊎◌, inl, inr, take, drop, ℕ, ℤ, ◌≤◌, Bool, true, false, List, [], ◌∷◌, length, Option, Some, None, refl, sym, ap, ◌∙◌, subst, arith, ⊎_elim}
+use Rattle.std.proofs.Common.{◌≡◌, ◌≢◌, ◌⊎◌, inl, inr, take, drop, ℕ, ◌≤◌, Bool, true, false, List, [], ◌∷◌, length, Option, Some, None, refl, sym, ap, ◌∙◌, subst, arith, ⊎_elim}
 use Rattle.std.specs.Prelude.{slice_get, slice_set, nat_le, nat_lt, if◌then◌else◌}
 use Rattle.std.proofs.lemmas.Bool.{cond_both}
 use Rattle.std.specs.List.{AllByRecursion, AllZip}
@@ -12,7 +12,7 @@ use Rattle.class_rules.specs.Class.{Classes}
 use Rattle.heap.specs.Heap.{Space, values_at}
 use Rattle.heap.specs.declared.value.Value.{Value}
 use Rattle.jni.specs.Access.{Access, ElementsCopy, ArrayView, CharsCopy, CharsView}
-use Rattle.jni.specs.JniFunction.{JniFunction, DeleteGlobalRef, DeleteLocalRef, EnsureLocalCapacity, FindClass, GetArrayRegion, GetBuffer, GetFieldID, GetObjectArrayElement, GetStaticFieldID, GetStringRegion, NewArray, NewObjectArray, PushLocalFrame, ReleaseBuffer, SetArrayRegion, SetField, SetObjectArrayElement, SetObjectField, SetStaticField, SetStaticObjectField, prototype}
+use Rattle.jni.specs.JniFunction.{JniFunction, DeleteGlobalRef, DeleteLocalRef, EnsureLocalCapacity, FindClass, GetArrayRegion, GetBuffer, GetFieldID, GetObjectArrayElement, GetStaticFieldID, GetStringRegion, MonitorEnter, MonitorExit, NewArray, NewObjectArray, PushLocalFrame, ReleaseBuffer, SetArrayRegion, SetField, SetObjectArrayElement, SetObjectField, SetStaticField, SetStaticObjectField, prototype}
 use Rattle.jni.specs.Prototype.{ParameterKind, BufferVariable, IsCopy, Mode, ResultKind, GivesNothing, owner}
 use Rattle.semantics.specs.Arguments.{Actual, ReleaseMode, CopyBackAndFree, CopyBack, FreeUncopied, mode_given, object_given, variable_given, variable_in_actual, address_given, address_in_actual}
 use Rattle.semantics.specs.CallEffects.{CallEffect, CallResult, NoResult, NullResult, ScalarResult, ReferenceResult, FieldResult, BufferResult, begun_with, freed, release_effect}
@@ -34,7 +34,7 @@ use Rattle.code.specs.declared.instr.Call.{Call as InMemory}
 use Rattle.code.specs.declared.instr.LocalArray.{LocalArray}
 use Rattle.code.specs.declared.instr.Operand.{Operand}
 use Rattle.code.specs.declared.instr.Operand.TheVariants as operand
-use Rattle.code.specs.declared.instr.ReleaseMode.{ReleaseMode as ModeOfCode}
+use Rattle.jni.specs.declared.mode.ReleaseMode.{ReleaseMode as ModeOfCode}
 use Rattle.type_rules.specs.Sorts as sort
 use Rattle.type_rules.specs.Sorts.{Buffer}
 use Rattle.code_meaning.specs.Coding.{mode_code}
@@ -319,6 +319,8 @@ module _ (scene : Scene) (function : Call) (release : Release) where
   releases_by NewObjectArray nothing is = absurd (cc)
   releases_by GetObjectArrayElement nothing is = absurd (cc)
   releases_by (GetBuffer access) nothing is = absurd (cc)
+  releases_by MonitorEnter nothing is = absurd (cc)
+  releases_by MonitorExit nothing is = absurd (cc)
   releases_by GetFieldID nothing is = absurd (cc)
   releases_by GetStaticFieldID nothing is = absurd (cc)
   releases_by f nothing is = absurd (other _ is refl)
@@ -349,7 +351,7 @@ module _ (p : Lowered) (w : World) (store : Store) (pending : Option ℕ) (call 
   abbrev kind : ResultKind
   kind = (prototype called.f).result
 
-  module _ (answer : Answer) (works : IsWorkedOut (scene_of w.classes store call pending) function called.f answer) where
+  module _ (answer : Answer) (works : IsWorkedOut (scene_of w.classes store call k pending) function called.f answer) where
     abbrev own_left : Owners
     own_left = left_own p w store pending call in_memory others k own shared s task rest h answer works
 
@@ -386,11 +388,11 @@ module _ (p : Lowered) (w : World) (store : Store) (pending : Option ℕ) (call 
     abbrev Effect : JniFunction → CallEffect
     Effect f = call_effect w.classes (in_use_with others s) k shared s called.args f
 
-    frees_by : (release : Release) (access : Access) (more : List ParameterKind) → called.f ≡ ReleaseBuffer access → Fits (owner access ∷ BufferVariable access ∷ more) → IsWorkedOut (scene_of w.classes store call pending) function (ReleaseBuffer access) (answers.Releases release)
+    frees_by : (release : Release) (access : Access) (more : List ParameterKind) → called.f ≡ ReleaseBuffer access → Fits (owner access ∷ BufferVariable access ∷ more) → IsWorkedOut (scene_of w.classes store call k pending) function (ReleaseBuffer access) (answers.Releases release)
         → (mode : ReleaseMode) → mode_of access (operand_of function.operands 2) ≡ mode_code mode → Effect (ReleaseBuffer access) ≡ release_effect shared s (object_given called.args 0) (variable_given called.args 1) mode → Frees release
     frees_by release access more same kinds is mode coded does =
         let b = given_buffer store.heap (buffers_of store call k) s.variables access (owner access) more function.operands called.args kinds called.asked.buffers in
-        let it = release_is (scene_of w.classes store call pending) function release call.slots.buffers.items _ (operand_of function.operands 1) (mode_of access (operand_of function.operands 2)) is in
+        let it = release_is (scene_of w.classes store call k pending) function release call.slots.buffers.items _ (operand_of function.operands 1) (mode_of access (operand_of function.operands 2)) is in
         let slot : release.slot ≡ b.slot = it.0 ∙ ap slot_of b.at in
         let named = buffer_known h.code r.known call.place call.stack (slots_of call r.meant) (visible_to own shared s) function.operands called.args called.operands b.slot b.at in
         record {
@@ -403,7 +405,7 @@ module _ (p : Lowered) (w : World) (store : Store) (pending : Option ℕ) (call 
           does = ap Effect same ∙ does;
         }
 
-    frees_as : (release : Release) (access : Access) → called.f ≡ ReleaseBuffer access → Fits (prototype (ReleaseBuffer access)).parameters → IsWorkedOut (scene_of w.classes store call pending) function (ReleaseBuffer access) (answers.Releases release) → Frees release
+    frees_as : (release : Release) (access : Access) → called.f ≡ ReleaseBuffer access → Fits (prototype (ReleaseBuffer access)).parameters → IsWorkedOut (scene_of w.classes store call k pending) function (ReleaseBuffer access) (answers.Releases release) → Frees release
     unfolding call_effect
     frees_as release (ElementsCopy T) same kinds is =
         frees_by release (ElementsCopy T) (Mode ∷ []) same kinds is (mode_given called.args 2)
@@ -414,10 +416,10 @@ module _ (p : Lowered) (w : World) (store : Store) (pending : Option ℕ) (call 
 
     frees : (release : Release) → answer ≡ answers.Releases release → kind ≡ GivesNothing → Frees release
     frees release is nothing =
-        let released = subst (IsWorkedOut (scene_of w.classes store call pending) function called.f) is works in
-        let by = releases_by (scene_of w.classes store call pending) function release called.f nothing released in
+        let released = subst (IsWorkedOut (scene_of w.classes store call k pending) function called.f) is works in
+        let by = releases_by (scene_of w.classes store call k pending) function release called.f nothing released in
         frees_as release by.0 by.1 (subst (λ (f : JniFunction). Fits (prototype f).parameters) by.1 called.asked.kinds)
-        (subst (λ (f : JniFunction). IsWorkedOut (scene_of w.classes store call pending) function f (answers.Releases release)) by.1 released)
+        (subst (λ (f : JniFunction). IsWorkedOut (scene_of w.classes store call k pending) function f (answers.Releases release)) by.1 released)
 
     -- ---- what carrying out the answer leaves
 

@@ -24,7 +24,7 @@ use Rattle.code_meaning.specs.Slots.{Shows, ShowsElement, Slots, Visible, type_o
 use Rattle.code_meaning.proofs.SlotLaws.{fewer_shown, known_among, with_changed}
 use Rattle.code_meaning.proofs.StaticPlaces.{statics_stay}
 use Rattle.semantics.specs.Arguments.{Actual, VariableActual}
-use Rattle.semantics.specs.CallEffects.{CallEffect, begun_with, frames_effect, overwritten, refuses_frames, with_capacity}
+use Rattle.semantics.specs.CallEffects.{CallEffect, begun_with, enter_effect, exit_effect, frames_effect, overwritten, refuses_frames, with_capacity}
 use Rattle.semantics.specs.Sight.{in_range}
 use Rattle.semantics.specs.Thread as source
 use Rattle.semantics.specs.Thread.{Shared, viewed_by}
@@ -46,6 +46,7 @@ use Rattle.machine_calls.proofs.Overlays.{get_outside, get_within, length_overla
 use Rattle.machine_steps.proofs.Arguments.{array_held}
 use Rattle.machine_steps.proofs.Changes.{change_is, element_of, found, others}
 use Rattle.machine_steps.proofs.Acquisitions.{assigned_same, copied_there, taken_by, viewed_there}
+use Rattle.machine_steps.proofs.MonitorEffects.{enter_cases, exit_cases}
 
 -- ---- the elements of the array
 
@@ -183,6 +184,12 @@ module _ (classes : Classes) (brought : Brought) (space : Space) (locals : Local
   of_frames : (frames : List source.Frame) → variables_left false s (frames_effect classes shared s frames) ≡ s.variables
   of_frames frames = cond_both (nat_le (source.capacities frames) 1024) _ (refuses_frames classes shared s) (λ (e : CallEffect). variables_left false s e ≡ s.variables) (λ e. refl) (λ e. refl)
 
+  of_enter : (k n : ℕ) (o : Option source.Monitor) → variables_left false s (enter_effect k shared s n o) ≡ s.variables
+  of_enter k n o = enter_cases k shared s n (λ (e : CallEffect). variables_left false s e ≡ s.variables) (λ monitors. refl) refl o
+
+  of_exit : (k n : ℕ) (o : Option source.Monitor) → variables_left false s (exit_effect k shared s n o) ≡ s.variables
+  of_exit k n o = exit_cases k shared s n (λ (e : CallEffect). variables_left false s e ≡ s.variables) (λ monitors. refl) refl o
+
   pub kept_or_copied : (answer : Answer) (effect : CallEffect) → is_halt answer ≡ false → IsAnswer classes brought space locals kind shared s answer effect → AreKept answer effect ⊎ (Copied answer effect ⊎ Released answer effect)
   kept_or_copied (answers.Gives g) effect runs h = inl (ap (variables_left false s) (gives_it classes brought space locals kind shared s g effect h).is, λ numbers. refl, λ buffers. refl, λ buffers. refl)
   kept_or_copied (answers.Writes a place v) effect runs h = inl (ap (variables_left false s) (writes_it classes brought space locals kind shared s a place v effect h).is, λ numbers. refl, λ buffers. refl, λ buffers. refl)
@@ -202,4 +209,6 @@ module _ (classes : Classes) (brought : Brought) (space : Space) (locals : Local
   kept_or_copied (answers.DeletesGlobal i) effect runs h = inl (ap (variables_left false s) h.1.3, λ numbers. refl, λ buffers. refl, λ buffers. refl)
   kept_or_copied (answers.AcquiresCopy a) effect runs h = inl (ap (variables_left false s) h.1.is, λ numbers. refl, λ buffers. refl, λ buffers. refl)
   kept_or_copied (answers.AcquiresView a) effect runs h = inl (ap (variables_left false s) h.1.is, λ numbers. refl, λ buffers. refl, λ buffers. refl)
+  kept_or_copied (answers.Enters o) effect runs h = inl (ap (variables_left false s) h.1.is ∙ of_enter brought.buffers.owner o.name (source.monitor_of shared.monitors o.name), λ numbers. refl, λ buffers. refl, λ buffers. refl)
+  kept_or_copied (answers.Exits n) effect runs h = inl (ap (variables_left false s) h.1.is ∙ of_exit brought.buffers.owner n (source.monitor_of shared.monitors n), λ numbers. refl, λ buffers. refl, λ buffers. refl)
   kept_or_copied (answers.Releases r) effect runs h = inr (inr (record { release = r; is = refl; nothing = h.0; released = h.1 }))

@@ -2,7 +2,7 @@
 use Rattle.std.proofs.Common.{◌≡◌, Bool, true, false, Option, Some, None, refl, ℕ, List, [], ℤ, pos, negsuc, nat_lt, if◌then◌else◌}
 use Rattle.class_rules.specs.BuiltIns.{array_index_out_of_bounds, no_class_def_found_error}
 use Rattle.class_rules.specs.Class.{Classes, class_named}
-use Rattle.jni.specs.JniFunction.{JniFunction, FindClass, GetSuperclass, GetObjectClass, AllocObject, NewLocalRef, PopLocalFrame, GetObjectField, GetStaticObjectField, NewArray, NewObjectArray, GetObjectArrayElement, NewStringUTF, ExceptionOccurred, prototype, is_built_function}
+use Rattle.jni.specs.JniFunction.{JniFunction, FindClass, GetSuperclass, GetObjectClass, AllocObject, NewLocalRef, PopLocalFrame, GetObjectField, GetStaticObjectField, NewArray, NewObjectArray, GetObjectArrayElement, NewStringUTF, ExceptionOccurred, prototype}
 use Rattle.jni.specs.Prototype.{NewLocal}
 use Rattle.semantics.specs.Arguments.{Actual, number_given, text_given}
 use Rattle.semantics.specs.CallEffects.{Leaves, ReferenceResult, Throws, at_index, found_class_effect, new_array_effect}
@@ -29,37 +29,37 @@ module _ (classes : Classes) (in_use : BuffersInUse) (k : ℕ) (shared : Shared)
       by_test false = refl
 
   -- it is put into the frames that the call leaves, which are the frames that were checked for room
-  pub left_is : (f : JniFunction) → is_built_function f ≡ true → (prototype f).result ≡ NewLocal → (refused : Bool) → (refused ≡ true → makes_objects (call_effect classes in_use k shared s args f) ≡ true)
+  pub left_is : (f : JniFunction) → (prototype f).result ≡ NewLocal → (refused : Bool) → (refused ≡ true → makes_objects (call_effect classes in_use k shared s args f) ≡ true)
       → frames_left refused s (call_effect classes in_use k shared s args f) ≡ frames_after f s.frames
   unfolding call_effect
-  left_is FindClass a n true could = refl
-  left_is FindClass a n false could = by_class (class_named classes (text_given args 0))
+  left_is FindClass n true could = refl
+  left_is FindClass n false could = by_class (class_named classes (text_given args 0))
     where
       by_class : (o : Option ℕ) → frames_left false s (found_class_effect shared s no_class_def_found_error o) ≡ s.frames
       by_class None = refl
       by_class (Some c) = refl
-  left_is GetSuperclass a n true could = refl
-  left_is GetSuperclass a n false could = refl
-  left_is GetObjectClass a n true could = refl
-  left_is GetObjectClass a n false could = refl
-  left_is AllocObject a n true could = refl
-  left_is AllocObject a n false could = refl
-  left_is NewLocalRef a n true could = refl
-  left_is NewLocalRef a n false could = refl
-  left_is GetObjectField a n true could = refl
-  left_is GetObjectField a n false could = refl
-  left_is GetStaticObjectField a n true could = refl
-  left_is GetStaticObjectField a n false could = refl
-  left_is (NewArray T) a n true could = refl
-  left_is (NewArray T) a n false could = of_array _ (number_given args 0) _
-  left_is NewObjectArray a n true could = refl
-  left_is NewObjectArray a n false could = of_array _ (number_given args 0) _
-  left_is GetObjectArrayElement a n true could = refl
-  left_is GetObjectArrayElement a n false could = at_element _ (number_given args 1) _
-  left_is NewStringUTF a n true could = refl
-  left_is NewStringUTF a n false could = refl
-  left_is ExceptionOccurred a n true could = refl
-  left_is ExceptionOccurred a n false could = refl
-  left_is PopLocalFrame a n true could = absurd (let e = could refl in cc)
-  left_is PopLocalFrame a n false could = refl
-  left_is f a n refused could = absurd (cc)
+  left_is GetSuperclass n true could = refl
+  left_is GetSuperclass n false could = refl
+  left_is GetObjectClass n true could = refl
+  left_is GetObjectClass n false could = refl
+  left_is AllocObject n true could = refl
+  left_is AllocObject n false could = refl
+  left_is NewLocalRef n true could = refl
+  left_is NewLocalRef n false could = refl
+  left_is GetObjectField n true could = refl
+  left_is GetObjectField n false could = refl
+  left_is GetStaticObjectField n true could = refl
+  left_is GetStaticObjectField n false could = refl
+  left_is (NewArray T) n true could = refl
+  left_is (NewArray T) n false could = of_array _ (number_given args 0) _
+  left_is NewObjectArray n true could = refl
+  left_is NewObjectArray n false could = of_array _ (number_given args 0) _
+  left_is GetObjectArrayElement n true could = refl
+  left_is GetObjectArrayElement n false could = at_element _ (number_given args 1) _
+  left_is NewStringUTF n true could = refl
+  left_is NewStringUTF n false could = refl
+  left_is ExceptionOccurred n true could = refl
+  left_is ExceptionOccurred n false could = refl
+  left_is PopLocalFrame n true could = absurd (let e = could refl in cc)
+  left_is PopLocalFrame n false could = refl
+  left_is f n refused could = absurd (cc)

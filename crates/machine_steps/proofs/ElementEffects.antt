@@ -1,34 +1,29 @@
 -- What an instruction on an element of a buffer did is the effect of the first of the tasks.
-use Rattle.std.proofs.Common.{◌≡◌, ◌≢◌, ℕ, zero, suc, ℤ, ◌+◌, ◌<◌, ◌≤◌, Bool, true, false, List, [], ◌∷◌, ◌++◌, length, map, Option, Some, None, refl, sym, ap, ◌∙◌, subst, arith, ⊎_elim}
-use Rattle.std.specs.Prelude.{slice_get, slice_set, nat_lt, FitsSigned, IsSome}
+use Rattle.std.proofs.Common.{◌≡◌, ◌≢◌, ℕ, zero, suc, ℤ, ◌+◌, ◌<◌, Bool, true, false, List, [], ◌∷◌, ◌++◌, length, map, Option, Some, None, refl, sym, ap, ◌∙◌, subst, arith}
+use Rattle.std.specs.Prelude.{slice_get, slice_set, nat_lt, FitsSigned}
 use Rattle.std.specs.Int.{w32, cast_signed, cast_unsigned}
-use Rattle.std.specs.List.{AllByRecursion}
 use Rattle.std.specs.Option.{option_map}
 use Rattle.std.proofs.Math.Facts.{to_z-of_z}
-use Rattle.std.proofs.lemmas.Bool.{cases_lt, lt-ltb, ltb-true}
+use Rattle.std.proofs.lemmas.Bool.{lt-ltb, ltb-true}
 use Rattle.std.proofs.lemmas.List.{length-map, length-set}
 use Rattle.std.proofs.lemmas.List.Sums.{sum_by-cons}
-use Rattle.std.proofs.lemmas.Option.{slice_get-get_or, slice_get-map, slice_get_past}
+use Rattle.std.proofs.lemmas.Option.{slice_get-get_or, slice_get-map}
 use Rattle.base.specs.Bytes.{Identifier, lookup}
 use Rattle.class_rules.specs.Class.{Classes}
 use Rattle.heap.specs.Heap.{Space, name_at, values_at, with_value}
 use Rattle.heap.specs.declared.value.Value.TheVariants.{Number as Word}
-use Rattle.jni.specs.JniFunction.{JniFunction}
-use Rattle.code.specs.declared.instr.ElementType.{ElementType as ElementOfCode}
+use Rattle.base.specs.declared.element.ElementType.{ElementType as ElementOfCode}
 use Rattle.code.specs.declared.instr.Instr.{Instr}
 use Rattle.code.specs.declared.instr.Instr.TheVariants as instr
 use Rattle.code.specs.declared.instr.Plain.{Plain}
 use Rattle.code.specs.declared.instr.Plain.TheVariants as plain
-use Rattle.code.specs.declared.instr.PlainTrap.{PlainTrap}
 use Rattle.code.specs.declared.instr.PlainTrap.TheVariants as plain_trap
-use Rattle.code.specs.Effect.{element_word, plain_of, IsPlain}
+use Rattle.code.specs.Effect.{element_word, IsPlain}
 use Rattle.code.specs.Depth.{Listing, depth_after, depth_at, Leaves}
-use Rattle.semantics.specs.Arguments.{Actual}
-use Rattle.semantics.specs.Effect as effects
 use Rattle.semantics.specs.Effect.{Effect, Becomes, SetsElement, TrapsAt, effect_of}
-use Rattle.semantics.specs.Heap.{Heap, numbers_of, with_value_at}
+use Rattle.semantics.specs.Heap.{with_value_at}
 use Rattle.semantics.specs.Object.{Number}
-use Rattle.semantics.specs.Task.{Task, Target}
+use Rattle.semantics.specs.Task.{Task}
 use Rattle.semantics.specs.Thread as source
 use Rattle.semantics.specs.Thread.{Shared, sight_of}
 use Rattle.semantics.specs.ThreadStep.{with_tasks, set_element}
@@ -43,7 +38,7 @@ use Rattle.tables.specs.Keys.{value_at, values_in as all_values}
 use Rattle.code_meaning.specs.Coding.{element_of}
 use Rattle.code_meaning.specs.Slots.{Visible, Slots, visible_to, Shows, elements_in, slot_elements, with_element, IsBufferSet}
 use Rattle.code_meaning.specs.Stands.{StandsFor}
-use Rattle.code_meaning.specs.Does.{AtEnd, GoesOn, IsPast, Loads, Stops, Works, WritesBuffer, IsReturn, trap_of}
+use Rattle.code_meaning.specs.Does.{AtEnd, GoesOn, Loads, Stops, Works, WritesBuffer, IsReturn, trap_of}
 use Rattle.code_meaning.specs.Lowered.{Lowered}
 use Rattle.code_meaning.proofs.BufferLaws.{buffer_by_kind, buffer_stays as buffer_seen_still, set_same}
 use Rattle.code_meaning.proofs.ElementWords.{convert_fits, element_words}
@@ -53,13 +48,11 @@ use Rattle.machine_calls.specs.Buffers.{Acquired, AreViewed, BufferAgrees, Buffe
 use Rattle.machine_calls.specs.HeapAgrees.{ReferenceAgrees, times}
 use Rattle.machine_steps.proofs.ViewCounts.{views_stay}
 use Rattle.machine_calls.specs.StoreAgrees.{StoreAgrees}
-use Rattle.machine_calls.specs.Traps.{trap_view}
 use Rattle.machine_calls.specs.WorkedOut.{buffer_there}
 use Rattle.machine_calls.specs.declared.activation.Activation.{Activation}
 use Rattle.machine_calls.specs.declared.buffer.Buffer.{Buffer as HeldBuffer}
 use Rattle.machine_calls.specs.declared.buffer.Buffer.TheVariants as held_as
 use Rattle.machine_calls.specs.declared.store.Store.{Store}
-use Rattle.machine_calls.specs.declared.trap.Trap.{Trap as TrapInMemory}
 use Rattle.machine_calls.specs.declared.trap.Trap.TheVariants.{OutOfRange}
 use Rattle.machine_calls.proofs.Keeping.{frames_stay, keeps_same, keys_stay, reference_stays}
 use Rattle.machine_calls.proofs.Writes.{written_agrees, written_keeps}
@@ -72,7 +65,7 @@ use Rattle.machine_steps.specs.declared.execute.Event.{Event}
 use Rattle.machine_steps.specs.declared.execute.Event.TheVariants as event
 use Rattle.machine_steps.specs.declared.execute.Executed.TheVariants.{Did}
 use Rattle.machine_steps.proofs.Acquisitions.{assigned_same, copied_there, store_same, viewed_there}
-use Rattle.machine_steps.proofs.Calls.{LooksAtSlots, Ready, depth_behind, stands_at, stands_in}
+use Rattle.machine_steps.proofs.Calls.{Ready, depth_behind, stands_at, stands_in}
 use Rattle.machine_steps.proofs.Changes.{is_buffer_set}
 use Rattle.machine_steps.proofs.Effects.{other_cases, possible_here}
 use Rattle.machine_steps.proofs.SlotBuffers.{all_put, all_there, buffer_held, buffer_stays, buffers_put, buffers_stay, there_is, words_are}
@@ -144,6 +137,7 @@ written_store p w store shared all k key zs place z there h = record {
   globals = h.globals;
   buffers = record { copied = written_lengths store.elements k key zs there place z ∙ h.buffers.copied; many = h.buffers.many; pins = h.buffers.pins; made = h.buffers.made; there = h.buffers.there };
   monitors = h.monitors;
+  monitored = h.monitored;
 }
 
 -- ---- steps

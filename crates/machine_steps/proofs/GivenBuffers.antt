@@ -1,5 +1,5 @@
 -- What a call gives that is a buffer, and what the variable that is told of it was.
-use Rattle.std.proofs.Common.{◌≡◌, ◌≢◌, ◌⊎◌, inl, inr, ℕ, ℤ, ◌+◌, Bool, true, false, List, [], ◌∷◌, length, Option, Some, None, refl, sym, ap, ◌∙◌, subst, arith, if◌then◌else◌}
+use Rattle.std.proofs.Common.{◌≡◌, inl, inr, ℕ, ℤ, ◌+◌, Bool, true, false, List, [], ◌∷◌, length, Option, Some, None, refl, sym, ap, ◌∙◌, subst, arith, if◌then◌else◌}
 use Rattle.std.specs.Prelude.{FitsSigned, nat_le, nat_lt}
 use Rattle.std.specs.Int.{w32}
 use Rattle.std.specs.List.{AllByRecursion, AllZip}
@@ -10,14 +10,13 @@ use Rattle.class_rules.specs.Class.{Classes}
 use Rattle.heap.specs.Heap.{Space}
 use Rattle.jni.specs.JniFunction.{JniFunction, GetBuffer, prototype}
 use Rattle.jni.specs.Access.{Access}
-use Rattle.jni.specs.Prototype.{ParameterKind, ArrayVariable, BufferVariable, IsCopy, owner, ResultKind, NewLocal, NewGlobal, GivesFlag, GivesInt, GivesField, GivesNothing, GivesBuffer}
+use Rattle.jni.specs.Prototype.{ParameterKind, ArrayVariable, BufferVariable, IsCopy, owner, ResultKind, NewLocal, NewGlobal, GivesInt, GivesNothing, GivesBuffer}
 use Rattle.base.specs.Bytes.{Identifier, lookup}
-use Rattle.base.specs.Element.{ElementType}
 use Rattle.semantics.specs.Arguments.{Actual, address_given, address_in_actual}
 use Rattle.semantics.specs.CallEffects.{CallEffect, CallResult, Halts, NoResult, NullResult, BufferResult, Throws, copy_effect, view_effect}
 use Rattle.semantics.specs.CallStep.{tell_copy}
 use Rattle.semantics.specs.Heap.{numbers_of}
-use Rattle.semantics.specs.Task.{VariableKind, ScalarKind, BufferKind}
+use Rattle.semantics.specs.Task.{ScalarKind}
 use Rattle.semantics.specs.Thread as source
 use Rattle.semantics.specs.Thread.{Shared}
 use Rattle.semantics.specs.Value.{Value, Flag}
@@ -174,6 +173,8 @@ module _ (classes : Classes) (brought : Brought) (space : Space) (locals : Local
   small_answer (answers.AcquiresCopy a) h gave =
       small_copy h.1.name (numbers_of shared.heap h.1.name) brought.in_use.copied b h.1.words.fit (of_effect (copy_effect brought.in_use shared s h.1.name (numbers_of shared.heap h.1.name)) h.1.is gave)
   small_answer (answers.AcquiresView a) h gave = small_view h.1.name brought.in_use.views b (of_effect (view_effect brought.in_use shared s h.1.name) h.1.is gave)
+  small_answer (answers.Enters o) h gave = absurd (let clash : GivesBuffer access ≡ GivesInt = h.0 in cc)
+  small_answer (answers.Exits n) h gave = absurd (let clash : GivesBuffer access ≡ GivesInt = h.0 in cc)
   small_answer (answers.Releases r) h gave = absurd (let clash : GivesBuffer access ≡ GivesNothing = h.0 in cc)
 
 -- what is given is small

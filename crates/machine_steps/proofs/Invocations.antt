@@ -41,7 +41,7 @@ use Rattle.code_meaning.specs.Slots.{Visible, Shows, Slots, ValueHasSort, kind_o
 use Rattle.code_meaning.specs.Stands.{IsBufferResult, StandsFor, number_sort}
 use Rattle.type_rules.specs.SortRules.{is_droppable}
 use Rattle.base.specs.Element.{ElementType}
-use Rattle.code.specs.declared.instr.ElementType.{ElementType as ElementOfCode}
+use Rattle.base.specs.declared.element.ElementType.{ElementType as ElementOfCode}
 use Rattle.jni.specs.Access.{Access}
 use Rattle.semantics_safety.specs.StepSafe.{HoldsNoBuffer}
 use Rattle.machine_calls.specs.declared.answer.Given.{Given}

@@ -14,9 +14,9 @@ use Rattle.code.specs.declared.instr.Operand.TheVariants as operand
 use Rattle.heap.specs.Heap.{Space, values_at}
 use Rattle.heap.specs.declared.value.Value.{Value}
 use Rattle.jni.specs.Access.{Access, is_critical}
-use Rattle.code.specs.declared.instr.ReleaseMode.{ReleaseMode}
+use Rattle.jni.specs.declared.mode.ReleaseMode.{ReleaseMode}
 use Rattle.machine_calls.specs.declared.buffer.Buffer.{Buffer}
-use Rattle.jni.specs.JniFunction.{GetBuffer, ReleaseBuffer, JniFunction, FindClass, DeleteLocalRef, DeleteGlobalRef, EnsureLocalCapacity, PushLocalFrame, PopLocalFrame, GetFieldID, GetStaticFieldID, SetField, SetStaticField, SetObjectField, SetStaticObjectField, NewArray, NewObjectArray, GetObjectArrayElement, SetObjectArrayElement, GetArrayRegion, SetArrayRegion, GetStringRegion}
+use Rattle.jni.specs.JniFunction.{GetBuffer, ReleaseBuffer, JniFunction, FindClass, DeleteLocalRef, DeleteGlobalRef, EnsureLocalCapacity, PushLocalFrame, PopLocalFrame, GetFieldID, GetStaticFieldID, SetField, SetStaticField, SetObjectField, SetStaticObjectField, NewArray, NewObjectArray, GetObjectArrayElement, SetObjectArrayElement, MonitorEnter, MonitorExit, GetArrayRegion, SetArrayRegion, GetStringRegion}
 use Rattle.semantics_safety.specs.Owners.{other_than}
 use Rattle.code.specs.declared.instr.LocalArray.{LocalArray}
 use Rattle.machine_calls.specs.declared.array_region.ArrayRegion.{ArrayRegion}
@@ -26,7 +26,14 @@ use Rattle.machine_calls.specs.declared.answer.Given.TheVariants.{Nothing}
 use Rattle.machine_calls.specs.declared.answer.Answer.TheVariants as answer
 use Rattle.machine_calls.specs.CarriedOut.{IsLeft}
 use Rattle.machine_calls.specs.Scenes.{Scene}
-use Rattle.machine_calls.specs.WorkedOut.{acquires, releases, IsFoundField, IsWorkedOut, copies_in, copies_out, local_array, region, deletes_global, element_there, found_class, frame_for, new_array, room_for, stores_there, writes_there}
+use Rattle.machine_calls.specs.Given.{name_there}
+use Rattle.machine_calls.specs.WorkedOut.{acquires, releases, IsFoundField, IsWorkedOut, copies_in, copies_out, local_array, region, deletes_global, element_there, entered_by, enters, found_class, frame_for, leaves, left_by, new_array, room_for, stores_there, writes_there}
+use Rattle.monitors.specs.declared.monitors.Enter.{Enter}
+use Rattle.monitors.specs.declared.monitors.Enter.TheVariants as enter
+use Rattle.monitors.specs.declared.monitors.Exit.{Exit}
+use Rattle.monitors.specs.declared.monitors.Exit.TheVariants as exit
+use Rattle.monitors.specs.declared.monitors.Monitor.{Monitor}
+use Rattle.monitors.specs.Monitors.{entering, leaving, monitor_of}
 
 -- ---- answers that end no local reference
 
@@ -97,6 +104,23 @@ none_released : (buffers : List Buffer) (r : Option ℕ) (o : Operand) (mode : R
 none_released buffers None o mode = refl
 none_released buffers (Some a) o mode = refl
 
+none_entered : (space : Space) (monitors : List Monitor) (thread : ℕ) (r : Option ℕ) → ends_none (enters space monitors thread r) ≡ true
+none_entered space monitors thread None = refl
+none_entered space monitors thread (Some a) = by_answer (entering thread (monitor_of monitors (name_there space (Some a))))
+  where
+    by_answer : (e : Enter) → ends_none (entered_by (record { name = name_there space (Some a); address = a }) e) ≡ true
+    by_answer enter.Entered = refl
+    by_answer enter.Limit = refl
+    by_answer enter.Busy = refl
+
+none_exited : (space : Space) (monitors : List Monitor) (thread : ℕ) (r : Option ℕ) → ends_none (leaves space monitors thread r) ≡ true
+none_exited space monitors thread None = refl
+none_exited space monitors thread (Some a) = by_answer (leaving thread (monitor_of monitors (name_there space (Some a))))
+  where
+    by_answer : (e : Exit) → ends_none (left_by (name_there space (Some a)) e) ≡ true
+    by_answer exit.Left = refl
+    by_answer exit.NotOwner = refl
+
 -- the functions that end local references
 abbrev pub may_end : JniFunction → Bool
 may_end DeleteLocalRef = true
@@ -126,6 +150,8 @@ module _ (scene : Scene) (call : Call) where
   others_end_none GetStringRegion a m is = ap ends_none is ∙ none_copied_out string_index_out_of_bounds (local_array scene call) (region scene call)
   others_end_none (GetBuffer access) a m is = ap ends_none is ∙ none_acquired access _
   others_end_none (ReleaseBuffer access) a m is = ap ends_none is ∙ none_released scene.buffers _ _ _
+  others_end_none MonitorEnter a m is = ap ends_none is ∙ none_entered scene.space scene.monitors scene.thread _
+  others_end_none MonitorExit a m is = ap ends_none is ∙ none_exited scene.space scene.monitors scene.thread _
   others_end_none GetFieldID a m is = none_field scene.classes _ a is
   others_end_none GetStaticFieldID a m is = none_field scene.classes _ a is
   others_end_none DeleteLocalRef a m is = absurd (cc)

@@ -5,7 +5,6 @@ pub mod CellsMade
 pub mod Changes
 pub mod StillShown
 pub mod Elements
-pub mod NoCalls
 pub mod NulledStatics
 pub mod Calls
 pub mod Arguments
@@ -17,10 +16,14 @@ pub mod Receives
 pub mod MadeKeys
 pub mod Invocations
 pub mod EffectFrames
+pub mod MonitorEffects
 pub mod KeysLeft
 pub mod OwnedKeys
 pub mod CopiedArrays
 pub mod AskedCalls
+pub mod SeenCalls
+pub mod Waits
+pub mod Fetched
 pub mod CallsLeft
 pub mod OwnersLeft
 pub mod CarriedSlots

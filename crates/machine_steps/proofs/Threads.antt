@@ -1,5 +1,4 @@
 -- A thread's step is that of the source's thread.
-use Rattle.semantics.proofs.BuiltCalls.{waits_for_none}
 use Rattle.std.proofs.Common.{arith, ◌≡◌, ℕ, Bool, true, false, List, [], ◌∷◌, length, cond, eqb, Option, Some, None, refl, sym, ap, ◌∙◌, subst}
 use Rattle.std.specs.Prelude.{find}
 use Rattle.std.specs.Option.{option_map, option_map_or, option_and_then}
@@ -11,19 +10,17 @@ use Rattle.semantics.specs.World.{Invocation, World, loaded_objects}
 use Rattle.semantics.specs.Heap.{Heap, class_of}
 use Rattle.semantics.specs.Activation.{return_step, monitors_after}
 use Rattle.semantics.specs.Activation as activation
-use Rattle.semantics.specs.CallStep.{waits_with}
-use Rattle.semantics.specs.Arguments.{actuals}
-use Rattle.semantics.specs.Effect.{Effect, Calls, Returns, effect_of, goes_on, is_ready, reduce_first}
-use Rattle.semantics.specs.Task.{Task, Invoke}
+use Rattle.semantics.specs.Effect.{Effect, Calls, Returns, effect_of}
+use Rattle.semantics.specs.Task.{Task}
 use Rattle.semantics.specs.Thread as source
-use Rattle.semantics.specs.Thread.{Shared, Monitor, sight_of, without_owner}
+use Rattle.semantics.specs.Thread.{Shared, sight_of}
 use Rattle.semantics.specs.Variable.{Variables}
-use Rattle.semantics.specs.ThreadStep.{thread_step, step_within, after_effect, next_effect, waits}
+use Rattle.semantics.specs.ThreadStep.{thread_step, step_within, after_effect}
 use Rattle.code_meaning.specs.Slots.{Visible, visible_to}
-use Rattle.code.specs.Depth.{Listing}
-use Rattle.code_meaning.specs.Layout.{Known}
 use Rattle.code_meaning.specs.Lowered.{Lowered}
-use Rattle.code_meaning.specs.Stands.{After, TaskStands, TasksStand}
+use Rattle.monitors.specs.Monitors.{kept_from, monitor_of, without_owner}
+use Rattle.machine_monitors.proofs.FitLaws.{drops}
+use Rattle.machine_monitors.proofs.Places.{there_dropped}
 use Rattle.tables.specs.Elements.{OwnedNumbers}
 use Rattle.tables.specs.Keys.{value_at}
 use Rattle.machine_calls.specs.Buffers.{Acquired, AreViewed, acquired_by, beside}
@@ -39,13 +36,12 @@ use Rattle.semantics_safety.specs.Owners.{Owners, after_event, after_tasks}
 use Rattle.machine_calls.specs.declared.store.Store.{Store}
 use Rattle.machine_calls.specs.StoreAgrees.{StoreAgrees, Keeps}
 use Rattle.machine_steps.specs.ThreadAgrees.{CallsAgree, ThreadAgrees, buffers_of, ending_view}
-use Rattle.machine_steps.specs.Advances.{Advances, ending_after, calls_after}
+use Rattle.machine_steps.specs.Advances.{Advances, GivesUp, LeavesMonitors, calls_after, ending_after, ends_with}
 use Rattle.machine_steps.specs.Executes.{CallStands, WorkAgrees, GoesOn, after_any, cells_made, event_view, in_use_with, owners_left}
 use Rattle.machine_calls.specs.CarriedOut.{IsShortOf}
-use Rattle.machine_calls.proofs.Keeping.{keeps_same}
+use Rattle.machine_calls.proofs.MonitorCarries.{agrees_monitors, keeps_monitors}
 use Rattle.machine_calls.specs.HeapAgrees.{ReferenceAgrees, BlocksAgree}
 use Rattle.machine_steps.proofs.Acquisitions.{nothing_lent, store_same}
-use Rattle.machine_steps.proofs.NoCalls.{IsNoCall, going_on, no_call}
 
 -- ---- work
 
@@ -67,29 +63,6 @@ pub resting : (p : Lowered) (classes : Classes) (space : Space) (copies : List (
 resting p classes space copies k visible frames None None w e = refl
 resting p classes space copies k visible frames None (Some tasks) w e = absurd w
 resting p classes space copies k visible frames (Some x) tasks w e = absurd (cc)
-
--- no thread waits for a monitor
-waits_not : (classes : Classes) (k : ℕ) (shared : Shared) (s : source.Thread) (e : Effect) → IsNoCall e → waits_with classes k shared s e ≡ false
-waits_not classes k shared s (Calls line target f args) h = absurd h
-waits_not classes k shared s e h = refl
-
-never_waits : (code : Listing) (known : Known) (place : ℕ) (stack : List ℕ) (after : After) (classes : Classes) (k : ℕ) (shared : Shared) (s : source.Thread) (task : Task) → TaskStands code known place stack after task → waits_with classes k shared s (effect_of (sight_of shared s) task) ≡ false
-never_waits code known place stack after classes k shared s (Invoke line target f operands) h = by_call (is_ready operands)
-  where
-    by_call : (b : Bool) → waits_with classes k shared s (cond b (Calls line target f (actuals (sight_of shared s) f operands)) (goes_on line (Invoke line target f) (reduce_first (sight_of shared s) operands))) ≡ false
-    by_call true = waits_for_none classes k shared s line target f (actuals (sight_of shared s) f operands) h.built
-    by_call false = waits_not classes k shared s (goes_on line (Invoke line target f) (reduce_first (sight_of shared s) operands)) (going_on (sight_of shared s) line (Invoke line target f) (reduce_first (sight_of shared s) operands))
-never_waits code known place stack after classes k shared s task h = waits_not classes k shared s (effect_of (sight_of shared s) task) (no_call (sight_of shared s) task tt)
-
-not_waiting : (p : Lowered) (space : Space) (copies : List (Option OwnedNumbers)) (classes : Classes) (k : ℕ) (own : Owners) (shared : Shared) (s : source.Thread) (frames : List source.Frame) (o : Option Activation) (tasks : Option (List Task)) → WorkAgrees p classes space copies k (visible_to own shared s) o frames tasks → waits_with classes k shared s (next_effect shared s tasks) ≡ false
-not_waiting p space copies classes k own shared s frames None None w = refl
-not_waiting p space copies classes k own shared s frames None (Some tasks) w = absurd w
-not_waiting p space copies classes k own shared s frames (Some call) None w = absurd w
-not_waiting p space copies classes k own shared s frames (Some call) (Some []) w = refl
-not_waiting p space copies classes k own shared s frames (Some call) (Some (task ∷ rest)) w = never_waits w.code w.known call.place call.stack (λ q names. TasksStand w.code names q [] rest) classes k shared s task w.stands.stand
-
-pub unblocked : (p : Lowered) (classes : Classes) (space : Space) (copies : List (Option OwnedNumbers)) (made k : ℕ) (own : Owners) (shared : Shared) (t : Thread) (s : source.Thread) → ThreadAgrees p classes space copies made k own shared t s → waits classes k shared s ≡ false
-unblocked p classes space copies made k own shared t s h = not_waiting p space copies classes k own shared s s.frames t.call s.tasks h.work
 
 -- ---- an instruction
 
@@ -152,23 +125,17 @@ ending_of None (c ∷ calls) = source.Unfinished
 abbrev pub idle : Option ℕ → List Invocation → source.Thread
 idle class calls = record { calls = activation.calls_after (ending_of class calls) calls; tasks = None; variables = []; frames = []; pending = None; ending = ending_of class calls }
 
-no_monitors : (ending : source.Ending) (k : ℕ) (monitors : List Monitor) → monitors ≡ [] → monitors_after ending k monitors ≡ monitors
-no_monitors source.Unfinished k monitors none = refl
-no_monitors source.Ended k monitors none = ap (λ (m : List Monitor). without_owner m k) none ∙ sym none
-no_monitors (source.Uncaught c) k monitors none = ap (λ (m : List Monitor). without_owner m k) none ∙ sym none
-
 source_ending : (heap : Heap) (r : Reference) (calls : List Invocation) → activation.ending_after heap r calls ≡ ending_of (option_map (class_of heap) r) calls
 unfolding ending_of
 source_ending heap (Some n) calls = refl
 source_ending heap None [] = refl
 source_ending heap None (c ∷ calls) = refl
 
-returns_by : (k : ℕ) (shared : Shared) (s : source.Thread) (class : Option ℕ) → shared.monitors ≡ [] → option_map (class_of shared.heap) s.pending ≡ class → return_step k shared s ≡ source.Advances shared (idle class s.calls) source.Quiet
-returns_by k shared s class none pending =
+returns_by : (k : ℕ) (shared : Shared) (s : source.Thread) (class : Option ℕ) → option_map (class_of shared.heap) s.pending ≡ class → return_step k shared s ≡ source.Advances (record shared { monitors = monitors_after (ending_of class s.calls) k shared.monitors }) (idle class s.calls) source.Quiet
+returns_by k shared s class pending =
     let ends : activation.ending_after shared.heap s.pending s.calls ≡ ending_of class s.calls = source_ending shared.heap s.pending s.calls ∙ ap (λ (o : Option ℕ). ending_of o s.calls) pending in
     ap (λ (ending : source.Ending). source.Advances (record shared { monitors = monitors_after ending k shared.monitors })
     (record { calls = activation.calls_after ending s.calls; tasks = None; variables = []; frames = []; pending = None; ending = ending }) source.Quiet) ends
-    ∙ ap (λ (m : List Monitor). source.Advances (record shared { monitors = m }) (idle class s.calls) source.Quiet) (no_monitors (ending_of class s.calls) k shared.monitors none)
 
 calls_left : (p : Lowered) (classes : Classes) (made : ℕ) (class : Option ℕ) (nexts : List PendingCall) (calls : List Invocation) → CallsAgree p classes made nexts calls → CallsAgree p classes made (calls_after class nexts) (activation.calls_after (ending_of class calls) calls)
 unfolding ending_of
@@ -213,31 +180,59 @@ class_pending space heap (Some a) (Some n) b h = found_class space.blocks b h
             ap (λ (c : ℕ). Some c) (ap (class_of heap) (sym named) ∙ of ∙ sym there.class)
         by_test false later e = later e
 
+-- ---- monitors that are given up
+
+module _ (p : Lowered) (w : World) (k : ℕ) (shared : Shared) (s : source.Thread) (old store : Store) (all : Acquired) (shares : StoreAgrees p w old shared all) where
+  given_up : GivesUp k old store → StoreAgrees p w store (record shared { monitors = source.without_owner shared.monitors k }) all
+  given_up g =
+      subst (λ (x : Store). StoreAgrees p w x (record shared { monitors = source.without_owner shared.monitors k }) all) (sym g.is)
+      (agrees_monitors p w old shared all shares (without_owner old.monitors k) (source.without_owner shared.monitors k)
+      (drops k shared s old.monitors shares.monitors (without_owner old.monitors k) (λ n. subst (λ (x : Store). monitor_of x.monitors n ≡ kept_from k (monitor_of old.monitors n)) g.is (g.each n)))
+      (there_dropped old.heap old.monitors k shares.monitored))
+
+  -- the store of a thread that has left its call
+  pub monitors_left : (classes : Classes) (made : ℕ) (class : Option ℕ) (nexts : List PendingCall) (calls : List Invocation) → CallsAgree p classes made nexts calls → LeavesMonitors (ends_with class nexts) k old store
+      → StoreAgrees p w store (record shared { monitors = monitors_after (ending_of class calls) k shared.monitors }) all
+  unfolding ending_of
+  monitors_left classes made (Some c) nexts calls h left = given_up left
+  monitors_left classes made None [] [] h left = given_up left
+  monitors_left classes made None [] (c ∷ calls) h left = absurd h
+  monitors_left classes made None (n ∷ nexts) [] h left = absurd h
+  monitors_left classes made None (n ∷ nexts) (c ∷ calls) h left = subst (λ (x : Store). StoreAgrees p w x shared all) (sym left) shares
+
+-- nothing else changes
+rest_left : (ended : Bool) (k : ℕ) (old store : Store) → LeavesMonitors ended k old store → (store.heap ≡ old.heap) × (store.elements ≡ old.elements)
+rest_left true k old store g = (ap (λ (x : Store). x.heap) g.is, ap (λ (x : Store). x.elements) g.is)
+rest_left false k old store same = (ap (λ (x : Store). x.heap) same, ap (λ (x : Store). x.elements) same)
+
 module _ (p : Lowered) (w : World) (old : Store) (others : Acquired) (k : ℕ) (own : Owners) (shared : Shared) (t : Thread) (s : source.Thread) (h : ThreadAgrees p w.classes old.heap old.elements (length (loaded_objects w)) k own shared t s) where
-  pub returned : (store : Store) (pending : Option ℕ) (after : Thread) (task : Task) (rest : List Task) → s.tasks ≡ Some (task ∷ rest) → StoreAgrees p w store shared (beside others (acquired_by s)) → store ≡ old → MayReturn s → ReferenceAgrees store.heap pending s.pending → t.ending ≡ Unfinished
+  pub returned : (store left : Store) (pending : Option ℕ) (after : Thread) (task : Task) (rest : List Task) → s.tasks ≡ Some (task ∷ rest) → StoreAgrees p w store shared (beside others (acquired_by s)) → store ≡ old → MayReturn s → ReferenceAgrees store.heap pending s.pending → t.ending ≡ Unfinished
       → effect_of (sight_of shared s) task ≡ Returns → after.call ≡ None → after.pending ≡ None → after.calls.items ≡ calls_after (option_and_then (class_at store.heap) pending) t.calls.items
       → after.ending ≡ ending_after (option_and_then (class_at store.heap) pending) t.calls.items t.ending
-      → Advances p w old store others k own shared s after false event.Quiet
-  returned store pending after task rest tasks shares same may pends o is no_call no_pending calls ending =
+      → LeavesMonitors (ends_with (option_and_then (class_at store.heap) pending) t.calls.items) k store left
+      → Advances p w old left others k own shared s after false event.Quiet
+  returned store left pending after task rest tasks shares same may pends o is no_call no_pending calls ending monitors =
       let class : Option ℕ = option_and_then (class_at store.heap) pending in
       let made : ℕ = length (loaded_objects w) in
       let of : option_map (class_of shared.heap) s.pending ≡ class = class_pending store.heap shared.heap pending s.pending shares.heap.blocks pends in
+      let next : Shared = record shared { monitors = monitors_after (ending_of class s.calls) k shared.monitors } in
+      let parts = rest_left (ends_with class t.calls.items) k store left monitors in
       record {
-        next_shared = shared;
+        next_shared = next;
         next = idle class s.calls;
-        steps = steps_by p w old others k own shared t s h false task rest tasks ∙ ap (after_effect w.classes (in_use_with others s) k shared s rest) is ∙ returns_by k shared s class shares.monitors of;
-        store_agrees = store_same p w store shared others s.variables [] (sym (nothing_lent s.variables may.0)) shares;
-        keeps = subst (λ (x : Store). Keeps x.heap shared store.heap shared) same (keeps_same store.heap shared);
-        keeps_copies = λ key c there other. subst (λ (x : Store). value_at x.elements key ≡ Some c) (sym same) there;
+        steps = steps_by p w old others k own shared t s h false task rest tasks ∙ ap (after_effect w.classes (in_use_with others s) k shared s rest) is ∙ returns_by k shared s class of;
+        store_agrees = store_same p w left next others s.variables [] (sym (nothing_lent s.variables may.0)) (monitors_left p w k shared s store left (beside others (acquired_by s)) shares w.classes made class t.calls.items s.calls h.calls monitors);
+        keeps = subst (λ (space : Space). Keeps old.heap shared space next) (sym (parts.0 ∙ ap (λ (x : Store). x.heap) same)) (keeps_monitors old.heap shared next.monitors);
+        keeps_copies = λ key c there other. subst (λ (copies : List (Option OwnedNumbers)). value_at copies key ≡ Some c) (sym (parts.1 ∙ ap (λ (x : Store). x.elements) same)) there;
         agrees = record {
           calls = subst (λ (ns : List PendingCall). CallsAgree p w.classes made ns (activation.calls_after (ending_of class s.calls) s.calls)) (sym calls) (calls_left p w.classes made class t.calls.items s.calls h.calls);
-          work = subst (λ (c : Option Activation). WorkAgrees p w.classes store.heap store.elements k (visible_to (after_tasks shared s s.tasks own source.Quiet []) shared (idle class s.calls)) c [] None) (sym no_call) refl;
-          pending = subst (λ (a : Option ℕ). ReferenceAgrees store.heap a None) (sym no_pending) tt;
+          work = subst (λ (c : Option Activation). WorkAgrees p w.classes left.heap left.elements k (visible_to (after_tasks shared s s.tasks own source.Quiet []) next (idle class s.calls)) c [] None) (sym no_call) refl;
+          pending = subst (λ (a : Option ℕ). ReferenceAgrees left.heap a None) (sym no_pending) tt;
           ending = ending_agrees p w.classes made class t.calls.items s.calls t.ending h.calls o ∙ ap ending_view (sym ending);
           busy = λ a b c. something_to_do p w.classes made class t.calls.items s.calls t.ending h.calls (sym ending ∙ a) c;
           caught = λ b. refl;
           idle = λ b. refl;
-          views = subst (λ (c : Option Activation). AreViewed store.heap (buffers_of c) (idle class s.calls)) (sym no_call) (λ n. omega arith);
+          views = subst (λ (c : Option Activation). AreViewed left.heap (buffers_of c) (idle class s.calls)) (sym no_call) (λ n. omega arith);
         };
         short = λ e. absurd (cc);
       }

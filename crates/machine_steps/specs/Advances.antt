@@ -16,6 +16,7 @@ use Rattle.machine_steps.specs.declared.advance.Advanced.TheVariants as advanced
 use Rattle.machine_steps.specs.declared.thread.Thread.{Thread}
 use Rattle.machine_steps.specs.declared.thread.PendingCall.{PendingCall}
 use Rattle.machine_calls.specs.declared.store.Store.{Store}
+use Rattle.monitors.specs.Monitors.{kept_from, monitor_of, without_owner}
 use Rattle.machine_calls.specs.Buffers.{Acquired, KeepsCopies, acquired_by, beside}
 use Rattle.machine_calls.specs.CarriedOut.{IsShortOf}
 use Rattle.machine_calls.specs.StoreAgrees.{StoreAgrees, Keeps}
@@ -49,7 +50,23 @@ ending_after (Some class) calls ending = Uncaught class
 ending_after None [] ending = Ended
 ending_after None (n ∷ rest) ending = ending
 
+-- whether it has ended then
+abbrev pub ends_with : Option ℕ → List PendingCall → Bool
+ends_with (Some class) calls = true
+ends_with None [] = true
+ends_with None (n ∷ rest) = false
+
 -- its calls that are left
 abbrev pub calls_after : Option ℕ → List PendingCall → List PendingCall
 calls_after (Some class) calls = []
 calls_after None calls = calls
+
+-- thread k has given up the monitors that it owned, and nothing else changed
+pub record GivesUp (k : ℕ) (old store : Store) : Type 0 where
+  pub is : store ≡ record old { monitors = without_owner old.monitors k }
+  pub each : (n : ℕ) → monitor_of store.monitors n ≡ kept_from k (monitor_of old.monitors n)
+
+-- so it has where it has ended
+abbrev pub LeavesMonitors : (ended : Bool) → (k : ℕ) → (old store : Store) → Type 0
+LeavesMonitors true k old store = GivesUp k old store
+LeavesMonitors false k old store = store ≡ old

@@ -7,7 +7,8 @@ use Rattle.heap.specs.Heap.{Space}
 use Rattle.semantics.specs.Object.{Reference, sizes}
 use Rattle.semantics.specs.World.{World}
 use Rattle.code.specs.Depth.{Listing, depth_at}
-use Rattle.semantics.specs.Effect.{Effect, Calls, Returns, NoEffect}
+use Rattle.semantics.specs.CallStep.{waits_with}
+use Rattle.semantics.specs.Effect.{Effect, Calls, Returns, NoEffect, effect_of}
 use Rattle.semantics.specs.Task.{Task, Target, Assigned}
 use Rattle.semantics.specs.Checks.{frames_after}
 use Rattle.semantics.specs.Arguments.{Actual, object_given, variable_given}
@@ -19,7 +20,7 @@ use Rattle.jni.specs.Access.{Access}
 use Rattle.jni.specs.JniFunction.{JniFunction, ReleaseBuffer, prototype}
 use Rattle.jni.specs.Prototype.{NewLocal}
 use Rattle.semantics.specs.Thread as source
-use Rattle.semantics.specs.Thread.{BuffersInUse, Shared, Advance, Advances, NoAdvance, viewed_by}
+use Rattle.semantics.specs.Thread.{BuffersInUse, Shared, Advance, Advances, NoAdvance, sight_of, viewed_by}
 use Rattle.semantics.specs.Variable.{LocalRef, Variables}
 use Rattle.semantics.specs.ThreadStep.{next_effect, after_effect, after_refused_effect}
 use Rattle.code_meaning.specs.Layout.{Known}
@@ -91,7 +92,7 @@ abbrev pub in_use_with : Acquired → source.Thread → BuffersInUse
 in_use_with others s = in_use_of (beside others (acquired_by s))
 
 -- A call in progress of thread k, with what is pending, stands for the thread's tasks, of which this is the first; the buffers of the
--- other threads take this.
+-- other threads take this. The thread doesn't wait for a monitor.
 pub record IsExecuting (p : Lowered) (w : World) (store : Store) (call : Activation) (pending : Option ℕ) (others : Acquired) (k : ℕ) (own : Owners) (shared : Shared) (s : source.Thread) (task : Task) (rest : List Task) : Type 0 where
   pub store_agrees : StoreAgrees p w store shared (beside others (acquired_by s))
   pub tasks : s.tasks ≡ Some (task ∷ rest)
@@ -99,6 +100,7 @@ pub record IsExecuting (p : Lowered) (w : World) (store : Store) (call : Activat
   pub pending_agrees : ReferenceAgrees store.heap pending s.pending
   pub views : AreViewed store.heap call.slots.buffers.items s
   pub steady : IsSteady w.classes own shared s
+  pub ready : waits_with w.classes k shared s (effect_of (sight_of shared s) task) ≡ false
 
 -- what an effect of the first task leaves, or the same with its allocation refused
 abbrev pub after_any : Classes → BuffersInUse → ℕ → Shared → source.Thread → List Task → (refused : Bool) → Effect → Advance

@@ -4,8 +4,10 @@ use Rattle.code.specs.Call.{call_view}
 use Rattle.code.specs.Depth.{Listing}
 use Rattle.code.specs.declared.instr.Call.{Call as InMemory}
 use Rattle.code.specs.declared.instr.Instr.TheVariants as instr
+use Rattle.semantics.specs.CallStep.{waits_with}
+use Rattle.semantics.specs.Effect.{effect_of}
 use Rattle.semantics.specs.Task.{Task}
-use Rattle.semantics.specs.Thread.{Shared, Thread}
+use Rattle.semantics.specs.Thread.{Shared, Thread, sight_of}
 use Rattle.semantics.specs.Value.{Trap as SourceTrap}
 use Rattle.semantics.specs.World.{World}
 use Rattle.world_values.specs.SoundWorlds.{IsSound}
@@ -35,7 +37,7 @@ use Rattle.machine_steps.specs.Executes.{CallStands, IsSteady}
 use Rattle.machine_calls.specs.HeapAgrees.{ReferenceAgrees}
 
 -- Thread k of the source has a call as its first task, the machine is at the instruction that stands for it, and all that the
--- call can change agrees. What is seen of buffers are their elements.
+-- call can change agrees. What is seen of buffers are their elements. The thread doesn't wait for a monitor.
 pub record AtCall (p : Lowered) (w : World) (store : Store) (pending : Option ℕ) (call : Activation) (function : InMemory) (others : Acquired) (k : ℕ) (own : Owners) (shared : Shared) (s : Thread) (task : Task) (rest : List Task) : Type 0 where
   pub lowered : IsLowered p
   pub tasks : s.tasks ≡ Some (task ∷ rest)
@@ -45,24 +47,25 @@ pub record AtCall (p : Lowered) (w : World) (store : Store) (pending : Option �
   pub sees : SeesBuffers (visible_to own shared s) stands.meant.buffers
   pub views : AreViewed store.heap call.slots.buffers.items s
   pub steady : IsSteady w.classes own shared s
+  pub ready : waits_with w.classes k shared s (effect_of (sight_of shared s) task) ≡ false
   pub code : Listing
   pub of_function : slice_get p.codes call.function ≡ Some code
   pub at : slice_get code.instrs call.place ≡ Some (instr.Call (call_view function))
 
--- the trap of a call before it does anything
-abbrev pub trap_at : World → Store → (pending : Option ℕ) → Activation → InMemory → Option SourceTrap
-trap_at w store pending call function =
-    trap_found (scene_of w.classes store call pending) (has_room (locals_after (function_value function.function) call.locals)) (element_wanted function.target) (function_value function.function) function.operands.items
+-- the trap of a call of thread k before it does anything
+abbrev pub trap_at : World → Store → (pending : Option ℕ) → Activation → (k : ℕ) → InMemory → Option SourceTrap
+trap_at w store pending call k function =
+    trap_found (scene_of w.classes store call k pending) (has_room (locals_after (function_value function.function) call.locals)) (element_wanted function.target) (function_value function.function) function.operands.items
 
--- No check stops a call, and this is what it answers.
-pub record IsAnswered (w : World) (store : Store) (pending : Option ℕ) (call : Activation) (function : InMemory) (given : Answer) : Type 0 where
+-- No check stops a call of thread k, and this is what it answers.
+pub record IsAnswered (w : World) (store : Store) (pending : Option ℕ) (call : Activation) (k : ℕ) (function : InMemory) (given : Answer) : Type 0 where
   pub sound : IsSound w
-  pub free : trap_at w store pending call function ≡ None
-  pub works : IsWorkedOut (scene_of w.classes store call pending) (call_view function) (function_value function.function) given
+  pub free : trap_at w store pending call k function ≡ None
+  pub works : IsWorkedOut (scene_of w.classes store call k pending) (call_view function) (function_value function.function) given
 
 -- A trap stops a call: a check found it, or it is what the call does.
-abbrev pub IsStopped : World → Store → (pending : Option ℕ) → Activation → InMemory → Trap → Type 0
-IsStopped w store pending call function trap = (trap_at w store pending call function ≡ Some (trap_view trap)) ⊎ IsAnswered w store pending call function (answer.Halts trap)
+abbrev pub IsStopped : World → Store → (pending : Option ℕ) → Activation → (k : ℕ) → InMemory → Trap → Type 0
+IsStopped w store pending call k function trap = (trap_at w store pending call k function ≡ Some (trap_view trap)) ⊎ IsAnswered w store pending call k function (answer.Halts trap)
 
 -- what a call came to that wasn't stopped
 abbrev pub done_or_refused : (refused : Bool) → Invoked

@@ -8,5 +8,6 @@ pub mod Invoked
 pub mod Entry
 pub mod ThreadAgrees
 pub mod Advances
+pub mod Waiting
 pub mod Held
 pub mod Loading

@@ -6,14 +6,14 @@ ghost use Rattle.std.specs.VecDeque.{deque_len};
 ghost use Rattle.heap.specs.Heap.{IsAddress, class_at, left_of};
 ghost use Rattle.syntax.specs.Views.{unit_tree};
 ghost use Rattle.semantics.specs.Thread.{Shared, Thread as SourceThread};
-ghost use Rattle.semantics.specs.ThreadStep.{thread_step};
+ghost use Rattle.semantics.specs.ThreadStep.{thread_step, waits};
 ghost use Rattle.semantics.specs.World.{loaded_objects};
 ghost use Rattle.semantics_safety.specs.Owners.{Owners};
 ghost use Rattle.code_meaning.specs.Lowered.{IsLowered};
 ghost use Rattle.machine_calls.specs.Buffers.{Acquired, acquired_by, beside};
 ghost use Rattle.machine_calls.specs.StoreAgrees.{StoreAgrees};
 ghost use Rattle.machine_steps.specs.ThreadAgrees.{ThreadAgrees};
-ghost use Rattle.machine_steps.specs.Advances.{AdvancesBy, ending_after, calls_after};
+ghost use Rattle.machine_steps.specs.Advances.{AdvancesBy, LeavesMonitors, calls_after, ending_after, ends_with};
 ghost use Rattle.machine_steps.specs.Executes.{IsHindered, IsSteady, cells_made, in_use_with};
 ghost use Rattle.machine_steps.specs.Entry.{IsReady, Begins};
 
@@ -37,8 +37,8 @@ pub enum Advanced {
     Refused,
 }
 
-/// Takes one step of a thread, which has this number and has not ended. Only the entry into a call, a new frame, a new global reference
-/// and a copy of elements take host memory.
+/// Takes one step of a thread, which has this number, has not ended and doesn't wait for a monitor. Only the entry into a call, a
+/// new frame, a new global reference, a copy of elements and a monitor that is entered take host memory.
 ///
 /// Where the step's objects have no room, its allocation is refused if it may be. Else `NoRoom` says so, before anything has
 /// changed: room can be made then, and the same step asked for again. It takes no host memory.
@@ -54,14 +54,15 @@ pub fn advance(
     requires lowered { IsLowered program.now }
     requires few { store.old.births + 2 < 2 ^ 32 }
     requires agrees { (others : Acquired) × (own : Owners) × (shared : Shared) × (s : SourceThread) × StoreAgrees program.now world.now store.old shared (beside others (acquired_by s))
-        × ThreadAgrees program.now world.now.classes store.old.heap store.old.elements (length (loaded_objects world.now)) number own shared thread.old s × (thread.old.ending ≡ Ending.Unfinished) × IsSteady world.now.classes own shared s }
+        × ThreadAgrees program.now world.now.classes store.old.heap store.old.elements (length (loaded_objects world.now)) number own shared thread.old s × (thread.old.ending ≡ Ending.Unfinished) × IsSteady world.now.classes own shared s
+        × (waits world.now.classes number shared s ≡ false) }
     ensures advances { IfOk result (λ advanced. (others : Acquired) (own : Owners) (shared : Shared) (s : SourceThread) → StoreAgrees program.now world.now store.old shared (beside others (acquired_by s))
         → ThreadAgrees program.now world.now.classes store.old.heap store.old.elements (length (loaded_objects world.now)) number own shared thread.old s
-        → IsSteady world.now.classes own shared s
+        → IsSteady world.now.classes own shared s → waits world.now.classes number shared s ≡ false
         → AdvancesBy program.now world.now store.old store.new others number own shared s thread.new advanced) }
     ensures hindered { IfErr result (λ fault. (others : Acquired) (own : Owners) (shared : Shared) (s : SourceThread) → StoreAgrees program.now world.now store.old shared (beside others (acquired_by s))
         → ThreadAgrees program.now world.now.classes store.old.heap store.old.elements (length (loaded_objects world.now)) number own shared thread.old s
-        → IsSteady world.now.classes own shared s
+        → IsSteady world.now.classes own shared s → waits world.now.classes number shared s ≡ false
         → IsHindered (left_of store.old.heap) (cells_made shared (thread_step (unit_tree program.now.unit) world.now.classes (in_use_with others s) number shared s false)) may_refuse fault) }
     ensures refuses { result ≡ Ok Advanced.Refused → may_refuse ≡ true }
     ensures store { OnErr result (store.new ≡ store.old) }
@@ -84,7 +85,7 @@ pub fn advance(
             Ok(Executed::Did(event)) => Ok(Advanced::Did(event)),
             Ok(Executed::Refused) => Ok(Advanced::Refused),
             Ok(Executed::Returned) => {
-                leave(&store.heap, thread);
+                leave(store, thread, number);
                 Ok(Advanced::Did(Event::Quiet))
             }
             Err(fault) => Err(fault),
@@ -112,14 +113,29 @@ fn enter(program: &Program<'_>, loaded: &[Addr], thread: &mut Thread) -> Result<
     Ok(())
 }
 
-/// The end of a call. An exception that is pending ends the thread, which drops its other calls.
+/// The end of a call of the thread of this number. A thread that has ended owns no monitor.
 #[inline(never)]
-fn leave(heap: &Heap, thread: &mut Thread)
+fn leave(store: &mut Store, thread: &mut Thread, number: u8)
+    requires { (a : ℕ) → thread.old.pending ≡ Some a → IsAddress store.old.heap a }
+    ensures call { thread.new.call ≡ None }
+    ensures pending { thread.new.pending ≡ None }
+    ensures calls { thread.new.calls.items ≡ calls_after (option_and_then (class_at store.old.heap) thread.old.pending) thread.old.calls.items }
+    ensures ending { thread.new.ending ≡ ending_after (option_and_then (class_at store.old.heap) thread.old.pending) thread.old.calls.items thread.old.ending }
+    ensures monitors { LeavesMonitors (ends_with (option_and_then (class_at store.old.heap) thread.old.pending) thread.old.calls.items) number store.old store.new }
+{
+    if ends(&store.heap, thread) {
+        store.monitors.drop_thread(number);
+    }
+}
+
+/// Ends a call. An exception that is pending ends the thread, which drops its other calls. Answers whether the thread has ended.
+fn ends(heap: &Heap, thread: &mut Thread) -> bool
     requires { (a : ℕ) → thread.old.pending ≡ Some a → IsAddress heap.now a }
     ensures call { thread.new.call ≡ None }
     ensures pending { thread.new.pending ≡ None }
     ensures calls { thread.new.calls.items ≡ calls_after (option_and_then (class_at heap.now) thread.old.pending) thread.old.calls.items }
     ensures ending { thread.new.ending ≡ ending_after (option_and_then (class_at heap.now) thread.old.pending) thread.old.calls.items thread.old.ending }
+    ensures ended { result ≡ ends_with (option_and_then (class_at heap.now) thread.old.pending) thread.old.calls.items }
 {
     thread.call = None;
     match thread.pending {
@@ -127,11 +143,14 @@ fn leave(heap: &Heap, thread: &mut Thread)
             thread.pending = None;
             thread.calls.clear();
             thread.ending = Ending::Uncaught(heap.class_of(exception) as usize);
+            true
         }
         None => {
-            if thread.calls.is_empty() {
+            let last = thread.calls.is_empty();
+            if last {
                 thread.ending = Ending::Ended;
             }
+            last
         }
     }
 }

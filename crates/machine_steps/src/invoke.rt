@@ -1,6 +1,6 @@
 //! Calls of functions of the JNI (JNI Specification, chapter 4).
 
-ghost use Rattle.std.specs.Prelude.{◌≡◌, ◌+◌, ◌<◌, ◌^◌, ◌||◌, ℕ, nat_le, false, true, List, Option, Some, Ok, slice_get, IfOk, IfErr, OnErr};
+ghost use Rattle.std.specs.Prelude.{◌≡◌, ◌+◌, ◌<◌, ◌^◌, ◌||◌, nat_le, false, true, List, Option, Some, Ok, slice_get, IfOk, IfErr, OnErr};
 ghost use Rattle.code.specs.Call.{IsPrepared};
 ghost use Rattle.heap.specs.Heap.{left_of};
 ghost use Rattle.semantics.specs.Effect.{effect_of};
@@ -20,6 +20,7 @@ ghost use Rattle.machine_steps.specs.Invoked.{AtCall, IsAnswered, IsStopped, don
 
 use crate::fault::StepFault;
 use crate::receive::receive;
+use crate::scene::scene_of;
 use classes::table::ClassTable;
 use code::instr::{Call, Operand};
 use heap::{Addr, Heap};
@@ -27,8 +28,6 @@ use machine_calls::activation::Activation;
 use machine_calls::answer::{Answer, work_out};
 use machine_calls::carry_out::{carry_out, has_room};
 use machine_calls::check::check;
-use machine_calls::references::References;
-use machine_calls::scene::Scene;
 use machine_calls::store::Store;
 use machine_calls::trap::Trap;
 use std::alloc::AllocError;
@@ -43,9 +42,9 @@ pub enum Invoked {
     Trapped(Trap),
 }
 
-/// The instruction that calls a function, in the thread of this number. Only a new frame, a new global reference and a copy of elements
-/// take host memory. Where what is made has no
-/// room, the call is refused if it may be, and else the fault says so.
+/// The instruction that calls a function, in the thread of this number. Only a new frame, a new global reference, a copy of elements
+/// and a monitor that is entered take host memory. Where what is made has no room, the call is refused if it may be, and else the
+/// fault says so.
 #[inline(never)]
 pub fn invoke(
     world: &World,
@@ -69,7 +68,7 @@ pub fn invoke(
     ensures pending { OnErr result (pending.new ≡ pending.old) }
     ensures call { OnErr result (call.new ≡ call.old) }
 {
-    match answer_or_trap(world, store, *pending, call, function) {
+    match answer_or_trap(world, store, *pending, call, function, thread) {
         Ok(answer) => {
             if goes_ahead(
                 world.classes(),
@@ -104,7 +103,7 @@ fn goes_ahead(
     may_refuse || has_room(classes, texts, heap, answer)
 }
 
-/// What a call answers, or the trap that stops it.
+/// What a call of the thread of this number answers, or the trap that stops it.
 #[inline(always)]
 fn answer_or_trap(
     world: &World,
@@ -112,28 +111,15 @@ fn answer_or_trap(
     pending: Option<Addr>,
     call: &Activation,
     function: &Call,
+    thread: u8,
 ) -> Result<Answer, Trap>
-    requires at_call { (p : Lowered) × (others : Acquired) × (k : ℕ) × (own : Owners) × (shared : Shared) × (s : SourceThread) × (task : Task) × (rest : List Task) × AtCall p world.now store.now pending call.now function.now others k own shared s task rest }
+    requires at_call { (p : Lowered) × (others : Acquired) × (own : Owners) × (shared : Shared) × (s : SourceThread) × (task : Task) × (rest : List Task) × AtCall p world.now store.now pending call.now function.now others thread own shared s task rest }
     requires prepared { IsPrepared function.now }
-    ensures answer { IfOk result (IsAnswered world.now store.now pending call.now function.now) }
+    ensures answer { IfOk result (IsAnswered world.now store.now pending call.now thread function.now) }
     ensures runs { IfOk result (λ answer. is_halt answer ≡ false) }
-    ensures trap { IfErr result (IsStopped world.now store.now pending call.now function.now) }
+    ensures trap { IfErr result (IsStopped world.now store.now pending call.now thread function.now) }
 {
-    let scene = Scene {
-        classes: world.classes(),
-        heap: &store.heap,
-        loaded: &store.loaded,
-        references: References::new(
-            &call.slots.references,
-            &call.locals,
-            &store.statics,
-            &store.globals,
-        ),
-        fields: &call.slots.fields,
-        buffers: &call.slots.buffers,
-        stack: &call.stack,
-        pending,
-    };
+    let scene = scene_of(world, store, pending, call, thread);
     match check(&scene, &call.locals, function) {
         Some(trap) => Err(trap),
         None => running(work_out(&scene, function)),
@@ -168,7 +154,7 @@ fn finish(
     requires place { call.old.place + 1 < 2 ^ 64 }
     requires few { store.old.births + 2 < 2 ^ 32 }
     requires prepared { IsPrepared function.now }
-    requires answered { IsAnswered world.now store.old pending.old call.old function.now answer }
+    requires answered { IsAnswered world.now store.old pending.old call.old thread function.now answer }
     requires runs { is_halt answer ≡ false }
     ensures done { IfOk result (λ done. (p : Lowered) (others : Acquired) (own : Owners) (shared : Shared) (s : SourceThread) (task : Task) (rest : List Task) → AtCall p world.now store.old pending.old call.old function.now others thread own shared s task rest
         → Executes p world.now store.old store.new others thread own shared s rest call.new pending.new (effect_of (sight_of shared s) task) (executed_as function.now.line done)) }

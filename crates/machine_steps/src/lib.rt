@@ -1,5 +1,5 @@
 //! What a machine begins with, and what a step of a thread does: the entry into a call, an instruction of the call in progress, or
-//! the return.
+//! the return; and whether a thread waits for a monitor.
 #![tactic(auto)]
 
 pub mod advance;
@@ -11,5 +11,7 @@ mod invoke;
 pub mod load;
 pub mod objects;
 mod receive;
+mod scene;
 pub mod thread;
 mod variable;
+pub mod wait;

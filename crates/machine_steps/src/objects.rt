@@ -22,6 +22,7 @@ use classes::table::ClassTable;
 use heap::{Addr, Heap, MOST_CELLS, Value};
 use machine_calls::statics::StaticReference;
 use machine_calls::store::Store;
+use monitors::Monitors;
 use std::alloc::{AllocError, Global};
 use syntax::Item;
 use tables::{Elements, Globals};
@@ -37,6 +38,7 @@ pub fn load_store(alloc: Global, items: &[Item], world: &World) -> Result<Store,
     ensures globals { IfOk result (λ store. store.globals ≡ []) }
     ensures elements { IfOk result (λ store. store.elements ≡ []) }
     ensures views { IfOk result (λ store. store.views ≡ 0) }
+    ensures monitors { IfOk result (λ store. store.monitors ≡ []) }
 {
     let mut heap = Heap::new(alloc, world.cells())?;
     let loaded = load_objects(alloc, &mut heap, world)?;
@@ -51,6 +53,7 @@ pub fn load_store(alloc: Global, items: &[Item], world: &World) -> Result<Store,
         globals: Globals::new(alloc),
         elements: Elements::new(alloc),
         views: 0,
+        monitors: Monitors::new(alloc),
     })
 }
 

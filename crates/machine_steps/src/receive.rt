@@ -1,7 +1,7 @@
 //! Where what a function gives goes.
 
 ghost use Rattle.std.specs.Prelude.{◌≡◌, ◌<◌, ◌^◌, ◌+◌, [], length};
-ghost use Rattle.code.specs.declared.instr.ElementType.{ElementType};
+ghost use Rattle.base.specs.declared.element.ElementType.{ElementType};
 ghost use Rattle.jni.specs.Table.{result_value};
 ghost use Rattle.machine_steps.specs.Received.{HasTarget, HasTold, HasRoom, MakesLocal, Receives, stack_with, numbers_with, told_with, fields_with, buffers_with, statics_with, HasStatic};
 

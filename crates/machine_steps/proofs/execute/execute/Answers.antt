@@ -1,59 +1,40 @@
-use Rattle.std.proofs.Common.{rules, Option, ◌≡◌, ◌≢◌, ◌≤◌, ℕ, ◌+◌, Some, ◌∷◌, List, length, refl, sym, ap, ◌∙◌, subst, arith, ℤ, ◌⊎◌, ⊎_elim}
-use Rattle.std.specs.Prelude.{slice_get}
+use Rattle.std.proofs.Common.{rules, ◌≡◌, ◌≤◌, ℕ, ◌+◌, Some, List, length, refl, sym, ap, ◌∙◌, subst, arith, ℤ, ◌⊎◌, ⊎_elim}
 use Rattle.std.specs.Int.{w32, cast_signed, cast_unsigned}
 use Rattle.std.specs.Vec.{with_items}
 use Rattle.std.proofs.Math.Facts.{to_z-of_z}
 use Rattle.std.proofs.lemmas.List.{length-map, with_items_is, places}
 use Rattle.std.proofs.lemmas.Option.{slice_get_within}
-use Rattle.code.specs.Call.{Call, call_view}
+use Rattle.code.specs.Call.{Call}
 use Rattle.code.specs.declared.instr.Instr.{Instr}
 use Rattle.code.specs.declared.instr.Instr.TheVariants as instr
 use Rattle.code.specs.declared.instr.Plain.{Plain}
 use Rattle.code.specs.declared.instr.ReferenceOperand.{ReferenceOperand}
 use Rattle.code.specs.declared.instr.Plain.TheVariants as plain
-use Rattle.code.specs.Depth.{Listing, LeadsInside}
-use Rattle.semantics.specs.Effect.{NoEffect, effect_of}
-use Rattle.semantics.specs.ThreadStep.{next_effect}
-use Rattle.code_meaning.specs.Slots.{SeesBuffers}
-use Rattle.code_meaning.proofs.BufferLaws.{sees_buffers}
-use Rattle.machine_calls.specs.Buffers.{Acquired, acquired_by, beside}
-use Rattle.semantics.specs.Task.{Task}
+use Rattle.code.specs.Depth.{LeadsInside}
+use Rattle.semantics.specs.Effect.{effect_of}
 use Rattle.semantics.specs.Thread.{sight_of}
 use Rattle.code_meaning.specs.Slots.{visible_to}
 use Rattle.code_meaning.specs.Does.{IsReturn}
-use Rattle.semantics_safety.specs.Owners.{Owners}
-use Rattle.code_meaning.specs.Lowered.{Lowered, IsLowered}
 use Rattle.machine_calls.specs.declared.activation.Activation.{Activation}
 use Rattle.machine_steps.specs.declared.execute.Event.TheVariants.{Printed}
 use Rattle.machine_steps.specs.declared.execute.Executed.{Executed}
 use Rattle.machine_steps.specs.declared.execute.Executed.TheVariants.{Did}
 use Rattle.std.specs.Prelude.{◌<◌, ◌^◌}
-use Rattle.semantics.specs.Thread.{Shared, Thread}
-use Rattle.machine_steps.specs.Executes.{IsExecuting, Executes}
-use Rattle.semantics.specs.World.{World}
-use Rattle.code.specs.declared.instr.Call.{Call as CallInMemory}
-use Rattle.machine_calls.specs.declared.store.Store.{Store}
-use Rattle.machine_steps.specs.Invoked.{AtCall}
+use Rattle.machine_steps.specs.Executes.{Executes}
 use Rattle.machine_steps.specs.Moved.{IsReachable}
 use Rattle.machine_calls.specs.Statics.{all_held, held}
 use Rattle.machine_calls.specs.declared.statics.StaticReference.{StaticReference}
 use Rattle.machine_calls.proofs.HeldStatics.{statics_count}
 use Rattle.machine_steps.specs.Variables.{HasSlot, nulled_statics}
-use Rattle.machine_steps.proofs.Calls.{Ready, ready, here, room, leads, one_word, positive, two_words}
+use Rattle.machine_steps.proofs.Calls.{ready, here, room, leads, one_word, positive, two_words}
+use Rattle.machine_steps.proofs.Fetched.{Fetched, at_call, possible, ready_for, seeing}
 use Rattle.machine_steps.proofs.ElementEffects.{load_executes, store_executes as element_store_executes}
-use Rattle.machine_steps.proofs.SlotBuffers.{elements_fit, slot_of_block}
+use Rattle.machine_steps.proofs.SlotBuffers.{slot_of_block}
 use Rattle.machine_steps.proofs.Effects.{few_words, slot_there as variable_there, plain_executes, test_executes, store_executes, put_executes, return_executes}
 use Rattle.machine_steps.proofs.execute.execute.Goals as goal
 use Rattle.machine_steps.proofs.execute.execute.Goals.{After-instr_at-instr}
 
--- what was fetched at the place of a call
-record Fetched (p : Lowered) (store : Store) (call : Activation) (i : Instr) : Type 0 where
-  code : Listing
-  lowered : IsLowered p
-  of_function : slice_get p.codes call.function ≡ Some code
-  at : slice_get code.instrs call.place ≡ Some i
-  few : store.heap.cells ≤ 1048576
-
+-- what was fetched
 fetched : (c : After-instr_at-instr) → Fetched c.args.program.now c.args.store.now c.args.call.now c.instr_at-instr.result.now
 fetched c = record {
   code = c.code_at-code.result.now;
@@ -62,19 +43,6 @@ fetched c = record {
   at = c.instr_at-instr.ensures.instr;
   few = omega (arith, c.cells.ensures.cells, c.cells.ensures.limit);
 }
-
--- what is seen of buffers
-seeing : (p : Lowered) (w : World) (store : Store) (call : Activation) (pending : Option ℕ) (others : Acquired) (k : ℕ) (own : Owners) (shared : Shared) (s : Thread) (task : Task) (rest : List Task) (e : IsExecuting p w store call pending others k own shared s task rest) → store.heap.cells ≤ 1048576 → SeesBuffers (visible_to own shared s) e.stands.meant.buffers
-seeing p w store call pending others k own shared s task rest e few =
-    sees_buffers own shared s e.stands.meant.buffers (elements_fit p w store shared (beside others (acquired_by s)) e.store_agrees k call.slots.buffers.items e.stands.meant.buffers few e.stands.holds.buffers e.stands.holds.small)
-
-ready_for : (p : Lowered) (w : World) (store : Store) (call : Activation) (i : Instr) (f : Fetched p store call i) (pending : Option ℕ) (others : Acquired) (k : ℕ) (own : Owners) (shared : Shared) (s : Thread) (task : Task) (rest : List Task) → IsExecuting p w store call pending others k own shared s task rest
-    → Ready p w.classes store.heap store.elements k call f.code (visible_to own shared s) s.frames task rest
-ready_for p w store call i f pending others k own shared s task rest e = ready p w.classes store.heap store.elements k call f.code (visible_to own shared s) s.frames task rest f.lowered f.of_function e.stands (seeing p w store call pending others k own shared s task rest e f.few)
-
--- the task has an effect
-possible : (p : Lowered) (w : World) (store : Store) (call : Activation) (pending : Option ℕ) (others : Acquired) (k : ℕ) (own : Owners) (shared : Shared) (s : Thread) (task : Task) (rest : List Task) → IsExecuting p w store call pending others k own shared s task rest → effect_of (sight_of shared s) task ≢ NoEffect
-possible p w store call pending others k own shared s task rest e none = e.steady.possible (task ∷ rest) e.tasks (ap (next_effect shared s) e.tasks ∙ none)
 
 returns_is : (i : Instr) → (i ≡ instr.Return) ⊎ ((i ≡ instr.ReturnJint) ⊎ ((o : ReferenceOperand) × (i ≡ instr.ReturnReference o))) → IsReturn i
 returns_is i h = ⊎_elim (λ e. subst IsReturn (sym e) tt) (λ rest. ⊎_elim (λ e. subst IsReturn (sym e) tt) (λ e. subst IsReturn (sym e.1) tt) rest) h
@@ -156,23 +124,6 @@ pop-word-requires c =
     let s = c.requires.stands in
     let f = fetched (goal.at.pop-word-requires c).After-instr_at-instr in
     positive (length c.args.call.now.stack) (room c.args.program.now c.args.world.now.classes c.args.store.now.heap c.args.store.now.elements c.args.thread c.args.call.now f.code (visible_to s.1 s.2 s.3) s.3.frames s.4 s.5 (ready_for c.args.program.now c.args.world.now c.args.store.now c.args.call.now c.instr_at-instr.result.now f c.args.pending.now s.0 c.args.thread s.1 s.2 s.3 s.4 s.5 s.6) instr.PutJint (f.at ∙ ap (λ i. Some i) c.in-PutJint.is))
-
--- the machine is at the instruction of a call
-at_call : (p : Lowered) (w : World) (store : Store) (pending : Option ℕ) (call : Activation) (i : Instr) (f : Fetched p store call i) (function : CallInMemory) → i ≡ instr.Call (call_view function) → (others : Acquired) (k : ℕ) (own : Owners) (shared : Shared) (s : Thread) (task : Task) (rest : List Task)
-    → IsExecuting p w store call pending others k own shared s task rest → AtCall p w store pending call function others k own shared s task rest
-at_call p w store pending call i f function is others k own shared s task rest e = record {
-  lowered = f.lowered;
-  tasks = e.tasks;
-  shares = e.store_agrees;
-  pending_agrees = e.pending_agrees;
-  stands = e.stands;
-  sees = seeing p w store call pending others k own shared s task rest e f.few;
-  views = e.views;
-  steady = e.steady;
-  code = f.code;
-  of_function = f.of_function;
-  at = f.at ∙ ap (λ j. Some j) is;
-}
 
 pub invoke-requires : goal.invoke-requires
 invoke-requires c =

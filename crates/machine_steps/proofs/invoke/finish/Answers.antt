@@ -5,7 +5,7 @@ use Rattle.std.specs.Global.{Vec}
 use Rattle.std.specs.Vec.{with_items}
 use Rattle.std.specs.Prelude.{OnErr, slice_get, slice_set, if◌then◌else◌}
 use Rattle.std.proofs.lemmas.List.{with_items_is, places, length-set}
-use Rattle.std.proofs.Common.{rules, ◌≡◌, ◌+◌, ℕ, Bool, true, false, List, Option, Result, Ok, Err, length, ◌≤◌, refl, sym, ap, ◌∙◌, subst, arith}
+use Rattle.std.proofs.Common.{rules, ◌≡◌, ℕ, Bool, true, false, List, Option, Result, Ok, Err, length, ◌≤◌, refl, sym, ap, ◌∙◌, subst, arith}
 use Rattle.base.specs.Bytes.{Identifier}
 use Rattle.code.specs.Call.{call_view}
 use Rattle.code.specs.declared.instr.Call.{Call}
@@ -26,7 +26,7 @@ use Rattle.semantics_safety.specs.Owners.{Owners}
 use Rattle.tables.specs.Locals.{LocalTable}
 use Rattle.machine_calls.specs.Answers.{IsAnswer, array_given, bringing}
 use Rattle.machine_calls.specs.Buffers.{Acquired, acquired_by, beside, gives_up, holding, in_use_of}
-use Rattle.machine_calls.specs.CarriedOut.{CarriesOut, GoesByRoom, IsPossible, buffers_after, made_by, shared_after, slots_after}
+use Rattle.machine_calls.specs.CarriedOut.{CarriesOut, GoesByRoom, buffers_after, made_by, shared_after, slots_after}
 use Rattle.machine_calls.specs.Copies.{words_of}
 use Rattle.machine_calls.specs.NewObjects.{texts_in}
 use Rattle.machine_calls.specs.declared.activation.Activation.{Activation}
@@ -46,14 +46,14 @@ use Rattle.machine_steps.specs.Executes.{Executes, GoesOn}
 use Rattle.machine_steps.specs.Invoked.{AtCall, IsAnswered, done_or_refused, executed_as}
 use Rattle.machine_steps.specs.declared.invoke.Invoked.{Invoked}
 use Rattle.machine_steps.specs.declared.invoke.Invoked.TheVariants as invoked
-use Rattle.machine_steps.specs.Received.{told_slot, statics_with, HasBuffer, HasField, HasNumber, HasReference, HasRoom, HasStatic, HasTarget, HasTold, Receives}
+use Rattle.machine_steps.specs.Received.{told_slot, statics_with, HasBuffer, HasField, HasNumber, HasReference, HasRoom, HasStatic, HasTold, Receives}
 use Rattle.machine_steps.proofs.AnsweredCalls.{answered, brings, can_carry, does, free, it, kind_is, worked}
 use Rattle.machine_steps.proofs.AskedCalls.{has_static, has_target, has_told, room_after}
 use Rattle.machine_steps.proofs.CallInstructions.{goes_on}
 use Rattle.machine_steps.proofs.invoke.finish.Goals as goal
 
 -- the machine is at a call that no check stops
-module _ (p : Lowered) (w : World) (store : Store) (pending : Option ℕ) (call : Activation) (function : Call) (others : Acquired) (k : ℕ) (own : Owners) (shared : Shared) (s : Thread) (task : Task) (rest : List Task) (h : AtCall p w store pending call function others k own shared s task rest) (answer : Answer) (given : IsAnswered w store pending call function answer) where
+module _ (p : Lowered) (w : World) (store : Store) (pending : Option ℕ) (call : Activation) (function : Call) (others : Acquired) (k : ℕ) (own : Owners) (shared : Shared) (s : Thread) (task : Task) (rest : List Task) (h : AtCall p w store pending call function others k own shared s task rest) (answer : Answer) (given : IsAnswered w store pending call k function answer) where
   abbrev effect : CallEffect
   effect = does p w store pending call function others k own shared s task rest h answer given
 

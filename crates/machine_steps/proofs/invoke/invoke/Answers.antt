@@ -26,8 +26,8 @@ returns-in-Err-clause-done c p others own shared s task rest h =
     let trap = c.in-Err.trap in
     traps p w store pending call function others c.args.thread own shared s task rest h trap function.line refl
     (⊎_elim
-    (λ (found : trap_at w store pending call function ≡ Some (trap_view trap)). found_trap p w store pending call function others c.args.thread own shared s task rest h trap (sym (trap_is p w store pending call function others c.args.thread own shared s task rest h) ∙ found))
-    (λ (halted : IsAnswered w store pending call function (answer.Halts trap)). halts p w store pending call function others c.args.thread own shared s task rest h trap halted)
+    (λ (found : trap_at w store pending call c.args.thread function ≡ Some (trap_view trap)). found_trap p w store pending call function others c.args.thread own shared s task rest h trap (sym (trap_is p w store pending call function others c.args.thread own shared s task rest h) ∙ found))
+    (λ (halted : IsAnswered w store pending call c.args.thread function (answer.Halts trap)). halts p w store pending call function others c.args.thread own shared s task rest h trap halted)
     c.in-Err.ensures.trap)
 
 -- what may not be refused is not carried out where it has no room

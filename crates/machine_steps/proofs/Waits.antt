@@ -1,0 +1,201 @@
+-- Which steps wait for a monitor.
+use Rattle.std.proofs.Common.{◌≡◌, ℕ, Bool, true, false, not, eqb, List, [], length, Option, Some, None, is_none, refl, sym, ap, ◌∙◌, subst, cond}
+use Rattle.std.specs.Prelude.{◌&&◌, nat_lt, slice_get}
+use Rattle.std.specs.List.{AllZip}
+use Rattle.class_rules.specs.Class.{Classes}
+use Rattle.heap.specs.Heap.{Space, name_at}
+use Rattle.jni.specs.JniFunction.{JniFunction, MonitorEnter, prototype}
+use Rattle.jni.specs.Prototype.{NonNull}
+use Rattle.jni.specs.Table.{function_value}
+use Rattle.jni.specs.declared.function.JniFunction.{JniFunction as FunctionInMemory}
+use Rattle.jni.specs.declared.function.JniFunction.TheVariants as function
+use Rattle.semantics.specs.Arguments.{Actual, name_or_zero, object_given}
+use Rattle.semantics.specs.CallStep.{is_owned_by_other, trap_of_call, waits_with}
+use Rattle.semantics.specs.Effect.{Effect, Calls, effect_of}
+use Rattle.semantics.specs.Task.{Target, Task}
+use Rattle.semantics.specs.Thread as source
+use Rattle.semantics.specs.Thread.{Shared, sight_of}
+use Rattle.semantics.specs.Value.{Trap}
+use Rattle.semantics.specs.ThreadStep.{next_effect, waits}
+use Rattle.semantics.specs.World.{World, loaded_objects}
+use Rattle.semantics_safety.specs.Owners.{Owners}
+use Rattle.code.specs.Call.{Call, call_view}
+use Rattle.code.specs.Depth.{Listing}
+use Rattle.code.specs.declared.instr.Call.{Call as InMemory}
+use Rattle.code.specs.declared.instr.Instr.{Instr}
+use Rattle.code.specs.declared.instr.Instr.TheVariants as instr
+use Rattle.code_meaning.specs.Does.{OperandFits}
+use Rattle.code_meaning.specs.Lowered.{Lowered}
+use Rattle.code_meaning.specs.Slots.{visible_to}
+use Rattle.tables.specs.Elements.{OwnedNumbers}
+use Rattle.monitors.specs.declared.monitors.Enter.{Enter}
+use Rattle.monitors.specs.declared.monitors.Enter.TheVariants.{Entered, Limit, Busy}
+use Rattle.monitors.specs.declared.monitors.Monitor.{Monitor}
+use Rattle.monitors.specs.Monitors.{entering, monitor_of}
+use Rattle.machine_monitors.specs.Fit.{MonitorAgrees}
+use Rattle.machine_calls.specs.declared.activation.Activation.{Activation}
+use Rattle.machine_calls.specs.declared.store.Store.{Store}
+use Rattle.machine_calls.specs.Asked.{references_of}
+use Rattle.machine_calls.specs.Buffers.{Acquired, AreViewed, acquired_by, beside}
+use Rattle.machine_calls.specs.Checked.{some_missing}
+use Rattle.machine_calls.specs.Given.{operand_at, operand_of}
+use Rattle.machine_calls.specs.StoreAgrees.{StoreAgrees}
+use Rattle.machine_calls.proofs.CallOperands.{GivenObject, object_at_place}
+use Rattle.machine_calls.proofs.CallTraps.{none_deleted, none_lacking}
+use Rattle.machine_calls.proofs.MonitorCarries.{agrees_monitors}
+use Rattle.machine_steps.specs.declared.thread.Thread.{Thread}
+use Rattle.machine_steps.specs.Executes.{IsExecuting, IsSteady}
+use Rattle.machine_steps.specs.SlotsHold.{slots_of}
+use Rattle.machine_steps.specs.ThreadAgrees.{ThreadAgrees, buffers_of}
+use Rattle.machine_steps.specs.Waiting.{MayWait, is_busy, store_unowned, unowned}
+use Rattle.machine_steps.proofs.AskedCalls.{CalledAs, called, r as ready_at}
+use Rattle.machine_steps.proofs.Calls.{Ready, does_cases}
+use Rattle.machine_steps.proofs.Fetched.{Fetched, at_call, ready_for}
+use Rattle.machine_steps.proofs.Threads.{Working, working}
+
+-- ---- where nobody owns a monitor
+
+and_false : (b : Bool) → (b && false) ≡ false
+and_false true = refl
+and_false false = refl
+
+-- nobody waits
+pub nobody_waits : (classes : Classes) (k : ℕ) (shared : Shared) (s : source.Thread) (e : Effect) → waits_with classes k (unowned shared) s e ≡ false
+nobody_waits classes k shared s (Calls line target MonitorEnter args) = and_false (is_none (trap_of_call classes (unowned shared) s target MonitorEnter args))
+nobody_waits classes k shared s e = refl
+
+-- all else agrees
+pub unowned_agrees : (p : Lowered) (w : World) (store : Store) (shared : Shared) (all : Acquired) → StoreAgrees p w store shared all → StoreAgrees p w (store_unowned store) (unowned shared) all
+unowned_agrees p w store shared all h = agrees_monitors p w store shared all h [] [] (record { at = λ n. tt; different = tt }) tt
+
+pub unowned_steady : (classes : Classes) (own : Owners) (shared : Shared) (s : source.Thread) → IsSteady classes own shared s → IsSteady classes own (unowned shared) s
+unowned_steady classes own shared s h = record {
+  view = h.view;
+  return = h.return;
+  release = h.release;
+  free = h.free;
+  possible = h.possible;
+  objects = h.objects;
+  variables = h.variables;
+  declared = h.declared;
+  owned = h.owned;
+}
+
+-- ---- other steps
+
+-- a function in memory that enters a monitor
+pub value_enters : (f : FunctionInMemory) → function_value f ≡ MonitorEnter → f ≡ function.MonitorEnter
+value_enters function.MonitorEnter is = refl
+value_enters f is = absurd (cc)
+
+-- an instruction that is no call of MonitorEnter doesn't wait
+module _ (p : Lowered) (classes : Classes) (space : Space) (copies : List (Option OwnedNumbers)) (k : ℕ) (call : Activation) (code : Listing) (own : Owners) (shared : Shared) (s : source.Thread) (task : Task) (rest : List Task) (r : Ready p classes space copies k call code (visible_to own shared s) s.frames task rest) where
+  pub waits_for_none : (i : Instr) → slice_get code.instrs call.place ≡ Some i → ((c : Call) → i ≡ instr.Call c → c.function ≡ MonitorEnter → ⊥) → waits_with classes k shared s (effect_of (sight_of shared s) task) ≡ false
+  waits_for_none i at none =
+      does_cases code r.known call.place call.stack (slots_of call r.meant) (visible_to own shared s) rest (λ (e : Effect). waits_with classes k shared s e ≡ false)
+      (λ tasks g. refl) (λ x v g. refl) (λ target g. refl) (λ x i z t a g. refl) (λ x i z g. refl) (λ t x n g. refl) (λ z g. refl)
+      (λ line target f args g. other line target f args (λ enters. none g.call (let same : Some i ≡ Some (instr.Call g.call) = sym at ∙ g.at in cc) (g.same_function ∙ enters)))
+      (λ g. refl) (λ trap line g. refl) refl (effect_of (sight_of shared s) task) r.does
+    where
+      other : (line : ℕ) (target : Target) (f : JniFunction) (args : List Actual) → (f ≡ MonitorEnter → ⊥) → waits_with classes k shared s (Calls line target f args) ≡ false
+      other line target MonitorEnter args another = absurd (another refl)
+      other line target f args another = refl
+
+-- ---- a call in progress
+
+module _ (p : Lowered) (w : World) (store : Store) (others : Acquired) (k : ℕ) (own : Owners) (shared : Shared) (t : Thread) (s : source.Thread) (call : Activation) (shares : StoreAgrees p w store shared (beside others (acquired_by s)))
+    (h : ThreadAgrees p w.classes store.heap store.elements (length (loaded_objects w)) k own shared t s) (is : t.call ≡ Some call) (steady : IsSteady w.classes own shared s) where
+  pub work : Working p w.classes store.heap store.elements k call (visible_to own shared s) s.frames s.tasks
+  work = working p w.classes store.heap store.elements k (visible_to own shared s) s.frames t.call call s.tasks h.work is
+
+  pub would_execute : IsExecuting p w (store_unowned store) call t.pending others k own (unowned shared) s work.task work.rest
+  would_execute = record {
+    store_agrees = unowned_agrees p w store shared (beside others (acquired_by s)) shares;
+    tasks = work.is;
+    stands = work.stands;
+    pending_agrees = h.pending;
+    views = subst (λ (c : Option Activation). AreViewed store.heap (buffers_of c) s) is h.views;
+    steady = unowned_steady w.classes own shared s steady;
+    ready = nobody_waits w.classes k shared s (effect_of (sight_of shared s) work.task);
+  }
+
+  -- whether it waits is by its first task
+  pub waits_by : waits_with w.classes k shared s (effect_of (sight_of shared s) work.task) ≡ waits w.classes k shared s
+  waits_by = ap (λ (tasks : Option (List Task)). waits_with w.classes k shared s (next_effect shared s tasks)) (sym work.is)
+
+  -- a call of which nothing is known yet but that it is there
+  pub may_wait : (i : Instr) (f : Fetched p (store_unowned store) call i) (function : InMemory) → i ≡ instr.Call (call_view function) → MayWait p w store t.pending call function others k own shared s work.task work.rest
+  may_wait i f function is = record {
+    at_call = at_call p w (store_unowned store) t.pending call i f function is others k own (unowned shared) s work.task work.rest would_execute;
+    monitors = shares.monitors;
+  }
+
+  -- what is no call of MonitorEnter doesn't wait
+  pub goes_on : (i : Instr) (f : Fetched p (store_unowned store) call i) → ((c : Call) → i ≡ instr.Call c → c.function ≡ MonitorEnter → ⊥) → waits w.classes k shared s ≡ false
+  goes_on i f none =
+      sym waits_by
+      ∙ waits_for_none p w.classes store.heap store.elements k call f.code own shared s work.task work.rest (ready_for p w (store_unowned store) call i f t.pending others k own (unowned shared) s work.task work.rest would_execute) i f.at none
+
+-- ---- a call of MonitorEnter
+
+-- another thread owns the monitor
+busy_is : (k : ℕ) (o : Option Monitor) (q : Option source.Monitor) → MonitorAgrees o q → is_busy (entering k o) ≡ is_owned_by_other k q
+busy_is k None None h = refl
+busy_is k None (Some m) h = absurd h
+busy_is k (Some m) None h = absurd h
+busy_is k (Some m) (Some q) h = by_tests (eqb m.owner k) (nat_lt m.count 255) ∙ ap (λ (n : ℕ). not (eqb n k)) h.1
+  where
+    by_tests : (own few : Bool) → is_busy (cond own (cond few Entered Limit) Busy) ≡ not own
+    by_tests true true = refl
+    by_tests true false = refl
+    by_tests false few = refl
+
+module _ (p : Lowered) (w : World) (store : Store) (pending : Option ℕ) (call : Activation) (in_memory : InMemory) (others : Acquired) (k : ℕ) (own : Owners) (shared : Shared) (s : source.Thread) (task : Task) (rest : List Task) (h : MayWait p w store pending call in_memory others k own shared s task rest) (enters : function_value in_memory.function ≡ MonitorEnter) where
+  abbrev it : CalledAs p w (store_unowned store) pending call h.at_call.code (call_view in_memory) others k own (unowned shared) s task rest (ready_at p w (store_unowned store) pending call in_memory others k own (unowned shared) s task rest h.at_call) (effect_of (sight_of shared s) task)
+  it = called p w (store_unowned store) pending call in_memory others k own (unowned shared) s task rest h.at_call
+
+  enters_it : it.f ≡ MonitorEnter
+  enters_it = sym it.asked.same_function ∙ enters
+
+  abbrev found : Option Trap
+  found = trap_of_call w.classes (unowned shared) s it.target it.f it.args
+
+  abbrev Waits : Bool → Type 0
+  Waits b = b ≡ waits_with w.classes k shared s (effect_of (sight_of shared s) task)
+
+  waits_as : (is_none found && is_owned_by_other k (source.monitor_of shared.monitors (object_given it.args 0))) ≡ waits_with w.classes k shared s (effect_of (sight_of shared s) task)
+  waits_as = sym (at_enter it.f enters_it) ∙ ap (waits_with w.classes k shared s) (sym it.is)
+    where
+      at_enter : (f : JniFunction) → f ≡ MonitorEnter → waits_with w.classes k shared s (Calls it.line it.target f it.args) ≡ (is_none (trap_of_call w.classes (unowned shared) s it.target f it.args) && is_owned_by_other k (source.monitor_of shared.monitors (object_given it.args 0)))
+      at_enter MonitorEnter is = refl
+      at_enter f is = absurd (cc)
+
+  -- a check stops it
+  pub stopped : (trap : Trap) → found ≡ Some trap → Waits false
+  stopped trap is = ap (λ (o : Option Trap). is_none o && is_owned_by_other k (source.monitor_of shared.monitors (object_given it.args 0))) (sym is) ∙ waits_as
+
+  -- or none does
+  module _ (free : found ≡ None) where
+    object : GivenObject w.classes store.heap (references_of store call) call.slots.fields.items in_memory.operands.items it.args 0
+    object =
+        object_at_place w.classes store.heap (references_of store call) call.slots.fields.items [] NonNull [] tt refl in_memory.operands.items it.args
+        (subst (λ (f : JniFunction). AllZip OperandFits (prototype f).parameters in_memory.operands.items) enters_it it.asked.kinds)
+        it.asked.given
+        (none_deleted p w (store_unowned store) pending call (call_view in_memory) others k (unowned shared) s it.target it.f it.args it.asked free)
+        (subst (λ (f : JniFunction). some_missing (references_of store call) call.slots.fields.items (prototype f).parameters in_memory.operands.items ≡ false) enters_it
+        (none_lacking p w (store_unowned store) pending call (call_view in_memory) others k (unowned shared) s it.target it.f it.args it.asked free))
+
+    -- its argument isn't NULL
+    pub not_null : operand_at (references_of store call) (operand_of in_memory.operands.items 0) ≡ None → ⊥
+    not_null none = let clash : None ≡ Some object.address = sym none ∙ object.at in cc
+
+    -- it is by the monitor of its object
+    pub by_monitor : (a n : ℕ) (came : Enter) → operand_at (references_of store call) (operand_of in_memory.operands.items 0) ≡ Some a → name_at store.heap a ≡ Some n → came ≡ entering k (monitor_of store.monitors n) → Waits (is_busy came)
+    by_monitor a n came at named is =
+        let address : object.address ≡ a = let same : Some object.address ≡ Some a = sym object.at ∙ at in cc in
+        let name : object.name ≡ n = let same : Some object.name ≡ Some n = sym object.named ∙ ap (name_at store.heap) address ∙ named in cc in
+        let given : object_given it.args 0 ≡ n = ap name_or_zero object.is ∙ name in
+        ap is_busy is ∙ busy_is k (monitor_of store.monitors n) (source.monitor_of shared.monitors n) (h.monitors.at n)
+        ∙ ap (λ (m : ℕ). is_owned_by_other k (source.monitor_of shared.monitors m)) (sym given)
+        ∙ ap (λ (o : Option Trap). is_none o && is_owned_by_other k (source.monitor_of shared.monitors (object_given it.args 0))) (sym free)
+        ∙ waits_as

@@ -1,0 +1,98 @@
+use Rattle.std.proofs.Common.{◌≡◌, ◌≤◌, List, Option, sym, ap, ◌∙◌, arith}
+use Rattle.std.proofs.lemmas.Option.{slice_get_within}
+use Rattle.code.specs.Call.{Call, call_view}
+use Rattle.code.specs.declared.instr.Instr.TheVariants as instr
+use Rattle.semantics.specs.CallStep.{waits_with}
+use Rattle.semantics.specs.Task.{Task}
+use Rattle.semantics.specs.ThreadStep.{next_effect}
+use Rattle.code_meaning.specs.Slots.{visible_to}
+use Rattle.machine_steps.specs.Waiting.{store_unowned, unowned}
+use Rattle.machine_steps.proofs.Calls.{here, ready}
+use Rattle.machine_steps.proofs.Fetched.{Fetched, possible, seeing}
+use Rattle.machine_steps.proofs.Threads.{resting}
+use Rattle.machine_steps.proofs.Waits.{goes_on, may_wait, value_enters, waits_by, work, would_execute}
+use Rattle.machine_steps.proofs.wait.waits.Goals as goal
+use Rattle.machine_steps.proofs.wait.waits.Goals.{After-instr_at-instr}
+
+-- what was fetched
+fetched : (c : After-instr_at-instr) → Fetched c.args.program.now (store_unowned c.args.store.now) c.in-Some.call c.instr_at-instr.result.now
+fetched c = record {
+  code = c.code_at-code.result.now;
+  lowered = c.requires.lowered;
+  of_function = c.code_at-code.ensures.code;
+  at = c.instr_at-instr.ensures.instr;
+  few = omega (arith, c.cells.ensures.cells, c.cells.ensures.limit);
+}
+
+pub code_at-code-requires : goal.code_at-code-requires
+code_at-code-requires c =
+    let a = c.requires.agrees in
+    let e = would_execute c.args.program.now c.args.world.now c.args.store.now a.0 c.args.number a.1 a.2 c.args.thread.now a.3 c.in-Some.call a.4 a.5 c.in-Some.is a.6 in
+    slice_get_within c.args.program.now.codes c.in-Some.call.function e.stands.code e.stands.of_function
+
+pub instr_at-instr-requires : goal.instr_at-instr-requires
+instr_at-instr-requires c =
+    let a = c.requires.agrees in
+    let p = c.args.program.now in
+    let w = c.args.world.now in
+    let store = c.args.store.now in
+    let call = c.in-Some.call in
+    let code = c.code_at-code.result.now in
+    let few : store.heap.cells ≤ 1048576 = omega (arith, c.cells.ensures.cells, c.cells.ensures.limit) in
+    let it = work p w store a.0 c.args.number a.1 a.2 c.args.thread.now a.3 call a.4 a.5 c.in-Some.is a.6 in
+    let e = would_execute p w store a.0 c.args.number a.1 a.2 c.args.thread.now a.3 call a.4 a.5 c.in-Some.is a.6 in
+    let h = here p w.classes store.heap store.elements c.args.number call code (visible_to a.1 a.2 a.3) a.3.frames it.task it.rest
+    (ready p w.classes store.heap store.elements c.args.number call code (visible_to a.1 a.2 a.3) a.3.frames it.task it.rest c.requires.lowered c.code_at-code.ensures.code e.stands
+    (seeing p w (store_unowned store) call c.args.thread.now.pending a.0 c.args.number a.1 (unowned a.2) a.3 it.task it.rest e few))
+    (possible p w (store_unowned store) call c.args.thread.now.pending a.0 c.args.number a.1 (unowned a.2) a.3 it.task it.rest e) in
+    slice_get_within code.instrs call.place h.0 h.1
+
+pub waits_to_enter-requires-clause-may_wait : goal.waits_to_enter-requires-clause-may_wait
+waits_to_enter-requires-clause-may_wait c =
+    let a = c.requires.agrees in
+    let p = c.args.program.now in
+    let w = c.args.world.now in
+    let store = c.args.store.now in
+    let it = work p w store a.0 c.args.number a.1 a.2 c.args.thread.now a.3 c.in-Some.call a.4 a.5 c.in-Some.is a.6 in
+    let f = fetched (goal.at.waits_to_enter-requires-clause-may_wait c).After-instr_at-instr in (
+      p,
+      a.0,
+      a.1,
+      a.2,
+      a.3,
+      it.task,
+      it.rest,
+      may_wait p w store a.0 c.args.number a.1 a.2 c.args.thread.now a.3 c.in-Some.call a.4 a.5 c.in-Some.is a.6 c.instr_at-instr.result.now f c.call-function.result.now (c.in-Call.is ∙ ap (λ (x : Call). instr.Call x) (sym c.call-function.ensures.view)),
+    )
+
+pub returns-in-None : goal.returns-in-None
+returns-in-None c others own shared s shares h steady =
+    let p = c.args.program.now in
+    let w = c.args.world.now in
+    let store = c.args.store.now in
+    sym (ap (λ (tasks : Option (List Task)). waits_with w.classes c.args.number shared s (next_effect shared s tasks)) (resting p w.classes store.heap store.elements c.args.number (visible_to own shared s) s.frames c.args.thread.now.call s.tasks h.work c.in-None.is))
+
+pub returns-in-MonitorEnter : goal.returns-in-MonitorEnter
+returns-in-MonitorEnter c others own shared s shares h steady =
+    let p = c.args.program.now in
+    let w = c.args.world.now in
+    let store = c.args.store.now in
+    let it = work p w store others c.args.number own shared c.args.thread.now s c.in-Some.call shares h c.in-Some.is steady in
+    let f = fetched (goal.at.returns-in-MonitorEnter c).After-instr_at-instr in
+    c.waits_to_enter.ensures p others own shared s it.task it.rest
+    (may_wait p w store others c.args.number own shared c.args.thread.now s c.in-Some.call shares h c.in-Some.is steady c.instr_at-instr.result.now f c.call-function.result.now (c.in-Call.is ∙ ap (λ (x : Call). instr.Call x) (sym c.call-function.ensures.view)))
+    ∙ waits_by p w store others c.args.number own shared c.args.thread.now s c.in-Some.call shares h c.in-Some.is steady
+
+pub returns-in_default-function : goal.returns-in_default-function
+returns-in_default-function c others own shared s shares h steady =
+    let f = fetched (goal.at.returns-in_default-function c).After-instr_at-instr in
+    sym (goes_on c.args.program.now c.args.world.now c.args.store.now others c.args.number own shared c.args.thread.now s c.in-Some.call shares h c.in-Some.is steady c.instr_at-instr.result.now f
+    (λ (x : Call) is enters.
+    let same : call_view c.call-function.result.now ≡ x = let both : instr.Call (call_view c.call-function.result.now) ≡ instr.Call x = sym (c.in-Call.is ∙ ap (λ (y : Call). instr.Call y) (sym c.call-function.ensures.view)) ∙ is in cc in
+    c.in_default-function.not-MonitorEnter (value_enters c.call-function.result.now.function (ap (λ (y : Call). y.function) same ∙ enters))))
+
+pub returns-in_default : goal.returns-in_default
+returns-in_default c others own shared s shares h steady =
+    let f = fetched (goal.at.returns-in_default c).After-instr_at-instr in
+    sym (goes_on c.args.program.now c.args.world.now c.args.store.now others c.args.number own shared c.args.thread.now s c.in-Some.call shares h c.in-Some.is steady c.instr_at-instr.result.now f
+    (λ (x : Call) is enters. c.in_default.not-Call x is))

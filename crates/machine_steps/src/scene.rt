@@ -1,0 +1,44 @@
+//! What a call of a function of the JNI sees.
+
+ghost use Rattle.std.specs.Prelude.{◌≡◌};
+ghost use Rattle.world_values.specs.SoundWorlds.{IsSound};
+ghost use Rattle.machine_calls.specs.Asked.{scene_of};
+ghost use Rattle.machine_calls.specs.Scenes.{scene_view};
+
+use heap::Addr;
+use machine_calls::activation::Activation;
+use machine_calls::references::References;
+use machine_calls::scene::Scene;
+use machine_calls::store::Store;
+use world_values::World;
+
+/// What a call of the thread of this number sees.
+#[inline(always)]
+pub(crate) fn scene_of<'a>(
+    world: &'a World,
+    store: &'a Store,
+    pending: Option<Addr>,
+    call: &'a Activation,
+    thread: u8,
+) -> Scene<'a>
+    ensures scene { scene_view result ≡ scene_of world.now.classes store.now call.now thread pending }
+    ensures sound { IsSound world.now }
+{
+    Scene {
+        classes: world.classes(),
+        heap: &store.heap,
+        loaded: &store.loaded,
+        references: References::new(
+            &call.slots.references,
+            &call.locals,
+            &store.statics,
+            &store.globals,
+        ),
+        fields: &call.slots.fields,
+        buffers: &call.slots.buffers,
+        stack: &call.stack,
+        pending,
+        monitors: &store.monitors,
+        thread,
+    }
+}

@@ -1,0 +1,106 @@
+//! Whether a thread waits for a monitor.
+
+ghost use Rattle.std.specs.Prelude.{◌≡◌, List, length};
+ghost use Rattle.code.specs.Call.{IsPrepared};
+ghost use Rattle.jni.specs.JniFunction.{MonitorEnter};
+ghost use Rattle.jni.specs.Table.{function_value};
+ghost use Rattle.semantics.specs.CallStep.{waits_with};
+ghost use Rattle.semantics.specs.Effect.{effect_of};
+ghost use Rattle.semantics.specs.Task.{Task};
+ghost use Rattle.semantics.specs.Thread.{Shared, Thread as SourceThread, sight_of};
+ghost use Rattle.semantics.specs.ThreadStep.{waits};
+ghost use Rattle.semantics.specs.World.{loaded_objects};
+ghost use Rattle.semantics_safety.specs.Owners.{Owners};
+ghost use Rattle.code_meaning.specs.Lowered.{IsLowered, Lowered};
+ghost use Rattle.machine_calls.specs.Buffers.{Acquired, acquired_by, beside};
+ghost use Rattle.machine_calls.specs.StoreAgrees.{StoreAgrees};
+ghost use Rattle.machine_steps.specs.Executes.{IsSteady};
+ghost use Rattle.machine_steps.specs.ThreadAgrees.{ThreadAgrees};
+ghost use Rattle.machine_steps.specs.Waiting.{MayWait, is_busy};
+
+use crate::scene::scene_of;
+use crate::thread::Thread;
+use code::instr::{Call, Instr};
+use code_meaning::Program;
+use heap::Addr;
+use jni::JniFunction;
+use machine_calls::activation::Activation;
+use machine_calls::answer::argument;
+use machine_calls::check::check;
+use machine_calls::store::Store;
+use monitors::Enter;
+use world_values::World;
+
+/// Whether a thread, which has this number, waits for a monitor: its next step is a call of `MonitorEnter` that no check stops, for
+/// an object whose monitor another thread owns (JNI Specification, chapter 4, "MonitorEnter"). It takes no host memory.
+#[inline(always)]
+pub fn waits(
+    program: &Program<'_>,
+    world: &World,
+    store: &Store,
+    thread: &Thread,
+    number: u8,
+) -> bool
+    requires lowered { IsLowered program.now }
+    requires agrees { (others : Acquired) × (own : Owners) × (shared : Shared) × (s : SourceThread) × StoreAgrees program.now world.now store.now shared (beside others (acquired_by s))
+        × ThreadAgrees program.now world.now.classes store.now.heap store.now.elements (length (loaded_objects world.now)) number own shared thread.now s × IsSteady world.now.classes own shared s }
+    ensures { (others : Acquired) (own : Owners) (shared : Shared) (s : SourceThread) → StoreAgrees program.now world.now store.now shared (beside others (acquired_by s))
+        → ThreadAgrees program.now world.now.classes store.now.heap store.now.elements (length (loaded_objects world.now)) number own shared thread.now s
+        → IsSteady world.now.classes own shared s
+        → result ≡ waits world.now.classes number shared s }
+{
+    // The proof reads off this call that no object has as many elements as a `jint` can say.
+    let _ = store.heap.cells();
+    match &thread.call {
+        None => false,
+        Some(call) => {
+            let code = program.code_at(call.function);
+            let instr = code.instr_at(call.place);
+            match instr {
+                Instr::Call(boxed) => {
+                    let function = boxed.call();
+                    match function.function {
+                        JniFunction::MonitorEnter => {
+                            waits_to_enter(world, store, thread.pending, call, function, number)
+                        }
+                        _ => false,
+                    }
+                }
+                _ => false,
+            }
+        }
+    }
+}
+
+/// Whether a call of `MonitorEnter` waits, in the thread of this number.
+#[inline(never)]
+fn waits_to_enter(
+    world: &World,
+    store: &Store,
+    pending: Option<Addr>,
+    call: &Activation,
+    function: &Call,
+    thread: u8,
+) -> bool
+    requires may_wait { (p : Lowered) × (others : Acquired) × (own : Owners) × (shared : Shared) × (s : SourceThread) × (task : Task) × (rest : List Task) × MayWait p world.now store.now pending call.now function.now others thread own shared s task rest }
+    requires enters { function_value function.now.function ≡ MonitorEnter }
+    requires prepared { IsPrepared function.now }
+    ensures { (p : Lowered) (others : Acquired) (own : Owners) (shared : Shared) (s : SourceThread) (task : Task) (rest : List Task) → MayWait p world.now store.now pending call.now function.now others thread own shared s task rest
+        → result ≡ waits_with world.now.classes thread shared s (effect_of (sight_of shared s) task) }
+{
+    let scene = scene_of(world, store, pending, call, thread);
+    match check(&scene, &call.locals, function) {
+        Some(_) => false,
+        None => match argument(scene.heap, &scene.references, function, 0) {
+            Some(addr) => is_busy(store.monitors.entering(store.heap.birth_of(addr), thread)),
+            None => false,
+        },
+    }
+}
+
+/// Whether another thread owns the monitor.
+fn is_busy(came: Enter) -> bool
+    ensures { result ≡ is_busy came }
+{
+    matches!(came, Enter::Busy)
+}
