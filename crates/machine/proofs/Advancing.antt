@@ -6,6 +6,7 @@ use Rattle.syntax.specs.Views.{unit_tree}
 use Rattle.compact.proofs.Tight.{get_map}
 use Rattle.code_meaning.specs.Lowered.{Lowered}
 use Rattle.semantics.specs.State.{State}
+use Rattle.semantics.specs.ThreadStep.{waits}
 use Rattle.semantics.specs.Thread as source
 use Rattle.semantics.specs.Thread.{Shared}
 use Rattle.semantics.specs.World.{World, loaded_objects}
@@ -24,7 +25,7 @@ use Rattle.machine_steps.specs.declared.advance.Advanced.{Advanced}
 use Rattle.machine.specs.Run.{AdvancesFrom, CanAdvance, MakesObjects, acquired}
 use Rattle.machine.proofs.Collected.{corresponds_collected}
 use Rattle.machine.proofs.OwnerSteps.{Found}
-use Rattle.machine.proofs.Steps.{shared_agrees, steady, the_thread}
+use Rattle.machine.proofs.Steps.{shared_agrees, steady, the_thread, waits_here}
 use Rattle.machine.proofs.TakenBuffers.{others, parted}
 use Rattle.machine_steps.proofs.Acquisitions.{store_taken}
 use Rattle.std.proofs.Common.{length}
@@ -94,6 +95,11 @@ module _ (p : Lowered) (w : World) (store : Store) (ts : List Thread) (index : �
   unfolding found
   is_steady = steady p w store ts s.printed s.stop s.journal s.stands (suc index) index (slice_index_or ts index d) refl there
 
+  -- and it doesn't wait
+  pub is_ready : waits w.classes (suc index) shared found.source ≡ false
+  unfolding found
+  is_ready = sym (waits_here p w store ts s.printed s.stop s.journal s.stands (suc index) index (slice_index_or ts index d) refl there) ∙ s.ready
+
   -- what the buffers of the other threads take
   abbrev pub rest : Acquired
   rest = others s.stands.state.threads index
@@ -102,19 +108,8 @@ module _ (p : Lowered) (w : World) (store : Store) (ts : List Thread) (index : �
   unfolding found
   shared_there = shared_agrees p w store ts s.printed s.stop s.journal s.stands (suc index) index (slice_index_or ts index d) refl there
 
-  -- it can advance after a collection too, by the same step
+  -- it takes the same step after a collection
   module _ (after : Store) (later : List Thread) (h : AreCollected store ts after later) where
-    pub can_still : CanAdvance p w after later index
-    can_still = record {
-      printed = s.printed;
-      stop = s.stop;
-      journal = s.journal;
-      stands = corresponds_collected p w store ts s.printed s.stop s.journal s.stands after later h;
-      thread = moved_thread h.to s.thread;
-      at = ap (λ (l : List Thread). slice_get l index) h.follow ∙ get_map (moved_thread h.to) ts index s.thread s.at;
-      lives = s.lives;
-    }
-
     -- what a thread of the collection's threads agrees with
     pub record AgreesStill (e : Thread) : Type 0 where
       pub shares : StoreAgrees p w after shared (beside rest (acquired_by found.source))

@@ -35,6 +35,7 @@ use Rattle.machine.specs.Run.{Run, Corresponds, IsBetween, IsCollected, replay_o
 use Rattle.machine.proofs.CollectedRuns.{corresponds_moved}
 use Rattle.machine.proofs.Collections.{name_moved}
 use Rattle.machine.proofs.GatheredRoots.{gathered, in_place, places_are, thread_addresses}
+use Rattle.machine.proofs.OwnedMonitors.{monitor_addresses}
 use Rattle.machine.proofs.KeptCells.{live_is}
 use Rattle.machine.proofs.KeptNames.{kept_reachable, referred_name}
 use Rattle.machine.proofs.KeptReferences.{AreKept, CallIsKept, IsClosedUnder, ThreadsAreKept, ValueIsKept, ValuesAreKept}
@@ -160,11 +161,14 @@ module _ (p : Lowered) (world : World) (store : Store) (ts : List Thread) (print
         let items = store.loaded.items in
         let globals = references_in store.globals in
         let threads = flat_map thread_addresses ts in
+        let owned = monitor_addresses store.monitors in
+        let last : (a : ℕ) → In (threads ++ owned) a → Kept a = λ a k. gathered_kept a (in_append_right items (globals ++ (threads ++ owned)) a (in_append_right globals (threads ++ owned) a k)) in
         subst (λ (l : List Thread). Corresponds p world after l printed stop journal) (sym h.follow)
         (corresponds_moved Kept h.to p world store after after.heap h.blocks kept_closed h.moved ts printed stop journal
-        (each_kept Kept items (λ a k. gathered_kept a (in_append_left items (globals ++ threads) a k)))
-        (each_kept Kept globals (λ a k. gathered_kept a (in_append_right items (globals ++ threads) a (in_append_left globals threads a k))))
-        (threads_kept Kept ts (λ a k. gathered_kept a (in_append_right items (globals ++ threads) a (in_append_right globals threads a k))))
+        (each_kept Kept items (λ a k. gathered_kept a (in_append_left items (globals ++ (threads ++ owned)) a k)))
+        (each_kept Kept globals (λ a k. gathered_kept a (in_append_right items (globals ++ (threads ++ owned)) a (in_append_left globals (threads ++ owned) a k))))
+        (threads_kept Kept ts (λ a k. last a (in_append_left threads owned a k)))
+        (each_kept Kept owned (λ a k. last a (in_append_right threads owned a k)))
         (λ a some. pinned some)
         c)
 

@@ -35,10 +35,15 @@ use Rattle.machine_steps.specs.Executes.{CallStands, WorkAgrees}
 use Rattle.machine_steps.specs.ThreadAgrees.{ThreadsAgree, buffers_of}
 use Rattle.machine.specs.declared.stop.Stop.{Stop}
 use Rattle.compact.specs.Same.{MovesBy}
-use Rattle.machine.specs.Moving.{IsMoved, moved_call, moved_slots, moved_thread}
+use Rattle.machine.specs.Moving.{IsMoved, moved_call, moved_monitors, moved_slots, moved_thread}
 use Rattle.machine.proofs.KeptReferences.{AllHeldAreKept, AreKept, CallIsKept, HeldIsKept, IsClosedUnder, ThreadsAreKept, moved_held}
 use Rattle.machine.specs.Run.{Corresponds, acquired}
-use Rattle.machine.proofs.Collections.{FramesKept, address_moved, buffers_moved, heap_moved, kept_at, keys_moved, locals_moved, reference_moved, slots_moved, statics_moved, table_moved, taken_moved}
+use Rattle.machine.proofs.Collections.{FramesKept, address_moved, buffers_moved, heap_moved, kept_at, keys_moved, locals_moved, name_moved, reference_moved, slots_moved, statics_moved, table_moved, taken_moved}
+use Rattle.machine_monitors.specs.Fit.{AreThere, MonitorsAgree}
+use Rattle.machine_monitors.proofs.Moves.{moved}
+use Rattle.monitors.specs.declared.monitors.Monitor.{Monitor}
+use Rattle.machine.proofs.OwnedMonitors.{addresses_moved, held_moved, monitor_addresses}
+use Rattle.monitors.specs.Monitors.{addresses}
 use Rattle.machine.proofs.HeldViews.{AgreeInSlots, slots_agree, view_at, viewed_same}
 use Rattle.machine.proofs.ReachableNames.{in_times}
 use Rattle.machine.proofs.RootNames.{times_append}
@@ -71,6 +76,11 @@ module _ (Kept : ℕ → Type 0) where
   all_kept globals [] h = tt
   all_kept globals (x ∷ xs) h = (held_kept globals x h, all_kept globals xs h)
 
+  kept_place : (ms : List Monitor) (i a : ℕ) → AreKept Kept (monitor_addresses ms) → slice_get (addresses ms) i ≡ Some (Some a) → Kept a
+  kept_place [] i a h at = absurd (cc)
+  kept_place (x ∷ ms) zero a h at = let both : Some (Some x.address) ≡ Some (Some a) = at in let same : x.address ≡ a = cc in subst Kept same h.0
+  kept_place (x ∷ ms) (suc i) a h at = kept_place ms i a h.1 at
+
 -- ---- statics
 
 at_moved : (f : ℕ → ℕ) (o : Option ℕ) → held_at (option_map f o) ≡ moved_held f (held_at o)
@@ -93,8 +103,8 @@ some_moved f (Some a) h = refl
 -- ---- the store and the threads
 
 module _ (Kept : ℕ → Type 0) (to : ℕ → ℕ) (p : Lowered) (w : World) (store after : Store) (t : Space) (m : MovesBy Kept to store.heap t) (closed : IsClosedUnder Kept store.heap) (is : IsMoved to store t after) where
-  store_moved : (shared : Shared) (all : Acquired) → AreKept Kept store.loaded.items → AreKept Kept (references_in store.globals) → ((a : ℕ) → 0 < pins_at store.heap a → Kept a) → StoreAgrees p w store shared all → StoreAgrees p w after shared all
-  store_moved shared all loaded globals pinned h = record {
+  store_moved : (shared : Shared) (all : Acquired) → AreKept Kept store.loaded.items → AreKept Kept (references_in store.globals) → AreKept Kept (monitor_addresses store.monitors) → ((a : ℕ) → 0 < pins_at store.heap a → Kept a) → StoreAgrees p w store shared all → StoreAgrees p w after shared all
+  store_moved shared all loaded globals owned pinned h = record {
     heap = subst (λ (x : Space). HeapAgrees x shared.heap) (sym is.heap) (heap_moved Kept to store.heap t m shared.heap h.heap closed);
     laid_out = subst IsLaidOut (sym is.heap) m.laid_out;
     cells = ap (λ (x : Space). x.cells) is.heap ∙ m.cells ∙ h.cells;
@@ -118,11 +128,17 @@ module _ (Kept : ℕ → Type 0) (to : ℕ → ℕ) (p : Lowered) (w : World) (s
         subst (λ (x : Space). IsTaken x after.elements after.views (length shared.heap) all) (sym is.heap)
         (subst (λ (copies : List (Option OwnedNumbers)). IsTaken t copies after.views (length shared.heap) all) (sym is.elements)
         (subst (λ (n : ℕ). IsTaken t store.elements n (length shared.heap) all) (sym is.views) (taken_moved Kept to store.heap t m closed store.elements store.views (length shared.heap) all pinned h.buffers)));
-    monitors = h.monitors;
+    monitors = subst (λ (ms : List Monitor). MonitorsAgree ms shared.monitors) (sym is.monitors) owners_moved.0;
+    monitored = subst (λ (x : Space). AreThere x after.monitors) (sym is.heap) (subst (AreThere t) (sym is.monitors) owners_moved.1);
   }
     where
       same_held : all_held after.globals after.statics.items ≡ map (moved_held to) (all_held store.globals store.statics.items)
       same_held = ap (λ (l : List (Option ℕ)). all_held l after.statics.items) is.globals ∙ ap (λ v. all_held (moved_slots to store.globals) v.items) is.statics ∙ helds_moved to store.globals store.statics.items
+
+      owners_moved : MonitorsAgree (moved_monitors to store.monitors) shared.monitors × AreThere t (moved_monitors to store.monitors)
+      owners_moved =
+          moved store.heap t to store.monitors (moved_monitors to store.monitors) shared.monitors (held_moved to store.monitors) (addresses_moved to store.monitors)
+          (λ i a n at named. name_moved Kept to store.heap t m a n (kept_place Kept store.monitors i a owned at) named) h.monitors h.monitored
 
   frames_kept : (fs : List Frame) (slots : List (Option ℕ)) → AreKept Kept (references_in slots) → FramesKept Kept to store.heap t m (slots_by_frame fs slots)
   frames_kept [] slots h = tt
@@ -197,15 +213,15 @@ module _ (Kept : ℕ → Type 0) (to : ℕ → ℕ) (p : Lowered) (w : World) (s
       )
 
   -- the machine stands for the state that it stood for
-  pub corresponds_moved : (ts : List Thread) (printed : List Printed) (stop : Option Stop) (journal : List Entry) → AreKept Kept store.loaded.items → AreKept Kept (references_in store.globals) → ThreadsAreKept Kept ts → ((a : ℕ) → 0 < pins_at store.heap a → Kept a) → Corresponds p w store ts printed stop journal
-      → Corresponds p w after (map (moved_thread to) ts) printed stop journal
-  corresponds_moved ts printed stop journal loaded globals threads pinned c = record {
+  pub corresponds_moved : (ts : List Thread) (printed : List Printed) (stop : Option Stop) (journal : List Entry) → AreKept Kept store.loaded.items → AreKept Kept (references_in store.globals) → ThreadsAreKept Kept ts → AreKept Kept (monitor_addresses store.monitors)
+      → ((a : ℕ) → 0 < pins_at store.heap a → Kept a) → Corresponds p w store ts printed stop journal → Corresponds p w after (map (moved_thread to) ts) printed stop journal
+  corresponds_moved ts printed stop journal loaded globals threads owned pinned c = record {
     lowered = c.lowered;
     safe = c.safe;
     typed = c.typed;
     state = c.state;
     replays = c.replays;
-    store_agrees = store_moved c.state.shared (acquired c.state) loaded globals pinned c.store_agrees;
+    store_agrees = store_moved c.state.shared (acquired c.state) loaded globals owned pinned c.store_agrees;
     threads_agree =
         let all_pinned : (a n : ℕ) → name_at store.heap a ≡ Some n → 0 < times n (flat_map viewed_by c.state.threads) → Kept a × (0 < pins_at store.heap a) = λ a n named some.
         let many : 0 < pins_at store.heap a = omega (arith, some, c.store_agrees.buffers.pins a n named) in (pinned a many, many) in

@@ -6,7 +6,7 @@ use Rattle.std.proofs.vec.Vec.TheSendSync as vec
 use Rattle.std.proofs.boxed.Box.TheSendSync as boxed
 use denote.Param.Send.{IsSend, IsSync, view_sync, struct_sync, recorded_sync, sendable, view_send, struct_send, recorded_send, shr_send}
 use denote.Struct.Declared.{shape}
-use Rattle.syntax.proofs.declared_type.ElementType.TheSendSync as element
+use Rattle.base.proofs.element.ElementType.TheSendSync as element
 use Rattle.syntax.proofs.declared_type.VariableType.TheSendSync as variable-type
 use Rattle.syntax.proofs.expr.BinaryOp.TheSendSync as binary
 use Rattle.syntax.proofs.expr.Constant.TheSendSync as constant

@@ -22,6 +22,9 @@ use Rattle.machine.specs.Roots.{CallIsStacked, ThreadsAreStacked, loaded_places,
 use Rattle.machine_steps.proofs.EntryTables.{references_after}
 use Rattle.compact.proofs.Blocks.{Contains-from_get, get-from_contains}
 use Rattle.std.proofs.lemmas.List.Concat.{flat_map-cons}
+use Rattle.machine_monitors.specs.Fit.{AreThere, MonitorsAgree}
+use Rattle.monitors.specs.Monitors.{addresses}
+use Rattle.machine.proofs.OwnedMonitors.{monitor_addresses, monitor_names, monitors_are, monitors_name, monitors_place}
 use Rattle.machine.proofs.ReachableNames.{in_times, times_in}
 use Rattle.machine.proofs.RootNames.{CallFrames, HasRootsOf, have_all, names_of}
 
@@ -31,9 +34,13 @@ use Rattle.machine.proofs.RootNames.{CallFrames, HasRootsOf, have_all, names_of}
 abbrev pub thread_addresses : Thread → List ℕ
 thread_addresses t = references_in (slots_of t.call) ++ option_to_list t.pending
 
--- the addresses of the objects made at load, of the global references, and of what threads refer to
+-- the addresses of the objects made at load, of the global references, of what threads refer to, and of the objects of monitors
 abbrev pub gathered : Store → List Thread → List ℕ
-gathered store ts = store.loaded.items ++ (references_in store.globals ++ flat_map thread_addresses ts)
+gathered store ts = store.loaded.items ++ (references_in store.globals ++ (flat_map thread_addresses ts ++ monitor_addresses store.monitors))
+
+-- the names of these in the source, where so many objects are made at load
+abbrev pub names_gathered : (made : ℕ) → (globals : List ℕ) → List source.Thread → List source.Monitor → List ℕ
+names_gathered made globals ss owned = from_one made ++ (globals ++ (flat_map thread_roots ss ++ monitor_names owned))
 
 thread_is : (t : Thread) → references_in (thread_places t) ≡ thread_addresses t
 thread_is t = references_after (slots_of t.call) (t.pending ∷ []) ∙ ap (λ (l : List ℕ). references_in (slots_of t.call) ++ l) (one t.pending)
@@ -58,11 +65,14 @@ loaded_are (x ∷ xs) = ap (λ (l : List ℕ). x ∷ l) (loaded_are xs)
 -- they are those in the places of the roots
 pub places_are : (store : Store) (ts : List Thread) → references_in (root_places store ts) ≡ gathered store ts
 places_are store ts =
-    let rest = store.globals ++ flat_map thread_places ts in
+    let last = flat_map thread_places ts ++ addresses store.monitors in
+    let rest = store.globals ++ last in
     references_after (loaded_places store.loaded.items) rest
     ∙ ap (λ (l : List ℕ). l ++ references_in rest) (loaded_are store.loaded.items)
     ∙ ap (λ (l : List ℕ). store.loaded.items ++ l)
-    (references_after store.globals (flat_map thread_places ts) ∙ ap (λ (l : List ℕ). references_in store.globals ++ l) (threads_are ts))
+    (references_after store.globals last
+    ∙ ap (λ (l : List ℕ). references_in store.globals ++ l)
+    (references_after (flat_map thread_places ts) (addresses store.monitors) ∙ (λ i. threads_are ts i ++ monitors_are store.monitors i)))
 
 -- an address in some place is among the addresses, and the other way round
 pub place_in : (slots : List (Option ℕ)) (a : ℕ) → Contains slots (Some a) → In (references_in slots) a
@@ -176,22 +186,30 @@ module _ (space : Space) where
   get_in (x ∷ xs) (suc i) h = let r = get_in xs i (omega (arith, h)) in (r.0, r.1, in_tail x xs r.0 r.2)
 
   -- each name among the source's roots has its address among those that are gathered
-  pub roots_gathered : (store : Store) (count : ℕ) (ts : List Thread) (ss : List source.Thread) (globals : List ℕ) (n : ℕ) → IsTable space store.loaded.items count → SlotsAgree space store.globals globals → AllZip (HasRootsOf space) ts ss
-      → In (from_one (length store.loaded.items) ++ (globals ++ flat_map thread_roots ss)) n → IsAmong space (gathered store ts) n
-  roots_gathered store count ts ss globals n table agree roots k =
+  pub roots_gathered : (store : Store) (count : ℕ) (ts : List Thread) (ss : List source.Thread) (globals : List ℕ) (owned : List source.Monitor) (n : ℕ)
+      → IsTable space store.loaded.items count → SlotsAgree space store.globals globals → AllZip (HasRootsOf space) ts ss → MonitorsAgree store.monitors owned → AreThere space store.monitors
+      → In (names_gathered (length store.loaded.items) globals ss owned) n → IsAmong space (gathered store ts) n
+  roots_gathered store count ts ss globals owned n table agree roots monitors there k =
       let items = store.loaded.items in
-      let rest = references_in store.globals ++ flat_map thread_addresses ts in
+      let refs = references_in store.globals in
+      let threads = flat_map thread_addresses ts in
+      let last = monitor_addresses store.monitors in
+      let rest = refs ++ (threads ++ last) in
+      let names = flat_map thread_roots ss ++ monitor_names owned in
       ⊎_elim
       (λ (l : In (from_one (length items)) n).
       let b = from_one-bounds (length items) n (to_contains (from_one (length items)) n l) in
       let at = get_in items (n - 1) (omega (arith, b.0, b.1)) in
       let next : n - 1 + 1 ≡ n = omega (arith, b.0) in
       (at.0, table.named (n - 1) at.0 at.1 ∙ ap (λ (x : ℕ). Some x) next, in_append_left items rest at.0 at.2))
-      (λ (l : In (globals ++ flat_map thread_roots ss) n). ⊎_elim
-      (λ (g : In globals n). let r = slots_place store.globals globals n agree g in (r.0, r.1, in_append_right items rest r.0 (in_append_left (references_in store.globals) (flat_map thread_addresses ts) r.0 r.2)))
-      (λ (t : In (flat_map thread_roots ss) n). let r = threads_place ts ss n roots t in (r.0, r.1, in_append_right items rest r.0 (in_append_right (references_in store.globals) (flat_map thread_addresses ts) r.0 r.2)))
-      (in_append_cases globals (flat_map thread_roots ss) n l))
-      (in_append_cases (from_one (length items)) (globals ++ flat_map thread_roots ss) n k)
+      (λ (l : In (globals ++ names) n). ⊎_elim
+      (λ (g : In globals n). let r = slots_place store.globals globals n agree g in (r.0, r.1, in_append_right items rest r.0 (in_append_left refs (threads ++ last) r.0 r.2)))
+      (λ (q : In names n). ⊎_elim
+      (λ (t : In (flat_map thread_roots ss) n). let r = threads_place ts ss n roots t in (r.0, r.1, in_append_right items rest r.0 (in_append_right refs (threads ++ last) r.0 (in_append_left threads last r.0 r.2))))
+      (λ (m : In (monitor_names owned) n). let r = monitors_place space store.monitors owned n monitors there m in (r.0, r.1, in_append_right items rest r.0 (in_append_right refs (threads ++ last) r.0 (in_append_right threads last r.0 r.2))))
+      (in_append_cases (flat_map thread_roots ss) (monitor_names owned) n q))
+      (in_append_cases globals names n l))
+      (in_append_cases (from_one (length items)) (globals ++ names) n k)
 
   -- ---- the other way round
 
@@ -247,20 +265,27 @@ module _ (space : Space) where
       (in_append_cases (thread_addresses t) (flat_map thread_addresses ts) a k)
 
   -- each gathered address has the name of a root of the source
-  pub gathered_roots : (store : Store) (count : ℕ) (ts : List Thread) (ss : List source.Thread) (globals : List ℕ) (a : ℕ) → IsTable space store.loaded.items count → SlotsAgree space store.globals globals → AllZip (HasRootsOf space) ts ss → ThreadsAreStacked ts
-      → In (gathered store ts) a → IsNameAmong (from_one (length store.loaded.items) ++ (globals ++ flat_map thread_roots ss)) a
-  gathered_roots store count ts ss globals a table agree roots stacked k =
+  pub gathered_roots : (store : Store) (count : ℕ) (ts : List Thread) (ss : List source.Thread) (globals : List ℕ) (owned : List source.Monitor) (a : ℕ)
+      → IsTable space store.loaded.items count → SlotsAgree space store.globals globals → AllZip (HasRootsOf space) ts ss → MonitorsAgree store.monitors owned → AreThere space store.monitors → ThreadsAreStacked ts
+      → In (gathered store ts) a → IsNameAmong (names_gathered (length store.loaded.items) globals ss owned) a
+  gathered_roots store count ts ss globals owned a table agree roots monitors there stacked k =
       let items = store.loaded.items in
       let front = from_one (length items) in
       let threads = flat_map thread_roots ss in
-      let addresses = flat_map thread_addresses ts in
+      let last = monitor_names owned in
+      let names = threads ++ last in
+      let refs = references_in store.globals in
+      let places = flat_map thread_addresses ts ++ monitor_addresses store.monitors in
       ⊎_elim
       (λ (l : In items a).
       let at = item_name items a l in
       let less : at.0 < length items = at.1 in
-      (at.0 + 1, table.named at.0 a at.2, in_append_left front (globals ++ threads) (at.0 + 1) (contains_in front (at.0 + 1) (from_one-contains (length items) (at.0 + 1) (omega arith) (omega (arith, less))))))
-      (λ (l : In (references_in store.globals ++ addresses) a). ⊎_elim
-      (λ (g : In (references_in store.globals) a). let r = as_often agree.names globals a agree.same (address_name (references_in store.globals) agree.names a agree.agree g) in (r.0, r.1, in_append_right front (globals ++ threads) r.0 (in_append_left globals threads r.0 r.2)))
-      (λ (t : In addresses a). let r = threads_name ts ss a roots stacked t in (r.0, r.1, in_append_right front (globals ++ threads) r.0 (in_append_right globals threads r.0 r.2)))
-      (in_append_cases (references_in store.globals) addresses a l))
-      (in_append_cases items (references_in store.globals ++ addresses) a k)
+      (at.0 + 1, table.named at.0 a at.2, in_append_left front (globals ++ names) (at.0 + 1) (contains_in front (at.0 + 1) (from_one-contains (length items) (at.0 + 1) (omega arith) (omega (arith, less))))))
+      (λ (l : In (refs ++ places) a). ⊎_elim
+      (λ (g : In refs a). let r = as_often agree.names globals a agree.same (address_name refs agree.names a agree.agree g) in (r.0, r.1, in_append_right front (globals ++ names) r.0 (in_append_left globals names r.0 r.2)))
+      (λ (q : In places a). ⊎_elim
+      (λ (t : In (flat_map thread_addresses ts) a). let r = threads_name ts ss a roots stacked t in (r.0, r.1, in_append_right front (globals ++ names) r.0 (in_append_right globals names r.0 (in_append_left threads last r.0 r.2))))
+      (λ (m : In (monitor_addresses store.monitors) a). let r = monitors_name space store.monitors owned a monitors there m in (r.0, r.1, in_append_right front (globals ++ names) r.0 (in_append_right globals names r.0 (in_append_right threads last r.0 r.2))))
+      (in_append_cases (flat_map thread_addresses ts) (monitor_addresses store.monitors) a q))
+      (in_append_cases refs places a l))
+      (in_append_cases items (refs ++ places) a k)

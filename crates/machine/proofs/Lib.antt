@@ -6,6 +6,7 @@ pub mod LiveBlocks
 pub mod OwnerSteps
 pub mod ReachableNames
 pub mod RootNames
+pub mod OwnedMonitors
 pub mod GatheredRoots
 pub mod MovedRoots
 pub mod Reports

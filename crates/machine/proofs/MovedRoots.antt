@@ -13,6 +13,7 @@ use Rattle.compact.proofs.Fronts.{front, front_get, front_same, front_step}
 use Rattle.compact.proofs.Tight.{get_map}
 use Rattle.machine.specs.Moving.{AreMovedAt, moved_slots, moved_thread}
 use Rattle.machine.specs.Roots.{loaded_places, root_places, thread_places}
+use Rattle.monitors.specs.Monitors.{addresses}
 
 -- ---- places
 
@@ -74,15 +75,20 @@ last_moved to r places from n q h is at =
 -- each kind of root at its places
 pub parts_moved : (to : ℕ → ℕ) (store : Store) (ts : List Thread) (places : List (Option ℕ)) → places ≡ moved_slots to (root_places store ts)
     → AreMovedAt to (loaded_places store.loaded.items) places 0 × AreMovedAt to store.globals places (length store.loaded.items) × AreMovedAt to (flat_map thread_places ts) places (length store.loaded.items + length store.globals)
+    × AreMovedAt to (addresses store.monitors) places (length store.loaded.items + length store.globals + length (flat_map thread_places ts))
 parts_moved to store ts places h =
     let items = store.loaded.items in
-    let rest = store.globals ++ flat_map thread_places ts in
+    let threads = flat_map thread_places ts in
+    let last = threads ++ addresses store.monitors in
+    let rest = store.globals ++ last in
     let all = moved_all to (root_places store ts) places h in
     let count : 0 + length (loaded_places items) ≡ length items = omega (arith, length-map items (λ (a : ℕ). Some a)) in
-    let later : AreMovedAt to rest places (length items) = subst (λ (n : ℕ). AreMovedAt to rest places n) count (moved_back to (loaded_places items) rest places 0 all) in (
+    let later : AreMovedAt to rest places (length items) = subst (λ (n : ℕ). AreMovedAt to rest places n) count (moved_back to (loaded_places items) rest places 0 all) in
+    let latest : AreMovedAt to last places (length items + length store.globals) = moved_back to store.globals last places (length items) later in (
       moved_front to (loaded_places items) rest places 0 all,
-      moved_front to store.globals (flat_map thread_places ts) places (length items) later,
-      moved_back to store.globals (flat_map thread_places ts) places (length items) later,
+      moved_front to store.globals last places (length items) later,
+      moved_front to threads (addresses store.monitors) places (length items + length store.globals) latest,
+      moved_back to threads (addresses store.monitors) places (length items + length store.globals) latest,
     )
 
 -- ---- slots

@@ -24,9 +24,8 @@ use Rattle.semantics.specs.Heap.{Heap}
 use Rattle.semantics.specs.Reachable.{from_one, loaded_count, thread_roots, roots, Reachable}
 use Rattle.semantics.specs.Task.{Task}
 use Rattle.semantics.proofs.ShownRows.{length-loaded}
-use Rattle.semantics.specs.Step.{is_waiting, is_blocked}
 use Rattle.semantics.specs.Thread as source
-use Rattle.semantics.specs.Thread.{Shared, Monitor}
+use Rattle.semantics.specs.Thread.{Shared}
 use Rattle.heap.specs.Heap.{Block, Space, block_at, left_of, name_at, pins_at}
 use Rattle.code_meaning.specs.Lowered.{Lowered, IsLowered}
 use Rattle.code_meaning.specs.Slots.{Visible, visible_to}
@@ -42,7 +41,7 @@ use Rattle.machine.specs.Rows.{AreSeen}
 use Rattle.machine.proofs.HeldViews.{name_pinned, pinned_block}
 use Rattle.compact.proofs.Tight.{get_map}
 use Rattle.heap.proofs.Lookups.{block_at-place}
-use Rattle.machine.proofs.ReachableNames.{in_times, loaded_named, reachable_named, slots_named, threads_named, times_in}
+use Rattle.machine.proofs.ReachableNames.{in_times, reachable_named, times_in}
 use Rattle.semantics.proofs.ReachableLemmas.{In, contains_in, in_append_cases, in_append_left, in_append_right, to_contains}
 use Rattle.semantics_safety.specs.Owners.{AllOwners, owners_after}
 use Rattle.machine.specs.Stops.{stop_view}
@@ -50,30 +49,14 @@ use Rattle.machine.specs.Run as run
 use Rattle.semantics.specs.Run.{MarkedAreFair, UnmarkedFit}
 use Rattle.machine_calls.specs.declared.store.Store.{Store}
 use Rattle.machine.specs.Run.{Run, Corresponds, WritesRun, AllRest, AreShown, ShowsObjects, ShowsStandings, IsFinished, standings_in}
-use Rattle.machine_steps.proofs.Threads.{unblocked}
 use Rattle.machine.specs.Roots.{AreAddresses, name_of, pinned_names, root_places, ThreadsAreStacked}
 use Rattle.std.specs.Prelude.{Contains}
 use Rattle.compact.proofs.Blocks.{Contains-from_get}
 use Rattle.machine_calls.proofs.BlocksOfNames.{is_address}
 use Rattle.tables.specs.References.{references_in}
-use Rattle.machine.proofs.GatheredRoots.{gathered_roots, in_map, in_place, map_in, place_in, places_are, roots_gathered}
+use Rattle.machine.proofs.GatheredRoots.{gathered_roots, in_map, in_place, map_in, names_gathered, place_in, places_are, roots_gathered}
+use Rattle.machine.proofs.OwnedMonitors.{monitor_names}
 use Rattle.machine.proofs.RootNames.{CallFrames, HasRootsOf}
-
--- ---- threads that wait
-
-free_at : (p : Lowered) (classes : Classes) (space : Space) (copies : List (Option OwnedNumbers)) (made : ℕ) (owners : AllOwners) (j k : ℕ) (shared : Shared) (ts : List Thread) (ss : List source.Thread) (i : ℕ) → k ≡ j + i → ThreadsAgree p classes space copies made owners j shared ts ss → is_waiting classes k shared (slice_get ss i) ≡ false
-free_at p classes space copies made owners j k shared [] [] i place h = refl
-free_at p classes space copies made owners j k shared [] (s ∷ ss) i place h = absurd h
-free_at p classes space copies made owners j k shared (t ∷ ts) [] i place h = absurd h
-free_at p classes space copies made owners j k shared (t ∷ ts) (s ∷ ss) zero place h =
-    let here : j ≡ k = omega (arith, place) in
-    unblocked p classes space copies made k (owners j) shared t s (subst (λ (n : ℕ). ThreadAgrees p classes space copies made n (owners j) shared t s) here h.0)
-free_at p classes space copies made owners j k shared (t ∷ ts) (s ∷ ss) (suc i) place h = free_at p classes space copies made owners (suc j) k shared ts ss i (omega (arith, place)) h.1
-
--- no thread waits for a monitor
-pub never_blocked : (p : Lowered) (classes : Classes) (space : Space) (copies : List (Option OwnedNumbers)) (made : ℕ) (owners : AllOwners) (s : State) (ts : List Thread) → ThreadsAgree p classes space copies made owners 1 s.shared ts s.threads → (k : ℕ) → is_blocked classes s k ≡ false
-never_blocked p classes space copies made owners s ts h zero = refl
-never_blocked p classes space copies made owners s ts h (suc i) = free_at p classes space copies made owners 1 (suc i) s.shared ts s.threads i (omega arith) h
 
 -- ---- the report
 
@@ -122,20 +105,21 @@ module _ (p : Lowered) (world : World) (store : Store) (ts : List Thread) (print
   roots_in : AllZip (HasRootsOf store.heap) ts c.state.threads
   roots_in = roots_of p world.classes store.heap store.elements (length (loaded_objects world)) (owners_after (unit_tree p.unit) world journal) 1 c.state.shared ts c.state.threads c.threads_agree
 
-  -- the objects made at load, the global references and what the threads refer to
+  -- the objects made at load, the global references, what the threads refer to, and the objects that have owners
   abbrev source_roots : List ℕ
-  source_roots = from_one (length store.loaded.items) ++ (c.state.shared.globals ++ flat_map thread_roots c.state.threads)
+  source_roots = names_gathered (length store.loaded.items) c.state.shared.globals c.state.threads c.state.shared.monitors
 
-  -- those and what is viewed are all the state's roots, as no monitor is owned
+  -- those and what is viewed are all the state's roots
   roots_are : roots world c.state ≡ source_roots ++ views c.state
   roots_are =
       let names = flat_map thread_roots c.state.threads in
       let globals = c.state.shared.globals in
+      let owned = monitor_names c.state.shared.monitors in
+      let made = from_one (length store.loaded.items) in
       let count : loaded_count world ≡ length store.loaded.items = sym (length-loaded world) ∙ sym c.store_agrees.table.counted in
-      ap (λ (ms : List Monitor). (((from_one (loaded_count world) ++ globals) ++ names) ++ map (λ (m : Monitor). m.object) ms) ++ views c.state) c.store_agrees.monitors
-      ∙ ap (λ (l : List ℕ). l ++ views c.state) (append-nil ((from_one (loaded_count world) ++ globals) ++ names))
-      ∙ ap (λ n. ((from_one n ++ globals) ++ names) ++ views c.state) count
-      ∙ ap (λ (l : List ℕ). l ++ views c.state) (append_assoc (from_one (length store.loaded.items)) globals names)
+      ap (λ n. (((from_one n ++ globals) ++ names) ++ owned) ++ views c.state) count
+      ∙ ap (λ (l : List ℕ). (l ++ owned) ++ views c.state) (append_assoc made globals names)
+      ∙ ap (λ (l : List ℕ). l ++ views c.state) (append_assoc made (globals ++ names) owned ∙ ap (λ (l : List ℕ). made ++ l) (append_assoc globals names owned))
 
   -- so each root is one of them, and each of them a root
   root_among : (n : ℕ) → Contains (roots world c.state) n → In (source_roots ++ views c.state) n
@@ -167,43 +151,35 @@ module _ (p : Lowered) (world : World) (store : Store) (ts : List Thread) (print
       let pins : pins_at store.heap r.1.address ≡ r.1.pins = ap (λ (o : Option Block). option_map_or (λ (b : Block). b.pins) o 0) at in
       times_in (views c.state) n (omega (arith, r.4, pins, c.store_agrees.buffers.pins r.1.address n named))
 
-  -- each root has a block
-  source_there : (n : ℕ) → In source_roots n → IsNamed store.heap n
-  source_there n there =
-      let front = from_one (length store.loaded.items) in
-      let globals = c.state.shared.globals in
-      let names = flat_map thread_roots c.state.threads in
-      ⊎_elim
-      (λ (l : In front n). loaded_named store.heap store.loaded.items (length (loaded_objects world)) n c.store_agrees.table l)
-      (λ (l : In (globals ++ names) n). ⊎_elim
-      (λ (g : In globals n). slots_named store.heap store.globals globals n c.store_agrees.globals g)
-      (λ (t : In names n). threads_named store.heap ts c.state.threads n roots_in t)
-      (in_append_cases globals names n l))
-      (in_append_cases front (globals ++ names) n there)
-
-  root_there : (n : ℕ) → Contains (roots world c.state) n → IsNamed store.heap n
-  root_there n k = ⊎_elim (source_there n) (λ (l : In (views c.state) n). c.store_agrees.buffers.there n (in_times (views c.state) n l)) (in_append_cases source_roots (views c.state) n (root_among n k))
-
-  -- and so has each object that can be reached
-  pub reachable_there : (n : ℕ) → Reachable world c.state n → IsNamed store.heap n
-  reachable_there = reachable_named store.heap world c.state c.store_agrees.heap root_there
-
   -- ---- the roots, place by place
 
   -- each gathered address has the name of a root
   pub gathered_name : ThreadsAreStacked ts → (a : ℕ) → Contains (root_places store ts) (Some a) → (n : ℕ) × (name_at store.heap a ≡ Some n) × Contains (roots world c.state) n
   gathered_name stacked a there =
       let among = subst (λ (l : List ℕ). In l a) (places_are store ts) (place_in (root_places store ts) a there) in
-      let r = gathered_roots store.heap store (length (loaded_objects world)) ts c.state.threads c.state.shared.globals a c.store_agrees.table c.store_agrees.globals roots_in stacked among in
+      let agrees = c.store_agrees in
+      let r = gathered_roots store.heap store (length (loaded_objects world)) ts c.state.threads c.state.shared.globals c.state.shared.monitors a agrees.table agrees.globals roots_in agrees.monitors agrees.monitored stacked among in
       (r.0, r.1, source_root r.0 r.2)
 
   -- and each root's name, but for views, that of a gathered address
   name_gathered : (n : ℕ) → In source_roots n → (a : ℕ) × (name_at store.heap a ≡ Some n) × Contains (root_places store ts) (Some a)
   name_gathered n k =
-      let r = roots_gathered store.heap store (length (loaded_objects world)) ts c.state.threads c.state.shared.globals n c.store_agrees.table c.store_agrees.globals roots_in k in
+      let agrees = c.store_agrees in
+      let r = roots_gathered store.heap store (length (loaded_objects world)) ts c.state.threads c.state.shared.globals c.state.shared.monitors n agrees.table agrees.globals roots_in agrees.monitors agrees.monitored k in
       (r.0, r.1, in_place (root_places store ts) r.0 (subst (λ (l : List ℕ). In l r.0) (sym (places_are store ts)) r.2))
 
-  -- their objects are there
+  -- so each root has a block
+  root_there : (n : ℕ) → Contains (roots world c.state) n → IsNamed store.heap n
+  root_there n k = ⊎_elim
+      (λ (l : In source_roots n). let r = name_gathered n l in (r.0, r.1))
+      (λ (l : In (views c.state) n). c.store_agrees.buffers.there n (in_times (views c.state) n l))
+      (in_append_cases source_roots (views c.state) n (root_among n k))
+
+  -- and so has each object that can be reached
+  pub reachable_there : (n : ℕ) → Reachable world c.state n → IsNamed store.heap n
+  reachable_there = reachable_named store.heap world c.state c.store_agrees.heap root_there
+
+  -- the objects at gathered addresses are there
   pub places_there : ThreadsAreStacked ts → AreAddresses store.heap (references_in (root_places store ts))
   places_there stacked i a at =
       let r = gathered_name stacked a (in_place (root_places store ts) a (contains_in (references_in (root_places store ts)) a (Contains-from_get (references_in (root_places store ts)) i a at))) in
@@ -250,7 +226,7 @@ module _ (p : Lowered) (world : World) (store : Store) (ts : List Thread) (print
         sound = λ m there. to_contains (from_one loaded ++ names) m (in_append_right (from_one loaded) names m (subst (λ (ns : List ℕ). In ns m) (sym n) (root_told m there)));
         complete = λ m there. ⊎_elim
             (λ (f : In (from_one loaded) m).
-            source_root m (in_append_left (from_one (length store.loaded.items)) (c.state.shared.globals ++ flat_map thread_roots c.state.threads) m (subst (λ (x : ℕ). In (from_one x) m) l f)))
+            source_root m (in_append_left (from_one (length store.loaded.items)) (c.state.shared.globals ++ (flat_map thread_roots c.state.threads ++ monitor_names c.state.shared.monitors)) m (subst (λ (x : ℕ). In (from_one x) m) l f)))
             (λ (f : In names m). told_root stacked m (subst (λ (ns : List ℕ). In ns m) n f))
             (in_append_cases (from_one loaded) names m (contains_in (from_one loaded ++ names) m there));
       })

@@ -1,8 +1,9 @@
 -- A step of the machine is a step of the state that its journal leads to.
-use Rattle.std.proofs.Common.{◌≡◌, ℕ, suc, ◌<◌, ◌≤◌, ◌-◌, Bool, true, false, List, [], ◌∷◌, ◌++◌, ◌+◌, length, drop, arith, inl, inr, length-append, Option, Some, None, refl, sym, ap, ◌∙◌, subst}
+use Rattle.std.proofs.Common.{◌≡◌, ℕ, suc, ◌<◌, ◌≤◌, ◌-◌, Bool, true, false, List, [], ◌∷◌, ◌++◌, ◌+◌, get_or, length, drop, arith, inl, inr, length-append, Option, Some, None, refl, sym, ap, ◌∙◌, subst}
 use Rattle.std.specs.Prelude.{slice_get, slice_set}
 use Rattle.std.specs.Option.{option_map}
 use Rattle.std.proofs.Math.ListN.{length-set}
+use Rattle.std.proofs.lemmas.Option.{slice_get_read}
 use Rattle.syntax.specs.declared.unit.Item.{Item}
 use Rattle.syntax.specs.Views.{unit_tree}
 use Rattle.class_rules.specs.Class.{Classes}
@@ -13,7 +14,7 @@ use Rattle.semantics.specs.World.{World, loaded_objects}
 use Rattle.semantics.specs.State.{State, thread_at, set_thread, in_use, views, with_event}
 use Rattle.semantics.specs.State.{advanced as advanced_to}
 use Rattle.semantics.specs.Step.{can_step, is_blocked, is_unfinished, is_waiting, world_step}
-use Rattle.semantics.specs.ThreadStep.{thread_step}
+use Rattle.semantics.specs.ThreadStep.{thread_step, waits}
 use Rattle.semantics.specs.Thread as source
 use Rattle.semantics.specs.Thread.{BuffersInUse, Shared}
 use Rattle.semantics.proofs.RunLaws.{replay_more, each-more}
@@ -101,6 +102,18 @@ made_cells s k (source.Advances shared t (source.PrintedNumber z)) = refl
 made_cells s k (source.Advances shared t (source.Trapped trap line)) = refl
 made_cells s k source.NoAdvance = refl
 
+-- ---- thread k is the one at k - 1
+
+pub thread_there : (ts : List Thread) (k n count : ℕ) (t : Thread) → n ≡ k → 0 < k → k ≤ count → length ts ≡ count → t ≡ get_or ts (n - 1) t → slice_get ts (n - 1) ≡ Some t
+thread_there ts k n count t same low high long h = slice_get_read ts count (n - 1) t (sym long) (omega arith) h
+
+pub counted_from : (k n : ℕ) → n ≡ k → 0 < k → k ≡ suc (n - 1)
+counted_from k n same h = omega arith
+
+-- how many threads there are
+pub threads_of : (a b : Run) (threads : List Thread) → length threads ≡ length a.world.threads → a ≡ b → length threads ≡ length b.world.threads
+threads_of a b threads h e = h ∙ ap (λ (r : Run). length r.world.threads) e
+
 -- ---- thread k of the state that the journal leads to, which is the machine's at i
 
 module _ (p : Lowered) (world : World) (store : Store) (ts : List Thread) (printed : List Printed) (stop : Option Stop) (journal : List Entry) (c : Corresponds p world store ts printed stop journal) (k i : ℕ) (t : Thread) (counted : k ≡ suc i) (at : slice_get ts i ≡ Some t) where
@@ -110,7 +123,7 @@ module _ (p : Lowered) (world : World) (store : Store) (ts : List Thread) (print
   abbrev count_made : ℕ
   count_made = length (loaded_objects world)
 
-  abbrev owners : AllOwners
+  abbrev pub owners : AllOwners
   owners = owners_after (unit_tree p.unit) world journal
 
   placed : k ≡ 1 + i
@@ -160,8 +173,15 @@ module _ (p : Lowered) (world : World) (store : Store) (ts : List Thread) (print
   abbrev Free : Type 0
   Free = is_blocked classes c.state k ≡ false
 
+  -- whether it waits is whether its thread does
+  pub waits_here : is_blocked classes c.state k ≡ waits classes k c.state.shared the_thread.source
+  waits_here = ap (is_waiting classes k c.state.shared) there
+
+  ready : Free → waits classes k c.state.shared the_thread.source ≡ false
+  ready free = sym waits_here ∙ free
+
   steps_here : stop ≡ None → t.ending ≡ Unfinished → Free → Steps classes c.state k the_thread.source
-  steps_here goes live free = steps classes c.state k the_thread.source (running goes) there (the_thread.agrees.ending ∙ ap ending_view live) (sym (ap (is_waiting classes k c.state.shared) there) ∙ free)
+  steps_here goes live free = steps classes c.state k the_thread.source (running goes) there (the_thread.agrees.ending ∙ ap ending_view live) (ready free)
 
   pub can_turn_here : stop ≡ None → t.ending ≡ Unfinished → Free → can_step classes c.state k ≡ true
   can_turn_here goes live free = (steps_here goes live free).can
@@ -183,7 +203,7 @@ module _ (p : Lowered) (world : World) (store : Store) (ts : List Thread) (print
   no_room : (store' : Store) (after : Thread) → stop ≡ None → t.ending ≡ Unfinished → Free → StepsAlways p world k store store' t after true event.Quiet → (left_of store.heap < sizes (made (unit_tree p.unit) world c.state k)) × (left_of store'.heap ≡ left_of store.heap)
   no_room store' after goes live free advances =
       let f = the_thread in
-      let a = advances rest (owners k) c.state.shared f.source shared_agrees f.agrees steady in
+      let a = advances rest (owners k) c.state.shared f.source shared_agrees f.agrees steady (ready free) in
       let short = a.short refl in
       let step = ap (made_between c.state) (step-thread (unit_tree p.unit) classes c.state k f.source false (steps_here goes live free)) in
       let cells : sizes (made (unit_tree p.unit) world c.state k) ≡ cells_made c.state.shared (thread_step (unit_tree p.unit) classes (in_use_with rest f.source) k c.state.shared f.source false) =
@@ -213,7 +233,7 @@ module _ (p : Lowered) (world : World) (store : Store) (ts : List Thread) (print
   steps_on store' after refused e goes live free advances quiet left =
       let f = the_thread in
       let entry : Entry = Step k refused in
-      let a = advances rest (owners k) c.state.shared f.source shared_agrees f.agrees steady in
+      let a = advances rest (owners k) c.state.shared f.source shared_agrees f.agrees steady (ready free) in
       let next = next_state c.state k a.next_shared a.next e in
       let step : world_step (unit_tree p.unit) classes c.state entry ≡ Some next =
       step-thread (unit_tree p.unit) classes c.state k f.source refused (steps_here goes live free) ∙ ap (λ (u : BuffersInUse). advanced_to c.state k (thread_step (unit_tree p.unit) classes u k c.state.shared f.source refused)) used ∙ ap (advanced_to c.state k) a.steps in

@@ -6,6 +6,8 @@ use Rattle.compact.specs.Reach as compact
 use Rattle.compact.specs.Reach.{IsKept, IsClosed}
 use Rattle.compact.specs.Same.{MovesBy}
 use Rattle.tables.specs.Locals.{LocalTable}
+use Rattle.monitors.specs.declared.monitors.Monitor.{Monitor}
+use Rattle.monitors.specs.Monitors.{moved}
 use Rattle.machine_steps.specs.declared.thread.Thread.{Thread}
 use Rattle.machine_calls.specs.declared.activation.Activation.{Activation}
 use Rattle.machine_calls.specs.declared.store.Store.{Store}
@@ -25,6 +27,9 @@ moved_call f call = record call { locals = moved_locals f call.locals }
 abbrev pub moved_thread : (ℕ → ℕ) → Thread → Thread
 moved_thread f t = record t { call = option_map (moved_call f) t.call; pending = option_map f t.pending }
 
+abbrev pub moved_monitors : (ℕ → ℕ) → List Monitor → List Monitor
+moved_monitors f monitors = map (λ (m : Monitor). moved (f m.address) m) monitors
+
 -- places from one on have the new addresses of these slots
 abbrev pub AreMovedAt : (ℕ → ℕ) → (slots places : List (Option ℕ)) → (from : ℕ) → Type 0
 AreMovedAt f slots places from = (i : ℕ) (r : Option ℕ) → slice_get slots i ≡ Some r → slice_get places (from + i) ≡ Some (option_map f r)
@@ -38,6 +43,7 @@ pub record IsMoved (f : ℕ → ℕ) (store : Store) (t : Space) (after : Store)
   pub globals : after.globals ≡ moved_slots f store.globals
   pub elements : after.elements ≡ store.elements
   pub views : after.views ≡ store.views
+  pub monitors : after.monitors ≡ moved_monitors f store.monitors
 
 -- the roots have the new addresses, and nothing else has changed
 pub record AreMoved (f : ℕ → ℕ) (store : Store) (threads : List Thread) (after : Store) (later : List Thread) : Type 0 where

@@ -4,6 +4,7 @@ use Rattle.std.specs.Option.{option_map, option_map_or, option_to_list}
 use Rattle.heap.specs.Heap.{Block, Space, IsAddress, name_at}
 use Rattle.machine_steps.specs.declared.thread.Thread.{Thread}
 use Rattle.tables.specs.Locals.{AreStacked}
+use Rattle.monitors.specs.Monitors.{addresses}
 use Rattle.machine_calls.specs.declared.activation.Activation.{Activation}
 use Rattle.machine_calls.specs.declared.store.Store.{Store}
 
@@ -28,10 +29,9 @@ slots_of (Some call) = call.locals.slots
 abbrev pub thread_places : Thread → List (Option ℕ)
 thread_places t = slots_of t.call ++ t.pending ∷ []
 
--- The roots: the objects made at load, the global references, and what threads refer to. The objects whose monitors are owned come
--- after them.
+-- the roots: the objects made at load, the global references, what threads refer to, and the objects whose monitors are owned
 abbrev pub root_places : Store → List Thread → List (Option ℕ)
-root_places store threads = loaded_places store.loaded.items ++ (store.globals ++ flat_map thread_places threads)
+root_places store threads = loaded_places store.loaded.items ++ (store.globals ++ (flat_map thread_places threads ++ addresses store.monitors))
 
 -- ---- views
 

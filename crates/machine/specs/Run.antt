@@ -23,7 +23,7 @@ use Rattle.semantics.specs.Object.{sizes}
 use Rattle.semantics.specs.Reachable.{live_size}
 use Rattle.semantics.specs.Run.{replay, made, Follows, MarkedAreFair, UnmarkedFit}
 use Rattle.semantics.specs.State.{State, copied, thread_at, views}
-use Rattle.semantics.specs.ThreadStep.{thread_step}
+use Rattle.semantics.specs.ThreadStep.{thread_step, waits}
 use Rattle.semantics.specs.Step.{can_step, is_blocked, is_unfinished}
 use Rattle.semantics.specs.Thread.{Shared, Thread as SourceThread}
 use Rattle.semantics_safety.specs.Owners.{Owners, owners_after}
@@ -106,11 +106,11 @@ abbrev pub event_of : Advanced → Event
 event_of (advanced.Did e) = e
 event_of advanced.Refused = event.Quiet
 
--- what holds of thread k with whatever state it stands for
+-- what holds of thread k with whatever state it stands for in which it doesn't wait
 abbrev pub HoldsAlways : Lowered → World → (k : ℕ) → Store → Thread → (Acquired → Owners → Shared → SourceThread → Type 0) → Type 0
 HoldsAlways p w k store t Holds =
     (others : Acquired) (own : Owners) (shared : Shared) (s : SourceThread) → StoreAgrees p w store shared (beside others (acquired_by s))
-    → ThreadAgrees p w.classes store.heap store.elements (length (loaded_objects w)) k own shared t s → IsSteady w.classes own shared s → Holds others own shared s
+    → ThreadAgrees p w.classes store.heap store.elements (length (loaded_objects w)) k own shared t s → IsSteady w.classes own shared s → waits w.classes k shared s ≡ false → Holds others own shared s
 
 -- it took the step that the source's thread takes
 abbrev pub AdvancesAlways : Lowered → World → (k : ℕ) → (store after : Store) → Thread → Thread → Advanced → Type 0
@@ -120,7 +120,7 @@ AdvancesAlways p w k store after t t' x = HoldsAlways p w k store t (λ others o
 abbrev pub MakesObjects : Lowered → World → (k : ℕ) → Store → Thread → Type 0
 MakesObjects p w k store t = HoldsAlways p w k store t (λ others own shared s. 0 < cells_made shared (thread_step (unit_tree p.unit) w.classes (in_use_with others s) k shared s false))
 
--- The thread at a place hasn't ended, in a store and threads that stand for the state that a journal leads to.
+-- The thread at a place hasn't ended and doesn't wait, in a store and threads that stand for the state that a journal leads to.
 pub record CanAdvance (p : Lowered) (w : World) (store : Store) (threads : List Thread) (index : ℕ) : Type 0 where
   pub printed : List Printed
   pub stop : Option Stop
@@ -129,6 +129,7 @@ pub record CanAdvance (p : Lowered) (w : World) (store : Store) (threads : List 
   pub thread : Thread
   pub at : slice_get threads index ≡ Some thread
   pub lives : thread.ending ≡ Unfinished
+  pub ready : is_blocked w.classes stands.state (suc index) ≡ false
 
 -- what a step began with: the store and the threads as they were, if nothing was refused, or what a collection left of them
 abbrev pub IsBetween : Store → List Thread → (between : Store) → List Thread → Advanced → Type 0

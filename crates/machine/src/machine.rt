@@ -36,6 +36,7 @@ use machine_steps::fault::{LoadFault, StepFault};
 use machine_steps::load::load_threads;
 use machine_steps::objects::load_store;
 use machine_steps::thread::{Ending, Thread};
+use machine_steps::wait::waits;
 use report::{Rows, Sink, ThreadStatus, write_run};
 use report_objects::reached_rows;
 use semantics::{Entry, Printed, ScheduleWord};
@@ -322,14 +323,15 @@ impl<'a> Machine<'a> {
         self.stop.is_some() || self.all_rest()
     }
 
-    /// Whether a thread, counted from 1, waits for a monitor that another one owns. No function that waits can be called yet.
+    /// Whether a thread, counted from 1, waits for a monitor that another one owns.
     #[inline(always)]
-    fn waits(&self, _k: u8) -> bool
-        ensures { Waits self.now _k result }
+    fn waits(&self, k: u8) -> bool
+        requires counted { 0 < k }
+        requires is_thread { k ≤ length self.now.world.threads }
+        ensures { Waits self.now k result }
     {
-        // Here the proof takes up the machine's invariant.
-        let _ = &self.world;
-        false
+        let thread = &self.threads[usize::from(k) - 1];
+        waits(&self.program, &self.world, &self.store, thread, k)
     }
 
     /// Whether each thread has ended or waits for a monitor.
@@ -462,7 +464,7 @@ fn make_room(printed: &mut Vec<Printed>, journal: &mut Vec<Entry>) -> Result<(),
     printed.reserve(1)
 }
 
-/// Takes one step of thread `k`, which is at this place and has not ended. Where what it makes has no room, which a step is asked for
+/// Takes one step of thread `k`, which is at this place, has not ended, and doesn't wait. Where what it makes has no room, which a step is asked for
 /// before anything has changed, there is a collection, one for all objects of the step, and then the allocation is refused where it has
 /// none still. Only a step that makes nothing takes host memory, so after the collection nothing can fail.
 #[inline(always)]

@@ -8,7 +8,8 @@ ghost use Rattle.std.specs.Prelude.{◌≡◌, ℕ, ◌+◌, ◌++◌, IfOk, OnO
 ghost use Rattle.std.specs.Option.{option_map};
 ghost use Rattle.tables.specs.Locals.{AreStacked};
 ghost use Rattle.tables.specs.References.{references_in};
-ghost use Rattle.machine.specs.Moving.{AreMoved, AreMovedAt, moved_call, moved_locals, moved_slots, moved_thread};
+ghost use Rattle.monitors.specs.Monitors.{addresses};
+ghost use Rattle.machine.specs.Moving.{AreMoved, AreMovedAt, moved_call, moved_locals, moved_monitors, moved_slots, moved_thread};
 ghost use Rattle.machine.specs.Roots.{AreAddresses, CallIsStacked, ReferenceIsThere, ThreadsAreStacked, loaded_places, name_of, pinned_names, reference_names, root_places, slots_of, thread_places};
 
 use compact::Roots;
@@ -16,6 +17,7 @@ use heap::{Addr, Heap};
 use machine_calls::activation::Activation;
 use machine_calls::store::Store;
 use machine_steps::thread::Thread;
+use monitors::Monitors;
 use std::alloc::{AllocError, Global};
 use tables::{Globals, Locals};
 
@@ -41,8 +43,8 @@ impl Roots for RootPlaces {
     }
 }
 
-/// The roots: the objects made at load, the global references, and of each thread its local references and its pending exception,
-/// by the places in their tables.
+/// The roots: the objects made at load, the global references, of each thread its local references and its pending exception, and the
+/// objects whose monitors are owned, by the places in their tables.
 pub fn gather(alloc: Global, store: &Store, threads: &[Thread]) -> Result<RootPlaces, AllocError>
     ensures places { IfOk result (λ roots. roots.places.items ≡ root_places store.now threads.now) }
     ensures stacked { IfOk result (λ _. ThreadsAreStacked threads.now) }
@@ -51,7 +53,7 @@ pub fn gather(alloc: Global, store: &Store, threads: &[Thread]) -> Result<RootPl
     push_loaded(&mut places, &store.loaded)?;
     push_globals(&mut places, &store.globals)?;
     push_threads(&mut places, threads)?;
-    // The objects whose monitors are owned come here.
+    push_monitors(&mut places, &store.monitors)?;
     Ok(RootPlaces { places })
 }
 
@@ -62,8 +64,8 @@ pub fn put_back(roots: &RootPlaces, store: &mut Store, threads: &mut [Thread])
 {
     let next = put_loaded(&mut store.loaded, roots);
     let next = put_globals(&mut store.globals, roots, next);
-    put_threads(threads, roots, next);
-    // The objects whose monitors are owned come here.
+    let next = put_threads(threads, roots, next);
+    put_monitors(&mut store.monitors, roots, next);
 }
 
 /// The names of the objects that roots name, by their places.
@@ -160,6 +162,16 @@ fn push_locals(places: &mut Vec<Option<Addr>>, locals: &Locals) -> Result<(), Al
     Ok(())
 }
 
+/// Adds the objects whose monitors are owned.
+fn push_monitors(places: &mut Vec<Option<Addr>>, monitors: &Monitors) -> Result<(), AllocError>
+    ensures { OnOk result (places.new.items ≡ places.old.items ++ addresses monitors.now) }
+{
+    for place in 0..monitors.len() {
+        places.push(monitors.root(place))?;
+    }
+    Ok(())
+}
+
 /// Puts back the objects made at load, and tells the next place.
 fn put_loaded(loaded: &mut [Addr], roots: &RootPlaces) -> usize
     requires { (to : ℕ → ℕ) × AreMovedAt to (loaded_places loaded.old) roots.now.places.items 0 }
@@ -188,15 +200,17 @@ fn put_globals(globals: &mut Globals, roots: &RootPlaces, from: usize) -> usize
     from + globals.len()
 }
 
-/// Puts back what threads refer to, from a place on.
-fn put_threads(threads: &mut [Thread], roots: &RootPlaces, from: usize)
+/// Puts back what threads refer to, from a place on, and tells the next one.
+fn put_threads(threads: &mut [Thread], roots: &RootPlaces, from: usize) -> usize
     requires { (to : ℕ → ℕ) × AreMovedAt to (flat_map thread_places threads.old) roots.now.places.items from }
-    ensures { (to : ℕ → ℕ) → AreMovedAt to (flat_map thread_places threads.old) roots.now.places.items from → threads.new ≡ map (moved_thread to) threads.old }
+    ensures moved { (to : ℕ → ℕ) → AreMovedAt to (flat_map thread_places threads.old) roots.now.places.items from → threads.new ≡ map (moved_thread to) threads.old }
+    ensures next { result ≡ from + length (flat_map thread_places threads.old) }
 {
     let mut next = from;
     for index in 0..threads.len() {
         next = put_thread(&mut threads[index], roots, next);
     }
+    next
 }
 
 /// Puts back what a thread refers to, from a place on, and tells the next one.
@@ -234,4 +248,16 @@ fn put_locals(locals: &mut Locals, roots: &RootPlaces, from: usize) -> usize
         }
     }
     from + locals.len()
+}
+
+/// Puts back the objects whose monitors are owned, from a place on.
+fn put_monitors(monitors: &mut Monitors, roots: &RootPlaces, from: usize)
+    requires { (to : ℕ → ℕ) × AreMovedAt to (addresses monitors.old) roots.now.places.items from }
+    ensures { (to : ℕ → ℕ) → AreMovedAt to (addresses monitors.old) roots.now.places.items from → monitors.new ≡ moved_monitors to monitors.old }
+{
+    for place in 0..monitors.len() {
+        if let Some(addr) = roots.root(from + place) {
+            monitors.set_root(place, addr);
+        }
+    }
 }

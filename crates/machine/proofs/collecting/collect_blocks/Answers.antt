@@ -14,7 +14,7 @@ returns-clause-ok c =
     record {
       to = same.to;
       blocks = subst (λ (t : Space). MovesBy (IsKept s places) same.to s t) (sym put.moved.heap) same.blocks;
-      moved = record { heap = refl; loaded = put.moved.loaded; births = put.moved.births; statics = put.moved.statics; globals = put.moved.globals; elements = put.moved.elements; views = put.moved.views };
+      moved = record { heap = refl; loaded = put.moved.loaded; births = put.moved.births; statics = put.moved.statics; globals = put.moved.globals; elements = put.moved.elements; views = put.moved.views; monitors = put.moved.monitors };
       follow = put.follow;
       stacked = c.in_ok-roots.ensures.stacked;
     }

@@ -1,10 +1,11 @@
 use Rattle.std.proofs.Common.{◌≡◌, ℕ, suc, ◌+◌, true, false, Ok, inl, refl, sym, ap, subst, arith}
 use Rattle.std.specs.Prelude.{slice_index_or}
+use Rattle.semantics.specs.ThreadStep.{waits}
 use Rattle.semantics.specs.World.{loaded_objects}
 use Rattle.machine_calls.specs.declared.store.Store.{Store}
 use Rattle.machine_steps.specs.ThreadAgrees.{ThreadAgrees}
 use Rattle.machine.specs.Run.{AdvancesAlways}
-use Rattle.machine.proofs.Advancing.{can_there, found, from_there, is_steady, lives_there, makes_something, makes_there, numbered, own, rest, shared_there, there}
+use Rattle.machine.proofs.Advancing.{can_there, found, from_there, is_ready, is_steady, lives_there, makes_something, makes_there, numbered, own, rest, shared_there, there}
 use Rattle.std.proofs.Common.{length}
 use Rattle.machine.proofs.machine.advance_or_collect.Goals as goal
 
@@ -23,6 +24,8 @@ advance-requires-clause-agrees c =
           (numbered c.args.k c.args.index c.requires.number) f.agrees,
       lives_there c.args.program.now c.args.world.now c.args.store.now c.args.threads.now c.args.index s d,
       is_steady c.args.program.now c.args.world.now c.args.store.now c.args.threads.now c.args.index s d,
+      subst (λ (n : ℕ). waits c.args.world.now.classes n s.stands.state.shared f.source ≡ false) (numbered c.args.k c.args.index c.requires.number)
+          (is_ready c.args.program.now c.args.world.now c.args.store.now c.args.threads.now c.args.index s d),
     )
 
 pub collect_and_advance-requires-clause-stands : goal.collect_and_advance-requires-clause-stands
@@ -32,7 +35,7 @@ collect_and_advance-requires-clause-stands c =
 pub collect_and_advance-requires-clause-makes : goal.collect_and_advance-requires-clause-makes
 collect_and_advance-requires-clause-makes c = λ t at.
     makes_there c.args.program.now c.args.world.now c.args.store.now c.args.threads.now c.args.index c.requires.stands c.index-threads-index.result c.args.k c.advance.new.store c.advance.new.thread t c.in-Err-NoRoom.ensures.store c.in-Err-NoRoom.ensures.thread at
-    (λ others own shared s store agrees steady. makes_something _ _ c.in-Err-NoRoom.field-0 c.in-Err-NoRoom.field-0-is (c.in-Err-NoRoom.ensures.hindered others own shared s store agrees steady))
+    (λ others own shared s store agrees steady ready. makes_something _ _ c.in-Err-NoRoom.field-0 c.in-Err-NoRoom.field-0-is (c.in-Err-NoRoom.ensures.hindered others own shared s store agrees steady ready))
 
 pub returns-in-Ok-clause-advances : goal.returns-in-Ok-clause-advances
 returns-in-Ok-clause-advances c = record {

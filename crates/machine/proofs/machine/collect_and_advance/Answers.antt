@@ -1,13 +1,14 @@
-use Rattle.std.proofs.Common.{◌≡◌, ℕ, suc, length, inr, refl, sym, ap, ◌∙◌, subst, arith}
+use Rattle.std.proofs.Common.{◌≡◌, ℕ, suc, false, length, inr, refl, sym, ap, ◌∙◌, subst, arith}
 use Rattle.std.specs.Prelude.{slice_get, slice_index_or}
 use Rattle.std.proofs.lemmas.List.{length-map}
 use Rattle.std.proofs.lemmas.Option.{slice_get_within}
+use Rattle.semantics.specs.ThreadStep.{waits}
 use Rattle.semantics.specs.World.{loaded_objects}
 use Rattle.machine_steps.specs.ThreadAgrees.{ThreadAgrees}
 use Rattle.machine.specs.Moving.{moved_thread}
 use Rattle.machine.specs.Run.{AdvancesAlways}
 use Rattle.machine.proofs.Collected.{are_referred}
-use Rattle.machine.proofs.Advancing.{agrees_still, found, is_steady, no_fault, numbered, own, rest, shared_there, there}
+use Rattle.machine.proofs.Advancing.{agrees_still, found, is_ready, is_steady, no_fault, numbered, own, rest, shared_there, there}
 use Rattle.machine.proofs.machine.collect_and_advance.Goals as goal
 
 pub collect_blocks-requires : goal.collect_blocks-requires
@@ -36,6 +37,8 @@ advance-requires-clause-agrees c =
           (numbered c.args.k c.args.index c.requires.number) k.agrees,
       k.lives,
       is_steady c.args.program.now c.args.world.now c.args.store.now c.args.threads.now c.args.index c.requires.stands c.requires.stands.thread,
+      subst (λ (n : ℕ). waits c.args.world.now.classes n c.requires.stands.stands.state.shared f.source ≡ false) (numbered c.args.k c.args.index c.requires.number)
+          (is_ready c.args.program.now c.args.world.now c.args.store.now c.args.threads.now c.args.index c.requires.stands c.requires.stands.thread),
     )
 
 pub unreachable-requires : goal.unreachable-requires
@@ -44,13 +47,15 @@ unreachable-requires c =
     let now = agrees_still c.args.program.now c.args.world.now c.args.store.now c.args.threads.now c.args.index c.requires.stands c.requires.stands.thread c.collect_blocks.new.store c.collect_blocks.new.threads c.in_ok-collect_blocks.ensures.ok c.index-threads-index.result in
     let calm = is_steady c.args.program.now c.args.world.now c.args.store.now c.args.threads.now c.args.index c.requires.stands c.requires.stands.thread in
     let shared = c.requires.stands.stands.state.shared in
+    let ready = subst (λ (n : ℕ). waits c.args.world.now.classes n shared f.source ≡ false) (numbered c.args.k c.args.index c.requires.number)
+    (is_ready c.args.program.now c.args.world.now c.args.store.now c.args.threads.now c.args.index c.requires.stands c.requires.stands.thread) in
     let mine = own c.args.program.now c.args.world.now c.args.store.now c.args.threads.now c.args.index c.requires.stands c.requires.stands.thread in
     let number = numbered c.args.k c.args.index c.requires.number in
     let some = c.requires.makes (slice_index_or c.args.threads.now c.args.index c.requires.stands.thread) (there c.args.program.now c.args.world.now c.args.store.now c.args.threads.now c.args.index c.requires.stands c.requires.stands.thread)
     (rest c.args.program.now c.args.world.now c.args.store.now c.args.threads.now c.args.index c.requires.stands c.requires.stands.thread) mine shared f.source (shared_there c.args.program.now c.args.world.now c.args.store.now c.args.threads.now c.args.index c.requires.stands c.requires.stands.thread)
-    (subst (λ (n : ℕ). ThreadAgrees c.args.program.now c.args.world.now.classes c.args.store.now.heap c.args.store.now.elements (length (loaded_objects c.args.world.now)) n mine shared (slice_index_or c.args.threads.now c.args.index c.requires.stands.thread) f.source) number f.agrees) calm in
+    (subst (λ (n : ℕ). ThreadAgrees c.args.program.now c.args.world.now.classes c.args.store.now.heap c.args.store.now.elements (length (loaded_objects c.args.world.now)) n mine shared (slice_index_or c.args.threads.now c.args.index c.requires.stands.thread) f.source) number f.agrees) calm ready in
     let hindered = c.in-Err.ensures.hindered (rest c.args.program.now c.args.world.now c.args.store.now c.args.threads.now c.args.index c.requires.stands c.requires.stands.thread) mine shared f.source now.shares
-    (subst (λ (n : ℕ). ThreadAgrees c.args.program.now c.args.world.now.classes c.collect_blocks.new.store.heap c.collect_blocks.new.store.elements (length (loaded_objects c.args.world.now)) n mine shared (slice_index_or c.collect_blocks.new.threads c.args.index c.index-threads-index.result) f.source) number now.agrees) calm in
+    (subst (λ (n : ℕ). ThreadAgrees c.args.program.now c.args.world.now.classes c.collect_blocks.new.store.heap c.collect_blocks.new.store.elements (length (loaded_objects c.args.world.now)) n mine shared (slice_index_or c.collect_blocks.new.threads c.args.index c.index-threads-index.result) f.source) number now.agrees) calm ready in
     no_fault _ _ c.in-Err.field-0 some hindered
 
 pub returns-clause-advances : goal.returns-clause-advances

@@ -19,6 +19,8 @@ use Rattle.tables.specs.Elements.{lengths}
 use Rattle.machine.proofs.TakenBuffers.{none_taken}
 use Rattle.semantics_safety.specs.Owners.{AllOwners, owners_after}
 use Rattle.machine_calls.specs.Statics.{HaveKeys, all_held}
+use Rattle.machine_monitors.specs.Fit.{AreThere, MonitorsAgree}
+use Rattle.monitors.specs.declared.monitors.Monitor.{Monitor}
 use Rattle.machine_calls.specs.declared.statics.StaticReference.{StaticReference}
 use Rattle.machine_calls.specs.declared.statics.StaticReference.TheVariants.{Empty}
 use Rattle.machine_calls.proofs.HeldStatics.{names_begin, no_keys, statics_begin}
@@ -63,7 +65,8 @@ returns-in-Ok-clause-begins c =
           made = λ n past. ap (times n) none.1;
           there = λ n some. let nothing : times n (views s) ≡ 0 = ap (times n) none.1 in absurd (omega (arith, some, nothing));
         };
-        monitors = refl;
+        monitors = subst (λ (ms : List Monitor). MonitorsAgree ms []) (sym c.in_ok-store.ensures.monitors) (record { at = λ n. tt; different = tt });
+        monitored = subst (AreThere c.in_ok-store.store.heap) (sym c.in_ok-store.ensures.monitors) tt;
       };
       threads_agree = agree;
       same_printed = refl;

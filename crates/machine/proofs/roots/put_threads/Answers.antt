@@ -1,5 +1,6 @@
-use Rattle.std.proofs.Common.{◌≡◌, ℕ, List, Some, get_or, set, sym, ap, ◌∙◌, subst, arith}
+use Rattle.std.proofs.Common.{◌≡◌, ℕ, ◌+◌, List, Some, get_or, length, set, sym, ap, ◌∙◌, subst, arith}
 use Rattle.std.specs.Prelude.{flat_map, slice_get}
+use Rattle.std.proofs.lemmas.List.{take_all}
 use Rattle.std.proofs.lemmas.Option.{slice_get-get_or}
 use Rattle.compact.proofs.Fronts.{front_all, front_get, front_step}
 use Rattle.machine_steps.specs.declared.thread.Thread.{Thread}
@@ -41,5 +42,10 @@ loop-index-preserved c =
           ∙ front_step (moved_thread to) i ts (here a) (front_get (moved_thread to) i ts ∙ here_before a to h);
     }
 
-pub returns : goal.returns
-returns c = λ to h. c.loop-index.invariant.moved to h ∙ front_all (moved_thread to) c.loop-index.index c.args.threads.now (omega (arith, c.loop-index-test.false))
+pub returns-clause-moved : goal.returns-clause-moved
+returns-clause-moved c = λ to h. c.loop-index.invariant.moved to h ∙ front_all (moved_thread to) c.loop-index.index c.args.threads.now (omega (arith, c.loop-index-test.false))
+
+pub returns-clause-next : goal.returns-clause-next
+returns-clause-next c =
+    c.loop-index.invariant.next
+    ∙ ap (λ (ts : List Thread). c.args.from + length (flat_map thread_places ts)) (take_all c.loop-index.index c.args.threads.now (omega (arith, c.loop-index-test.false)))

@@ -2,7 +2,6 @@ use Rattle.std.proofs.lemmas.List.{with_items_is, places}
 use Rattle.std.proofs.Common.{rules, ◌≡◌, ℕ, suc, ◌-◌, ◌<◌, ◌≤◌, Bool, true, false, Option, Some, None, [], ◌∷◌, ◌++◌, List, length, get_or, refl, sym, ap, ◌∙◌, subst, arith}
 use Rattle.std.specs.Prelude.{slice_get, is_some, Result, Ok, Err, OnErr, IsSome}
 use Rattle.std.specs.Option.{option_map}
-use Rattle.std.proofs.lemmas.Option.{slice_get_read}
 use Rattle.syntax.specs.declared.unit.Item.{Item}
 use Rattle.semantics.specs.declared.journal.Entry.{Entry}
 use Rattle.semantics.specs.declared.journal.Entry.TheVariants.{Step}
@@ -19,7 +18,7 @@ use Rattle.machine.specs.Stops.{stop_after, stop_view}
 use Rattle.machine_steps.specs.declared.thread.Thread.{Thread}
 use Rattle.machine_steps.specs.declared.advance.Advanced.{Advanced}
 use Rattle.machine_steps.specs.declared.advance.Advanced.TheVariants as advanced
-use Rattle.machine.specs.Run.{has_ended as ended, AdvancesAlways, AdvancesFrom, Corresponds, Run, InState, CouldStep, HadNoRoom, LeavesAll, TurnHolds, Waits, turn_at_rest, replay_of, printed_after, can_turn, event_of, is_refused}
+use Rattle.machine.specs.Run.{has_ended as ended, AdvancesAlways, AdvancesFrom, CanAdvance, Corresponds, Run, InState, CouldStep, HadNoRoom, LeavesAll, TurnHolds, Waits, turn_at_rest, replay_of, printed_after, can_turn, event_of, is_refused}
 use Rattle.machine_calls.specs.declared.store.Store.{Store}
 use Rattle.semantics.specs.Object.{sizes}
 use Rattle.semantics.specs.Reachable.{live_size}
@@ -27,7 +26,7 @@ use Rattle.semantics.specs.Run.{made}
 use Rattle.syntax.specs.Views.{unit_tree}
 use Rattle.machine.proofs.Collected.{StandsBetween, lives_between, stands_between}
 use Rattle.machine.proofs.Standings.{waits_known}
-use Rattle.machine.proofs.Steps.{can_turn_here, has_ended, short_by, steps_by, turn_holds}
+use Rattle.machine.proofs.Steps.{can_turn_here, counted_from, has_ended, short_by, steps_by, thread_there, threads_of, turn_holds}
 use Rattle.machine.proofs.machine.Machine.step.Goals as goal
 use Rattle.machine.proofs.machine.Machine.step.Goals.{After-index, After-make_room}
 
@@ -45,17 +44,6 @@ is_over : (e : Ending) → ended e ≡ true → e ≡ Unfinished → ⊥
 is_over Unfinished h same = absurd (cc)
 is_over Ended h same = cc
 is_over (Uncaught class) h same = cc
-
--- thread k is the one at k - 1
-thread_there : (ts : List Thread) (k n count : ℕ) (t : Thread) → n ≡ k → 0 < k → k ≤ count → length ts ≡ count → t ≡ get_or ts (n - 1) t → slice_get ts (n - 1) ≡ Some t
-thread_there ts k n count t same low high long h = slice_get_read ts count (n - 1) t (sym long) (omega arith) h
-
-counted : (k n : ℕ) → n ≡ k → 0 < k → k ≡ suc (n - 1)
-counted k n same h = omega arith
-
--- how many threads there are
-threads_of : (a b : Run) (threads : List Thread) → length threads ≡ length a.world.threads → a ≡ b → length threads ≡ length b.world.threads
-threads_of a b threads h e = h ∙ ap (λ (r : Run). length r.world.threads) e
 
 -- the machine has
 stops : (o : Option Stop) (s : Option state.Stop) → s ≡ option_map stop_view o → is_some o ≡ true → IsSome s
@@ -80,7 +68,7 @@ there : (c : After-index) (t : Thread) → t ≡ get_or c.self.inside.threads.it
 there c t h = thread_there c.self.inside.threads.items c.args.k c.from-index.result _ t c.from-index.ensures c.requires.counted c.requires.is_thread (threads_of _ _ _ c.self.invariant.count c.self.view_is) h
 
 number : (c : After-index) → c.args.k ≡ suc (c.from-index.result - 1)
-number c = counted c.args.k c.from-index.result c.from-index.ensures c.requires.counted
+number c = counted_from c.args.k c.from-index.result c.from-index.ensures c.requires.counted
 
 replays : (c : After-index) → replay_of c.args.self.now ≡ Some c.self.invariant.state
 replays c = subst (λ (r : Run). replay_of r ≡ Some c.self.invariant.state) c.self.view_is c.self.invariant.replays
@@ -180,15 +168,16 @@ advance_or_collect-requires-clause-stands c =
     let a = (goal.at.advance_or_collect-requires-clause-stands c).After-index in
     let free = tested (goal.at.advance_or_collect-requires-clause-stands c).After-make_room in
     let i = c.self.inside in
-    record {
+    subst (λ (ts : List Thread). CanAdvance i.program i.world i.store ts (c.from-index.result - 1)) (sym c.deref_mut.ensures.value) (record {
       printed = i.printed.items;
       stop = i.stop;
       journal = i.journal.items;
-      stands = subst (λ (ts : List Thread). Corresponds i.program i.world i.store ts i.printed.items i.stop i.journal.items) (sym c.deref_mut.ensures.value) c.self.invariant;
+      stands = c.self.invariant;
       thread = c.index.result.now;
-      at = ap (λ (ts : List Thread). slice_get ts (c.from-index.result - 1)) c.deref_mut.ensures.value ∙ there a c.index.result.now c.index.ensures;
+      at = there a c.index.result.now c.index.ensures;
       lives = live a free;
-    }
+      ready = subst (λ (n : ℕ). is_blocked i.world.classes c.self.invariant.state n ≡ false) (number a) free.free;
+    })
 
 -- few objects have been made
 pub advance_or_collect-requires-clause-few : goal.advance_or_collect-requires-clause-few
