@@ -1,5 +1,5 @@
 -- The roots of a state are the objects made at load and what its threads refer to.
-use Rattle.std.proofs.Common.{◌≡◌, ℕ, List, [], ◌∷◌, ◌++◌, map, Option, Some, None, refl, sym, ap, ◌∙◌, subst, append_assoc, append-nil}
+use Rattle.std.proofs.Common.{◌≡◌, ℕ, List, [], ◌∷◌, ◌++◌, map, Option, Some, None, refl, sym, ap, ◌∙◌, subst, append_assoc}
 use Rattle.std.specs.List.{flat_map}
 use Rattle.std.specs.Prelude.{Contains}
 use Rattle.std.specs.Option.{option_to_list}
@@ -14,6 +14,8 @@ use Rattle.semantics.specs.World.{World}
 use Rattle.replay_steps.specs.declared.activation.Activation.{Activation}
 use Rattle.replay_threads.specs.declared.state.State.{State as StateInMemory}
 use Rattle.replay_threads.specs.declared.thread.Thread.{Thread as ThreadInMemory}
+use Rattle.replay_calls.specs.Shares.{shared_view}
+use Rattle.replay_objects.specs.Monitors.{owned_objects}
 use Rattle.replay_threads.specs.Rows.{thread_names, activation_names, root_names}
 use Rattle.replay_threads.specs.States.{Stands, ThreadsStand, viewed_in}
 use Rattle.replay_threads.specs.Threads.{ThreadStands, WorkStands}
@@ -42,22 +44,23 @@ module _ (unit : SourceUnit) (classes : Classes) where
       ∙ sym (flat_map-cons thread_names t ts)
 
 -- the roots of a state that one in memory stands for
-roots_are : (unit : SourceUnit) (w : World) (m : StateInMemory) (s : State) → Stands unit w m s → roots w s ≡ from_one (loaded_count w) ++ root_names m.shared.globals m.threads.items
+roots_are : (unit : SourceUnit) (w : World) (m : StateInMemory) (s : State) → Stands unit w m s → roots w s ≡ from_one (loaded_count w) ++ root_names (shared_view m.shared) m.threads.items
 roots_are unit w m s h =
     let loaded = from_one (loaded_count w) in
     let names = flat_map thread_roots s.threads in
     let globals = m.shared.globals in
+    let owned = owned_objects m.shared.monitors in
     let ts = m.threads.items in
     ap (λ (x : Shared). loaded ++ x.globals ++ names ++ map (λ (o : Monitor). o.object) x.monitors ++ views s) h.shared
-    ∙ ap (λ (l : List ℕ). l ++ views s) (append-nil (loaded ++ globals ++ names))
-    ∙ ap (λ (l : List ℕ). loaded ++ globals ++ l ++ views s) (all_names unit w.classes ts s.threads h.threads)
-    ∙ ap (λ (l : List ℕ). loaded ++ globals ++ flat_map thread_names ts ++ l) (sym (viewed_same unit w.classes ts s.threads h.threads))
-    ∙ ap (λ (l : List ℕ). l ++ flat_map viewed_in ts) (append_assoc loaded globals (flat_map thread_names ts))
-    ∙ append_assoc loaded (globals ++ flat_map thread_names ts) (flat_map viewed_in ts)
+    ∙ ap (λ (l : List ℕ). loaded ++ globals ++ l ++ owned ++ views s) (all_names unit w.classes ts s.threads h.threads)
+    ∙ ap (λ (l : List ℕ). loaded ++ globals ++ flat_map thread_names ts ++ owned ++ l) (sym (viewed_same unit w.classes ts s.threads h.threads))
+    ∙ ap (λ (l : List ℕ). l ++ owned ++ flat_map viewed_in ts) (append_assoc loaded globals (flat_map thread_names ts))
+    ∙ ap (λ (l : List ℕ). l ++ flat_map viewed_in ts) (append_assoc loaded (globals ++ flat_map thread_names ts) owned)
+    ∙ append_assoc loaded (globals ++ flat_map thread_names ts ++ owned) (flat_map viewed_in ts)
 
 -- so each root is one that memory has, and each that memory has is a root
-pub root_among : (unit : SourceUnit) (w : World) (m : StateInMemory) (s : State) → Stands unit w m s → (n : ℕ) → Contains (roots w s) n → Contains (from_one (loaded_count w) ++ root_names m.shared.globals m.threads.items) n
+pub root_among : (unit : SourceUnit) (w : World) (m : StateInMemory) (s : State) → Stands unit w m s → (n : ℕ) → Contains (roots w s) n → Contains (from_one (loaded_count w) ++ root_names (shared_view m.shared) m.threads.items) n
 root_among unit w m s h n k = subst (λ (l : List ℕ). Contains l n) (roots_are unit w m s h) k
 
-pub among_roots : (unit : SourceUnit) (w : World) (m : StateInMemory) (s : State) → Stands unit w m s → (n : ℕ) → Contains (from_one (loaded_count w) ++ root_names m.shared.globals m.threads.items) n → Contains (roots w s) n
+pub among_roots : (unit : SourceUnit) (w : World) (m : StateInMemory) (s : State) → Stands unit w m s → (n : ℕ) → Contains (from_one (loaded_count w) ++ root_names (shared_view m.shared) m.threads.items) n → Contains (roots w s) n
 among_roots unit w m s h n k = subst (λ (l : List ℕ). Contains l n) (sym (roots_are unit w m s h)) k

@@ -33,6 +33,7 @@ use Rattle.replay.specs.TrapAt.{trap_at}
 use Rattle.replay_threads.specs.declared.state.Stop.{Stop as StopInMemory}
 use Rattle.report.specs.declared.thread_status.ThreadStatus.{ThreadStatus}
 use Rattle.report.specs.ThreadStatus.{standing_view}
+use Rattle.replay_calls.specs.Shares.{shared_view}
 use Rattle.replay_threads.specs.Rows.{root_names}
 use Rattle.replay.specs.Replays.{Answers, IsFirstImpossible, Replayed, IsRefused, IsLoadFault, IsStoppedBy, IsReplayable, IsFromOutside, EndsBy, ShowsRows, WritesRun, shown_stop}
 use Rattle.replay.proofs.LoadLemmas.{drop_more, take_more}
@@ -121,10 +122,10 @@ ends unit w journal m h = record {
 
 -- the rows of what the threads in memory refer to are those of the report
 pub rows_are : (unit : SourceUnit) (w : World) (m : StateInMemory) (s : State) (classes : Classes) (objects : Heap) (loaded : ℕ) (names : List ℕ) (rows : List ShownRow) → Stands unit w m s
-    → classes ≡ m.world.now.classes → objects ≡ m.shared.store → loaded ≡ loaded_count w → names ≡ root_names m.shared.globals m.threads.items → AreReported classes objects loaded names rows → rows ≡ (report w s).objects
+    → classes ≡ m.world.now.classes → objects ≡ m.shared.store → loaded ≡ loaded_count w → names ≡ root_names (shared_view m.shared) m.threads.items → AreReported classes objects loaded names rows → rows ≡ (report w s).objects
 rows_are unit w m s classes objects loaded names rows h k o l n told =
-    let same : from_one (loaded_count w) ++ root_names m.shared.globals m.threads.items ≡ from_one loaded ++ names =
-    ap (λ c. from_one c ++ root_names m.shared.globals m.threads.items) (sym l)
+    let same : from_one (loaded_count w) ++ root_names (shared_view m.shared) m.threads.items ≡ from_one loaded ++ names =
+    ap (λ c. from_one c ++ root_names (shared_view m.shared) m.threads.items) (sym l)
     ∙ ap (λ (ns : List ℕ). from_one loaded ++ ns) (sym n) in
     told w s (record {
       classes = ap (λ (v : World). v.classes) h.world ∙ sym k;

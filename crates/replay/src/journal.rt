@@ -1,9 +1,8 @@
 //! Replays of journals.
 
-ghost use Rattle.std.specs.Prelude.{◌≡◌, [], IfOk, IfErr, OnOk, IsTrue};
+ghost use Rattle.std.specs.Prelude.{◌≡◌, [], IfOk, IfErr, OnOk};
 ghost use Rattle.syntax.specs.Limits.{IsTree};
 ghost use Rattle.syntax.specs.Views.{unit_tree};
-ghost use Rattle.type_rules.specs.BuiltCalls.{calls_are_built};
 ghost use Rattle.type_rules.specs.SortRules.{IsSorted};
 ghost use Rattle.report.specs.Sink.{CanFail};
 ghost use Rattle.semantics.specs.World.{World};
@@ -34,7 +33,6 @@ fn follow<'a>(
 ) -> Result<(), ReplayFault>
     requires tree { IsTree (unit_tree functions.now) }
     requires sorted { IsSorted (unit_tree functions.now) }
-    requires calls { IsTrue (calls_are_built (unit_tree functions.now)) }
     requires range { AreInRange state.old.threads.items }
     ensures end { OnOk result (LeadsTo (unit_tree functions.now) state.old journal.now state.new) }
     ensures refused { IfErr result (IsRefusedFrom (unit_tree functions.now) state.old journal.now) }
@@ -53,7 +51,7 @@ fn follow<'a>(
 fn rows_of<'r>(alloc: Global, state: &'r State<'_>) -> Result<ReachedRows<'r, Store>, AllocError>
     ensures { IfOk result (ShowsRows state.now) }
 {
-    let names = root_names(alloc, &state.shared.globals, &state.threads)?;
+    let names = root_names(alloc, &state.shared, &state.threads)?;
     let loaded = made_before(state.world) + state.world.objects().len();
     reached_rows(
         alloc,
@@ -124,7 +122,6 @@ fn replay_from<'a, W: Sink>(
     requires sink { CanFail (W.written out.old) }
     requires tree { IsTree (unit_tree functions.now) }
     requires sorted { IsSorted (unit_tree functions.now) }
-    requires calls { IsTrue (calls_are_built (unit_tree functions.now)) }
     requires range { AreInRange state.old.threads.items }
     ensures { (w : World) → Replayed (unit_tree functions.now) w [] state.old → Answers (unit_tree functions.now) w journal.now (W.written out.old) (W.written out.new) result }
 {
@@ -148,7 +145,6 @@ fn replay_with<W: Sink>(
     requires sink { CanFail (W.written out.old) }
     requires tree { IsTree (unit_tree functions.now) }
     requires sorted { IsSorted (unit_tree functions.now) }
-    requires calls { IsTrue (calls_are_built (unit_tree functions.now)) }
     ensures { Answers (unit_tree functions.now) world.now journal.now (W.written out.old) (W.written out.new) result }
 {
     match start(alloc, functions, world) {

@@ -14,7 +14,7 @@ ghost use Rattle.replay.specs.Replays.{IsLoadFault};
 use crate::fault::ReplayFault;
 use functions::Functions;
 use replay_calls::Shared;
-use replay_objects::{Names, loaded_store};
+use replay_objects::{Monitors, Names, loaded_store};
 use replay_terms::null_statics;
 use replay_threads::{Ending, State, Thread, class_of};
 use std::alloc::{AllocError, Global};
@@ -156,8 +156,8 @@ fn waiting_threads<'a>(alloc: Global, world: &'a World) -> Result<Vec<Thread<'a>
     Ok(threads)
 }
 
-/// What all threads share before the first entry: the objects that are made at load, statics that are all NULL, and no global
-/// reference.
+/// What all threads share before the first entry: the objects that are made at load, statics that are all NULL, no global reference,
+/// and no monitor.
 fn loaded<'a>(alloc: Global, items: &'a [Item], world: &World) -> Result<Shared<'a>, AllocError>
     requires { IsSorted (unit_tree items.now) }
     ensures { IfOk result (λ shared. shared_view shared ≡ (start (unit_tree items.entry.now) world.now).shared) }
@@ -166,6 +166,7 @@ fn loaded<'a>(alloc: Global, items: &'a [Item], world: &World) -> Result<Shared<
         store: loaded_store(alloc, world)?,
         statics: null_statics(alloc, items)?,
         globals: Names::new(alloc),
+        monitors: Monitors::new(alloc),
     })
 }
 

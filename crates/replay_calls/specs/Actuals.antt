@@ -8,22 +8,16 @@ use Rattle.classes.specs.FieldViews.{field_id_view}
 use Rattle.classes.specs.declared.fields.FieldId.{FieldId as IdInMemory}
 use Rattle.class_rules.specs.Class.{NumberField}
 use Rattle.class_rules.specs.Fields.{FieldId}
-use Rattle.semantics.specs.Arguments.{Actual, ReferenceActual, FieldActual, NumberActual, TextActual, VariableActual, ModeActual, NothingActual, ReleaseMode, CopyBackAndFree, CopyBack, FreeUncopied}
+use Rattle.semantics.specs.Arguments.{Actual, ReferenceActual, FieldActual, NumberActual, TextActual, VariableActual, ModeActual, NothingActual}
+use Rattle.semantics.specs.Views.{mode_view}
 use Rattle.replay_calls.specs.declared.actual.Actual.{Actual as InMemory}
 use Rattle.replay_calls.specs.declared.actual.Actual.TheVariants as actual
-use Rattle.replay_calls.specs.declared.actual.ReleaseMode.{ReleaseMode as ModeInMemory}
-use Rattle.replay_calls.specs.declared.actual.ReleaseMode.TheVariants as mode
 use Rattle.replay_terms.specs.Views.{held_view}
 
 -- a name, which is empty where there is none
 abbrev pub name_view : Option (Bor Identifier) → Identifier
 name_view None = []
 name_view (Some x) = x.now
-
-abbrev pub mode_view : ModeInMemory → ReleaseMode
-mode_view mode.CopyBackAndFree = CopyBackAndFree
-mode_view mode.CopyBack = CopyBack
-mode_view mode.FreeUncopied = FreeUncopied
 
 abbrev pub actual_view : InMemory → Actual
 actual_view (actual.Reference x r) = ReferenceActual (name_view x) (held_view r)

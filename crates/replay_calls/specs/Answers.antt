@@ -3,12 +3,12 @@ use Rattle.std.specs.Prelude.{ℕ, ◌+◌, pos, negsuc, Bool, true, false, List
 use Rattle.base.specs.Bytes.{Identifier, lookup}
 use Rattle.class_rules.specs.Class.{Classes}
 use Rattle.jni.specs.Prototype.{ResultKind, NewLocal}
-use Rattle.semantics.specs.CallEffects.{CallResult, NoResult, ScalarResult, ReferenceResult, BufferResult, CallEffect, Throws, Leaves, begun_with, copied_elements, freed, heap_effect, local_array, new_effect, out_of_memory, overwritten, refuses_frames, throw_new_effect, with_capacity, with_freed, with_local, without_local, without_one}
+use Rattle.semantics.specs.CallEffects.{CallResult, NoResult, ScalarResult, ReferenceResult, BufferResult, CallEffect, Throws, Leaves, begun_with, copied_elements, freed, heap_effect, local_array, new_effect, out_of_memory, overwritten, refuses_frames, monitor, monitors_effect, throw_new_effect, with_capacity, with_freed, with_local, without_local, without_one}
 use Rattle.semantics.specs.CallEffects as effects
 use Rattle.semantics.specs.CallStep.{failure}
 use Rattle.semantics.specs.Heap.{Heap, next_name, numbers_of, values_of, with_numbers, with_value_at}
 use Rattle.semantics.specs.Object.{ObjectValue, Reference}
-use Rattle.semantics.specs.Thread.{Frame, Shared, Thread, capacities}
+use Rattle.semantics.specs.Thread.{Frame, Shared, Thread, capacities, without_monitor}
 use Rattle.semantics.specs.Value.{Int, Trap}
 use Rattle.semantics.specs.Variable.{Deleted, Variables, assign, change}
 use Rattle.semantics.specs.World.{fresh_object}
@@ -37,8 +37,8 @@ region_view r = record { object = r.object; start = r.start; count = r.count; ar
 -- pending and -4 is given, the current frame is dropped and this is given, a local reference in the frame of a level is deleted, a
 -- global reference is made and given, the one of a static is deleted, a pending exception or none replaces that before it and this
 -- is given, a local array begins with the numbers of a region, a region's numbers become the first of a local array, a buffer is
--- given, an object gets the numbers of the copy of a variable, which is given up or not, the buffer of a variable is given up, or the
--- run stops.
+-- given, an object gets the numbers of the copy of a variable, which is given up or not, the buffer of a variable is given up, the
+-- thread owns an object so many times and 0 is given, nobody owns an object and 0 is given, or the run stops.
 pub data Answer : Type 0 where
   Gives : CallResult → Answer
   Writes : (object place : ℕ) → ObjectValue → Answer
@@ -58,6 +58,8 @@ pub data Answer : Type 0 where
   Lends : Lent → Answer
   CopiesBack : (object : ℕ) → (buffer : Identifier) → (frees : Bool) → Answer
   Frees : (buffer : Identifier) → Answer
+  Owns : (object count : ℕ) → Answer
+  Disowns : (object : ℕ) → Answer
   Halts : Trap → Answer
 
 abbrev pub answer_view : InMemory → Answer
@@ -79,6 +81,8 @@ answer_view (answer.SetsRegion r) = SetsRegion (region_view r)
 answer_view (answer.Lends b) = Lends b
 answer_view (answer.CopiesBack n p frees) = CopiesBack n p.now frees
 answer_view (answer.Frees p) = Frees p.now
+answer_view (answer.Owns n count) = Owns n count
+answer_view (answer.Disowns n) = Disowns n
 answer_view (answer.Halts trap) = Halts (trap_view trap)
 
 -- the trap with which the run stops
@@ -142,28 +146,38 @@ zero_result = ScalarResult (Int (pos 0))
 abbrev pub without_global : Identifier → ℕ → Shared → Shared
 without_global x n s = record s { globals = without_one n s.globals; statics = assign x Deleted s.statics }
 
--- the same as the effect of a call
-abbrev pub effect_as : Classes → Shared → Thread → Answer → CallEffect
-effect_as classes s t (Gives g) = Leaves [] s t g
-effect_as classes s t (Writes n i v) = heap_effect s t (with_value_at s.heap n i v)
-effect_as classes s t (Makes n) = new_effect s t (object_of classes n)
-effect_as classes s t (Raises c) = Throws c
-effect_as classes s t (ThrowsNew c text) = throw_new_effect classes s t c text
-effect_as classes s t (Ensures n) = Leaves [] s (record t { frames = with_capacity n t.frames }) zero_result
-effect_as classes s t (Pushes n) = Leaves [] s (record t { frames = new_frame n ∷ t.frames }) zero_result
-effect_as classes s t RefusesFrames = refuses_frames classes s t
-effect_as classes s t (Pops r) = Leaves [] s (record t { frames = drop 1 t.frames }) (ReferenceResult r)
-effect_as classes s t (DeletesLocal l n) = Leaves [] s (record t { frames = without_local l n t.frames }) NoResult
-effect_as classes s t (MakesGlobal n) = Leaves [] (record s { globals = n ∷ s.globals }) t (ReferenceResult (Some n))
-effect_as classes s t (DeletesGlobal x n) = Leaves [] (without_global x n s) t NoResult
-effect_as classes s t (Pends r g) = Leaves [] s (record t { pending = r }) g
-effect_as classes s t (GetsRegion r) = Leaves [] s (record t { variables = variables_with s.heap r t.variables }) NoResult
-effect_as classes s t (SetsRegion r) = heap_effect s t (heap_with t.variables r s.heap)
-effect_as classes s t (Lends b) = Leaves [] s t (BufferResult (lent_view s.heap b))
-effect_as classes s t (CopiesBack n p frees) =
+-- what is shared where thread k owns an object so many times
+abbrev pub with_owned : (k : ℕ) → (object count : ℕ) → Shared → Shared
+with_owned k n count s = record s { monitors = monitor n k count ∷ without_monitor s.monitors n }
+
+-- what is shared where nobody owns an object
+abbrev pub with_disowned : (object : ℕ) → Shared → Shared
+with_disowned n s = record s { monitors = without_monitor s.monitors n }
+
+-- the same as the effect of a call of thread k
+abbrev pub effect_as : Classes → (k : ℕ) → Shared → Thread → Answer → CallEffect
+effect_as classes k s t (Gives g) = Leaves [] s t g
+effect_as classes k s t (Writes n i v) = heap_effect s t (with_value_at s.heap n i v)
+effect_as classes k s t (Makes n) = new_effect s t (object_of classes n)
+effect_as classes k s t (Raises c) = Throws c
+effect_as classes k s t (ThrowsNew c text) = throw_new_effect classes s t c text
+effect_as classes k s t (Ensures n) = Leaves [] s (record t { frames = with_capacity n t.frames }) zero_result
+effect_as classes k s t (Pushes n) = Leaves [] s (record t { frames = new_frame n ∷ t.frames }) zero_result
+effect_as classes k s t RefusesFrames = refuses_frames classes s t
+effect_as classes k s t (Pops r) = Leaves [] s (record t { frames = drop 1 t.frames }) (ReferenceResult r)
+effect_as classes k s t (DeletesLocal l n) = Leaves [] s (record t { frames = without_local l n t.frames }) NoResult
+effect_as classes k s t (MakesGlobal n) = Leaves [] (record s { globals = n ∷ s.globals }) t (ReferenceResult (Some n))
+effect_as classes k s t (DeletesGlobal x n) = Leaves [] (without_global x n s) t NoResult
+effect_as classes k s t (Pends r g) = Leaves [] s (record t { pending = r }) g
+effect_as classes k s t (GetsRegion r) = Leaves [] s (record t { variables = variables_with s.heap r t.variables }) NoResult
+effect_as classes k s t (SetsRegion r) = heap_effect s t (heap_with t.variables r s.heap)
+effect_as classes k s t (Lends b) = Leaves [] s t (BufferResult (lent_view s.heap b))
+effect_as classes k s t (CopiesBack n p frees) =
     heap_effect s (record t { variables = variables_freed frees p t.variables }) (heap_copied n p t.variables s.heap)
-effect_as classes s t (Frees p) = Leaves [] s (with_freed t p) NoResult
-effect_as classes s t (Halts trap) = effects.Halts trap
+effect_as classes k s t (Frees p) = Leaves [] s (with_freed t p) NoResult
+effect_as classes k s t (Owns n count) = monitors_effect s t (monitor n k count ∷ without_monitor s.monitors n)
+effect_as classes k s t (Disowns n) = monitors_effect s t (without_monitor s.monitors n)
+effect_as classes k s t (Halts trap) = effects.Halts trap
 
 -- whether it is done to the frames of a call alone
 abbrev pub is_of_frames : Answer → Bool
@@ -174,10 +188,12 @@ is_of_frames (Pops r) = true
 is_of_frames (DeletesLocal l n) = true
 is_of_frames a = false
 
--- or to the references that there are
+-- or to the references or the monitors that there are
 abbrev pub is_of_references : Answer → Bool
 is_of_references (MakesGlobal n) = true
 is_of_references (DeletesGlobal x n) = true
+is_of_references (Owns n count) = true
+is_of_references (Disowns n) = true
 is_of_references a = is_of_frames a
 
 -- whether it copies numbers between an object and a variable
@@ -196,17 +212,19 @@ makes_object (Raises c) = true
 makes_object (ThrowsNew c text) = true
 makes_object a = false
 
--- what is shared after it
-abbrev pub shared_after : Classes → Shared → Variables → Answer → Shared
-shared_after classes s vs (Writes n i v) = record s { heap = with_value_at s.heap n i v }
-shared_after classes s vs (Makes n) = record s { heap = s.heap ++ object_of classes n ∷ [] }
-shared_after classes s vs (Raises c) = record s { heap = s.heap ++ fresh_object classes c ∷ [] }
-shared_after classes s vs (ThrowsNew c text) = record s { heap = s.heap ++ thrown classes s.heap c text }
-shared_after classes s vs (MakesGlobal n) = record s { globals = n ∷ s.globals }
-shared_after classes s vs (DeletesGlobal x n) = without_global x n s
-shared_after classes s vs (SetsRegion r) = record s { heap = heap_with vs r s.heap }
-shared_after classes s vs (CopiesBack n p frees) = record s { heap = heap_copied n p vs s.heap }
-shared_after classes s vs a = s
+-- what is shared after it, by a call of thread k
+abbrev pub shared_after : Classes → (k : ℕ) → Shared → Variables → Answer → Shared
+shared_after classes k s vs (Writes n i v) = record s { heap = with_value_at s.heap n i v }
+shared_after classes k s vs (Makes n) = record s { heap = s.heap ++ object_of classes n ∷ [] }
+shared_after classes k s vs (Raises c) = record s { heap = s.heap ++ fresh_object classes c ∷ [] }
+shared_after classes k s vs (ThrowsNew c text) = record s { heap = s.heap ++ thrown classes s.heap c text }
+shared_after classes k s vs (MakesGlobal n) = record s { globals = n ∷ s.globals }
+shared_after classes k s vs (DeletesGlobal x n) = without_global x n s
+shared_after classes k s vs (SetsRegion r) = record s { heap = heap_with vs r s.heap }
+shared_after classes k s vs (CopiesBack n p frees) = record s { heap = heap_copied n p vs s.heap }
+shared_after classes k s vs (Owns n count) = with_owned k n count s
+shared_after classes k s vs (Disowns n) = with_disowned n s
+shared_after classes k s vs a = s
 
 -- the variables after it, without what it tells of a buffer
 abbrev pub variables_after : Heap → Variables → Answer → Variables
@@ -251,6 +269,8 @@ given_after heap kind (SetsRegion r) = NoResult
 given_after heap kind (Lends b) = BufferResult (lent_view heap b)
 given_after heap kind (CopiesBack n p frees) = NoResult
 given_after heap kind (Frees p) = NoResult
+given_after heap kind (Owns n count) = zero_result
+given_after heap kind (Disowns n) = zero_result
 given_after heap kind (Halts trap) = NoResult
 
 -- the frames with what a call of this kind of result gave

@@ -1,19 +1,19 @@
 -- What is worked out of a call, its arguments being looked up and its checks passed.
-use Rattle.std.specs.Prelude.{ℕ, ◌+◌, nat_le, nat_lt, if◌then◌else◌, Bool, true, false, ℤ, pos, negsuc, List, ◌∷◌, length, Option, Some, None, is_some}
+use Rattle.std.specs.Prelude.{ℕ, ◌+◌, ◌-◌, ◌==◌, nat_le, nat_lt, if◌then◌else◌, Bool, true, false, ℤ, pos, negsuc, List, ◌∷◌, length, Option, Some, None, is_some}
 use Rattle.base.specs.Bytes.{Identifier, lookup}
-use Rattle.class_rules.specs.BuiltIns.{array_index_out_of_bounds, array_store_exception, negative_array_size, no_class_def_found_error, no_such_field_error, number_array, string_index_out_of_bounds}
+use Rattle.class_rules.specs.BuiltIns.{array_index_out_of_bounds, array_store_exception, illegal_monitor_state, negative_array_size, no_class_def_found_error, no_such_field_error, number_array, string_index_out_of_bounds}
 use Rattle.class_rules.specs.Class.{Classes, class_kind, class_named, element_class, superclass, assignable}
 use Rattle.class_rules.specs.Fields.{FieldId, find_field, find_static}
 use Rattle.jni.specs.Access.{Access, ElementsCopy, ArrayView, CharsCopy, CharsView}
-use Rattle.jni.specs.JniFunction.{JniFunction, FindClass, GetSuperclass, GetObjectClass, IsInstanceOf, IsAssignableFrom, AllocObject, NewLocalRef, NewGlobalRef, DeleteLocalRef, DeleteGlobalRef, IsSameObject, EnsureLocalCapacity, PushLocalFrame, PopLocalFrame, GetFieldID, GetStaticFieldID, GetField, SetField, GetStaticField, SetStaticField, GetObjectField, SetObjectField, GetStaticObjectField, SetStaticObjectField, GetArrayLength, NewArray, NewObjectArray, GetObjectArrayElement, SetObjectArrayElement, GetArrayRegion, SetArrayRegion, NewStringUTF, GetStringLength, GetStringRegion, GetBuffer, ReleaseBuffer, Throw, ThrowNew, ExceptionOccurred, ExceptionCheck, ExceptionClear, FatalError}
+use Rattle.jni.specs.JniFunction.{JniFunction, FindClass, GetSuperclass, GetObjectClass, IsInstanceOf, IsAssignableFrom, AllocObject, NewLocalRef, NewGlobalRef, DeleteLocalRef, DeleteGlobalRef, IsSameObject, EnsureLocalCapacity, PushLocalFrame, PopLocalFrame, GetFieldID, GetStaticFieldID, GetField, SetField, GetStaticField, SetStaticField, GetObjectField, SetObjectField, GetStaticObjectField, SetStaticObjectField, GetArrayLength, NewArray, NewObjectArray, GetObjectArrayElement, SetObjectArrayElement, GetArrayRegion, SetArrayRegion, NewStringUTF, GetStringLength, GetStringRegion, GetBuffer, ReleaseBuffer, Throw, ThrowNew, ExceptionOccurred, ExceptionCheck, ExceptionClear, FatalError, MonitorEnter, MonitorExit}
 use Rattle.semantics.specs.Arguments.{Actual, ReleaseMode, CopyBackAndFree, CopyBack, FreeUncopied, reference_given, object_given, mode_given, number_given, text_given, field_given, variable_given}
 use Rattle.semantics.specs.CallEffects.{NoResult, ScalarResult, ReferenceResult, FieldResult, level_of, local_array, same_reference, with_capacity}
 use Rattle.semantics.specs.Heap.{Heap, class_of, numbers_of, values_of, value_at, number_in, reference_in, field_place, static_place, fits_class}
 use Rattle.semantics.specs.Object.{Number, Refers, Reference}
-use Rattle.semantics.specs.Thread.{BuffersInUse, Frame, capacities}
+use Rattle.semantics.specs.Thread.{BuffersInUse, Frame, Monitor, capacities, monitor_of}
 use Rattle.semantics.specs.Value.{Int, Flag, Fatal, OutOfRange, convert}
 use Rattle.semantics.specs.Variable.{Variables}
-use Rattle.replay_calls.specs.Answers.{Answer, Gives, Writes, Makes, Raises, ThrowsNew, Ensures, Pushes, RefusesFrames, Pops, DeletesLocal, MakesGlobal, DeletesGlobal, Pends, Region, GetsRegion, SetsRegion, Lends, CopiesBack, Frees, Halts, zero_result}
+use Rattle.replay_calls.specs.Answers.{Answer, Gives, Writes, Makes, Raises, ThrowsNew, Ensures, Pushes, RefusesFrames, Pops, DeletesLocal, MakesGlobal, DeletesGlobal, Pends, Region, GetsRegion, SetsRegion, Lends, CopiesBack, Frees, Owns, Disowns, Halts, zero_result}
 use Rattle.replay_calls.specs.declared.answer.Subject.{Subject}
 use Rattle.replay_calls.specs.declared.answer.Subject.TheVariants as subject
 use Rattle.replay_terms.specs.declared.given.Lent.{Lent}
@@ -57,6 +57,8 @@ subject_of ExceptionOccurred = subject.Exceptions
 subject_of ExceptionCheck = subject.Exceptions
 subject_of ExceptionClear = subject.Exceptions
 subject_of FatalError = subject.Exceptions
+subject_of MonitorEnter = subject.Monitors
+subject_of MonitorExit = subject.Monitors
 subject_of f = subject.Classes
 
 -- a class that was found, or else an exception
@@ -184,7 +186,20 @@ released n p CopyBackAndFree = CopiesBack n p true
 released n p CopyBack = CopiesBack n p false
 released n p FreeUncopied = Frees p
 
-module _ (classes : Classes) (in_use : BuffersInUse) (heap : Heap) (variables : Variables) (frames : List Frame) (pending : Reference) (args : List Actual) where
+-- ---- monitors
+
+-- one entry more of an object with this monitor, which no other thread owns; after 255 of them -1
+abbrev pub monitor_entered : (object : ℕ) → Option Monitor → Answer
+monitor_entered n None = Owns n 1
+monitor_entered n (Some m) = if nat_lt m.count 255 then Owns n (m.count + 1) else Gives (ScalarResult (Int (negsuc 0)))
+
+-- one entry less of thread k; with the last one nobody owns the object
+abbrev pub monitor_left : (k : ℕ) → (object : ℕ) → Option Monitor → Answer
+monitor_left k n None = Raises illegal_monitor_state
+monitor_left k n (Some m) = if m.owner == k then (if m.count == 1 then Disowns n else Owns n (m.count - 1)) else Raises illegal_monitor_state
+
+-- thread k calls a function
+module _ (classes : Classes) (in_use : BuffersInUse) (k : ℕ) (monitors : List Monitor) (heap : Heap) (variables : Variables) (frames : List Frame) (pending : Reference) (args : List Actual) where
   abbrev pub reference : ℕ → Option ℕ
   reference i = reference_given args i
 
@@ -208,7 +223,7 @@ module _ (classes : Classes) (in_use : BuffersInUse) (heap : Heap) (variables : 
   abbrev pub place_of_static : ℕ
   place_of_static = static_place classes (field_given args 1)
 
-  -- the functions that can be called
+  -- what each function does
   abbrev pub worked_out : JniFunction → Answer
   worked_out FindClass = found_class (class_named classes (text 0))
   worked_out GetSuperclass = Gives (ReferenceResult (superclass classes (object 0)))
@@ -253,4 +268,5 @@ module _ (classes : Classes) (in_use : BuffersInUse) (heap : Heap) (variables : 
   worked_out ExceptionCheck = Gives (ScalarResult (Flag (is_some pending)))
   worked_out ExceptionClear = Pends None NoResult
   worked_out FatalError = Halts Fatal
-  worked_out f = Gives NoResult
+  worked_out MonitorEnter = monitor_entered (object 0) (monitor_of monitors (object 0))
+  worked_out MonitorExit = monitor_left k (object 0) (monitor_of monitors (object 0))

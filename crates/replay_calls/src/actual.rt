@@ -12,25 +12,18 @@ ghost use Rattle.semantics.specs.CallEffects.{level_of};
 ghost use Rattle.semantics.specs.Sight.{Sight, held_field, held_reference};
 ghost use Rattle.semantics.specs.Task.{Given, NumberOperand};
 ghost use Rattle.semantics.specs.Thread.{Shared as SharedOfThreads};
-ghost use Rattle.replay_calls.specs.Actuals.{actual_view, mode_view, name_view, given_field};
+ghost use Rattle.semantics.specs.Views.{mode_view};
+ghost use Rattle.replay_calls.specs.Actuals.{actual_view, name_view, given_field};
 ghost use Rattle.replay_terms.specs.Views.{operand_view, held_view, term_view, variables_view};
 ghost use Rattle.replay_calls.specs.Shares.{shared_view, sight_in};
 
 use crate::shared::Shared;
 use classes::fields::FieldId;
+pub use jni::ReleaseMode;
 use jni::{JniFunction, ParameterKind};
 use replay_terms::{Content, Operand, StaticReference, Term, Value, Variables};
 use std::alloc::{AllocError, Global};
 use syntax::{Argument, Constant, Expr, Name};
-
-/// How a buffer of copied elements is released (JNI Specification, chapter 4, "Release<PrimitiveType>ArrayElements
-/// Routines").
-#[derive(Clone, Copy)]
-pub enum ReleaseMode {
-    CopyBackAndFree,
-    CopyBack,
-    FreeUncopied,
-}
 
 /// An argument of a call, looked up.
 #[derive(Clone, Copy)]
@@ -93,7 +86,7 @@ fn push_actuals<'a>(
 }
 
 /// What an argument for this parameter is.
-fn look_up<'a>(
+pub fn look_up<'a>(
     shared: &Shared<'_>,
     variables: &Variables<'a>,
     parameter: ParameterKind,

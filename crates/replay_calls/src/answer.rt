@@ -1,6 +1,6 @@
 //! What a function of the JNI does, as data.
 
-ghost use Rattle.std.specs.Prelude.{◌≡◌, IsTrue, List, if◌then◌else◌, is_some, map};
+ghost use Rattle.std.specs.Prelude.{◌≡◌, IsTrue, List, ℕ, if◌then◌else◌, is_some, map};
 ghost use Rattle.std.specs.Option.{option_map};
 ghost use Rattle.base.specs.Bytes.{lookup};
 ghost use Rattle.classes.specs.FieldViews.{field_id_view};
@@ -8,13 +8,12 @@ ghost use Rattle.classes.specs.Views.{kind_view};
 ghost use Rattle.class_rules.specs.Class.{Classes, element_class};
 ghost use Rattle.class_rules.specs.Fields.{find_field, find_static};
 ghost use Rattle.class_rules.specs.Grown.{IsGrown};
-ghost use Rattle.jni.specs.JniFunction.{is_built_function};
 ghost use Rattle.jni.specs.Table.{function_value};
 ghost use Rattle.semantics.specs.CallEffects.{level_of, same_reference};
 ghost use Rattle.semantics.specs.Heap.{Heap, field_place, fits_class, number_in, reference_in, static_place};
 ghost use Rattle.semantics.specs.Arguments.{field_given, number_given, object_given, reference_given, text_given, variable_given};
 ghost use Rattle.semantics.specs.Object.{Reference};
-ghost use Rattle.semantics.specs.Thread.{BuffersInUse as InUse, Frame};
+ghost use Rattle.semantics.specs.Thread.{BuffersInUse as InUse, Frame, Monitor as MonitorOfThread};
 ghost use Rattle.semantics.specs.Variable.{Variables as VariablesOfCall};
 ghost use Rattle.replay_calls.specs.Actuals.{actual_view};
 ghost use Rattle.replay_calls.specs.Answers.{answer_or_trap, answer_view, lent_in, trap_in};
@@ -22,7 +21,7 @@ ghost use Rattle.replay_calls.specs.Checked.{trap_found};
 ghost use Rattle.replay_calls.specs.WorkedOut.{element_given, element_set, ensured, fits_element, found_class, found_field, global_deleted, index_given, local_deleted, made_global, new_array, new_object_array, pushed, subject_of, worked_out};
 ghost use Rattle.replay_calls.specs.declared.answer.Subject.TheVariants as subject;
 ghost use Rattle.replay_terms.specs.Views.{in_use_view, trap_view, variables_view};
-ghost use Rattle.syntax.specs.Views.{element_tree};
+ghost use Rattle.base.specs.Element.{element_value};
 ghost use Rattle.world_values.specs.Views.{object_value_view};
 
 use crate::actual::{
@@ -30,10 +29,12 @@ use crate::actual::{
     variable_given,
 };
 use crate::buffers::buffer_answer;
-use crate::check::{check, element_type, fits_class};
+use crate::check::{check, fits_class};
 use crate::exceptions::exception_answer;
 use crate::field;
+use crate::monitors::monitor_answer;
 use crate::regions::region_answer;
+use crate::shared::Shared;
 use classes::built_ins::{
     ARRAY_INDEX_OUT_OF_BOUNDS_EXCEPTION, ARRAY_STORE_EXCEPTION, NEGATIVE_ARRAY_SIZE_EXCEPTION,
     NO_CLASS_DEF_FOUND_ERROR, NO_SUCH_FIELD_ERROR, number_array,
@@ -87,6 +88,10 @@ pub enum Answer<'a> {
     CopiesBack(usize, &'a [u8], bool),
     /// The buffer that a variable holds is given up.
     Frees(&'a [u8]),
+    /// The thread owns the object of this name so many times, and 0 is given.
+    Owns(usize, u8),
+    /// Nobody owns the object of this name, and 0 is given.
+    Disowns(usize),
     /// The run stops.
     Halts(Trap),
 }
@@ -101,10 +106,12 @@ pub struct Region<'a> {
     pub array: &'a [u8],
 }
 
-/// What a call that gives a buffer goes by.
+/// Who calls, and what a call that gives a buffer goes by.
 #[derive(Clone, Copy)]
-pub struct Lending {
-    /// What the buffers of all threads take before it.
+pub struct Caller {
+    /// The thread's number, from 1.
+    pub thread: u8,
+    /// What the buffers of all threads take before the call.
     pub in_use: BuffersInUse,
     /// The element type of the buffer that is to hold it.
     pub element: ElementType,
@@ -127,6 +134,8 @@ pub(crate) enum Subject {
     Buffers,
     /// The pending exception.
     Exceptions,
+    /// The monitors of objects.
+    Monitors,
 }
 
 /// What a function works on.
@@ -153,6 +162,7 @@ fn subject_of(function: JniFunction) -> Subject
         JniFunction::Throw | JniFunction::ThrowNew => Subject::Exceptions,
         JniFunction::ExceptionClear | JniFunction::FatalError => Subject::Exceptions,
         JniFunction::ExceptionOccurred | JniFunction::ExceptionCheck => Subject::Exceptions,
+        JniFunction::MonitorEnter | JniFunction::MonitorExit => Subject::Monitors,
         _ => Subject::Classes,
     }
 }
@@ -161,32 +171,31 @@ fn subject_of(function: JniFunction) -> Subject
 /// does.
 pub fn answer_or_trap<'a>(
     classes: &'a ClassTable,
-    store: &Store,
+    shared: &Shared<'_>,
     variables: &Variables<'_>,
     frames: &Frames,
     pending: Option<usize>,
-    lending: Lending,
+    caller: Caller,
     function: JniFunction,
     actuals: &[Actual<'a>],
 ) -> Answer<'a>
-    requires built { IsTrue (is_built_function (function_value function)) }
-    requires grown { IsGrown classes.now }
-    ensures { answer_view result ≡ answer_or_trap (trap_found classes.now store.now frames.now (is_some pending) (element_tree lending.element) (function_value function) (map actual_view actuals.now))
-        (worked_out classes.now (in_use_view lending.in_use) store.now (variables_view variables.now) frames.now pending (map actual_view actuals.now) (function_value function)) }
+    requires { IsGrown classes.now }
+    ensures { answer_view result ≡ answer_or_trap (trap_found classes.now shared.now.store frames.now (is_some pending) (element_value caller.element) (function_value function) (map actual_view actuals.now))
+        (worked_out classes.now (in_use_view caller.in_use) caller.thread shared.now.monitors shared.now.store (variables_view variables.now) frames.now pending (map actual_view actuals.now) (function_value function)) }
 {
     let is_pending = pending.is_some();
     match check(
         classes,
-        store,
+        &shared.store,
         frames,
         is_pending,
-        lending.element,
+        caller.element,
         function,
         actuals,
     ) {
         Some(trap) => Answer::Halts(trap),
         None => work_out(
-            classes, store, variables, frames, pending, lending, function, actuals,
+            classes, shared, variables, frames, pending, caller, function, actuals,
         ),
     }
 }
@@ -214,18 +223,18 @@ pub fn lent_in(answer: Answer<'_>) -> Option<Lent>
 /// What a function does, all checks being passed.
 fn work_out<'a>(
     classes: &'a ClassTable,
-    store: &Store,
+    shared: &Shared<'_>,
     variables: &Variables<'_>,
     frames: &Frames,
     pending: Option<usize>,
-    lending: Lending,
+    caller: Caller,
     function: JniFunction,
     actuals: &[Actual<'a>],
 ) -> Answer<'a>
-    requires built { IsTrue (is_built_function (function_value function)) }
-    requires grown { IsGrown classes.now }
-    ensures { answer_view result ≡ worked_out classes.now (in_use_view lending.in_use) store.now (variables_view variables.now) frames.now pending (map actual_view actuals.now) (function_value function) }
+    requires { IsGrown classes.now }
+    ensures { answer_view result ≡ worked_out classes.now (in_use_view caller.in_use) caller.thread shared.now.monitors shared.now.store (variables_view variables.now) frames.now pending (map actual_view actuals.now) (function_value function) }
 {
+    let store = &shared.store;
     match subject_of(function) {
         Subject::Classes => class_answer(classes, store, function, actuals),
         Subject::References => reference_answer(variables, frames, function, actuals),
@@ -233,8 +242,9 @@ fn work_out<'a>(
         Subject::Statics => static_answer(classes, store, function, actuals),
         Subject::Arrays => array_answer(classes, store, function, actuals),
         Subject::Regions => region_answer(store, variables, function, actuals),
-        Subject::Buffers => buffer_answer(store, lending.in_use, function, actuals),
+        Subject::Buffers => buffer_answer(store, caller.in_use, function, actuals),
         Subject::Exceptions => exception_answer(pending, function, actuals),
+        Subject::Monitors => { monitor_answer(&shared.monitors, caller.thread, function, actuals) }
     }
 }
 
@@ -246,9 +256,8 @@ fn class_answer<'a>(
     function: JniFunction,
     actuals: &[Actual<'a>],
 ) -> Answer<'a>
-    requires built { IsTrue (is_built_function (function_value function)) }
-    requires subject { subject_of (function_value function) ≡ subject.Classes }
-    ensures { (in_use : InUse) (variables : VariablesOfCall) (frames : List Frame) (pending : Reference) → answer_view result ≡ worked_out classes.now in_use store.now variables frames pending (map actual_view actuals.now) (function_value function) }
+    requires { subject_of (function_value function) ≡ subject.Classes }
+    ensures { (in_use : InUse) (k : ℕ) (monitors : List MonitorOfThread) (variables : VariablesOfCall) (frames : List Frame) (pending : Reference) → answer_view result ≡ worked_out classes.now in_use k monitors store.now variables frames pending (map actual_view actuals.now) (function_value function) }
 {
     let first = object_given(actuals, 0);
     let second = object_given(actuals, 1);
@@ -281,7 +290,7 @@ fn reference_answer<'a>(
     actuals: &[Actual<'a>],
 ) -> Answer<'a>
     requires { subject_of (function_value function) ≡ subject.References }
-    ensures { (classes : Classes) (in_use : InUse) (heap : Heap) (pending : Reference) → answer_view result ≡ worked_out classes in_use heap (variables_view variables.now) frames.now pending (map actual_view actuals.now) (function_value function) }
+    ensures { (classes : Classes) (in_use : InUse) (k : ℕ) (monitors : List MonitorOfThread) (heap : Heap) (pending : Reference) → answer_view result ≡ worked_out classes in_use k monitors heap (variables_view variables.now) frames.now pending (map actual_view actuals.now) (function_value function) }
 {
     match function {
         JniFunction::NewLocalRef => { Answer::Gives(Given::Reference(reference_given(actuals, 0))) }
@@ -309,7 +318,7 @@ fn field_answer<'a>(
 ) -> Answer<'a>
     requires subject { subject_of (function_value function) ≡ subject.Fields }
     requires grown { IsGrown classes.now }
-    ensures { (in_use : InUse) (variables : VariablesOfCall) (frames : List Frame) (pending : Reference) → answer_view result ≡ worked_out classes.now in_use store.now variables frames pending (map actual_view actuals.now) (function_value function) }
+    ensures { (in_use : InUse) (k : ℕ) (monitors : List MonitorOfThread) (variables : VariablesOfCall) (frames : List Frame) (pending : Reference) → answer_view result ≡ worked_out classes.now in_use k monitors store.now variables frames pending (map actual_view actuals.now) (function_value function) }
 {
     let object = object_given(actuals, 0);
     let place = place_of_field(classes, store, actuals);
@@ -345,7 +354,7 @@ fn static_answer<'a>(
 ) -> Answer<'a>
     requires subject { subject_of (function_value function) ≡ subject.Statics }
     requires grown { IsGrown classes.now }
-    ensures { (in_use : InUse) (variables : VariablesOfCall) (frames : List Frame) (pending : Reference) → answer_view result ≡ worked_out classes.now in_use store.now variables frames pending (map actual_view actuals.now) (function_value function) }
+    ensures { (in_use : InUse) (k : ℕ) (monitors : List MonitorOfThread) (variables : VariablesOfCall) (frames : List Frame) (pending : Reference) → answer_view result ≡ worked_out classes.now in_use k monitors store.now variables frames pending (map actual_view actuals.now) (function_value function) }
 {
     let class = declarer(actuals);
     let place = place_of_static(classes, actuals);
@@ -380,7 +389,7 @@ fn array_answer<'a>(
     actuals: &[Actual<'a>],
 ) -> Answer<'a>
     requires { subject_of (function_value function) ≡ subject.Arrays }
-    ensures { (in_use : InUse) (variables : VariablesOfCall) (frames : List Frame) (pending : Reference) → answer_view result ≡ worked_out classes.now in_use store.now variables frames pending (map actual_view actuals.now) (function_value function) }
+    ensures { (in_use : InUse) (k : ℕ) (monitors : List MonitorOfThread) (variables : VariablesOfCall) (frames : List Frame) (pending : Reference) → answer_view result ≡ worked_out classes.now in_use k monitors store.now variables frames pending (map actual_view actuals.now) (function_value function) }
 {
     match function {
         JniFunction::GetArrayLength | JniFunction::GetStringLength => {
@@ -388,10 +397,7 @@ fn array_answer<'a>(
             Answer::Gives(Given::Number(values.len() as i32))
         }
         JniFunction::NewArray(element) => {
-            new_array(
-                number_array(element_type(element)),
-                number_given(actuals, 0),
-            )
+            new_array(number_array(element), number_given(actuals, 0))
         }
         JniFunction::NewObjectArray => new_object_array(actuals),
         JniFunction::GetObjectArrayElement => element(store, actuals),

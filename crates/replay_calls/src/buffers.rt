@@ -1,6 +1,6 @@
 //! What functions of element buffers do, as data.
 
-ghost use Rattle.std.specs.Prelude.{◌≡◌, List, IfOk, length, map};
+ghost use Rattle.std.specs.Prelude.{◌≡◌, List, ℕ, IfOk, length, map};
 ghost use Rattle.std.specs.Option.{option_map};
 ghost use Rattle.class_rules.specs.Class.{Classes};
 ghost use Rattle.jni.specs.Table.{access_value, function_value};
@@ -8,9 +8,10 @@ ghost use Rattle.semantics.specs.CallEffects.{BufferResult};
 ghost use Rattle.semantics.specs.CallStep.{tell_copy};
 ghost use Rattle.semantics.specs.Heap.{Heap, numbers_of};
 ghost use Rattle.semantics.specs.Object.{Reference};
-ghost use Rattle.semantics.specs.Thread.{Frame};
+ghost use Rattle.semantics.specs.Thread.{Frame, Monitor};
 ghost use Rattle.semantics.specs.Variable.{Variables as VariablesOfCall};
-ghost use Rattle.replay_calls.specs.Actuals.{actual_view, mode_view};
+ghost use Rattle.semantics.specs.Views.{mode_view};
+ghost use Rattle.replay_calls.specs.Actuals.{actual_view};
 ghost use Rattle.replay_calls.specs.Answers.{answer_view, heap_copied, variables_freed};
 ghost use Rattle.replay_calls.specs.WorkedOut.{copy_lent, lent_by, released, subject_of, view_lent, worked_out};
 ghost use Rattle.replay_calls.specs.declared.answer.Subject.TheVariants as subject;
@@ -32,7 +33,7 @@ pub(crate) fn buffer_answer<'a>(
     actuals: &[Actual<'a>],
 ) -> Answer<'a>
     requires { subject_of (function_value function) ≡ subject.Buffers }
-    ensures { (classes : Classes) (variables : VariablesOfCall) (frames : List Frame) (pending : Reference) → answer_view result ≡ worked_out classes (in_use_view in_use) store.now variables frames pending (map actual_view actuals.now) (function_value function) }
+    ensures { (classes : Classes) (k : ℕ) (monitors : List Monitor) (variables : VariablesOfCall) (frames : List Frame) (pending : Reference) → answer_view result ≡ worked_out classes (in_use_view in_use) k monitors store.now variables frames pending (map actual_view actuals.now) (function_value function) }
 {
     match function {
         JniFunction::GetBuffer(access) => {

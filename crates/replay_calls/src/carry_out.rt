@@ -1,6 +1,6 @@
 //! What the answer of a function does to what all threads share, to the variables, to the frames and to the pending exception.
 
-ghost use Rattle.std.specs.Prelude.{◌≡◌, IfOk, List, None, Some, true};
+ghost use Rattle.std.specs.Prelude.{◌≡◌, IfOk, List, None, Some, true, ℕ};
 ghost use Rattle.jni.specs.Prototype.{ResultKind as SourceKind};
 ghost use Rattle.jni.specs.Table.{result_value};
 ghost use Rattle.semantics.specs.CallEffects.{out_of_memory};
@@ -24,7 +24,8 @@ use replay_objects::{Frames, New, make, make_thrown};
 use replay_terms::{Given, StaticReference, Variables};
 use std::alloc::{AllocError, Global};
 
-/// Does what a function of this kind of result answers, where the run goes on, and tells what it gives. It gives no buffer.
+/// Does what a function of this kind of result answers to a thread's call, where the run goes on, and tells what it gives. It gives
+/// no buffer.
 pub fn carry_out<'a>(
     alloc: Global,
     classes: &ClassTable,
@@ -33,13 +34,14 @@ pub fn carry_out<'a>(
     frames: &mut Frames,
     pending: &mut Option<usize>,
     kind: ResultKind,
+    thread: u8,
     answer: Answer<'a>,
 ) -> Result<Given<'a>, AllocError>
     requires goes { trap_in (answer_view answer) ≡ None }
     requires unlent { lent_in (answer_view answer) ≡ None }
     requires fits { FitsFrames frames.old (answer_view answer) }
     requires arrays { FitsArrays shared.old.store (variables_view variables.old) (answer_view answer) }
-    ensures shared { IfOk result (λ _. shared_view shared.new ≡ shared_after classes.now (shared_view shared.old) (variables_view variables.old) (answer_view answer.entry)) }
+    ensures shared { IfOk result (λ _. shared_view shared.new ≡ shared_after classes.now thread (shared_view shared.old) (variables_view variables.old) (answer_view answer.entry)) }
     ensures variables { IfOk result (λ _. variables_view variables.new ≡ variables_after shared.old.store (variables_view variables.old) (answer_view answer.entry)) }
     ensures frames { IfOk result (λ _. frames.new ≡ frames_after frames.old (answer_view answer.entry)) }
     ensures pending { IfOk result (λ _. pending.new ≡ pending_after classes.now shared.old.store pending.old (answer_view answer.entry)) }
@@ -77,7 +79,7 @@ pub fn carry_out<'a>(
             Ok(Given::Nothing)
         }
         Answer::Halts(_) | Answer::Lends(_) => unreachable!(),
-        _ => carry_out_references(alloc, classes, shared, frames, pending, answer),
+        _ => carry_out_references(alloc, classes, shared, frames, pending, thread, answer),
     }
 }
 
@@ -90,7 +92,7 @@ fn carry_out_numbers<'a>(
 ) -> Result<Given<'a>, AllocError>
     requires of_numbers { is_of_numbers (answer_view answer) ≡ true }
     requires arrays { FitsArrays shared.old.store (variables_view variables.old) (answer_view answer) }
-    ensures shared { IfOk result (λ _. (classes : Classes) → shared_view shared.new ≡ shared_after classes (shared_view shared.old) (variables_view variables.old) (answer_view answer.entry)) }
+    ensures shared { IfOk result (λ _. (classes : Classes) (k : ℕ) → shared_view shared.new ≡ shared_after classes k (shared_view shared.old) (variables_view variables.old) (answer_view answer.entry)) }
     ensures variables { IfOk result (λ _. variables_view variables.new ≡ variables_after shared.old.store (variables_view variables.old) (answer_view answer.entry)) }
     ensures frames { (frames : List Frame) → frames ≡ frames_after frames (answer_view answer.entry) }
     ensures pending { (classes : Classes) (heap : Heap) (pending : Reference) → pending ≡ pending_after classes heap pending (answer_view answer.entry) }
@@ -107,7 +109,7 @@ fn carry_out_numbers<'a>(
     Ok(Given::Nothing)
 }
 
-/// Does to the references of all threads and of a call what an answer of references or of frames says.
+/// Does to the references and monitors of all threads and to a call's frames what an answer of references, monitors or frames says.
 #[inline(always)]
 fn carry_out_references<'a>(
     alloc: Global,
@@ -115,11 +117,12 @@ fn carry_out_references<'a>(
     shared: &mut Shared<'a>,
     frames: &mut Frames,
     pending: &mut Option<usize>,
+    thread: u8,
     answer: Answer<'a>,
 ) -> Result<Given<'a>, AllocError>
     requires of_references { is_of_references (answer_view answer) ≡ true }
     requires fits { FitsFrames frames.old (answer_view answer) }
-    ensures shared { IfOk result (λ _. (vs : VariablesOfCall) → shared_view shared.new ≡ shared_after classes.now (shared_view shared.old) vs (answer_view answer.entry)) }
+    ensures shared { IfOk result (λ _. (vs : VariablesOfCall) → shared_view shared.new ≡ shared_after classes.now thread (shared_view shared.old) vs (answer_view answer.entry)) }
     ensures variables { (heap : Heap) (vs : VariablesOfCall) → vs ≡ variables_after heap vs (answer_view answer.entry) }
     ensures frames { IfOk result (λ _. frames.new ≡ frames_after frames.old (answer_view answer.entry)) }
     ensures pending { IfOk result (λ _. (heap : Heap) → pending.new ≡ pending_after classes.now heap pending.old (answer_view answer.entry)) }
@@ -134,6 +137,14 @@ fn carry_out_references<'a>(
             shared.statics.set(variable, StaticReference::Deleted)?;
             shared.globals.remove(name);
             Ok(Given::Nothing)
+        }
+        Answer::Owns(object, count) => {
+            shared.monitors.put(object, thread, count)?;
+            Ok(Given::Number(0))
+        }
+        Answer::Disowns(object) => {
+            shared.monitors.remove(object);
+            Ok(Given::Number(0))
         }
         _ => carry_out_frames(alloc, classes, frames, pending, answer),
     }
@@ -201,6 +212,7 @@ pub fn makes_object(answer: Answer<'_>) -> bool
         Answer::MakesGlobal(_) | Answer::DeletesGlobal(_, _) => false,
         Answer::GetsRegion(_) | Answer::SetsRegion(_) => false,
         Answer::Lends(_) | Answer::CopiesBack(_, _, _) | Answer::Frees(_) => false,
+        Answer::Owns(_, _) | Answer::Disowns(_) => false,
         Answer::Pends(_, _) | Answer::Halts(_) => false,
     }
 }

@@ -4,11 +4,11 @@ ghost use Rattle.std.specs.Prelude.{◌≡◌, ◌||◌, map, slice_get, zip};
 ghost use Rattle.std.specs.List.{list_any};
 ghost use Rattle.std.specs.Option.{option_map};
 ghost use Rattle.class_rules.specs.BuiltIns.{throwable_class};
-ghost use Rattle.classes.specs.Views.{element_view, field_type_view};
+ghost use Rattle.base.specs.Element.{element_value};
+ghost use Rattle.classes.specs.Views.{field_type_view};
 ghost use Rattle.jni.specs.Table.{function_value, parameter_value, result_value};
 ghost use Rattle.semantics.specs.Checks.{frames_after, is_deleted, is_full, is_misfit, is_missing, lacks_room};
 ghost use Rattle.semantics.specs.Heap.{fits_class, fits_type, holds_number, holds_reference, is_instance};
-ghost use Rattle.syntax.specs.Views.{element_tree};
 ghost use Rattle.replay_calls.specs.Actuals.{actual_view};
 ghost use Rattle.replay_calls.specs.Checked.{fit_together, fits_new_array, has_field, has_static, misfits, trap_found};
 ghost use Rattle.replay_terms.specs.Views.{trap_view};
@@ -32,7 +32,7 @@ pub fn check(
     function: JniFunction,
     actuals: &[Actual<'_>],
 ) -> Option<Trap>
-    ensures { option_map trap_view result ≡ trap_found classes.now store.now frames.now is_pending (element_tree buffer) (function_value function) (map actual_view actuals.now) }
+    ensures { option_map trap_view result ≡ trap_found classes.now store.now frames.now is_pending (element_value buffer) (function_value function) (map actual_view actuals.now) }
 {
     let asked = function.prototype();
     if is_pending && !asked.pending {
@@ -148,23 +148,11 @@ fn misfits(classes: &ClassTable, parameter: ParameterKind, class: usize) -> bool
 {
     match parameter {
         ParameterKind::ClassObject => class != CLASS,
-        ParameterKind::NumberArray(element) => class != number_array(element_type(element)),
+        ParameterKind::NumberArray(element) => class != number_array(element),
         ParameterKind::AnyArray => matches!(classes.kind(class), ClassKind::Plain),
         ParameterKind::ObjectArray => !matches!(classes.kind(class), ClassKind::ArrayOfObjects(_)),
         ParameterKind::StringObject => class != STRING,
         _ => false,
-    }
-}
-
-/// The same type, as classes have it.
-pub(crate) fn element_type(element: syntax::ElementType) -> ElementType
-    ensures { element_view result ≡ element_tree element }
-{
-    match element {
-        syntax::ElementType::Jint => ElementType::Int,
-        syntax::ElementType::Jshort => ElementType::Short,
-        syntax::ElementType::Jbyte => ElementType::Byte,
-        syntax::ElementType::Jchar => ElementType::Char,
     }
 }
 
@@ -178,14 +166,13 @@ fn fit_together(
     function: JniFunction,
     actuals: &[Actual<'_>],
 ) -> bool
-    ensures { result ≡ fit_together classes.now store.now (map actual_view actuals.now) (element_tree buffer) (function_value function) }
+    ensures { result ≡ fit_together classes.now store.now (map actual_view actuals.now) (element_value buffer) (function_value function) }
 {
     let field = field_given(actuals, 1);
     match function {
         JniFunction::AllocObject => !classes.has_own_making(object_given(actuals, 0)),
         JniFunction::GetField(element) | JniFunction::SetField(element) => {
-            has_field(classes, store, actuals)
-                && holds_number(element_type(element), type_of(field))
+            has_field(classes, store, actuals) && holds_number(element, type_of(field))
         }
         JniFunction::GetObjectField => {
             has_field(classes, store, actuals) && holds_reference(type_of(field))
@@ -195,7 +182,7 @@ fn fit_together(
                 && fits_type(classes, store, reference_given(actuals, 2), type_of(field))
         }
         JniFunction::GetStaticField(element) | JniFunction::SetStaticField(element) => {
-            has_static(classes, actuals) && holds_number(element_type(element), type_of(field))
+            has_static(classes, actuals) && holds_number(element, type_of(field))
         }
         JniFunction::GetStaticObjectField => {
             has_static(classes, actuals) && holds_reference(type_of(field))
@@ -205,7 +192,7 @@ fn fit_together(
                 && fits_type(classes, store, reference_given(actuals, 2), type_of(field))
         }
         JniFunction::GetBuffer(Access::ArrayView) => {
-            store.class_of(object_given(actuals, 0)) == number_array(element_type(buffer))
+            store.class_of(object_given(actuals, 0)) == number_array(buffer)
         }
         JniFunction::NewObjectArray => fits_new_array(classes, store, actuals),
         JniFunction::Throw => is_throwable(classes, store, object_given(actuals, 0)),
@@ -249,7 +236,7 @@ fn is_throwable(classes: &ClassTable, store: &Store, name: usize) -> bool
 
 /// Whether a type is that of these numbers.
 fn holds_number(element: ElementType, field_type: FieldType) -> bool
-    ensures { result ≡ holds_number (element_view element) (field_type_view field_type) }
+    ensures { result ≡ holds_number (element_value element) (field_type_view field_type) }
 {
     match field_type {
         FieldType::Number(numbers) => match (element, numbers) {

@@ -1,10 +1,10 @@
 //! What functions of exceptions do, as data.
 
-ghost use Rattle.std.specs.Prelude.{◌≡◌, List, map};
+ghost use Rattle.std.specs.Prelude.{◌≡◌, List, ℕ, map};
 ghost use Rattle.class_rules.specs.Class.{Classes};
 ghost use Rattle.jni.specs.Table.{function_value};
 ghost use Rattle.semantics.specs.Heap.{Heap};
-ghost use Rattle.semantics.specs.Thread.{BuffersInUse, Frame};
+ghost use Rattle.semantics.specs.Thread.{BuffersInUse, Frame, Monitor};
 ghost use Rattle.semantics.specs.Variable.{Variables};
 ghost use Rattle.replay_calls.specs.Actuals.{actual_view};
 ghost use Rattle.replay_calls.specs.Answers.{answer_view};
@@ -24,7 +24,7 @@ pub(crate) fn exception_answer<'a>(
     actuals: &[Actual<'a>],
 ) -> Answer<'a>
     requires { subject_of (function_value function) ≡ subject.Exceptions }
-    ensures { (classes : Classes) (in_use : BuffersInUse) (heap : Heap) (variables : Variables) (frames : List Frame) → answer_view result ≡ worked_out classes in_use heap variables frames pending (map actual_view actuals.now) (function_value function) }
+    ensures { (classes : Classes) (in_use : BuffersInUse) (k : ℕ) (monitors : List Monitor) (heap : Heap) (variables : Variables) (frames : List Frame) → answer_view result ≡ worked_out classes in_use k monitors heap variables frames pending (map actual_view actuals.now) (function_value function) }
 {
     match function {
         JniFunction::Throw => Answer::Pends(reference_given(actuals, 0), Given::Number(0)),

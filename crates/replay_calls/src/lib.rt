@@ -9,9 +9,10 @@ pub mod carry_out;
 pub mod check;
 mod exceptions;
 pub mod field;
+mod monitors;
 mod regions;
 mod shared;
 
-pub use answer::{Answer, Lending, Region, answer_or_trap, lent_in, trap_in};
+pub use answer::{Answer, Caller, Region, answer_or_trap, lent_in, trap_in};
 pub use buffers::tell_copy;
 pub use shared::Shared;

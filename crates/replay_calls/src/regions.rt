@@ -1,11 +1,11 @@
 //! What functions of regions do: parts of arrays and strings that are copied to or from local arrays.
 
-ghost use Rattle.std.specs.Prelude.{◌≡◌, List, map};
+ghost use Rattle.std.specs.Prelude.{◌≡◌, List, ℕ, map};
 ghost use Rattle.std.specs.Option.{option_map};
 ghost use Rattle.class_rules.specs.Class.{Classes};
 ghost use Rattle.jni.specs.Table.{function_value};
 ghost use Rattle.semantics.specs.Object.{Reference};
-ghost use Rattle.semantics.specs.Thread.{BuffersInUse, Frame};
+ghost use Rattle.semantics.specs.Thread.{BuffersInUse, Frame, Monitor};
 ghost use Rattle.replay_calls.specs.Actuals.{actual_view};
 ghost use Rattle.replay_calls.specs.Answers.{FitsArrays, answer_view, heap_with, region_view, variables_with};
 ghost use Rattle.replay_calls.specs.WorkedOut.{region_given, region_got, region_set, subject_of, worked_out};
@@ -31,7 +31,7 @@ pub(crate) fn region_answer<'a>(
     actuals: &[Actual<'a>],
 ) -> Answer<'a>
     requires { subject_of (function_value function) ≡ subject.Regions }
-    ensures { (classes : Classes) (in_use : BuffersInUse) (frames : List Frame) (pending : Reference) → answer_view result ≡ worked_out classes in_use store.now (variables_view variables.now) frames pending (map actual_view actuals.now) (function_value function) }
+    ensures { (classes : Classes) (in_use : BuffersInUse) (k : ℕ) (monitors : List Monitor) (frames : List Frame) (pending : Reference) → answer_view result ≡ worked_out classes in_use k monitors store.now (variables_view variables.now) frames pending (map actual_view actuals.now) (function_value function) }
 {
     match function {
         JniFunction::GetArrayRegion(_) => {

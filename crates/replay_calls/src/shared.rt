@@ -1,13 +1,14 @@
 //! What all threads share.
 
-use replay_objects::{Names, Store};
+use replay_objects::{Monitors, Names, Store};
 use replay_terms::Statics;
 
-/// The objects, the statics, and the global references.
+/// The objects, the statics, the global references, and the monitors that threads own.
 pub struct Shared<'a> {
     pub store: Store,
     pub statics: Statics<'a>,
     pub globals: Names,
+    pub monitors: Monitors,
 }
 
 // Written out, and not derived, so that a crate above drops it by a call and doesn't prove it anew.
@@ -17,9 +18,11 @@ impl Drop for Shared<'_> {
             store,
             statics,
             globals,
+            monitors,
         } = self;
         drop(store);
         drop(statics);
         drop(globals);
+        drop(monitors);
     }
 }

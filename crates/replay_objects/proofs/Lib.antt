@@ -2,3 +2,4 @@ mod Lists
 mod LoadedLemmas
 mod FrameLemmas
 mod NumberLemmas
+mod MonitorLemmas

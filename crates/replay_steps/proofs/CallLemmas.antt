@@ -1,17 +1,17 @@
 -- What a call in memory does is the call's step.
-use Rattle.std.proofs.Common.{◌≡◌, ℕ, Bool, true, false, List, [], ◌∷◌, ◌++◌, ◌+◌, length, Option, Some, None, refl, sym, ap, ◌∙◌, append-nil}
-use Rattle.std.specs.Prelude.{ℤ, pos, negsuc, drop, nat_le, nat_lt, if◌then◌else◌, is_some}
+use Rattle.std.proofs.Common.{◌≡◌, ℕ, ◌-◌, Bool, true, false, cond, not, List, [], ◌∷◌, ◌++◌, ◌+◌, length, Option, Some, None, refl, sym, ap, ◌∙◌, append-nil}
+use Rattle.std.specs.Prelude.{◌==◌, ℤ, pos, negsuc, drop, nat_le, nat_lt, if◌then◌else◌, is_some}
 use Rattle.std.specs.Option.{option_to_list}
 use Rattle.base.specs.Bytes.{Identifier, lookup}
 use Rattle.base.specs.Element.{ElementType}
-use Rattle.class_rules.specs.BuiltIns.{array_index_out_of_bounds, no_class_def_found_error, no_such_field_error, number_array, string_index_out_of_bounds}
+use Rattle.class_rules.specs.BuiltIns.{array_index_out_of_bounds, illegal_monitor_state, no_class_def_found_error, no_such_field_error, number_array, string_index_out_of_bounds}
 use Rattle.class_rules.specs.Class.{Classes}
 use Rattle.class_rules.specs.Fields.{FieldId}
 use Rattle.jni.specs.Access.{Access, ElementsCopy, ArrayView, CharsCopy, CharsView}
-use Rattle.jni.specs.JniFunction.{is_built_function, JniFunction, FindClass, NewGlobalRef, DeleteLocalRef, DeleteGlobalRef, EnsureLocalCapacity, PushLocalFrame, GetFieldID, GetStaticFieldID, prototype, NewArray, NewObjectArray, GetObjectArrayElement, SetObjectArrayElement, GetArrayRegion, SetArrayRegion, GetStringRegion, GetBuffer, ReleaseBuffer}
+use Rattle.jni.specs.JniFunction.{JniFunction, FindClass, NewGlobalRef, DeleteLocalRef, DeleteGlobalRef, EnsureLocalCapacity, PushLocalFrame, GetFieldID, GetStaticFieldID, prototype, NewArray, NewObjectArray, GetObjectArrayElement, SetObjectArrayElement, GetArrayRegion, SetArrayRegion, GetStringRegion, GetBuffer, ReleaseBuffer, MonitorEnter, MonitorExit}
 use Rattle.jni.specs.Prototype.{ResultKind, NewLocal}
 use Rattle.semantics.specs.Arguments.{Actual, ReleaseMode, CopyBackAndFree, CopyBack, FreeUncopied, mode_given, number_given, object_given, reference_given, variable_given, address_given}
-use Rattle.semantics.specs.CallEffects.{CallResult, NoResult, ReferenceResult, BufferResult, CallEffect, copy_effect, freed, release_effect, view_effect, Leaves, Throws, at_index, at_region, delete_global_effect, delete_local_effect, ensure_effect, found_class_effect, found_field_effect, get_region_effect, level_of, local_array, new_array_effect, out_of_memory, push_effect, refuses_frames, set_region_effect, store_effect, with_capacity, without_local}
+use Rattle.semantics.specs.CallEffects.{CallResult, NoResult, ReferenceResult, ScalarResult, enter_effect, exit_effect, monitor, monitors_effect, BufferResult, CallEffect, copy_effect, freed, release_effect, view_effect, Leaves, Throws, at_index, at_region, delete_global_effect, delete_local_effect, ensure_effect, found_class_effect, found_field_effect, get_region_effect, level_of, local_array, new_array_effect, out_of_memory, push_effect, refuses_frames, set_region_effect, store_effect, with_capacity, without_local}
 use Rattle.semantics.specs.CallEffects as call_effects
 use Rattle.semantics.specs.CallStep.{after_call, after_refusal, call_step, checked, completed, failure, is_zero, makes_objects, put, received, target_element, tell_copy}
 use Rattle.semantics.specs.CallTable.{call_effect, go_together}
@@ -21,9 +21,9 @@ use Rattle.semantics.specs.Heap.{Heap, next_name, numbers_of, reference_in, valu
 use Rattle.semantics.specs.Object.{Number, Object, Reference, Refers}
 use Rattle.semantics.specs.World.{fresh_object}
 use Rattle.semantics.specs.Task.{Task}
-use Rattle.semantics.specs.Thread.{Frame, Thread, Shared, BuffersInUse, Trapped, Advance, Advances, capacities}
+use Rattle.semantics.specs.Thread.{Frame, Monitor, Thread, Shared, BuffersInUse, Trapped, Advance, Advances, capacities, monitor_of, without_monitor}
 use Rattle.semantics.specs.ThreadStep.{with_tasks}
-use Rattle.semantics.specs.Value.{Trap, OutOfRange}
+use Rattle.semantics.specs.Value.{Int, Trap, OutOfRange}
 use Rattle.semantics.specs.Variable.{Variable, Variables, Buffer, NoBuffer, Copy, View, change}
 use Rattle.replay_terms.specs.declared.given.Given.{Given}
 use Rattle.replay_terms.specs.declared.given.Given.TheVariants as given
@@ -36,7 +36,7 @@ use Rattle.replay_tasks.specs.declared.outcome.Purpose.TheVariants as purposes
 use Rattle.replay_tasks.specs.declared.outcome.Target.TheVariants as target
 use Rattle.replay_tasks.specs.declared.task.Task.{Task as TaskInMemory}
 use Rattle.replay_terms.specs.declared.trap.Trap.{Trap as TrapInMemory}
-use Rattle.replay_calls.specs.Answers.{Answer, Gives, Writes, Makes, Raises, ThrowsNew, Ensures, Pushes, RefusesFrames, Pops, DeletesLocal, MakesGlobal, DeletesGlobal, Pends, Region, GetsRegion, SetsRegion, Lends, CopiesBack, Frees, Halts, answer_or_trap, effect_as, frames_after, frames_with, given_after, lent_in, makes_object, pending_after, shared_after, trap_in, variables_after, variables_freed, variables_with, without_global, zero_result}
+use Rattle.replay_calls.specs.Answers.{Answer, Gives, Writes, Makes, Raises, ThrowsNew, Ensures, Pushes, RefusesFrames, Pops, DeletesLocal, MakesGlobal, DeletesGlobal, Pends, Region, GetsRegion, SetsRegion, Lends, CopiesBack, Frees, Owns, Disowns, Halts, answer_or_trap, effect_as, frames_after, frames_with, given_after, lent_in, makes_object, pending_after, shared_after, trap_in, variables_after, variables_freed, variables_with, with_disowned, with_owned, without_global, zero_result}
 use Rattle.replay_terms.specs.Views.{given_view, lent_view, Contents, trap_view, variables_view}
 use Rattle.replay_steps.specs.Calls.{MakesCall, lent_outcome, wanted_element}
 use Rattle.replay_calls.specs.Checked.{fit_together, trap_found}
@@ -45,7 +45,7 @@ use Rattle.replay_objects.specs.New.{array_class, object_of, thrown}
 use Rattle.replay_tasks.specs.Outcomes.{outcome_for, purpose_view}
 use Rattle.replay_steps.specs.Steps.{Scene, Sees, left_by, scene_with}
 use Rattle.replay_tasks.specs.Tasks.{task_view}
-use Rattle.replay_calls.specs.WorkedOut.{element_given, element_set, ensured, fits_element, found_class, found_field, global_deleted, index_within, local_deleted, made_global, new_array, new_object_array, pushed, lent_by, region_got, region_set, region_within, released, worked_out}
+use Rattle.replay_calls.specs.WorkedOut.{element_given, element_set, ensured, fits_element, found_class, found_field, global_deleted, index_within, local_deleted, made_global, monitor_entered, monitor_left, new_array, new_object_array, pushed, lent_by, region_got, region_set, region_within, released, worked_out}
 use Rattle.replay_steps.proofs.TaskLemmas.{same_thread}
 
 -- ---- checks
@@ -57,7 +57,7 @@ together classes heap buffer args (GetBuffer ArrayView) = refl
 together classes heap buffer args f = refl
 
 -- the trap of a call is the one that was found
-trap_is : (classes : Classes) (heap : Heap) (buffer : ElementType) (args : List Actual) (f : JniFunction) (t : Thread) → call_trap classes heap t buffer f args ≡ trap_found classes heap t.frames (is_some t.pending) buffer f args
+pub trap_is : (classes : Classes) (heap : Heap) (buffer : ElementType) (args : List Actual) (f : JniFunction) (t : Thread) → call_trap classes heap t buffer f args ≡ trap_found classes heap t.frames (is_some t.pending) buffer f args
 unfolding call_trap
 trap_is classes heap buffer args f t = rw (together classes heap buffer args f) refl
 
@@ -68,53 +68,62 @@ any_line vs line (purposes.Test b other) = refl
 
 -- ---- effects
 
+-- where an object has no monitor, none goes
+none_without : (ms : List Monitor) (n : ℕ) → monitor_of ms n ≡ None → without_monitor ms n ≡ ms
+none_without [] n none = refl
+none_without (m ∷ ms) n none = by_test (m.object == n) none (λ rest. none_without ms n rest)
+  where
+    by_test : (b : Bool) → cond b (Some m) (monitor_of ms n) ≡ None → (monitor_of ms n ≡ None → without_monitor ms n ≡ ms) → cond (not b) (m ∷ without_monitor ms n) (without_monitor ms n) ≡ m ∷ ms
+    by_test true h rest = absurd (cc)
+    by_test false h rest = ap (λ (l : List Monitor). m ∷ l) (rest h)
+
 module _ (classes : Classes) (in_use : BuffersInUse) (k : ℕ) (s : Shared) (t : Thread) (args : List Actual) where
-  class_found : (o : Option ℕ) → found_class_effect s t no_class_def_found_error o ≡ effect_as classes s t (found_class o)
+  class_found : (o : Option ℕ) → found_class_effect s t no_class_def_found_error o ≡ effect_as classes k s t (found_class o)
   class_found None = refl
   class_found (Some c) = refl
 
-  field_found : (o : Option FieldId) → found_field_effect s t no_such_field_error o ≡ effect_as classes s t (found_field o)
+  field_found : (o : Option FieldId) → found_field_effect s t no_such_field_error o ≡ effect_as classes k s t (found_field o)
   field_found None = refl
   field_found (Some f) = refl
 
-  fitting : (b : Bool) (a : Answer) → (if b then effect_as classes s t a else refuses_frames classes s t) ≡ effect_as classes s t (if b then a else RefusesFrames)
+  fitting : (b : Bool) (a : Answer) → (if b then effect_as classes k s t a else refuses_frames classes s t) ≡ effect_as classes k s t (if b then a else RefusesFrames)
   fitting true a = refl
   fitting false a = refl
 
-  ensures : (n : ℤ) → ensure_effect classes s t n ≡ effect_as classes s t (ensured t.frames n)
+  ensures : (n : ℤ) → ensure_effect classes s t n ≡ effect_as classes k s t (ensured t.frames n)
   ensures (pos n) = fitting (nat_le (capacities (with_capacity n t.frames)) 1024) (Ensures n)
   ensures (negsuc n) = refl
 
-  pushes : (n : ℤ) → push_effect classes s t n ≡ effect_as classes s t (pushed t.frames n)
+  pushes : (n : ℤ) → push_effect classes s t n ≡ effect_as classes k s t (pushed t.frames n)
   pushes (pos n) = fitting (nat_le (capacities (new_frame n ∷ t.frames)) 1024) (Pushes n)
   pushes (negsuc n) = refl
 
-  deletes_local : (v : Option Variable) (r : Reference) → delete_local_effect s t v r ≡ effect_as classes s t (local_deleted (level_of v) r)
+  deletes_local : (v : Option Variable) (r : Reference) → delete_local_effect s t v r ≡ effect_as classes k s t (local_deleted (level_of v) r)
   deletes_local v None = refl
   deletes_local v (Some n) = refl
 
-  makes_global : (r : Reference) → Leaves [] (record s { globals = option_to_list r ++ s.globals }) t (ReferenceResult r) ≡ effect_as classes s t (made_global r)
+  makes_global : (r : Reference) → Leaves [] (record s { globals = option_to_list r ++ s.globals }) t (ReferenceResult r) ≡ effect_as classes k s t (made_global r)
   makes_global None = refl
   makes_global (Some n) = refl
 
-  deletes_global : (x : Identifier) (r : Reference) → delete_global_effect s t x r ≡ effect_as classes s t (global_deleted x r)
+  deletes_global : (x : Identifier) (r : Reference) → delete_global_effect s t x r ≡ effect_as classes k s t (global_deleted x r)
   deletes_global x None = refl
   deletes_global x (Some n) = refl
 
-  new_arrays : (class : ℕ) (z : ℤ) → new_array_effect s t class z (Number (pos 0)) ≡ effect_as classes s t (new_array class z)
+  new_arrays : (class : ℕ) (z : ℤ) → new_array_effect s t class z (Number (pos 0)) ≡ effect_as classes k s t (new_array class z)
   new_arrays class (pos n) = refl
   new_arrays class (negsuc n) = refl
 
-  new_object_arrays : (element : ℕ) (r : Reference) (z : ℤ) → new_array_effect s t (array_class classes element) z (Refers r) ≡ effect_as classes s t (new_object_array element r z)
+  new_object_arrays : (element : ℕ) (r : Reference) (z : ℤ) → new_array_effect s t (array_class classes element) z (Refers r) ≡ effect_as classes k s t (new_object_array element r z)
   new_object_arrays element r (pos n) = refl
   new_object_arrays element r (negsuc n) = refl
 
   -- what is done at an index that an array has, and else
-  at_place : (go : ℕ → CallEffect) (a : Option ℕ → Answer) → ((i : ℕ) → go i ≡ effect_as classes s t (a (Some i))) → Throws array_index_out_of_bounds ≡ effect_as classes s t (a None)
-      → (count : ℕ) (z : ℤ) → at_index array_index_out_of_bounds count z go ≡ effect_as classes s t (a (index_within count z))
+  at_place : (go : ℕ → CallEffect) (a : Option ℕ → Answer) → ((i : ℕ) → go i ≡ effect_as classes k s t (a (Some i))) → Throws array_index_out_of_bounds ≡ effect_as classes k s t (a None)
+      → (count : ℕ) (z : ℤ) → at_index array_index_out_of_bounds count z go ≡ effect_as classes k s t (a (index_within count z))
   at_place go a there past count (pos i) = by_test (nat_lt i count)
     where
-      by_test : (b : Bool) → (if b then go i else Throws array_index_out_of_bounds) ≡ effect_as classes s t (a (if b then Some i else None))
+      by_test : (b : Bool) → (if b then go i else Throws array_index_out_of_bounds) ≡ effect_as classes k s t (a (if b then Some i else None))
       by_test true = there i
       by_test false = past
   at_place go a there past count (negsuc i) = past
@@ -126,49 +135,49 @@ module _ (classes : Classes) (in_use : BuffersInUse) (k : ℕ) (s : Shared) (t :
   abbrev count : ℕ
   count = length (values_of s.heap array)
 
-  gets : (z : ℤ) → at_index array_index_out_of_bounds count z (λ i. Leaves [] s t (ReferenceResult (reference_in (value_at s.heap array i)))) ≡ effect_as classes s t (element_given s.heap array (index_within count z))
+  gets : (z : ℤ) → at_index array_index_out_of_bounds count z (λ i. Leaves [] s t (ReferenceResult (reference_in (value_at s.heap array i)))) ≡ effect_as classes k s t (element_given s.heap array (index_within count z))
   gets = at_place (λ i. Leaves [] s t (ReferenceResult (reference_in (value_at s.heap array i)))) (element_given s.heap array) (λ i. refl) refl count
 
-  stores : (fits : Bool) (n : ℕ) (r : Reference) (i : ℕ) → store_effect s t fits n r i ≡ effect_as classes s t (element_set fits n r (Some i))
+  stores : (fits : Bool) (n : ℕ) (r : Reference) (i : ℕ) → store_effect s t fits n r i ≡ effect_as classes k s t (element_set fits n r (Some i))
   stores true n r i = refl
   stores false n r i = refl
 
-  sets : (fits : Bool) (r : Reference) (z : ℤ) → at_index array_index_out_of_bounds count z (store_effect s t fits array r) ≡ effect_as classes s t (element_set fits array r (index_within count z))
+  sets : (fits : Bool) (r : Reference) (z : ℤ) → at_index array_index_out_of_bounds count z (store_effect s t fits array r) ≡ effect_as classes k s t (element_set fits array r (index_within count z))
   sets fits r = at_place (store_effect s t fits array r) (element_set fits array r) (stores fits array r) refl count
 
   -- what is done with a region that is inside, and else
   at_place_of : (go : ℕ → ℕ → CallEffect) (a : Option Region → Answer) (exception n : ℕ) (x : Identifier)
-      → ((start m : ℕ) → go start m ≡ effect_as classes s t (a (Some (record { object = n; start = start; count = m; array = x })))) → Throws exception ≡ effect_as classes s t (a None)
-      → (length : ℕ) (start count : ℤ) → at_region exception length start count go ≡ effect_as classes s t (a (region_within n length x start count))
+      → ((start m : ℕ) → go start m ≡ effect_as classes k s t (a (Some (record { object = n; start = start; count = m; array = x })))) → Throws exception ≡ effect_as classes k s t (a None)
+      → (length : ℕ) (start count : ℤ) → at_region exception length start count go ≡ effect_as classes k s t (a (region_within n length x start count))
   at_place_of go a exception n x there past length (pos start) (pos m) = by_test (nat_le (start + m) length)
     where
-      by_test : (b : Bool) → (if b then go start m else Throws exception) ≡ effect_as classes s t (a (if b then Some (record { object = n; start = start; count = m; array = x }) else None))
+      by_test : (b : Bool) → (if b then go start m else Throws exception) ≡ effect_as classes k s t (a (if b then Some (record { object = n; start = start; count = m; array = x }) else None))
       by_test true = there start m
       by_test false = past
   at_place_of go a exception n x there past length (pos start) (negsuc m) = past
   at_place_of go a exception n x there past length (negsuc start) z = past
 
   -- where the local array is too short the run stops
-  if_room : (b : Bool) (a : Answer) → (if b then effect_as classes s t a else call_effects.Halts OutOfRange) ≡ effect_as classes s t (if b then a else Halts OutOfRange)
+  if_room : (b : Bool) (a : Answer) → (if b then effect_as classes k s t a else call_effects.Halts OutOfRange) ≡ effect_as classes k s t (if b then a else Halts OutOfRange)
   if_room true a = refl
   if_room false a = refl
 
-  gets_region : (exception n : ℕ) (x : Identifier) (length : ℕ) (start count : ℤ) → at_region exception length start count (get_region_effect s t n x) ≡ effect_as classes s t (region_got exception t.variables (region_within n length x start count))
+  gets_region : (exception n : ℕ) (x : Identifier) (length : ℕ) (start count : ℤ) → at_region exception length start count (get_region_effect s t n x) ≡ effect_as classes k s t (region_got exception t.variables (region_within n length x start count))
   gets_region exception n x =
       at_place_of (get_region_effect s t n x) (region_got exception t.variables) exception n x
       (λ start m. if_room (nat_le m (length (local_array (lookup x t.variables)))) (GetsRegion (record { object = n; start = start; count = m; array = x }))) refl
 
-  sets_region : (n : ℕ) (x : Identifier) (length : ℕ) (start count : ℤ) → at_region array_index_out_of_bounds length start count (set_region_effect s t n x) ≡ effect_as classes s t (region_set t.variables (region_within n length x start count))
+  sets_region : (n : ℕ) (x : Identifier) (length : ℕ) (start count : ℤ) → at_region array_index_out_of_bounds length start count (set_region_effect s t n x) ≡ effect_as classes k s t (region_set t.variables (region_within n length x start count))
   sets_region n x =
       at_place_of (set_region_effect s t n x) (region_set t.variables) array_index_out_of_bounds n x
       (λ start m. if_room (nat_le m (length (local_array (lookup x t.variables)))) (SetsRegion (record { object = n; start = start; count = m; array = x }))) refl
 
   -- a buffer is given
-  copies : (n : ℕ) (b : Bool) → Leaves [] s t (BufferResult (if b then Copy n (numbers_of s.heap n) else NoBuffer)) ≡ effect_as classes s t (Lends (if b then lent.Copy n else lent.Nothing))
+  copies : (n : ℕ) (b : Bool) → Leaves [] s t (BufferResult (if b then Copy n (numbers_of s.heap n) else NoBuffer)) ≡ effect_as classes k s t (Lends (if b then lent.Copy n else lent.Nothing))
   copies n true = refl
   copies n false = refl
 
-  views : (n : ℕ) (b : Bool) → Leaves [] s t (BufferResult (if b then View n else NoBuffer)) ≡ effect_as classes s t (Lends (if b then lent.View n else lent.Nothing))
+  views : (n : ℕ) (b : Bool) → Leaves [] s t (BufferResult (if b then View n else NoBuffer)) ≡ effect_as classes k s t (Lends (if b then lent.View n else lent.Nothing))
   views n true = refl
   views n false = refl
 
@@ -179,45 +188,73 @@ module _ (classes : Classes) (in_use : BuffersInUse) (k : ℕ) (s : Shared) (t :
   lent_effect CharsCopy n = copy_effect in_use s t n (numbers_of s.heap n)
   lent_effect CharsView n = view_effect in_use s t n
 
-  lends : (access : Access) (n : ℕ) → lent_effect access n ≡ effect_as classes s t (Lends (lent_by access in_use s.heap n))
+  lends : (access : Access) (n : ℕ) → lent_effect access n ≡ effect_as classes k s t (Lends (lent_by access in_use s.heap n))
   lends (ElementsCopy T) n = copies n (nat_le (in_use.copied + length (numbers_of s.heap n)) 65536)
   lends ArrayView n = views n (nat_lt in_use.views 64)
   lends CharsCopy n = copies n (nat_le (in_use.copied + length (numbers_of s.heap n)) 65536)
   lends CharsView n = views n (nat_lt in_use.views 64)
 
   -- a copy is taken back
-  releases : (n : ℕ) (p : Identifier) (m : ReleaseMode) → release_effect s t n p m ≡ effect_as classes s t (released n p m)
+  releases : (n : ℕ) (p : Identifier) (m : ReleaseMode) → release_effect s t n p m ≡ effect_as classes k s t (released n p m)
   releases n p CopyBackAndFree = refl
   releases n p CopyBack = refl
   releases n p FreeUncopied = refl
 
+  -- a monitor is entered
+  enters_more : (n : ℕ) (m : Monitor) (b : Bool)
+      → (if b then monitors_effect s t (monitor n k (m.count + 1) ∷ without_monitor s.monitors n) else Leaves [] s t (ScalarResult (Int (negsuc 0)))) ≡ effect_as classes k s t (if b then Owns n (m.count + 1) else Gives (ScalarResult (Int (negsuc 0))))
+  enters_more n m true = refl
+  enters_more n m false = refl
+
+  enters : (n : ℕ) (o : Option Monitor) → monitor_of s.monitors n ≡ o → enter_effect k s t n o ≡ effect_as classes k s t (monitor_entered n o)
+  enters n None is = ap (λ (ms : List Monitor). monitors_effect s t (monitor n k 1 ∷ ms)) (sym (none_without s.monitors n is))
+  enters n (Some m) is = enters_more n m (nat_lt m.count 255)
+
+  -- or left
+  leaves_one : (n : ℕ) (m : Monitor) (c : Bool)
+      → monitors_effect s t (if c then without_monitor s.monitors n else monitor n k (m.count - 1) ∷ without_monitor s.monitors n) ≡ effect_as classes k s t (if c then Disowns n else Owns n (m.count - 1))
+  leaves_one n m true = refl
+  leaves_one n m false = refl
+
+  leaves : (n : ℕ) (o : Option Monitor) → exit_effect k s t n o ≡ effect_as classes k s t (monitor_left k n o)
+  leaves n None = refl
+  leaves n (Some m) = by_owner (m.owner == k)
+    where
+      by_owner : (b : Bool)
+          → (if b then monitors_effect s t (if m.count == 1 then without_monitor s.monitors n else monitor n k (m.count - 1) ∷ without_monitor s.monitors n) else Throws illegal_monitor_state)
+          ≡ effect_as classes k s t (if b then (if m.count == 1 then Disowns n else Owns n (m.count - 1)) else Raises illegal_monitor_state)
+      by_owner true = leaves_one n m (m.count == 1)
+      by_owner false = refl
+
   -- what is worked out is the effect
-  effects : (f : JniFunction) → is_built_function f ≡ true → call_effect classes in_use k s t args f ≡ effect_as classes s t (worked_out classes in_use s.heap t.variables t.frames t.pending args f)
+  effects : (f : JniFunction) → call_effect classes in_use k s t args f ≡ effect_as classes k s t (worked_out classes in_use k s.monitors s.heap t.variables t.frames t.pending args f)
   unfolding call_effect
-  effects FindClass built = class_found _
-  effects NewGlobalRef built = makes_global _
-  effects DeleteLocalRef built = deletes_local (lookup (variable_given args 0) t.variables) (reference_given args 0)
-  effects DeleteGlobalRef built = deletes_global _ _
-  effects EnsureLocalCapacity built = ensures _
-  effects PushLocalFrame built = pushes _
-  effects GetFieldID built = field_found _
-  effects GetStaticFieldID built = field_found _
-  effects (NewArray T) built = new_arrays (number_array T) (number_given args 0)
-  effects NewObjectArray built = new_object_arrays (object_given args 1) (reference_given args 2) (number_given args 0)
-  effects GetObjectArrayElement built = gets (number_given args 1)
-  effects SetObjectArrayElement built = sets (fits_element classes s.heap args) (reference_given args 2) (number_given args 1)
-  effects (GetArrayRegion T) built = gets_region array_index_out_of_bounds array (variable_given args 3) count (number_given args 1) (number_given args 2)
-  effects (SetArrayRegion T) built = sets_region array (variable_given args 3) count (number_given args 1) (number_given args 2)
-  effects GetStringRegion built = gets_region string_index_out_of_bounds array (variable_given args 3) count (number_given args 1) (number_given args 2)
-  effects (GetBuffer (ElementsCopy T)) built = lends (ElementsCopy T) (object_given args 0)
-  effects (GetBuffer ArrayView) built = lends ArrayView (object_given args 0)
-  effects (GetBuffer CharsCopy) built = lends CharsCopy (object_given args 0)
-  effects (GetBuffer CharsView) built = lends CharsView (object_given args 0)
-  effects (ReleaseBuffer (ElementsCopy T)) built = releases (object_given args 0) (variable_given args 1) (mode_given args 2)
-  effects (ReleaseBuffer ArrayView) built = refl
-  effects (ReleaseBuffer CharsCopy) built = refl
-  effects (ReleaseBuffer CharsView) built = refl
-  effects f built = cc
+  effects FindClass = class_found _
+  effects NewGlobalRef = makes_global _
+  effects DeleteLocalRef = deletes_local (lookup (variable_given args 0) t.variables) (reference_given args 0)
+  effects DeleteGlobalRef = deletes_global _ _
+  effects EnsureLocalCapacity = ensures _
+  effects PushLocalFrame = pushes _
+  effects GetFieldID = field_found _
+  effects GetStaticFieldID = field_found _
+  effects (NewArray T) = new_arrays (number_array T) (number_given args 0)
+  effects NewObjectArray = new_object_arrays (object_given args 1) (reference_given args 2) (number_given args 0)
+  effects GetObjectArrayElement = gets (number_given args 1)
+  effects SetObjectArrayElement = sets (fits_element classes s.heap args) (reference_given args 2) (number_given args 1)
+  effects (GetArrayRegion T) = gets_region array_index_out_of_bounds array (variable_given args 3) count (number_given args 1) (number_given args 2)
+  effects (SetArrayRegion T) = sets_region array (variable_given args 3) count (number_given args 1) (number_given args 2)
+  effects GetStringRegion = gets_region string_index_out_of_bounds array (variable_given args 3) count (number_given args 1) (number_given args 2)
+  effects (GetBuffer (ElementsCopy T)) = lends (ElementsCopy T) (object_given args 0)
+  effects (GetBuffer ArrayView) = lends ArrayView (object_given args 0)
+  effects (GetBuffer CharsCopy) = lends CharsCopy (object_given args 0)
+  effects (GetBuffer CharsView) = lends CharsView (object_given args 0)
+  effects (ReleaseBuffer (ElementsCopy T)) = releases (object_given args 0) (variable_given args 1) (mode_given args 2)
+  effects (ReleaseBuffer ArrayView) = refl
+  effects (ReleaseBuffer CharsCopy) = refl
+  effects (ReleaseBuffer CharsView) = refl
+  effects MonitorEnter = enters (object_given args 0) (monitor_of s.monitors (object_given args 0)) refl
+  effects MonitorExit = leaves (object_given args 0) (monitor_of s.monitors (object_given args 0))
+  effects f = cc
 
 -- ---- what a call leaves
 
@@ -237,11 +274,11 @@ not_told (Some x) (given.Reference r) vs = refl
 not_told (Some x) (given.Field f) vs = refl
 
 -- a thread with these variables, these frames and this pending exception
-abbrev in_locals : Thread → Variables → List Frame → Reference → Thread
+abbrev pub in_locals : Thread → Variables → List Frame → Reference → Thread
 in_locals t vs frames pending = record t { variables = vs; frames = frames; pending = pending }
 
 -- the thread before a call
-as_it_is : (t : Thread) (vs : Variables) (frames : List Frame) (pending : Reference) → t.variables ≡ vs → t.frames ≡ frames → t.pending ≡ pending → t ≡ in_locals t vs frames pending
+pub as_it_is : (t : Thread) (vs : Variables) (frames : List Frame) (pending : Reference) → t.variables ≡ vs → t.frames ≡ frames → t.pending ≡ pending → t ≡ in_locals t vs frames pending
 as_it_is t vs frames pending held framed is =
     ap (λ (us : Variables). let u : Thread = record t { variables = us } in u) held
     ∙ ap (λ (fs : List Frame). let u : Thread = record t { variables = vs; frames = fs } in u) framed
@@ -264,26 +301,28 @@ failed_frames NewLocal frames = refl
 failed_frames kind frames = refl
 
 -- whether an effect makes objects
-makes_alike : (classes : Classes) (s : Shared) (t : Thread) (a : Answer) → makes_objects (effect_as classes s t a) ≡ makes_object a
-makes_alike classes s t (Gives g) = refl
-makes_alike classes s t (Writes n i v) = refl
-makes_alike classes s t (Makes n) = refl
-makes_alike classes s t (Raises c) = refl
-makes_alike classes s t (ThrowsNew c text) = refl
-makes_alike classes s t (Ensures n) = refl
-makes_alike classes s t (Pushes n) = refl
-makes_alike classes s t RefusesFrames = refl
-makes_alike classes s t (Pops r) = refl
-makes_alike classes s t (DeletesLocal l n) = refl
-makes_alike classes s t (MakesGlobal n) = refl
-makes_alike classes s t (DeletesGlobal x n) = refl
-makes_alike classes s t (Pends r g) = refl
-makes_alike classes s t (GetsRegion r) = refl
-makes_alike classes s t (SetsRegion r) = refl
-makes_alike classes s t (Lends b) = refl
-makes_alike classes s t (CopiesBack n p frees) = refl
-makes_alike classes s t (Frees p) = refl
-makes_alike classes s t (Halts trap) = refl
+makes_alike : (classes : Classes) (k : ℕ) (s : Shared) (t : Thread) (a : Answer) → makes_objects (effect_as classes k s t a) ≡ makes_object a
+makes_alike classes k s t (Gives g) = refl
+makes_alike classes k s t (Writes n i v) = refl
+makes_alike classes k s t (Makes n) = refl
+makes_alike classes k s t (Raises c) = refl
+makes_alike classes k s t (ThrowsNew c text) = refl
+makes_alike classes k s t (Ensures n) = refl
+makes_alike classes k s t (Pushes n) = refl
+makes_alike classes k s t RefusesFrames = refl
+makes_alike classes k s t (Pops r) = refl
+makes_alike classes k s t (DeletesLocal l n) = refl
+makes_alike classes k s t (MakesGlobal n) = refl
+makes_alike classes k s t (DeletesGlobal x n) = refl
+makes_alike classes k s t (Pends r g) = refl
+makes_alike classes k s t (GetsRegion r) = refl
+makes_alike classes k s t (SetsRegion r) = refl
+makes_alike classes k s t (Lends b) = refl
+makes_alike classes k s t (CopiesBack n p frees) = refl
+makes_alike classes k s t (Frees p) = refl
+makes_alike classes k s t (Owns n times) = refl
+makes_alike classes k s t (Disowns n) = refl
+makes_alike classes k s t (Halts trap) = refl
 
 -- an answer with a trap is the one that stops the run
 halts_with : (a : Answer) (trap : Trap) → trap_in a ≡ Some trap → a ≡ Halts trap
@@ -305,6 +344,8 @@ halts_with (SetsRegion r) trap is = absurd (cc)
 halts_with (Lends b) trap is = absurd (cc)
 halts_with (CopiesBack n p frees) trap is = absurd (cc)
 halts_with (Frees p) trap is = absurd (cc)
+halts_with (Owns n times) trap is = absurd (cc)
+halts_with (Disowns n) trap is = absurd (cc)
 halts_with (Halts found) trap is = let same : found ≡ trap = cc in ap Halts same
 
 -- an answer with a buffer is the one that gives it
@@ -327,6 +368,8 @@ lends_it (SetsRegion r) b is = absurd (cc)
 lends_it (Lends found) b is = let same : found ≡ b = cc in ap Lends same
 lends_it (CopiesBack n p frees) b is = absurd (cc)
 lends_it (Frees p) b is = absurd (cc)
+lends_it (Owns n times) b is = absurd (cc)
+lends_it (Disowns n) b is = absurd (cc)
 lends_it (Halts trap) b is = absurd (cc)
 
 module _ (classes : Classes) (in_use : BuffersInUse) (k : ℕ) (s : Shared) (t : Thread) (line : ℕ) (purpose : PurposeInMemory) (f : JniFunction) (args : List Actual) (rest : List Task) (vs : Variables) (frames : List Frame) (pending : Reference) where
@@ -374,7 +417,7 @@ module _ (classes : Classes) (in_use : BuffersInUse) (k : ℕ) (s : Shared) (t :
 
   -- a buffer is given, and told
   lent_is : (b : Lent) (new : TaskInMemory)
-      → after_call classes in_use k s caller line (purpose_view line purpose) f args rest (effect_as classes s caller (Lends b)) ≡ left_by k s (in_locals t (tell_copy (address_given args 1) (BufferResult (lent_view s.heap b)) vs) frames pending) rest (lent_outcome line purpose b) new
+      → after_call classes in_use k s caller line (purpose_view line purpose) f args rest (effect_as classes k s caller (Lends b)) ≡ left_by k s (in_locals t (tell_copy (address_given args 1) (BufferResult (lent_view s.heap b)) vs) frames pending) rest (lent_outcome line purpose b) new
   lent_is b new =
       let given = BufferResult (lent_view s.heap b) in
       let us : Variables = tell_copy (address_given args 1) given vs in
@@ -385,10 +428,10 @@ module _ (classes : Classes) (in_use : BuffersInUse) (k : ℕ) (s : Shared) (t :
 
   -- so it is after each other answer that lets the run go on
   answered : (a : Answer) (g : Given) (new : TaskInMemory) → trap_in a ≡ None → lent_in a ≡ None → given_view g ≡ given_after s.heap kind a
-      → after_call classes in_use k s caller line (purpose_view line purpose) f args rest (effect_as classes s caller a)
-      ≡ left_by k (shared_after classes s vs a) (in_locals t (variables_after s.heap vs a) (frames_with kind (given_view g) (frames_after frames a)) (pending_after classes s.heap pending a)) rest (outcome_for line purpose g) new
+      → after_call classes in_use k s caller line (purpose_view line purpose) f args rest (effect_as classes k s caller a)
+      ≡ left_by k (shared_after classes k s vs a) (in_locals t (variables_after s.heap vs a) (frames_with kind (given_view g) (frames_after frames a)) (pending_after classes s.heap pending a)) rest (outcome_for line purpose g) new
   answered (Gives c) g new goes unlent same = plain s vs frames pending c g new same
-  answered (Writes n i v) g new goes unlent same = plain (shared_after classes s vs (Writes n i v)) vs frames pending NoResult g new same
+  answered (Writes n i v) g new goes unlent same = plain (shared_after classes k s vs (Writes n i v)) vs frames pending NoResult g new same
   answered (Makes n) g new goes unlent same = finished (object_of classes n ∷ []) s vs frames pending (ReferenceResult (Some (next_name s.heap))) g new same
   answered (Raises c) g new goes unlent same = finished (fresh_object classes c ∷ []) s vs frames (Some (next_name s.heap)) (failure kind) g new same
   answered (ThrowsNew c text) g new goes unlent same = finished (thrown classes s.heap c text) s vs frames (Some (next_name s.heap + 1)) zero_result g new same
@@ -397,14 +440,16 @@ module _ (classes : Classes) (in_use : BuffersInUse) (k : ℕ) (s : Shared) (t :
   answered RefusesFrames g new goes unlent same = plain s vs frames (Some (out_of_memory classes)) (given_after s.heap kind RefusesFrames) g new same
   answered (Pops r) g new goes unlent same = plain s vs (drop 1 frames) pending (ReferenceResult r) g new same
   answered (DeletesLocal l n) g new goes unlent same = plain s vs (without_local l n frames) pending NoResult g new same
-  answered (MakesGlobal n) g new goes unlent same = plain (shared_after classes s vs (MakesGlobal n)) vs frames pending (ReferenceResult (Some n)) g new same
+  answered (MakesGlobal n) g new goes unlent same = plain (shared_after classes k s vs (MakesGlobal n)) vs frames pending (ReferenceResult (Some n)) g new same
   answered (DeletesGlobal x n) g new goes unlent same = plain (without_global x n s) vs frames pending NoResult g new same
   answered (Pends r c) g new goes unlent same = plain s vs frames r c g new same
   answered (GetsRegion r) g new goes unlent same = plain s (variables_with s.heap r vs) frames pending NoResult g new same
-  answered (SetsRegion r) g new goes unlent same = plain (shared_after classes s vs (SetsRegion r)) vs frames pending NoResult g new same
+  answered (SetsRegion r) g new goes unlent same = plain (shared_after classes k s vs (SetsRegion r)) vs frames pending NoResult g new same
   answered (Lends b) g new goes unlent same = absurd (cc)
-  answered (CopiesBack n p frees) g new goes unlent same = plain (shared_after classes s vs (CopiesBack n p frees)) (variables_freed frees p vs) frames pending NoResult g new same
+  answered (CopiesBack n p frees) g new goes unlent same = plain (shared_after classes k s vs (CopiesBack n p frees)) (variables_freed frees p vs) frames pending NoResult g new same
   answered (Frees p) g new goes unlent same = plain s (change p freed vs) frames pending NoResult g new same
+  answered (Owns n times) g new goes unlent same = plain (with_owned k n times s) vs frames pending zero_result g new same
+  answered (Disowns n) g new goes unlent same = plain (with_disowned n s) vs frames pending zero_result g new same
   answered (Halts trap) g new goes unlent same = absurd (cc)
 
   -- and where its object is refused
@@ -414,9 +459,9 @@ module _ (classes : Classes) (in_use : BuffersInUse) (k : ℕ) (s : Shared) (t :
       plain s vs frames (Some (out_of_memory classes)) (failure kind) g new same
       ∙ ap (λ (fs : List Frame). left_by k s (in_locals t vs fs (Some (out_of_memory classes))) rest (outcome_for line purpose g) new) (ap (λ (c : CallResult). frames_with kind c frames) same ∙ failed_frames kind frames)
 
--- ---- the call of a function that is implemented
+-- ---- the call of a function
 
-module _ (classes : Classes) (in_use : BuffersInUse) (k : ℕ) (s : Shared) (vs : Contents) (frames : List Frame) (pending : Reference) (line : ℕ) (purpose : PurposeInMemory) (f : JniFunction) (args : List Actual) (built : is_built_function f ≡ true) where
+module _ (classes : Classes) (in_use : BuffersInUse) (k : ℕ) (s : Shared) (vs : Contents) (frames : List Frame) (pending : Reference) (line : ℕ) (purpose : PurposeInMemory) (f : JniFunction) (args : List Actual) where
   abbrev scene : Scene
   scene = scene_with classes in_use k s vs frames pending
 
@@ -424,7 +469,7 @@ module _ (classes : Classes) (in_use : BuffersInUse) (k : ℕ) (s : Shared) (vs 
   trap = trap_found classes s.heap frames (is_some pending) (wanted_element vs purpose) f args
 
   abbrev untrapped : Variables → Answer
-  untrapped us = worked_out classes in_use s.heap us frames pending args f
+  untrapped us = worked_out classes in_use k s.monitors s.heap us frames pending args f
 
   abbrev told : Answer
   told = answer_or_trap trap (untrapped (variables_view vs))
@@ -445,17 +490,17 @@ module _ (classes : Classes) (in_use : BuffersInUse) (k : ℕ) (s : Shared) (vs 
     steps false = refl
     steps true = refl
 
-    checks_alike : (o : Option Trap) → checks o ≡ effect_as classes s calls (answer_or_trap o (untrapped (variables_view vs)))
-    checks_alike None = effects classes in_use k s calls args f built
+    checks_alike : (o : Option Trap) → checks o ≡ effect_as classes k s calls (answer_or_trap o (untrapped (variables_view vs)))
+    checks_alike None = effects classes in_use k s calls args f
     checks_alike (Some found) = refl
 
     -- the step goes by an answer that is told
-    by_told : (refused : Bool) (a : Answer) → a ≡ told → call_step classes in_use k s t line (purpose_view line purpose) f args rest refused ≡ by_effect refused (effect_as classes s calls a)
+    by_told : (refused : Bool) (a : Answer) → a ≡ told → call_step classes in_use k s t line (purpose_view line purpose) f args rest refused ≡ by_effect refused (effect_as classes k s calls a)
     by_told refused a same =
         ap (λ (u : Thread). call_step classes in_use k s u line (purpose_view line purpose) f args rest refused) (as_it_is t (variables_view vs) frames pending sees.variables sees.frames sees.pending)
         ∙ steps refused
         ∙ ap (by_effect refused) (ap checks (trap_is classes s.heap (target_element (variables_view vs) (purpose_view line purpose)) args f calls ∙ ap (λ (T : ElementType). trap_found classes s.heap frames (is_some pending) T f args) (any_line vs line purpose)) ∙ checks_alike trap)
-        ∙ ap (λ (b : Answer). by_effect refused (effect_as classes s calls b)) (sym same)
+        ∙ ap (λ (b : Answer). by_effect refused (effect_as classes k s calls b)) (sym same)
 
   -- the run stops; no object can be refused
   pub call_stopped : (refused : Bool) (a : Answer) (found : TrapInMemory) → a ≡ told → trap_in a ≡ Some (trap_view found)
@@ -468,9 +513,9 @@ module _ (classes : Classes) (in_use : BuffersInUse) (k : ℕ) (s : Shared) (vs 
   -- the call is made
   pub call_made : (a : Answer) (g : Given) (vs' : Contents) → a ≡ told → trap_in a ≡ None → lent_in a ≡ None → given_view g ≡ given_after s.heap (prototype f).result a → variables_view vs' ≡ variables_after s.heap (variables_view vs) a
       → MakesCall false scene line purpose f args (outcome_for line purpose g)
-      (scene_with classes in_use k (shared_after classes s (variables_view vs) a) vs' (frames_with (prototype f).result (given_view g) (frames_after frames a)) (pending_after classes s.heap pending a))
+      (scene_with classes in_use k (shared_after classes k s (variables_view vs) a) vs' (frames_with (prototype f).result (given_view g) (frames_after frames a)) (pending_after classes s.heap pending a))
   call_made a g vs' same goes unlent given varied = λ t rest new sees has.
-      let s' = shared_after classes s (variables_view vs) a in
+      let s' = shared_after classes k s (variables_view vs) a in
       by_told t rest sees false a same
       ∙ answered classes in_use k s t line purpose f args rest (variables_view vs) frames pending a g new goes unlent given
       ∙ ap (λ (us : Variables). left_by k s' (in_locals t us (frames_with (prototype f).result (given_view g) (frames_after frames a)) (pending_after classes s.heap pending a)) rest (outcome_for line purpose g) new) (sym varied)
@@ -490,7 +535,7 @@ module _ (classes : Classes) (in_use : BuffersInUse) (k : ℕ) (s : Shared) (vs 
       → call_step classes in_use k s t line (purpose_view line purpose) f args rest true ≡ after_refusal classes in_use k s (in_locals t (variables_view vs) frames pending) line (purpose_view line purpose) f args rest b
   by_makes a b makes same = λ t rest sees.
       by_told t rest sees true a same
-      ∙ ap (after_refusal classes in_use k s (in_locals t (variables_view vs) frames pending) line (purpose_view line purpose) f args rest) (makes_alike classes s (in_locals t (variables_view vs) frames pending) a ∙ makes)
+      ∙ ap (after_refusal classes in_use k s (in_locals t (variables_view vs) frames pending) line (purpose_view line purpose) f args rest) (makes_alike classes k s (in_locals t (variables_view vs) frames pending) a ∙ makes)
 
   -- it makes no object that can be refused
   pub none_refused : (a : Answer) → a ≡ told → makes_object a ≡ false → MakesCall true scene line purpose f args outcome.Impossible scene
@@ -505,7 +550,7 @@ module _ (classes : Classes) (in_use : BuffersInUse) (k : ℕ) (s : Shared) (vs 
 
   -- the same, by what it leaves
   pub call_made_so : (refused : Bool) (a : Answer) (g : Given) (kind : ResultKind) (s' : Shared) (vs' : Contents) (between frames' : List Frame) (pending' : Reference) (took : Outcome) → refused ≡ false → a ≡ told → trap_in a ≡ None → lent_in a ≡ None → kind ≡ (prototype f).result
-      → given_view g ≡ given_after s.heap kind a → s' ≡ shared_after classes s (variables_view vs) a → variables_view vs' ≡ variables_after s.heap (variables_view vs) a
+      → given_view g ≡ given_after s.heap kind a → s' ≡ shared_after classes k s (variables_view vs) a → variables_view vs' ≡ variables_after s.heap (variables_view vs) a
       → between ≡ frames_after frames a → frames' ≡ frames_with kind (given_view g) between → pending' ≡ pending_after classes s.heap pending a → took ≡ outcome_for line purpose g
       → MakesCall refused scene line purpose f args took (scene_with classes in_use k s' vs' frames' pending')
   call_made_so refused a g kind s' vs' between frames' pending' took possible same goes unlent is given left varied changed framed pended is_for =

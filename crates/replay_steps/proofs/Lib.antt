@@ -2,3 +2,4 @@ pub mod TaskLemmas
 mod CallLemmas
 mod Invocations
 mod ActivationLemmas
+mod WaitLemmas

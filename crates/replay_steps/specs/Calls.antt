@@ -1,6 +1,6 @@
 -- What a call in memory does.
 use Rattle.std.specs.Prelude.{◌≡◌, ℕ, Bool, true, false, List, ◌∷◌, map, Option, Some, None, is_some}
-use Rattle.jni.specs.JniFunction.{JniFunction, is_built_function}
+use Rattle.jni.specs.JniFunction.{JniFunction}
 use Rattle.jni.specs.Table.{function_value}
 use Rattle.semantics.specs.Arguments.{Actual, actuals}
 use Rattle.base.specs.Element.{ElementType}
@@ -66,7 +66,8 @@ wanted_element vs p = target_element (variables_view vs) (purpose_view 0 p)
 -- This is the answer to a call of this function for this purpose, with these arguments, in this scene.
 abbrev pub HasAnswer : Scene → PurposeInMemory → JniFunction → List Actual → Answer → Type 0
 HasAnswer scene p f args a =
-    (is_built_function f ≡ true)
-    × (a ≡ answer_or_trap
+    a
+    ≡ answer_or_trap
     (trap_found scene.classes scene.shared.heap scene.frames (is_some scene.pending) (wanted_element scene.variables p) f args)
-    (worked_out scene.classes scene.in_use scene.shared.heap (variables_view scene.variables) scene.frames scene.pending args f))
+    (worked_out scene.classes scene.in_use scene.thread scene.shared.monitors scene.shared.heap (variables_view scene.variables) scene.frames
+    scene.pending args f)

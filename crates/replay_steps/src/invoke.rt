@@ -1,8 +1,7 @@
 //! Calls of functions of the JNI (JNI Specification, chapter 4).
 
-ghost use Rattle.std.specs.Prelude.{◌≡◌, IfOk, IsTrue, List, None, if◌then◌else◌, map, true, false};
+ghost use Rattle.std.specs.Prelude.{◌≡◌, IfOk, List, None, if◌then◌else◌, map, true, false};
 ghost use Rattle.class_rules.specs.Grown.{IsGrown};
-ghost use Rattle.jni.specs.JniFunction.{is_built_function};
 ghost use Rattle.jni.specs.Table.{function_value};
 ghost use Rattle.replay_tasks.specs.declared.outcome.Outcome.TheVariants as outcome;
 ghost use Rattle.replay_tasks.specs.declared.task.Task.TheVariants as task;
@@ -20,13 +19,13 @@ ghost use Rattle.replay_terms.specs.Views.{lent_view, variables_view};
 ghost use Rattle.semantics.specs.CallEffects.{BufferResult};
 ghost use Rattle.semantics.specs.CallStep.{tell_copy};
 ghost use Rattle.semantics.specs.Heap.{Heap};
-ghost use Rattle.syntax.specs.Views.{element_tree};
+ghost use Rattle.base.specs.Element.{element_value};
 
 use crate::activation::Locals;
 use crate::turn::Turn;
 use replay_calls::actual::{Actual, actuals, address_given};
 use replay_calls::carry_out::{carry_out, makes_object, put_local, refuse};
-use replay_calls::{Answer, Lending, Shared, answer_or_trap, lent_in, tell_copy, trap_in};
+use replay_calls::{Answer, Caller, Shared, answer_or_trap, lent_in, tell_copy, trap_in};
 use replay_tasks::{Invocation, Outcome, Purpose, Target, VariableKind, reduced};
 use replay_terms::{Given, Lent, Operand, Reduction, Term, Variables, is_zero, reduce};
 use std::alloc::AllocError;
@@ -42,7 +41,6 @@ pub(crate) fn invoke<'a>(
     i: &mut Invocation<'a>,
 ) -> Result<Outcome<'a>, AllocError>
     requires numbers { OperandsInRange i.old.operands.items }
-    requires built { IsTrue (is_built_function (function_value i.old.function)) }
     requires ways { PurposeInRange i.old.purpose }
     requires grown { IsGrown turn.classes.now }
     ensures step { IfOk result (λ o. Does turn.entry.refused (scene_of turn.entry (shared_view shared.old) locals.old pending.old) (task.Invoke i.old) o (scene_of turn.entry (shared_view shared.new) locals.new pending.new) (task.Invoke i.new)) }
@@ -67,7 +65,6 @@ fn make_call<'a>(
     locals: &mut Locals<'a>,
     i: &Invocation<'a>,
 ) -> Result<Outcome<'a>, AllocError>
-    requires built { IsTrue (is_built_function (function_value i.now.function)) }
     requires ways { PurposeInRange i.now.purpose }
     requires grown { IsGrown turn.classes.now }
     ensures step { IfOk result (λ o. MakesInvocation turn.entry.refused (scene_of turn.entry (shared_view shared.old) locals.old pending.old) i.entry.now o (scene_of turn.entry (shared_view shared.new) locals.new pending.new)) }
@@ -173,24 +170,24 @@ fn call<'a>(
     i: &Invocation<'a>,
     actuals: &[Actual<'a>],
 ) -> Result<Outcome<'a>, AllocError>
-    requires built { IsTrue (is_built_function (function_value i.now.function)) }
     requires ways { PurposeInRange i.now.purpose }
     requires grown { IsGrown turn.classes.now }
     ensures step { IfOk result (λ o. MakesCall turn.entry.refused (scene_of turn.entry (shared_view shared.old) locals.old pending.old) i.entry.now.line i.entry.now.purpose (function_value i.entry.now.function) (map actual_view actuals.entry.now) o
         (scene_of turn.entry (shared_view shared.new) locals.new pending.new)) }
     ensures range { IfOk result OutcomeInRange }
 {
-    let lending = Lending {
+    let caller = Caller {
+        thread: turn.thread,
         in_use: turn.in_use,
         element: wanted_element(&locals.variables, i.purpose),
     };
     let answer = answer_or_trap(
         turn.classes,
-        &shared.store,
+        shared,
         &locals.variables,
         &locals.frames,
         *pending,
-        lending,
+        caller,
         i.function,
         actuals,
     );
@@ -205,12 +202,12 @@ fn call<'a>(
 
 /// The element type of the buffer that a call is to fill; `jint` where there is none.
 fn wanted_element(variables: &Variables<'_>, purpose: Purpose<'_>) -> ElementType
-    ensures { element_tree result ≡ wanted_element variables.now purpose.entry }
+    ensures { element_value result ≡ wanted_element variables.now purpose.entry }
 {
     match purpose {
         Purpose::Put(Target::Declared(VariableKind::Buffer(kind), _)) => kind,
         Purpose::Put(Target::Assigned(name)) => variables.element_type(name.as_bytes()),
-        _ => ElementType::Jint,
+        _ => ElementType::Int,
     }
 }
 
@@ -267,6 +264,7 @@ fn complete<'a>(
         &mut locals.frames,
         pending,
         kind,
+        turn.thread,
         answer,
     )?;
     put_local(&mut locals.frames, kind, given)?;

@@ -1,3 +1,4 @@
+mod KnownCalls
 pub mod RangeLemmas
 mod PutLemmas
 pub mod EffectLemmas

@@ -1,4 +1,4 @@
--- What is known of a tree's statements: their numbers are in range, and they call what can be called.
+-- What is known of a tree's statements: their numbers are in range, and they call functions that are there.
 use Rattle.std.proofs.Common.{◌≡◌, ℕ, zero, suc, Bool, true, false, List, [], ◌∷◌, ◌++◌, cond, length, map, take, drop, get_or, append_assoc, slice_get, ◌-◌, ◌<◌, ◌≤◌, arith, Option, Some, refl, ap, ◌∙◌, sym, subst, None}
 use Rattle.std.specs.Prelude.{find, slice_set, zip, IsTrue}
 use Rattle.std.specs.Borrow.{Bor}
@@ -21,12 +21,13 @@ use Rattle.syntax.specs.Limits.{IsTree, numbers_in_range}
 use Rattle.syntax.specs.Parts.{argument_expressions, functions_of, statements_of, statements_within}
 use Rattle.syntax.specs.Views.{argument_tree, stmt_tree, block_tree, statements_tree, function_tree, unit_tree}
 use Rattle.syntax.proofs.Blocks.{block_is}
-use Rattle.type_rules.specs.BuiltCalls.{calls_are_built}
+use Rattle.type_rules.specs.SortRules.{IsSorted}
 use Rattle.semantics.specs.Activation.{function_at}
 use Rattle.semantics.specs.Task.{Task, operand, task_of, tasks_of}
 use Rattle.replay_terms.specs.declared.operand.Operand.{Operand}
 use Rattle.replay_terms.specs.Views.{operand_view}
-use Rattle.replay_tasks.specs.Tasks.{ArgumentsInRange, ElseInRange, statements_in, OperandInRange, OperandsInRange, tasks_of_statements, has_numbers_in_range, calls_built, BlockInRange, InsideInRange, StatementsInRange}
+use Rattle.replay_tasks.proofs.KnownCalls.{known_calls}
+use Rattle.replay_tasks.specs.Tasks.{ArgumentsInRange, ElseInRange, statements_in, OperandInRange, OperandsInRange, tasks_of_statements, has_numbers_in_range, calls_known, BlockInRange, InsideInRange, StatementsInRange}
 
 -- the tasks of statements, by their tree
 pub tasks_of-statements : (statements : List Stmt) (end_line : ℕ) → tasks_of_statements statements ≡ tasks_of (statements_tree statements end_line)
@@ -79,7 +80,7 @@ module _ (q : tree.Stmt → Bool) where
       let s_parts = inside s parts.0 in
       (s_parts.0, s_parts.1, parts.1)
 
-inside_in_range : (s : tree.Stmt) → Inside has_numbers_in_range s → Inside calls_built s → InsideInRange s
+inside_in_range : (s : tree.Stmt) → Inside has_numbers_in_range s → Inside calls_known s → InsideInRange s
 inside_in_range (Declare line t x r) n c = tt
 inside_in_range (DeclareBuffer line t x r) n c = tt
 inside_in_range (DeclareChars line x r) n c = tt
@@ -88,9 +89,9 @@ inside_in_range (Assign line x r) n c = tt
 inside_in_range (AssignElement line x i e) n c = tt
 inside_in_range (Perform line call) n c = tt
 inside_in_range (PutJint line e) n c = tt
-inside_in_range (If line test b) n c = record { numbers = n; built = c }
-inside_in_range (IfElse line test b d) n c = (record { numbers = n.0; built = c.0 }, record { numbers = n.1; built = c.1 })
-inside_in_range (While line test body) n c = record { numbers = n; built = c }
+inside_in_range (If line test b) n c = record { numbers = n; known = c }
+inside_in_range (IfElse line test b d) n c = (record { numbers = n.0; known = c.0 }, record { numbers = n.1; known = c.1 })
+inside_in_range (While line test body) n c = record { numbers = n; known = c }
 inside_in_range (Return line) n c = tt
 inside_in_range (ReturnValue line e) n c = tt
 
@@ -98,9 +99,9 @@ statements_in_range : (statements : List Stmt) (end_line : ℕ) → BlockInRange
 statements_in_range [] end_line h = tt
 statements_in_range (s ∷ rest) end_line h =
     let numbers = first has_numbers_in_range (stmt_tree s) (statements_of (statements_tree rest end_line)) h.numbers in
-    let calls = first calls_built (stmt_tree s) (statements_of (statements_tree rest end_line)) h.built in (
-      record { numbers = numbers.0; built = calls.0; inside = inside_in_range (stmt_tree s) numbers.1 calls.1 },
-      statements_in_range rest end_line (record { numbers = numbers.2; built = calls.2 }),
+    let calls = first calls_known (stmt_tree s) (statements_of (statements_tree rest end_line)) h.known in (
+      record { numbers = numbers.0; known = calls.0; inside = inside_in_range (stmt_tree s) numbers.1 calls.1 },
+      statements_in_range rest end_line (record { numbers = numbers.2; known = calls.2 }),
     )
 
 -- the statements of a block
@@ -113,11 +114,11 @@ entered_in_range None h = tt
 entered_in_range (Some b) h = block_in_range b.now h
 
 -- the statements of a function that is found
-pub body_in_range : (items : List Item) (name : List ℕ) (f : FunctionInMemory) → IsTree (unit_tree items) → IsTrue (calls_are_built (unit_tree items)) → function_at (unit_tree items) name ≡ Some (function_tree f) → StatementsInRange (out-Block f.body).statements.items
-body_in_range items name f tree built found =
+pub body_in_range : (items : List Item) (name : List ℕ) (f : FunctionInMemory) → IsTree (unit_tree items) → IsSorted (unit_tree items) → function_at (unit_tree items) name ≡ Some (function_tree f) → StatementsInRange (out-Block f.body).statements.items
+body_in_range items name f tree sorted found =
     block_in_range f.body (record {
       numbers = found_passes (λ g. bytes_eq g.name name) (λ g. list_all has_numbers_in_range (statements_of g.body)) (functions_of (unit_tree items)) (function_tree f) found tree.numbers;
-      built = found_passes (λ g. bytes_eq g.name name) (λ g. list_all calls_built (statements_of g.body)) (functions_of (unit_tree items)) (function_tree f) found built;
+      known = found_passes (λ g. bytes_eq g.name name) (λ g. list_all calls_known (statements_of g.body)) (functions_of (unit_tree items)) (function_tree f) found (known_calls (unit_tree items) sorted);
     })
 
 -- ---- the arguments of a call

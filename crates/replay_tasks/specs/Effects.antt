@@ -1,6 +1,6 @@
 -- What a step of a task that is no call does.
 use Rattle.std.specs.Prelude.{◌≡◌, ℕ, [], ◌∷◌, ◌++◌}
-use Rattle.syntax.specs.Views.{element_tree}
+use Rattle.base.specs.Element.{element_value}
 use Rattle.semantics.specs.Effect.{Effect, Becomes, Sets, SetsNull, SetsElement, MakesArray, Prints, Returns, TrapsAt, NoEffect, effect_of}
 use Rattle.semantics.specs.Sight.{Sight}
 use Rattle.replay_tasks.specs.declared.outcome.Outcome.{Outcome}
@@ -29,7 +29,7 @@ effect_by (outcome.Gives to g) new = NoEffect
 effect_by (outcome.Lends to b) new = NoEffect
 effect_by (outcome.Tests line zero b other) new = NoEffect
 effect_by (outcome.SetsElement x i z) new = SetsElement x.now i z
-effect_by (outcome.Makes T x n) new = MakesArray (element_tree T) x.now n
+effect_by (outcome.Makes T x n) new = MakesArray (element_value T) x.now n
 effect_by (outcome.Enters block e) new = Becomes (tasks_of_statements (statements_in block) ++ end_view e ∷ [])
 effect_by outcome.Ends new = Becomes []
 effect_by outcome.Returned new = Returns

@@ -1,6 +1,7 @@
 -- Tasks that lie in memory, as those of the language, and what is known of them in accepted programs.
 use Rattle.std.specs.Prelude.{ℕ, Bool, not, List, [], ◌∷◌, Option, Some, None, IsTrue, map, flat_map}
 use Rattle.std.specs.List.{list_all}
+use Rattle.std.specs.Option.{is_none}
 use Rattle.std.specs.Borrow.{Bor}
 use Rattle.base.specs.Bytes.{Identifier}
 use Rattle.base.specs.Options.{some_passes}
@@ -10,12 +11,12 @@ use Rattle.syntax.specs.declared.stmt.Form.{Form as FormInMemory}
 use Rattle.syntax.specs.declared.stmt.Form.TheVariants as form
 use Rattle.syntax.specs.declared.stmt.Stmt.{Stmt as StmtInMemory}
 use Rattle.syntax.specs.Limits.{numbers_in_range}
-use Rattle.syntax.specs.Parts.{argument_expressions, statements_of, own_expressions, right_side_expressions, test_expressions, call_of_right_side}
+use Rattle.syntax.specs.Parts.{argument_expressions, statements_of, own_call, own_expressions, right_side_expressions, test_expressions, call_of_right_side}
 use Rattle.syntax.specs.Tree.{Argument, Call, Expr, RightSide, Test, TestExpr, TestCall, Stmt, If, IfElse, While, Block}
-use Rattle.syntax.specs.Views.{expr_tree, element_tree, stmt_tree, block_tree}
-use Rattle.jni.specs.JniFunction.{is_built_function}
+use Rattle.base.specs.Element.{element_value}
+use Rattle.syntax.specs.Views.{expr_tree, stmt_tree, block_tree}
+use Rattle.jni.specs.JniFunction.{function_named}
 use Rattle.jni.specs.Table.{function_value}
-use Rattle.type_rules.specs.BuiltCalls.{is_built_call, calls_unbuilt}
 use Rattle.semantics.specs.Task.{Task, SetScalar, SetElement, SetNull, MakeArray, Invoke, Print, Branch, EndIf, Loop, EndTurn, Return, ReturnValue, task_of}
 use Rattle.replay_tasks.specs.declared.outcome.End.{End as EndInMemory}
 use Rattle.replay_tasks.specs.declared.outcome.End.TheVariants as end
@@ -36,7 +37,7 @@ task_view (task.Print e) = Print e.line (term_view e.term)
 task_view (task.Set a) = SetScalar a.line a.name.now (term_view a.term)
 task_view (task.SetElement a) = SetElement a.line a.name.now (term_view a.index) (term_view a.number)
 task_view (task.SetNull to) = SetNull (target_view to)
-task_view (task.MakeArray T x n) = MakeArray (element_tree T) x.now n
+task_view (task.MakeArray T x n) = MakeArray (element_value T) x.now n
 task_view (task.Invoke i) = Invoke i.line (purpose_view i.line i.purpose) (function_value i.function) (map operand_view i.operands.items)
 task_view (task.Branch c) = Branch c.line (term_view c.test) (block_tree c.block.now) (else_tree c.line c.otherwise)
 task_view (task.Loop i) = Loop i.line (expr_tree i.test.now) (term_view i.term) (block_tree i.body.now)
@@ -92,9 +93,13 @@ ExprInRange e = IsTrue (numbers_in_range e)
 abbrev pub has_numbers_in_range : Stmt → Bool
 has_numbers_in_range s = list_all numbers_in_range (own_expressions s)
 
--- a call is of a function that can be called
-abbrev pub calls_built : Stmt → Bool
-calls_built s = not (calls_unbuilt s)
+-- a call is of no function that is there
+abbrev pub is_unknown_call : Call → Bool
+is_unknown_call c = is_none (function_named c.function)
+
+-- a statement that is a call, or has one, calls a function that is there
+abbrev pub calls_known : Stmt → Bool
+calls_known s = not (some_passes is_unknown_call (own_call s))
 
 -- a statement that prints, branches, loops or returns
 abbrev pub IsControl : FormInMemory → Type 0
@@ -108,7 +113,7 @@ IsControl f = ⊥
 -- both, of each statement in a block and inside it
 pub record BlockInRange (b : Block) : Type 0 where
   pub numbers : IsTrue (list_all has_numbers_in_range (statements_of b))
-  pub built : IsTrue (list_all calls_built (statements_of b))
+  pub known : IsTrue (list_all calls_known (statements_of b))
 
 -- the same of the blocks inside a statement
 abbrev pub InsideInRange : Stmt → Type 0
@@ -120,7 +125,7 @@ InsideInRange s = Unit {0}
 -- the same of a statement with them
 pub record StatementInRange (s : StmtInMemory) : Type 0 where
   pub numbers : IsTrue (has_numbers_in_range (stmt_tree s))
-  pub built : IsTrue (calls_built (stmt_tree s))
+  pub known : IsTrue (calls_known (stmt_tree s))
   pub inside : InsideInRange (stmt_tree s)
 
 abbrev pub StatementsInRange : List StmtInMemory → Type 0
@@ -133,7 +138,7 @@ ArgumentsInRange arguments = IsTrue (list_all numbers_in_range (flat_map argumen
 
 pub record RightSideInRange (right : RightSide) : Type 0 where
   pub numbers : IsTrue (list_all numbers_in_range (right_side_expressions right))
-  pub built : IsTrue (not (some_passes (λ c. not (is_built_call c)) (call_of_right_side (Some right))))
+  pub known : IsTrue (not (some_passes is_unknown_call (call_of_right_side (Some right))))
 
 -- the call that a test is
 abbrev pub call_of_test : Test → Option Call
@@ -142,7 +147,7 @@ call_of_test (TestCall c) = Some c
 
 pub record TestInRange (test : Test) : Type 0 where
   pub numbers : IsTrue (list_all numbers_in_range (test_expressions test))
-  pub built : IsTrue (not (some_passes (λ c. not (is_built_call c)) (call_of_test test)))
+  pub known : IsTrue (not (some_passes is_unknown_call (call_of_test test)))
 
 abbrev pub ElseInRange : Option (Bor BlockInMemory) → Type 0
 ElseInRange None = Unit {0}
@@ -169,7 +174,7 @@ TaskInRange (task.Set a) = NumbersInRange a.term
 TaskInRange (task.SetElement a) = NumbersInRange a.index × NumbersInRange a.number
 TaskInRange (task.SetNull to) = Unit {0}
 TaskInRange (task.MakeArray T x n) = Unit {0}
-TaskInRange (task.Invoke i) = OperandsInRange i.operands.items × IsTrue (is_built_function (function_value i.function)) × PurposeInRange i.purpose
+TaskInRange (task.Invoke i) = OperandsInRange i.operands.items × PurposeInRange i.purpose
 TaskInRange (task.Branch c) = NumbersInRange c.test × BlockInRange (block_tree c.block.now) × ElseInRange c.otherwise
 TaskInRange (task.Loop i) = ExprInRange (expr_tree i.test.now) × NumbersInRange i.term × BlockInRange (block_tree i.body.now)
 TaskInRange task.Return = Unit {0}

@@ -1,17 +1,16 @@
 //! Tasks: statements that are begun.
 
-ghost use Rattle.std.specs.Prelude.{◌≡◌, ◌++◌, IfOk, IsTrue, map, zip};
+ghost use Rattle.std.specs.Prelude.{◌≡◌, ◌++◌, IfOk, IsTrue, map, not, zip};
 ghost use Rattle.std.specs.List.{list_all};
 ghost use Rattle.jni.specs.Table.{parameter_value};
 ghost use Rattle.syntax.specs.Views.{argument_tree, call_tree, stmt_tree, expr_tree, right_side_tree, test_tree, block_tree};
 ghost use Rattle.syntax.specs.Limits.{numbers_in_range};
 ghost use Rattle.syntax.specs.Parts.{argument_expressions};
-ghost use Rattle.type_rules.specs.BuiltCalls.{is_built_call};
 ghost use Rattle.semantics.specs.Task.{Declared, Loop, Print, ReturnValue, SetElement, set_task, right_side_task, if_task, task_of, call_task, operand};
 ghost use Rattle.semantics.specs.Term.{term_of};
 ghost use Rattle.replay_tasks.specs.Outcomes.{else_tree, kind_view, purpose_view, target_view};
 ghost use Rattle.replay_terms.specs.Views.{operand_view};
-ghost use Rattle.replay_tasks.specs.Tasks.{task_view, ArgumentsInRange, OperandInRange, OperandsInRange, ExprInRange, RightSideInRange, TestInRange, BlockInRange, PurposeInRange, ElseInRange, StatementInRange, TaskInRange, IsControl};
+ghost use Rattle.replay_tasks.specs.Tasks.{task_view, is_unknown_call, ArgumentsInRange, OperandInRange, OperandsInRange, ExprInRange, RightSideInRange, TestInRange, BlockInRange, PurposeInRange, ElseInRange, StatementInRange, TaskInRange, IsControl};
 
 use crate::outcome::{Purpose, Target, VariableKind, kind_of};
 use jni::{JniFunction, ParameterKind, function_named};
@@ -130,7 +129,7 @@ fn call_task<'a>(
 ) -> Result<Task<'a>, AllocError>
     requires numbers { ArgumentsInRange (call_tree call.now).arguments }
     requires ways { PurposeInRange purpose }
-    requires built { IsTrue (is_built_call (call_tree call.now)) }
+    requires known { IsTrue (not (is_unknown_call (call_tree call.now))) }
     ensures view { IfOk result (λ t. task_view t ≡ call_task line (purpose_view line purpose.entry) (call_tree call.entry.now)) }
     ensures range { IfOk result TaskInRange }
 {
@@ -328,7 +327,7 @@ pub fn task_of(alloc: Global, s: &Stmt) -> Result<Task<'_>, AllocError>
             declaration(
                 alloc,
                 line,
-                VariableKind::Buffer(ElementType::Jchar),
+                VariableKind::Buffer(ElementType::Char),
                 x,
                 right,
             )

@@ -2,8 +2,6 @@
 use Rattle.std.proofs.Common.{◌≡◌, None, refl, ap, sym, ◌∙◌}
 use Rattle.syntax.specs.declared.expr.BinaryOp.{BinaryOp}
 use Rattle.syntax.specs.declared.expr.BinaryOp.TheVariants as binary
-use Rattle.syntax.specs.Parts.{null_tested}
-use Rattle.syntax.specs.Tree.{Expr, Binary}
 use Rattle.syntax.specs.Views.{binary_tree}
 use Rattle.semantics.specs.Sight.{Sight}
 use Rattle.semantics.specs.Term as tree
@@ -16,31 +14,6 @@ use Rattle.replay_terms.specs.declared.term.Term.TheVariants as term
 use Rattle.replay_terms.specs.declared.value.Evaluated.{Evaluated}
 use Rattle.replay_terms.specs.declared.value.Evaluated.TheVariants as evaluated
 use Rattle.replay_terms.specs.Views.{evaluated_view, term_view, IsReplaced, IsValue, Reduces}
-
--- ---- comparisons with NULL
-
--- other operators compare nothing with NULL
-pub not_compared : (op : BinaryOp) → (op ≡ binary.Equal → ⊥) → (op ≡ binary.NotEqual → ⊥) → (a b : Expr) → null_tested (Binary (binary_tree op) a b) ≡ None
-not_compared binary.LogicalOr no_equal no_other a b = refl
-not_compared binary.LogicalAnd no_equal no_other a b = refl
-not_compared binary.BitOr no_equal no_other a b = refl
-not_compared binary.BitXor no_equal no_other a b = refl
-not_compared binary.BitAnd no_equal no_other a b = refl
-not_compared binary.Equal no_equal no_other a b = absurd (no_equal refl)
-not_compared binary.NotEqual no_equal no_other a b = absurd (no_other refl)
-not_compared binary.Less no_equal no_other a b = refl
-not_compared binary.LessEqual no_equal no_other a b = refl
-not_compared binary.Greater no_equal no_other a b = refl
-not_compared binary.GreaterEqual no_equal no_other a b = refl
-not_compared binary.ShiftLeft no_equal no_other a b = refl
-not_compared binary.ShiftRight no_equal no_other a b = refl
-not_compared binary.Add no_equal no_other a b = refl
-not_compared binary.Subtract no_equal no_other a b = refl
-not_compared binary.Multiply no_equal no_other a b = refl
-not_compared binary.Divide no_equal no_other a b = refl
-not_compared binary.Remainder no_equal no_other a b = refl
-
-pub ruleset comparison_rules = (not_compared)
 
 -- ---- operators
 

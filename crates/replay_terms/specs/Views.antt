@@ -3,9 +3,9 @@ use Rattle.std.specs.Prelude.{◌≡◌, ◌<◌, ◌≤◌, ◌+◌, ℕ, ℤ, 
 use Rattle.std.specs.Option.{option_map}
 use Rattle.std.specs.Borrow.{Bor}
 use Rattle.base.specs.Bytes.{Identifier, ByName, lookup}
-use Rattle.base.specs.Element.{ElementType}
+use Rattle.base.specs.Element.{ElementType, element_value}
 use Rattle.syntax.specs.Tree.{BinaryOp}
-use Rattle.syntax.specs.Views.{argument_tree, constant_tree, element_tree, prefix_tree, binary_tree}
+use Rattle.syntax.specs.Views.{argument_tree, constant_tree, prefix_tree, binary_tree}
 use Rattle.syntax.specs.Limits.{number_limit}
 use Rattle.classes.specs.FieldViews.{field_id_view}
 use Rattle.semantics.specs.CallEffects.{CallResult, NoResult, NullResult, ScalarResult, ReferenceResult, FieldResult}
@@ -80,10 +80,10 @@ abbrev pub content_view : Content → Variable
 content_view (content.Number v) = Scalar (value_view v)
 content_view (content.Reference level r) = LocalRef level r
 content_view (content.Field f) = FieldHandle (option_map field_id_view f)
-content_view (content.Buffer T) = Elements (element_tree T) NoBuffer
-content_view (content.Copy T n numbers) = Elements (element_tree T) (Copy n numbers.items)
-content_view (content.View T n) = Elements (element_tree T) (View n)
-content_view (content.Array T numbers) = LocalArray (element_tree T) numbers.items
+content_view (content.Buffer T) = Elements (element_value T) NoBuffer
+content_view (content.Copy T n numbers) = Elements (element_value T) (Copy n numbers.items)
+content_view (content.View T n) = Elements (element_value T) (View n)
+content_view (content.Array T numbers) = LocalArray (element_value T) numbers.items
 
 -- the entries of a hash map, by name
 abbrev pub by_name : {A : Type 0} → List (Bor Identifier × A) → ByName A
@@ -236,10 +236,6 @@ NumbersInRange (term.Prefix' op p t) = NumbersInRange t
 NumbersInRange (term.And' p s q t) = NumbersInRange s × NumbersInRange t
 NumbersInRange (term.Or' p s q t) = NumbersInRange s × NumbersInRange t
 NumbersInRange (term.Binary' op p s q t) = NumbersInRange s × NumbersInRange t
-
--- an operator with this tested name compares it with NULL
-abbrev pub ComparesNull : (wanted : Bool) → Identifier → BinaryOp → (tested : Option Identifier) → Type 0
-ComparesNull wanted x op tested = (s t : Term) → binary_term op tested s t ≡ IsNull wanted x
 
 -- ---- the step of a term
 

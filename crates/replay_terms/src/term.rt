@@ -1,12 +1,12 @@
 //! Terms: expressions on the way to their values.
 
-ghost use Rattle.std.specs.Prelude.{◌≡◌, IfOk, IfSome, IfNone, IsTrue, None};
+ghost use Rattle.std.specs.Prelude.{◌≡◌, IfOk, IsTrue, None};
 ghost use Rattle.syntax.specs.Limits.{numbers_in_range};
 ghost use Rattle.syntax.specs.Parts.{null_tested};
 ghost use Rattle.syntax.specs.Tree.{Binary};
 ghost use Rattle.syntax.specs.Views.{expr_tree, binary_tree};
 ghost use Rattle.semantics.specs.Term.{term_of, binary_term};
-ghost use Rattle.replay_terms.specs.Views.{term_view, NumbersInRange, ComparesNull};
+ghost use Rattle.replay_terms.specs.Views.{term_view, NumbersInRange};
 
 use crate::value::Value;
 use std::alloc::{AllocError, Global};
@@ -38,26 +38,6 @@ pub fn put_term<'a>(place: &mut Term<'a>, term: Term<'a>)
     drop(mem::replace(place, term));
 }
 
-/// The name that a comparison with NULL tests, and whether for NULL.
-#[tactic(auto, using(crate::proofs::TermLemmas::comparison_rules))]
-fn null_test<'a>(op: BinaryOp, a: &'a Expr, b: &Expr) -> Option<(bool, &'a Name)>
-    ensures some { IfSome result (λ t. ComparesNull t.0 t.1.now (binary_tree op) (null_tested (Binary (binary_tree op) (expr_tree a.now) (expr_tree b.now)))) }
-    ensures none { IfNone result (null_tested (Binary (binary_tree op) (expr_tree a.now) (expr_tree b.now)) ≡ None) }
-{
-    let wanted = match op {
-        BinaryOp::Equal => true,
-        BinaryOp::NotEqual => false,
-        _ => return None,
-    };
-    let Expr::Variable(name) = a else {
-        return None;
-    };
-    let Expr::Named(Constant::Null) = b else {
-        return None;
-    };
-    Some((wanted, name))
-}
-
 /// The term of an operator between two terms.
 #[tactic(auto, using(crate::proofs::TermLemmas::operator_rules))]
 fn operator_term<'a>(op: BinaryOp, left: Box<Term<'a>>, right: Box<Term<'a>>) -> Term<'a>
@@ -85,7 +65,7 @@ fn boxed_term_of(alloc: Global, e: &Expr) -> Result<Box<Term<'_>>, AllocError>
     Ok(term)
 }
 
-/// The term of an operator between two expressions.
+/// The term of an operator between two expressions, which don't compare a bare name with NULL.
 #[cycle(term_of)]
 fn operation_of<'a>(
     alloc: Global,
@@ -94,17 +74,13 @@ fn operation_of<'a>(
 ) -> Result<Term<'a>, AllocError>
     requires left { IsTrue (numbers_in_range (expr_tree operands.now.0)) }
     requires right { IsTrue (numbers_in_range (expr_tree operands.now.1)) }
+    requires untested { null_tested (Binary (binary_tree op) (expr_tree operands.now.0) (expr_tree operands.now.1)) ≡ None }
     ensures view { IfOk result (λ t. term_view t ≡ term_of (Binary (binary_tree op) (expr_tree operands.entry.now.0) (expr_tree operands.entry.now.1))) }
     ensures numbers { IfOk result NumbersInRange }
 {
-    match null_test(op, &operands.0, &operands.1) {
-        Some((wanted, name)) => Ok(Term::IsNull(wanted, name)),
-        None => {
-            let left = boxed_term_of(alloc, &operands.0)?;
-            let right = boxed_term_of(alloc, &operands.1)?;
-            Ok(operator_term(op, left, right))
-        }
-    }
+    let left = boxed_term_of(alloc, &operands.0)?;
+    let right = boxed_term_of(alloc, &operands.1)?;
+    Ok(operator_term(op, left, right))
 }
 
 /// The term that an expression begins as. Its names are those of the tree.
@@ -129,7 +105,10 @@ pub fn term_of(alloc: Global, e: &Expr) -> Result<Term<'_>, AllocError>
             let operand = boxed_term_of(alloc, a)?;
             Ok(Term::Prefix(*op, operand))
         }
-        Expr::Binary(op, operands) => operation_of(alloc, *op, operands),
+        Expr::Binary(op, operands) => match e.null_test() {
+            Some(test) => Ok(Term::IsNull(test.equal, test.name)),
+            None => operation_of(alloc, *op, operands),
+        },
         Expr::Paren(a) => term_of(alloc, a),
     }
 }

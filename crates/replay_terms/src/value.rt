@@ -2,7 +2,8 @@
 
 ghost use Rattle.std.specs.Prelude.{◌≡◌, ◌<◌};
 ghost use Rattle.syntax.specs.Limits.{number_limit};
-ghost use Rattle.syntax.specs.Views.{constant_tree, element_tree, prefix_tree, binary_tree};
+ghost use Rattle.base.specs.Element.{element_value};
+ghost use Rattle.syntax.specs.Views.{constant_tree, prefix_tree, binary_tree};
 ghost use Rattle.semantics.specs.Term.{literal, constant};
 ghost use Rattle.semantics.specs.Value.{Word, Truth, Gives, convert, prefix_value, binary_value};
 ghost use Rattle.replay_terms.specs.Views.{value_view, evaluated_view};
@@ -59,14 +60,14 @@ pub fn constant(c: Constant) -> Evaluated
 
 /// What is left of a number in an element type.
 pub fn convert(kind: ElementType, number: i32) -> i32
-    ensures { result ≡ convert (element_tree kind) number }
+    ensures { result ≡ convert (element_value kind) number }
 {
     let word = number.cast_unsigned();
     match kind {
-        ElementType::Jint => number,
-        ElementType::Jshort => i32::from(((word % 65_536) as u16).cast_signed()),
-        ElementType::Jbyte => i32::from(((word % 256) as u8).cast_signed()),
-        ElementType::Jchar => (word % 65_536) as i32,
+        ElementType::Int => number,
+        ElementType::Short => i32::from(((word % 65_536) as u16).cast_signed()),
+        ElementType::Byte => i32::from(((word % 256) as u8).cast_signed()),
+        ElementType::Char => (word % 65_536) as i32,
     }
 }
 

@@ -4,7 +4,7 @@ ghost use Rattle.std.specs.Prelude.{◌≡◌, ◌≤◌, ◌++◌, [], IfOk, So
 ghost use Rattle.std.specs.Option.{option_map};
 ghost use Rattle.base.specs.Bytes.{lookup};
 ghost use Rattle.indexmap.specs.IndexMap.{values};
-ghost use Rattle.syntax.specs.Views.{element_tree};
+ghost use Rattle.base.specs.Element.{element_value};
 ghost use Rattle.semantics.specs.CallEffects.{begun_with, copied_elements, freed, local_array};
 ghost use Rattle.semantics.specs.CallStep.{element_type};
 ghost use Rattle.semantics.specs.Heap.{number_in};
@@ -168,13 +168,13 @@ impl<'a> Variables<'a> {
 
     /// The element type of the buffer of this name; `jint` where there is none.
     pub fn element_type(&self, name: &[u8]) -> ElementType
-        ensures { element_tree result ≡ element_type (lookup name.now (variables_view self.now)) }
+        ensures { element_value result ≡ element_type (lookup name.now (variables_view self.now)) }
     {
         match self.content_named(name) {
             Some(Content::Buffer(kind) | Content::Copy(kind, _, _) | Content::View(kind, _)) => {
                 *kind
             }
-            _ => ElementType::Jint,
+            _ => ElementType::Int,
         }
     }
 
@@ -298,7 +298,7 @@ pub fn zeros(alloc: Global, size: u32) -> Result<Vec<i32>, AllocError>
 
 /// Writes an element that is there, converted to its type.
 fn write(kind: ElementType, numbers: &mut [i32], index: usize, number: i32)
-    ensures { numbers.new ≡ slice_set numbers.old index (convert (element_tree kind) number) }
+    ensures { numbers.new ≡ slice_set numbers.old index (convert (element_value kind) number) }
 {
     if index < numbers.len() {
         numbers[index] = convert(kind, number);

@@ -1,5 +1,4 @@
 pub mod NamesOnce
-mod PlainTasks
 mod ThreadLemmas
 pub mod StateLemmas
 mod StandingLemmas

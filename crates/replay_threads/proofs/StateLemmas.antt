@@ -27,7 +27,7 @@ use Rattle.replay_calls.specs.Shares.{shared_view}
 use Rattle.semantics.specs.State.{State, thread_at, set_thread, copied, in_use, with_event, advanced}
 use Rattle.semantics.specs.Step.{world_step, can_step, step_of, is_blocked, is_live, is_unfinished, is_waiting}
 use Rattle.semantics.specs.Thread.{BuffersInUse, copied_by, viewed_by, Ending, Thread, Shared, Unfinished, Ended, Uncaught, Quiet, PrintedNumber, Trapped, Advance}
-use Rattle.semantics.specs.ThreadStep.{thread_step}
+use Rattle.semantics.specs.ThreadStep.{thread_step, waits}
 use Rattle.semantics.proofs.StepLaws.{Steps, steps, step-thread}
 use Rattle.replay_threads.specs.declared.state.State.{State as StateInMemory}
 use Rattle.replay_threads.specs.declared.thread.Thread.{Thread as ThreadInMemory}
@@ -36,8 +36,7 @@ use Rattle.replay_threads.specs.declared.thread.Step.TheVariants as step
 use Rattle.replay_threads.specs.declared.state.Stop.{Stop as StopInMemory}
 use Rattle.replay_terms.specs.Views.{trap_view}
 use Rattle.replay_threads.specs.States.{ThreadsStand, AreInRange, Stands, variables_of, copied_in, viewed_in, in_use_by, stop_view, printed_after, stop_after, is_possible, Leads, standing_in, standings_of, EachInRange}
-use Rattle.replay_threads.specs.Threads.{ThreadStands, WorkInRange, WorkStands, ending_view, StepIs, TakesStep}
-use Rattle.replay_threads.proofs.PlainTasks.{waits_none}
+use Rattle.replay_threads.specs.Threads.{ThreadStands, ThreadWaits, WorkInRange, WorkStands, ending_view, StepIs, TakesStep}
 use Rattle.replay_threads.proofs.StandingLemmas.{numbered_at, taken_more}
 
 -- ---- one thread of several
@@ -60,14 +59,6 @@ module _ (unit : SourceUnit) (classes : Classes) where
   stand_length [] (s ∷ ss) h = absurd h
   stand_length (t ∷ ts) [] h = absurd h
   stand_length (t ∷ ts) (s ∷ ss) h = ap suc (stand_length ts ss h.1)
-
-  -- a thread of the language has one in memory
-  pub stood_for : (ts : List ThreadInMemory) (ss : List Thread) (i : ℕ) (s : Thread) → ThreadsStand unit classes ts ss → EachInRange ts → slice_get ss i ≡ Some s → (t : ThreadInMemory) × ThreadStands unit classes t s × WorkInRange t.activation
-  stood_for [] [] i s h r e = absurd (cc)
-  stood_for [] (x ∷ ss) i s h r e = absurd h
-  stood_for (t ∷ ts) [] i s h r e = absurd h
-  stood_for (t ∷ ts) (x ∷ ss) zero s h r e = (t, let same : x ≡ s = cc in subst (λ y. ThreadStands unit classes t y) same h.0, r.0)
-  stood_for (t ∷ ts) (x ∷ ss) (suc i) s h r e = stood_for ts ss i s h.1 r.1 e
 
   pub missing : (ts : List ThreadInMemory) (ss : List Thread) (i : ℕ) → ThreadsStand unit classes ts ss → length ts ≤ i → slice_get ss i ≡ None
   missing [] [] i h p = refl
@@ -203,16 +194,23 @@ module _ (unit : SourceUnit) (w : World) (m : StateInMemory) (s : State) (h : St
   waiting k refused waits =
       none_else (can_step w.classes s k) (step_of unit w.classes s k refused (thread_at s k)) (last_fails (is_none s.stop) (is_live (thread_at s k)) (is_blocked w.classes s k) waits)
 
-  -- no thread waits
-  waiting_none : (k : ℕ) (o : Option Thread) → thread_at s k ≡ o → is_waiting w.classes k s.shared o ≡ false
-  waiting_none k None there = refl
-  waiting_none zero (Some x) there = absurd (cc)
-  waiting_none (suc i) (Some x) there =
-      let t = stood_for unit w.classes m.threads.items s.threads i x h.threads range.each there in
-      waits_none unit w.classes s.shared (suc i) t.0 x t.1 t.2
+  -- a thread that isn't there doesn't wait
+  pub free_nobody : (k : ℕ) → k ≡ 0 → false ≡ is_blocked w.classes s k
+  free_nobody k none = sym (ap (is_blocked w.classes s) none)
 
-  pub blocked_none : (k : ℕ) → is_blocked w.classes s k ≡ false
-  blocked_none k = waiting_none k (thread_at s k) refl
+  pub free_past : (k : ℕ) → length m.threads.items < k → false ≡ is_blocked w.classes s k
+  free_past zero past = absurd (omega (arith, past))
+  free_past (suc i) past = sym (ap (is_waiting w.classes (suc i) s.shared) (missing unit w.classes m.threads.items s.threads i h.threads (omega (arith, past))))
+
+  -- one that is there waits as the one in memory does
+  pub blocked_as : (k i : ℕ) (t : ThreadInMemory) (classes : Classes) (answer : Bool) → k ≡ suc i → slice_get m.threads.items i ≡ Some t → classes ≡ m.world.now.classes → ThreadWaits classes k (shared_view m.shared) t answer
+      → answer ≡ is_blocked w.classes s k
+  blocked_as k i t classes answer counted at same tells =
+      let f = found unit w.classes m.threads.items s.threads i t h.threads at in
+      let here = subst (λ (c : Classes). ThreadWaits c k (shared_view m.shared) t answer) (same ∙ sym (ap (λ (v : World). v.classes) h.world)) tells in
+      here unit f.source f.stands (range_at m.threads.items i t range at)
+      ∙ ap (λ (x : Shared). waits w.classes k x f.source) (sym h.shared)
+      ∙ sym (ap (is_waiting w.classes k s.shared) (ap (thread_at s) counted ∙ f.is))
 
   module _ (i : ℕ) (t after : ThreadInMemory) (at : slice_get m.threads.items i ≡ Some t) (live : is_unfinished (ending_view t.ending) ≡ true) (runs : is_some m.stop ≡ false) (free : is_blocked w.classes s (suc i) ≡ false)
       (new : StateInMemory) (world : new.world ≡ m.world) (threads : new.threads.items ≡ slice_set m.threads.items i after) (refused : Bool) where

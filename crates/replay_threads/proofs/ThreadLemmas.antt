@@ -2,70 +2,64 @@
 use Rattle.std.proofs.Common.{◌≡◌, ℕ, Bool, true, false, List, [], ◌∷◌, Option, Some, None, refl, sym, ap, ◌∙◌, IsTrue, subst}
 use Rattle.std.specs.List.{list_all}
 use Rattle.std.specs.Option.{option_map}
+use Rattle.semantics.specs.CallStep.{waits_with}
+use Rattle.semantics.specs.Task.{Task}
 use Rattle.semantics.specs.World.{Invocation}
 use Rattle.semantics.specs.Load.{call_loads}
 use Rattle.std.proofs.lemmas.Bool.{and_parts}
 use Rattle.std.specs.Borrow.{Bor}
 use Rattle.syntax.specs.Tree.{Function, SourceUnit}
 use Rattle.class_rules.specs.Class.{Classes}
-use Rattle.semantics.specs.Thread.{Monitor, Thread, Shared, BuffersInUse, Event, Quiet, PrintedNumber, Trapped, Advances as AdvancesTo, NoAdvance, Ending, Unfinished, Ended, Uncaught}
+use Rattle.semantics.specs.Thread.{Thread, Shared, BuffersInUse, Event, Quiet, PrintedNumber, Trapped, Advances as AdvancesTo, NoAdvance, Ending, Unfinished, Ended, Uncaught}
 use Rattle.semantics.specs.Object.{Reference}
 use Rattle.semantics.specs.Activation.{ending_after, monitors_after, calls_after, return_step, enter, entered, entry_advance, entered_function}
-use Rattle.semantics.specs.ThreadStep.{thread_step, step_within}
+use Rattle.semantics.specs.ThreadStep.{next_effect, thread_step, step_within}
 use Rattle.replay_steps.specs.declared.activation.Activation.{Activation}
 use Rattle.replay_threads.specs.declared.thread.Thread.{Thread as ThreadInMemory}
 use Rattle.replay_tasks.specs.declared.outcome.Outcome.TheVariants as outcome
 use Rattle.replay_steps.specs.Activations.{tasks_left, thread_in, advance_by, Advances}
-use Rattle.replay_calls.specs.Shares.{shared_view}
-use Rattle.replay_calls.specs.declared.shared.Shared.{Shared as SharedInMemory}
 use Rattle.replay_steps.specs.Steps.{Scene, Sees, scene_with}
+use Rattle.replay_steps.specs.Waits.{WaitsIn}
 use Rattle.replay_terms.specs.Views.{trap_view}
 use Rattle.replay_tasks.specs.declared.outcome.Outcome.{Outcome}
 use Rattle.replay_threads.specs.declared.thread.Step.{Step}
-use Rattle.semantics.specs.Heap.{Heap}
-use Rattle.replay_threads.specs.Threads.{IsEntered, HasNoEntry, ThreadStands, WorkInRange, WorkStands, EndsStep, HasLeft, Leaves, StepIs, step_of, tasks_in, ending_view}
-
--- a thread that has ended owns nothing where nobody does
-no_monitors : (e : Ending) (k : ℕ) → monitors_after e k [] ≡ []
-no_monitors Unfinished k = refl
-no_monitors Ended k = refl
-no_monitors (Uncaught c) k = refl
+use Rattle.replay_threads.specs.Threads.{IsEntered, HasNoEntry, ThreadStands, ThreadWaits, WorkInRange, WorkStands, EndsStep, HasLeft, Leaves, StepIs, step_of, tasks_in, ending_view}
 
 -- a call that didn't return goes on
-pub goes_on : (store : Heap) (t : ThreadInMemory) (o : Outcome) (took : Step) → (o ≡ outcome.Returned → ⊥) → took ≡ step_of o → EndsStep store t o took t
-goes_on store t outcome.Returned took none is = absurd (none refl)
-goes_on store t o took none is = (is, refl)
+pub goes_on : (k : ℕ) (shared : Shared) (t : ThreadInMemory) (o : Outcome) (took : Step) → (o ≡ outcome.Returned → ⊥) → took ≡ step_of o → EndsStep k shared t o took shared t
+goes_on k shared t outcome.Returned took none is = absurd (none refl)
+goes_on k shared t o took none is = (is, refl, refl)
 
 -- what is known of it stays known
-pub ended_range : (store : Heap) (t : ThreadInMemory) (new : Activation) (o : Outcome) (took : Step) (left : ThreadInMemory) → t.activation ≡ Some new → EndsStep store t o took left → WorkInRange (Some new) → WorkInRange left.activation
-ended_range store t new outcome.Returned took left is e known = subst WorkInRange (sym e.1.activation) tt
-ended_range store t new o took left is e known = subst (λ (u : ThreadInMemory). WorkInRange u.activation) (sym e.1) (subst WorkInRange (sym is) known)
+pub ended_range : (k : ℕ) (shared last : Shared) (t : ThreadInMemory) (new : Activation) (o : Outcome) (took : Step) (left : ThreadInMemory) → t.activation ≡ Some new → EndsStep k shared t o took last left → WorkInRange (Some new) → WorkInRange left.activation
+ended_range k shared last t new outcome.Returned took left is e known = subst WorkInRange (sym e.1.activation) tt
+ended_range k shared last t new o took left is e known = subst (λ (u : ThreadInMemory). WorkInRange u.activation) (sym e.1) (subst WorkInRange (sym is) known)
 
 module _ (unit : SourceUnit) (classes : Classes) (in_use : BuffersInUse) (k : ℕ) where
   -- a thread after its call with this ending, and with these calls to come before
   abbrev thread_after : Ending → List Invocation → Thread
   thread_after e calls = record { calls = calls_after e calls; tasks = None; variables = []; frames = []; pending = None; ending = e }
 
-  left_by : (m : SharedInMemory) (s : Thread) (e : Ending) (calls : List Invocation) (pending : Reference) → s.calls ≡ calls → s.pending ≡ pending → e ≡ ending_after m.store pending calls
-      → return_step k (shared_view m) s ≡ AdvancesTo (shared_view m) (thread_after e calls) Quiet
-  left_by m s e calls pending is there stood =
-      let same : ending_after m.store s.pending s.calls ≡ e = ap (λ (r : Reference). ending_after m.store r s.calls) there ∙ ap (ending_after m.store pending) is ∙ sym stood in
-      ap (λ (f : Ending). let t : Thread = thread_after f s.calls in let r : Shared = record (shared_view m) { monitors = monitors_after f k [] } in AdvancesTo r t Quiet) same
-      ∙ ap (λ (ms : List Monitor). let t : Thread = thread_after e s.calls in let r : Shared = record (shared_view m) { monitors = ms } in AdvancesTo r t Quiet) (no_monitors e k)
-      ∙ ap (λ (cs : List Invocation). let t : Thread = thread_after e cs in AdvancesTo (shared_view m) t Quiet) is
+  left_by : (m last : Shared) (s : Thread) (e : Ending) (calls : List Invocation) (pending : Reference) → s.calls ≡ calls → s.pending ≡ pending → e ≡ ending_after m.heap pending calls
+      → last ≡ record m { monitors = monitors_after e k m.monitors } → return_step k m s ≡ AdvancesTo last (thread_after e calls) Quiet
+  left_by m last s e calls pending is there stood given_up =
+      let same : ending_after m.heap s.pending s.calls ≡ e = ap (λ (r : Reference). ending_after m.heap r s.calls) there ∙ ap (ending_after m.heap pending) is ∙ sym stood in
+      ap (λ (f : Ending). let t : Thread = thread_after f s.calls in let r : Shared = record m { monitors = monitors_after f k m.monitors } in AdvancesTo r t Quiet) same
+      ∙ ap (λ (r : Shared). let t : Thread = thread_after e s.calls in AdvancesTo r t Quiet) (sym given_up)
+      ∙ ap (λ (cs : List Invocation). let t : Thread = thread_after e cs in AdvancesTo last t Quiet) is
 
   loads_after : (e : Ending) (calls : List Invocation) → IsTrue (list_all (call_loads unit classes) calls) → IsTrue (list_all (call_loads unit classes) (calls_after e calls))
   loads_after Unfinished calls h = h
   loads_after Ended calls h = refl
   loads_after (Uncaught c) calls h = refl
 
-  module _ (refused : Bool) (shared : Shared) (after : SharedInMemory) (t : ThreadInMemory) (a new : Activation) (pending : Option ℕ) (s : Thread) (is : t.activation ≡ Some a) (h : ThreadStands unit classes t s) where
+  module _ (refused : Bool) (shared after : Shared) (t : ThreadInMemory) (a new : Activation) (pending : Option ℕ) (s : Thread) (is : t.activation ≡ Some a) (h : ThreadStands unit classes t s) where
     -- the scenes before the step and after it
     abbrev before : Scene
     before = scene_with classes in_use k shared a.locals.variables a.locals.frames t.pending
 
     abbrev end' : Scene
-    end' = scene_with classes in_use k (shared_view after) new.locals.variables new.locals.frames pending
+    end' = scene_with classes in_use k after new.locals.variables new.locals.frames pending
 
     -- the thread in memory after it, and the one that it stands for
     abbrev stepped : ThreadInMemory
@@ -83,12 +77,12 @@ module _ (unit : SourceUnit) (classes : Classes) (in_use : BuffersInUse) (k : �
     sees : Sees before s
     sees = record { variables = work.0; frames = work.1; pending = h.pending }
 
-    advances_so : (o : Outcome) → Advances refused before a.work o end' new.work → thread_step unit classes in_use k shared s refused ≡ advance_by k (shared_view after) next o
+    advances_so : (o : Outcome) → Advances refused before a.work o end' new.work → thread_step unit classes in_use k shared s refused ≡ advance_by k after next o
     advances_so o does = ap (step_within unit classes in_use k shared s refused) has_tasks ∙ does unit s sees has_tasks
 
     -- the call goes on
-    on : (event : Event) → thread_step unit classes in_use k shared s refused ≡ AdvancesTo (shared_view after) next event
-        → Leaves unit classes (shared_view after) stepped event (thread_step unit classes in_use k shared s refused)
+    on : (event : Event) → thread_step unit classes in_use k shared s refused ≡ AdvancesTo after next event
+        → Leaves unit classes after stepped event (thread_step unit classes in_use k shared s refused)
     on event does = record {
       next = next;
       advances = does;
@@ -96,7 +90,7 @@ module _ (unit : SourceUnit) (classes : Classes) (in_use : BuffersInUse) (k : �
     }
 
     pub goes : (o : Outcome) → (o ≡ outcome.Returned → ⊥) → Advances refused before a.work o end' new.work
-        → StepIs unit classes (shared_view after) stepped (step_of o) (thread_step unit classes in_use k shared s refused)
+        → StepIs unit classes after stepped (step_of o) (thread_step unit classes in_use k shared s refused)
     goes outcome.Stays other does = on Quiet (advances_so outcome.Stays does)
     goes (outcome.Printed z) other does = on (PrintedNumber z) (advances_so (outcome.Printed z) does)
     goes (outcome.Sets x v) other does = on Quiet (advances_so (outcome.Sets x v) does)
@@ -113,13 +107,13 @@ module _ (unit : SourceUnit) (classes : Classes) (in_use : BuffersInUse) (k : �
     goes outcome.Impossible other does = advances_so outcome.Impossible does
 
     -- the call is over
-    pub returns : (left : ThreadInMemory) → Advances refused before a.work outcome.Returned end' new.work → HasLeft after.store stepped left
-        → Leaves unit classes (shared_view after) left Quiet (thread_step unit classes in_use k shared s refused)
-    returns left does over =
+    pub returns : (last : Shared) (left : ThreadInMemory) → Advances refused before a.work outcome.Returned end' new.work → HasLeft k after stepped last left
+        → Leaves unit classes last left Quiet (thread_step unit classes in_use k shared s refused)
+    returns last left does over =
         let e : Ending = ending_view left.ending in
         record {
           next = thread_after e t.calls.now;
-          advances = advances_so outcome.Returned does ∙ left_by after next e t.calls.now pending h.calls refl over.ending;
+          advances = advances_so outcome.Returned does ∙ left_by after last next e t.calls.now pending h.calls refl over.ending over.shared;
           stands = record {
             calls = sym over.calls;
             loads = subst (λ (cs : List Invocation). IsTrue (list_all (call_loads unit classes) cs)) (sym over.calls) (loads_after e t.calls.now h.loads);
@@ -131,12 +125,13 @@ module _ (unit : SourceUnit) (classes : Classes) (in_use : BuffersInUse) (k : �
         }
 
     -- what a step of the call did is the thread's step
-    pub ended_step : (o : Outcome) (took : Step) (left : ThreadInMemory) → EndsStep after.store stepped o took left → Advances refused before a.work o end' new.work
-        → StepIs unit classes (shared_view after) left took (thread_step unit classes in_use k shared s refused)
-    ended_step outcome.Returned took left e does = rw e.0 (returns left does e.1)
-    ended_step o took left e does =
+    pub ended_step : (o : Outcome) (took : Step) (last : Shared) (left : ThreadInMemory) → EndsStep k after stepped o took last left → Advances refused before a.work o end' new.work
+        → StepIs unit classes last left took (thread_step unit classes in_use k shared s refused)
+    ended_step outcome.Returned took last left e does = rw e.0 (returns last left does e.1)
+    ended_step o took last left e does =
         let taken = thread_step unit classes in_use k shared s refused in
-        subst (λ (w : Step). StepIs unit classes (shared_view after) left w taken) (sym e.0) (subst (λ (u : ThreadInMemory). StepIs unit classes (shared_view after) u (step_of o) taken) (sym e.1) (goes o (λ r. absurd (cc)) does))
+        subst (λ (x : Shared). StepIs unit classes x left took taken) (sym e.2)
+        (subst (λ (w : Step). StepIs unit classes after left w taken) (sym e.0) (subst (λ (u : ThreadInMemory). StepIs unit classes after u (step_of o) taken) (sym e.1) (goes o (λ r. absurd (cc)) does)))
 
   -- the entry into the next call
   pub enters : (shared : Shared) (t : ThreadInMemory) (call : Invocation) (rest : List Invocation) (o : Option Activation) (s : Thread) → IsEntered unit classes call o → t.activation ≡ None → t.calls.now ≡ call ∷ rest → ThreadStands unit classes t s
@@ -181,3 +176,17 @@ module _ (unit : SourceUnit) (classes : Classes) (in_use : BuffersInUse) (k : �
       ap (step_within unit classes in_use k shared s false) (h.tasks ∙ ap tasks_in idle)
       ∙ ap (λ (cs : List Invocation). entry_advance shared (enter unit classes s cs)) (h.calls ∙ calls)
       ∙ ap (entry_advance shared) (never s rest)
+
+-- ---- waiting
+
+module _ (classes : Classes) (k : ℕ) (shared : Shared) (t : ThreadInMemory) where
+  -- between two calls no thread waits
+  pub idle_free : t.activation ≡ None → ThreadWaits classes k shared t false
+  idle_free idle = λ unit s h range. sym (ap (λ (o : Option (List Task)). waits_with classes k shared s (next_effect shared s o)) (h.tasks ∙ ap tasks_in idle))
+
+  -- within one it waits as its call does
+  pub waits_as : (a : Activation) (answer : Bool) → t.activation ≡ Some a → ((in_use : BuffersInUse) → WaitsIn (scene_with classes in_use k shared a.locals.variables a.locals.frames t.pending) a.work answer)
+      → ThreadWaits classes k shared t answer
+  waits_as a answer is tells = λ unit s h range.
+      let work : WorkStands (Some a) s = subst (λ (o : Option Activation). WorkStands o s) is h.work in
+      tells (record { copied = 0; views = 0 }) (subst WorkInRange is range) s (record { variables = work.0; frames = work.1; pending = h.pending }) (h.tasks ∙ ap tasks_in is)

@@ -2,7 +2,9 @@
 use Rattle.std.specs.Prelude.{ℕ, List, [], ◌++◌, flat_map, Option, None, Some}
 use Rattle.std.specs.Option.{option_to_list}
 use Rattle.replay_steps.specs.declared.activation.Activation.{Activation}
+use Rattle.semantics.specs.Thread.{Shared}
 use Rattle.replay_objects.specs.Frames.{references_in}
+use Rattle.replay_objects.specs.Monitors.{owned_objects}
 use Rattle.replay_threads.specs.declared.thread.Thread.{Thread}
 use Rattle.replay_threads.specs.States.{viewed_in}
 
@@ -18,6 +20,6 @@ activation_names (Some a) = references_in a.locals.frames
 abbrev pub thread_names : Thread → List ℕ
 thread_names t = activation_names t.activation ++ pending_names t.pending
 
--- the names of global references, of those that threads refer to, and of the objects of their views
-abbrev pub root_names : (globals : List ℕ) → List Thread → List ℕ
-root_names globals ts = globals ++ flat_map thread_names ts ++ flat_map viewed_in ts
+-- the names of global references, of those that threads refer to, of what they own, and of the objects of their views
+abbrev pub root_names : Shared → List Thread → List ℕ
+root_names s ts = s.globals ++ flat_map thread_names ts ++ owned_objects s.monitors ++ flat_map viewed_in ts

@@ -6,13 +6,12 @@ use Rattle.syntax.specs.Tree.{SourceUnit, Function as FunctionOfUnit}
 use Rattle.syntax.specs.Views.{function_tree}
 use Rattle.class_rules.specs.Class.{Classes}
 use Rattle.semantics.specs.Object.{ObjectValue, Number, Refers}
-use Rattle.semantics.specs.Activation.{parameter_variables, function_at, class_of_function, entered_function, named_object, entry_frame, ending_after, calls_after}
-use Rattle.semantics.specs.Heap.{Heap}
+use Rattle.semantics.specs.Activation.{parameter_variables, function_at, class_of_function, entered_function, named_object, entry_frame, ending_after, calls_after, monitors_after}
 use Rattle.semantics.specs.Load.{call_loads}
 use Rattle.semantics.specs.World.{Invocation}
 use Rattle.semantics.specs.Task.{Task, tasks_of}
 use Rattle.semantics.specs.Thread.{Ending, Unfinished, Ended, Uncaught, Thread, Shared, BuffersInUse, Event, Quiet, PrintedNumber, Trapped, Advance, Advances, NoAdvance}
-use Rattle.semantics.specs.ThreadStep.{thread_step}
+use Rattle.semantics.specs.ThreadStep.{thread_step, waits}
 use Rattle.semantics.specs.Value.{Int}
 use Rattle.semantics.specs.Variable.{Variable, Scalar, LocalRef}
 use Rattle.replay_steps.specs.declared.activation.Activation.{Activation}
@@ -92,17 +91,18 @@ step_of (outcome.Trapped trap line) = step.Trapped trap line
 step_of outcome.Impossible = step.Impossible
 step_of took = step.Quiet
 
--- its call in progress was left
-pub record HasLeft (store : Heap) (old new : ThreadInMemory) : Type 0 where
+-- thread k left its call in progress, and what it owns where it has ended
+pub record HasLeft (k : ℕ) (s : Shared) (old : ThreadInMemory) (after : Shared) (new : ThreadInMemory) : Type 0 where
   pub activation : new.activation ≡ None
   pub pending : new.pending ≡ None
-  pub ending : ending_view new.ending ≡ ending_after store old.pending old.calls.now
+  pub ending : ending_view new.ending ≡ ending_after s.heap old.pending old.calls.now
   pub calls : new.calls.now ≡ calls_after (ending_view new.ending) old.calls.now
+  pub shared : after ≡ record s { monitors = monitors_after (ending_view new.ending) k s.monitors }
 
 -- what others see of what a call in progress did, which was left if it returned
-abbrev pub EndsStep : Heap → ThreadInMemory → Outcome → Step → ThreadInMemory → Type 0
-EndsStep store old outcome.Returned took new = (took ≡ step.Quiet) × HasLeft store old new
-EndsStep store old o took new = (took ≡ step_of o) × (new ≡ old)
+abbrev pub EndsStep : (k : ℕ) → Shared → ThreadInMemory → Outcome → Step → Shared → ThreadInMemory → Type 0
+EndsStep k shared old outcome.Returned took after new = (took ≡ step.Quiet) × HasLeft k shared old after new
+EndsStep k shared old o took after new = (took ≡ step_of o) × (new ≡ old) × (after ≡ shared)
 
 -- a thread in memory stands for one of the language
 pub record ThreadStands (unit : SourceUnit) (classes : Classes) (t : ThreadInMemory) (s : Thread) : Type 0 where
@@ -112,6 +112,10 @@ pub record ThreadStands (unit : SourceUnit) (classes : Classes) (t : ThreadInMem
   pub work : WorkStands t.activation s
   pub pending : s.pending ≡ t.pending
   pub ending : s.ending ≡ ending_view t.ending
+
+-- whether each thread that it stands for waits for a monitor, as thread k
+abbrev pub ThreadWaits : Classes → (k : ℕ) → Shared → ThreadInMemory → Bool → Type 0
+ThreadWaits classes k shared t answer = (unit : SourceUnit) (s : Thread) → ThreadStands unit classes t s → WorkInRange t.activation → answer ≡ waits classes k shared s
 
 -- a step leaves the thread so, and all threads this to share
 pub record Leaves (unit : SourceUnit) (classes : Classes) (shared : Shared) (t : ThreadInMemory) (event : Event) (advance : Advance) : Type 0 where

@@ -3,23 +3,26 @@
 ghost use Rattle.std.specs.Prelude.{◌≡◌, ◌++◌, IfOk, flat_map};
 ghost use Rattle.replay_threads.specs.Rows.{activation_names, pending_names, root_names, thread_names};
 ghost use Rattle.replay_threads.specs.States.{viewed_in};
+ghost use Rattle.replay_calls.specs.Shares.{shared_view};
 
 use crate::thread::Thread;
-use replay_objects::Names;
+use replay_calls::Shared;
 use replay_steps::Activation;
 use std::alloc::{AllocError, Global};
 
-/// The names of the objects that global references and threads refer to, and that views show, in the order of the definitions.
+/// The names of the objects that global references and threads refer to, that threads own, and that views show, in the order of the
+/// definitions.
 pub fn root_names(
     alloc: Global,
-    globals: &Names,
+    shared: &Shared<'_>,
     threads: &[Thread<'_>],
 ) -> Result<Vec<usize>, AllocError>
-    ensures { IfOk result (λ names. names.items ≡ root_names globals.now threads.now) }
+    ensures { IfOk result (λ names. names.items ≡ root_names (shared_view shared.now) threads.now) }
 {
     let mut names = Vec::new(alloc);
-    globals.add_to(&mut names)?;
+    shared.globals.add_to(&mut names)?;
     add_threads(&mut names, threads)?;
+    shared.monitors.add_to(&mut names)?;
     add_views(&mut names, threads)?;
     Ok(names)
 }

@@ -1,9 +1,8 @@
 //! The state of a replay, and what an entry does to it.
 
-ghost use Rattle.std.specs.Prelude.{◌≡◌, [], IfOk, IfSome, IfNone, IsTrue, map, ◌≤◌, length};
+ghost use Rattle.std.specs.Prelude.{◌≡◌, [], IfOk, IfSome, IfNone, map, ◌≤◌, length};
 ghost use Rattle.syntax.specs.Limits.{IsTree};
 ghost use Rattle.syntax.specs.Views.{unit_tree};
-ghost use Rattle.type_rules.specs.BuiltCalls.{calls_are_built};
 ghost use Rattle.type_rules.specs.SortRules.{IsSorted};
 ghost use Rattle.semantics.specs.declared.journal.Entry.TheVariants as journal;
 ghost use Rattle.replay_threads.specs.States.{AreInRange, IsLiveAt, TakesEntry, TakesNone, IsNoted, AreStandings, Waits, in_use_by, is_possible, standing_in, copied_in, viewed_in};
@@ -12,7 +11,7 @@ ghost use Rattle.replay_threads.specs.Threads.{ending_view};
 ghost use Rattle.report.specs.ThreadStatus.{standing_view};
 ghost use Rattle.semantics.specs.ReportOf.{standing_by_ending};
 
-use crate::thread::{Ending, Step, Thread, is_unfinished, take_step};
+use crate::thread::{Ending, Step, Thread, is_unfinished, is_waiting, take_step};
 use classes::table::ClassTable;
 use functions::Functions;
 use replay_calls::Shared;
@@ -80,11 +79,18 @@ fn note(state: &mut State<'_>, k: u8, step: Step) -> Result<bool, AllocError>
     }
 }
 
-/// Whether a thread, counted from 1, waits for a monitor that another one owns. No function that waits can be called yet.
-fn waits(_state: &State<'_>, _k: usize) -> bool
-    ensures { Waits _state.now _k result }
+/// Whether thread `k`, counted from 1, is there and waits for a monitor that another one owns.
+fn waits(state: &State<'_>, k: usize) -> bool
+    ensures { Waits state.now k result }
 {
-    false
+    if k == 0 {
+        return false;
+    }
+    if state.threads.len() < k {
+        return false;
+    }
+    let classes = state.world.classes();
+    is_waiting(classes, k, &state.shared, &state.threads[k - 1])
 }
 
 /// The place of thread `k` if it can step: the machine hasn't stopped, and the thread is there, has not ended, and waits for no monitor.
@@ -158,7 +164,6 @@ fn take_turn<'a>(
 ) -> Result<bool, AllocError>
     requires tree { IsTree (unit_tree functions.now) }
     requires sorted { IsSorted (unit_tree functions.now) }
-    requires calls { IsTrue (calls_are_built (unit_tree functions.now)) }
     requires range { AreInRange state.old.threads.items }
     requires live { IsLiveAt state.old k place }
     ensures step { IfOk result (λ possible. TakesEntry (unit_tree functions.now) state.old (journal.Step k refused) possible state.new) }
@@ -187,7 +192,6 @@ pub fn take_entry<'a>(
 ) -> Result<bool, AllocError>
     requires tree { IsTree (unit_tree functions.now) }
     requires sorted { IsSorted (unit_tree functions.now) }
-    requires calls { IsTrue (calls_are_built (unit_tree functions.now)) }
     requires range { AreInRange state.old.threads.items }
     ensures step { IfOk result (λ possible. TakesEntry (unit_tree functions.now) state.old entry possible state.new) }
     ensures range { IfOk result (λ _. AreInRange state.new.threads.items) }

@@ -1,9 +1,8 @@
 //! Threads: calls in progress and to come.
 
-ghost use Rattle.std.specs.Prelude.{◌≡◌, ◌++◌, ◌∷◌, [], IfOk, IsTrue, Some, None, filter_map, map, zip};
+ghost use Rattle.std.specs.Prelude.{◌≡◌, ◌++◌, ◌∷◌, [], IfOk, Some, None, filter_map, map, zip};
 ghost use Rattle.syntax.specs.Limits.{IsTree};
 ghost use Rattle.syntax.specs.Views.{function_tree, parameter_tree, unit_tree};
-ghost use Rattle.type_rules.specs.BuiltCalls.{calls_are_built};
 ghost use Rattle.type_rules.specs.SortRules.{IsSorted};
 ghost use Rattle.world_values.specs.Views.{object_value_view};
 ghost use Rattle.semantics.specs.Activation.{parameter_variables, class_of_function, named_object, entry_frame, ending_after};
@@ -11,17 +10,18 @@ ghost use Rattle.semantics.specs.Step.{is_unfinished};
 ghost use Rattle.semantics.specs.Thread.{Shared as SharedOfThreads};
 ghost use Rattle.semantics.specs.Variable.{LocalRef};
 ghost use Rattle.class_rules.specs.Grown.{IsGrown};
-ghost use Rattle.replay_threads.specs.Threads.{argument_content, ending_view, BeginsNext, IsBegun, EndsStep, HasLeft, TakesTurn, WorkInRange, step_of};
+ghost use Rattle.replay_threads.specs.Threads.{argument_content, ending_view, BeginsNext, IsBegun, EndsStep, HasLeft, TakesTurn, ThreadWaits, WorkInRange, step_of};
 ghost use Rattle.replay_tasks.specs.Tasks.{StatementsInRange};
 ghost use Rattle.syntax.specs.declared.stmt.Block.{out-Block};
 ghost use Rattle.replay_calls.specs.Shares.{shared_view};
 ghost use Rattle.replay_terms.specs.Views.{assign_all, content_view, variables_view};
 
 use class_rules::mangling::unmangle;
+use classes::table::ClassTable;
 use functions::Functions;
 use replay_calls::Shared;
 use replay_objects::{Frames, Names, Store};
-use replay_steps::{Activation, Locals, Turn, advance, work_of};
+use replay_steps::{Activation, Locals, Turn, advance, waits, work_of};
 use replay_tasks::Outcome;
 use replay_terms::{Content, Trap, Value, Variables};
 use std::alloc::{AllocError, Global};
@@ -211,7 +211,6 @@ fn begin_next<'a>(
 ) -> Result<bool, AllocError>
     requires tree { IsTree (unit_tree functions.now) }
     requires sorted { IsSorted (unit_tree functions.now) }
-    requires calls { IsTrue (calls_are_built (unit_tree functions.now)) }
     ensures { IfOk result (λ begun. BeginsNext (unit_tree functions.now) world.now.classes call.now begun place.old place.new) }
 {
     let Some(found) = functions.find(call.function()) else {
@@ -236,7 +235,6 @@ fn enter<'a>(
 ) -> Result<Step, AllocError>
     requires tree { IsTree (unit_tree functions.now) }
     requires sorted { IsSorted (unit_tree functions.now) }
-    requires calls { IsTrue (calls_are_built (unit_tree functions.now)) }
     requires classes { turn.classes.now ≡ world.now.classes }
     requires idle { thread.old.activation ≡ None }
     ensures step { IfOk result (λ took. (shared : SharedOfThreads) → TakesTurn (unit_tree functions.now) turn.entry shared thread.old took shared thread.new) }
@@ -289,31 +287,50 @@ fn ending_after(store: &Store, pending: Option<usize>, calls: &[Call]) -> Ending
     }
 }
 
-/// Ends the call in progress. With an exception pending, or no call to come, the thread has ended.
-fn leave(store: &Store, thread: &mut Thread<'_>)
-    ensures { HasLeft store.now thread.old thread.new }
+/// Ends the call in progress of thread `k`. With an exception pending, or no call to come, the thread has ended, and owns no monitor.
+fn leave(shared: &mut Shared<'_>, k: u8, thread: &mut Thread<'_>)
+    ensures { HasLeft k (shared_view shared.old) thread.old (shared_view shared.new) thread.new }
 {
-    let ending = ending_after(store, thread.pending, thread.calls);
+    let ending = ending_after(&shared.store, thread.pending, thread.calls);
     put_activation(&mut thread.activation, None);
     thread.pending = None;
     thread.ending = ending;
     match ending {
         Ending::Unfinished => {}
-        Ending::Ended | Ending::Uncaught(_) => thread.calls = &[],
+        Ending::Ended | Ending::Uncaught(_) => {
+            thread.calls = &[];
+            shared.monitors.drop_owner(k);
+        }
     }
 }
 
-/// Leaves the call in progress if it returned. Tells what others see of what it did.
+/// Leaves the call in progress of thread `k` if it returned. Tells what others see of what it did.
 #[inline]
-fn end_step(store: &Store, thread: &mut Thread<'_>, outcome: Outcome<'_>) -> Step
-    ensures { EndsStep store.now thread.old outcome.entry result thread.new }
+fn end_step(shared: &mut Shared<'_>, k: u8, thread: &mut Thread<'_>, outcome: Outcome<'_>) -> Step
+    ensures { EndsStep k (shared_view shared.old) thread.old outcome.entry result (shared_view shared.new) thread.new }
 {
     match outcome {
         Outcome::Returned => {
-            leave(store, thread);
+            leave(shared, k, thread);
             Step::Quiet
         }
         outcome => step_of(outcome),
+    }
+}
+
+/// Whether thread `k`, counted from 1, waits for a monitor that another thread owns.
+#[inline]
+pub(crate) fn is_waiting(
+    classes: &ClassTable,
+    k: usize,
+    shared: &Shared<'_>,
+    thread: &Thread<'_>,
+) -> bool
+    ensures { ThreadWaits classes.now k (shared_view shared.now) thread.now result }
+{
+    match &thread.activation {
+        None => false,
+        Some(activation) => waits(classes, k, shared, thread.pending, activation),
     }
 }
 
@@ -327,7 +344,6 @@ pub(crate) fn take_step<'a>(
 ) -> Result<Step, AllocError>
     requires tree { IsTree (unit_tree functions.now) }
     requires sorted { IsSorted (unit_tree functions.now) }
-    requires calls { IsTrue (calls_are_built (unit_tree functions.now)) }
     requires classes { turn.classes.now ≡ world.now.classes }
     requires grown { IsGrown turn.classes.now }
     requires range { WorkInRange thread.old.activation }
@@ -338,7 +354,7 @@ pub(crate) fn take_step<'a>(
         return enter(functions, world, turn, thread);
     };
     match advance(turn, shared, &mut thread.pending, activation) {
-        Ok(outcome) => Ok(end_step(&shared.store, thread, outcome)),
+        Ok(outcome) => Ok(end_step(shared, turn.thread, thread, outcome)),
         Err(error) => Err(error),
     }
 }

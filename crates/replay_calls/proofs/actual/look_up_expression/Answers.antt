@@ -1,7 +1,7 @@
 use Rattle.std.proofs.Common.{◌≡◌, refl, sym, ◌∙◌}
 use Rattle.syntax.specs.Tree.{Expr}
 use Rattle.syntax.specs.Views.{expr_tree}
-use Rattle.syntax.specs.declared.declared_type.ElementType.{ElementType}
+use Rattle.base.specs.declared.element.ElementType.{ElementType}
 use Rattle.jni.specs.declared.access.Access.{Access}
 use Rattle.jni.specs.declared.kinds.ParameterKind.{ParameterKind}
 use Rattle.jni.specs.declared.kinds.ParameterKind.TheVariants as parameter

@@ -19,8 +19,8 @@ returns-in-Some-clause-step c = λ has.
     let s = shared_view c.args.shared.now in
     let locals = c.args.locals.now in
     both_ok c.lend.result (λ o varied is_for.
-    buffer_lent turn.classes.now (in_use_view turn.in_use) turn.thread s locals.variables locals.frames c.args.pending.now i.line i.purpose (function_value i.function) (map actual_view c.args.actuals.now) has.0
-    (answer_view c.args.answer) c.in-Some.buffer c.lend.new.locals.variables c.lend.new.locals.frames o has.1 (sym c.lent_in.ensures ∙ c.in-Some.is) (varied s.heap) c.lend.ensures.frames is_for)
+    buffer_lent turn.classes.now (in_use_view turn.in_use) turn.thread s locals.variables locals.frames c.args.pending.now i.line i.purpose (function_value i.function) (map actual_view c.args.actuals.now)
+    (answer_view c.args.answer) c.in-Some.buffer c.lend.new.locals.variables c.lend.new.locals.frames o has (sym c.lent_in.ensures ∙ c.in-Some.is) (varied s.heap) c.lend.ensures.frames is_for)
     c.lend.ensures.variables c.lend.ensures.outcome
 
 pub returns-clause-step : goal.returns-clause-step
@@ -28,6 +28,6 @@ returns-clause-step c = λ has.
     let i = c.args.i.now in
     let turn = c.args.turn in
     let locals = c.args.locals.now in
-    call_made_so turn.classes.now (in_use_view turn.in_use) turn.thread (shared_view c.args.shared.now) locals.variables locals.frames c.args.pending.now i.line i.purpose (function_value i.function) (map actual_view c.args.actuals.now) has.0 false (answer_view c.args.answer) c.in_ok-given.given (result_value c.prototype.result.now.result)
+    call_made_so turn.classes.now (in_use_view turn.in_use) turn.thread (shared_view c.args.shared.now) locals.variables locals.frames c.args.pending.now i.line i.purpose (function_value i.function) (map actual_view c.args.actuals.now) false (answer_view c.args.answer) c.in_ok-given.given (result_value c.prototype.result.now.result)
     (shared_view c.carry_out.new.shared) c.carry_out.new.variables c.carry_out.new.frames c.put_local.new.frames c.carry_out.new.pending c.outcome_for.result
-    refl has.1 c.requires.goes (sym c.lent_in.ensures ∙ c.in_default.is) (ap (λ (x : Facts). x.prototype.result) c.prototype.ensures) c.in_ok-given.ensures.given c.in_ok-given.ensures.shared c.in_ok-given.ensures.variables c.in_ok-given.ensures.frames c.in_ok-put_local.ensures c.in_ok-given.ensures.pending c.outcome_for.ensures.step
+    refl has c.requires.goes (sym c.lent_in.ensures ∙ c.in_default.is) (ap (λ (x : Facts). x.prototype.result) c.prototype.ensures) c.in_ok-given.ensures.given c.in_ok-given.ensures.shared c.in_ok-given.ensures.variables c.in_ok-given.ensures.frames c.in_ok-put_local.ensures c.in_ok-given.ensures.pending c.outcome_for.ensures.step

@@ -11,7 +11,7 @@ use Rattle.replay_tasks.proofs.RangeLemmas.{body_in_range}
 use Rattle.replay_threads.proofs.thread.begin_next.Goals as goal
 
 pub begin_call-requires : goal.begin_call-requires
-begin_call-requires c = body_in_range c.args.functions.now c.args.call.now.function c.in-Some.found.function.now c.requires.tree c.requires.calls (search rules)
+begin_call-requires c = body_in_range c.args.functions.now c.args.call.now.function c.in-Some.found.function.now c.requires.tree c.requires.sorted (search rules)
 
 pub returns-in_ok-begin_call-in-Ok-Some : goal.returns-in_ok-begin_call-in-Ok-Some
 returns-in_ok-begin_call-in-Ok-Some c =

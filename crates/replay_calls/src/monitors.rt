@@ -1,0 +1,79 @@
+//! What functions of monitors do, as data.
+
+ghost use Rattle.std.specs.Prelude.{◌≡◌, List, map};
+ghost use Rattle.std.specs.Option.{option_map};
+ghost use Rattle.class_rules.specs.Class.{Classes};
+ghost use Rattle.jni.specs.Table.{function_value};
+ghost use Rattle.semantics.specs.Heap.{Heap};
+ghost use Rattle.semantics.specs.Object.{Reference};
+ghost use Rattle.semantics.specs.Thread.{BuffersInUse, Frame};
+ghost use Rattle.semantics.specs.Variable.{Variables};
+ghost use Rattle.replay_calls.specs.Actuals.{actual_view};
+ghost use Rattle.replay_calls.specs.Answers.{answer_view};
+ghost use Rattle.replay_calls.specs.WorkedOut.{monitor_entered, monitor_left, subject_of, worked_out};
+ghost use Rattle.replay_calls.specs.declared.answer.Subject.TheVariants as subject;
+ghost use Rattle.replay_objects.specs.Monitors.{monitor_view};
+
+use crate::actual::{Actual, object_given};
+use crate::answer::Answer;
+use jni::JniFunction;
+use replay_objects::{Monitor, Monitors};
+use replay_terms::Given;
+
+/// How many times a thread may enter a monitor that it owns, at most.
+const MOST_ENTRIES: u8 = 255;
+
+/// The number of `java/lang/IllegalMonitorStateException`.
+const ILLEGAL_MONITOR_STATE_EXCEPTION: usize = 19;
+
+/// What a function does that works on the monitor of an object, where a thread calls it.
+#[inline]
+pub(crate) fn monitor_answer<'a>(
+    monitors: &Monitors,
+    thread: u8,
+    function: JniFunction,
+    actuals: &[Actual<'a>],
+) -> Answer<'a>
+    requires { subject_of (function_value function) ≡ subject.Monitors }
+    ensures { (classes : Classes) (in_use : BuffersInUse) (heap : Heap) (variables : Variables) (frames : List Frame) (pending : Reference) → answer_view result ≡ worked_out classes in_use thread monitors.now heap variables frames pending (map actual_view actuals.now) (function_value function) }
+{
+    let object = object_given(actuals, 0);
+    let monitor = monitors.of(object);
+    match function {
+        JniFunction::MonitorEnter => entered(object, monitor),
+        JniFunction::MonitorExit => left(thread, object, monitor),
+        _ => unreachable!(),
+    }
+}
+
+/// One entry more of an object with this monitor, which no other thread owns, if there may be one more.
+fn entered<'a>(object: usize, monitor: Option<Monitor>) -> Answer<'a>
+    ensures { answer_view result ≡ monitor_entered object (option_map monitor_view monitor) }
+{
+    match monitor {
+        None => Answer::Owns(object, 1),
+        Some(monitor) => {
+            if monitor.count < MOST_ENTRIES {
+                Answer::Owns(object, monitor.count + 1)
+            } else {
+                Answer::Gives(Given::Number(-1))
+            }
+        }
+    }
+}
+
+/// One entry less of an object with this monitor, or an exception where the thread doesn't own it.
+fn left<'a>(thread: u8, object: usize, monitor: Option<Monitor>) -> Answer<'a>
+    ensures { answer_view result ≡ monitor_left thread object (option_map monitor_view monitor) }
+{
+    let Some(monitor) = monitor else {
+        return Answer::Raises(ILLEGAL_MONITOR_STATE_EXCEPTION);
+    };
+    if monitor.owner != thread {
+        return Answer::Raises(ILLEGAL_MONITOR_STATE_EXCEPTION);
+    }
+    if monitor.count == 1 {
+        return Answer::Disowns(object);
+    }
+    Answer::Owns(object, monitor.count.saturating_sub(1))
+}

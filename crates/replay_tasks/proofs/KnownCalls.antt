@@ -1,0 +1,105 @@
+-- In a sorted unit each call is of a function that is there.
+use Rattle.std.proofs.Common.{◌≡◌, Bool, true, not, ◌&&◌, List, [], ◌∷◌, ◌++◌, map, refl, ap, ◌∙◌}
+use Rattle.std.specs.Prelude.{flat_map}
+use Rattle.std.specs.List.{list_any, list_all}
+use Rattle.std.proofs.lemmas.List.Folds.{list_all-append}
+use Rattle.base.specs.Bytes.{Identifier}
+use Rattle.syntax.specs.Parts.{functions_of, line_of, names_declared, parameter_names, statements_of, statements_within}
+use Rattle.syntax.specs.Tree.{ResultType, Void, Stmt, If, IfElse, While, Block, End, Next, Function, Item, StaticItem, FunctionItem, SourceUnit}
+use Rattle.type_rules.specs.Sorts.{Ref, Global, Scope}
+use Rattle.type_rules.specs.SortRules.{SortRule, UnknownName, DeclaredTwice, SortMisfit, UnknownFunction, ArgumentCount, ReferenceCopied, BadMode, ReadOnlyWrite, sort_rules, Place, StaticForm, HeadForm, StatementForm, breaks, broken_at, parameter_sort, with_declared, places_within, places_of, function_places, item_places, IsSorted}
+use Rattle.type_rules.proofs.PlaceLists.{AreUnbroken, first_empty, second_empty, front_unbroken, back_unbroken, none_broken, first_false, second_false}
+use Rattle.replay_tasks.specs.Tasks.{calls_known}
+
+-- the rules after that on functions, and so on
+abbrev after_functions : List SortRule
+after_functions = ArgumentCount ∷ ReferenceCopied ∷ BadMode ∷ ReadOnlyWrite ∷ []
+
+abbrev after_sorts : List SortRule
+after_sorts = UnknownFunction ∷ after_functions
+
+abbrev after_twice : List SortRule
+after_twice = SortMisfit ∷ after_sorts
+
+abbrev place_of : ResultType → Scope → List Identifier → Stmt → Place
+place_of returns known taken s = record { line = line_of s; known = known; taken = taken; returns = returns; form = StatementForm s }
+
+-- a statement that breaks no rule
+here : (returns : ResultType) (known : Scope) (taken : List Identifier) (s : Stmt) → broken_at (place_of returns known taken s) ≡ [] → calls_known s ≡ true
+here returns known taken s none =
+    let place = place_of returns known taken s in
+    let p : SortRule → Bool = λ rule. breaks rule place place.form in
+    let names = second_false (p UnknownName) (list_any p (DeclaredTwice ∷ after_twice)) (none_broken p (line_of s) sort_rules none) in
+    let twice = second_false (p DeclaredTwice) (list_any p after_twice) names in
+    let sorts = second_false (p SortMisfit) (list_any p after_sorts) twice in
+    ap not (first_false (p UnknownFunction) (list_any p after_functions) sorts)
+
+-- it, and those inside it
+both : (a b : Bool) → a ≡ true → b ≡ true → (a && b) ≡ true
+both a b h k = λ i. h i && k i
+
+joined : (xs ys : List Stmt) → list_all calls_known xs ≡ true → list_all calls_known ys ≡ true → list_all calls_known (xs ++ ys) ≡ true
+joined xs ys h k = list_all-append calls_known xs ys ∙ both (list_all calls_known xs) (list_all calls_known ys) h k
+
+mutual
+  within : (returns : ResultType) (known : Scope) (taken : List Identifier) (s : Stmt) → AreUnbroken (places_within returns known taken s) → list_all calls_known (statements_within s) ≡ true
+  within returns known taken (If line test then') h =
+      let s = If line test then' in
+      let inside = places_of returns known taken then' in
+      both (calls_known s) (list_all calls_known (statements_of then'))
+      (here returns known taken s (first_empty (broken_at (place_of returns known taken s)) (flat_map broken_at inside) h))
+      (block returns known taken then' (second_empty (broken_at (place_of returns known taken s)) (flat_map broken_at inside) h))
+  within returns known taken (IfElse line test then' else') h =
+      let s = IfElse line test then' else' in
+      let front = places_of returns known taken then' in
+      let back = places_of returns known (taken ++ names_declared (statements_of then')) else' in
+      let inside = second_empty (broken_at (place_of returns known taken s)) (flat_map broken_at (front ++ back)) h in
+      both (calls_known s) (list_all calls_known (statements_of then' ++ statements_of else'))
+      (here returns known taken s (first_empty (broken_at (place_of returns known taken s)) (flat_map broken_at (front ++ back)) h))
+      (joined (statements_of then') (statements_of else')
+      (block returns known taken then' (front_unbroken front back inside))
+      (block returns known (taken ++ names_declared (statements_of then')) else' (back_unbroken front back inside)))
+  within returns known taken (While line test body) h =
+      let s = While line test body in
+      let inside = places_of returns known taken body in
+      both (calls_known s) (list_all calls_known (statements_of body))
+      (here returns known taken s (first_empty (broken_at (place_of returns known taken s)) (flat_map broken_at inside) h))
+      (block returns known taken body (second_empty (broken_at (place_of returns known taken s)) (flat_map broken_at inside) h))
+  within returns known taken s h = both (calls_known s) true (here returns known taken s (first_empty (broken_at (place_of returns known taken s)) [] h)) refl
+
+  block : (returns : ResultType) (known : Scope) (taken : List Identifier) (b : Block) → AreUnbroken (places_of returns known taken b) → list_all calls_known (statements_of b) ≡ true
+  block returns known taken (End line) h = refl
+  block returns known taken (Next s rest) h =
+      let front = places_within returns known taken s in
+      let back = places_of returns (with_declared known s) (taken ++ names_declared (statements_within s)) rest in
+      joined (statements_within s) (statements_of rest)
+      (within returns known taken s (front_unbroken front back h))
+      (block returns (with_declared known s) (taken ++ names_declared (statements_within s)) rest (back_unbroken front back h))
+
+-- ---- functions
+
+body : (taken : List Identifier) (statics : Scope) (f : Function) → AreUnbroken (function_places taken statics f) → list_all calls_known (statements_of f.body) ≡ true
+body taken statics f h =
+    let head : Place = record { line = f.line; known = statics; taken = taken; returns = f.result; form = HeadForm f } in
+    let known : Scope = (f.class_name, Ref) ∷ map (λ p. (p.name, parameter_sort p.type)) f.parameters ++ statics in
+    let names = parameter_names f ++ map (λ s. s.0) statics in
+    block f.result known names f.body (second_empty (broken_at head) (flat_map broken_at (places_of f.result known names f.body)) h)
+
+abbrev all_known : List Function → Bool
+all_known fs = list_all (λ (f : Function). list_all calls_known (statements_of f.body)) fs
+
+items_known : (items : List Item) (taken : List Identifier) (statics : Scope) → AreUnbroken (item_places taken statics items) → all_known (functions_of (record { items = items })) ≡ true
+items_known [] taken statics h = refl
+items_known (StaticItem g ∷ items) taken statics h =
+    let place : Place = record { line = g.line; known = statics; taken = taken; returns = Void; form = StaticForm g } in
+    let further = item_places (g.name ∷ taken) ((g.name, Global) ∷ statics) items in
+    items_known items (g.name ∷ taken) ((g.name, Global) ∷ statics) (second_empty (broken_at place) (flat_map broken_at further) h)
+items_known (FunctionItem f ∷ items) taken statics h =
+    let own = function_places taken statics f in
+    let further = item_places (f.name ∷ taken) statics items in
+    both (list_all calls_known (statements_of f.body)) (all_known (functions_of (record { items = items })))
+    (body taken statics f (front_unbroken own further h))
+    (items_known items (f.name ∷ taken) statics (back_unbroken own further h))
+
+pub known_calls : (unit : SourceUnit) → IsSorted unit → all_known (functions_of unit) ≡ true
+known_calls unit sorted = items_known unit.items [] [] sorted
