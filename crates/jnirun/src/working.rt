@@ -12,7 +12,8 @@ ghost use Rattle.world.specs.ReadingWorlds.{world_of_text};
 
 use crate::run::{of_load, of_reading, of_report, trap_at};
 use cli_commands::{Place, Text};
-use lower::{Program, lower};
+use lower::Program;
+use lower_parallel::{Watch, lower_parallel};
 use machine::Machine;
 use program_check::{RunError, of_lower, read_program};
 use region_rules::Checked;
@@ -28,8 +29,15 @@ use world_values::World;
 /// The number of the fault that a journal has no room for another entry. It has no line.
 const FULL: u32 = 92;
 
+/// How many workers lower a program.
+const LOWERING: usize = 4;
+
 /// Lets every worker go on.
 struct Open;
+
+impl Watch for Open {
+    fn begin(&self, _function: usize) {}
+}
 
 impl Gate for Open {
     fn pass(&self, _seat: usize) -> bool {
@@ -130,7 +138,7 @@ fn work_checked<W: Sink, R: Threads + Wait + Sync>(
         → RunsTexts (W.written out.old) (W.written out.new) result (EndsWork program world_text.now) (AreRefusedWork program world_text.now) }
     ensures accepted { (program : List ℕ) (m : WorkMeaning program world_text.now) → unit_tree checked.now ≡ m.unit → IsWorkOrFails result }
 {
-    match lower(alloc, checked) {
+    match lower_parallel(rt, alloc, checked, LOWERING, &Open) {
         Ok(lowered) => match read_world(alloc, world_text) {
             Ok(world) => work_in(rt, alloc, lowered, world, out),
             Err(error) => Err(of_reading(Text::World, error)),
@@ -144,7 +152,7 @@ fn work_checked<W: Sink, R: Threads + Wait + Sync>(
 ///
 /// On `Ok` what was written is the report of the source run that the journal names, and that journal; none of it waits in the
 /// sink. In which order the threads step isn't known before, and the journal tells it. A fault is one that the texts earn, 92 where the journal has no
-/// room for another entry, and nothing is written then. Memory is also refused where a worker couldn't be started. The texts are read as in `run_text`.
+/// room for another entry, and nothing is written then. Memory is also refused where a worker of a thread couldn't be started. The texts are read as in `run_text`, and four workers lower the program.
 pub fn work_text<W: Sink, R: Threads + Wait + Sync>(
     rt: &R,
     alloc: Global,
