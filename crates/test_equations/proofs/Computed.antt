@@ -12,7 +12,7 @@ use Rattle.class_rules.specs.BuiltIns.{built_ins}
 use Rattle.class_rules.specs.Class.{Classes}
 use Rattle.class_rules.specs.Mangling.{unmangle}
 use Rattle.jni.specs.JniFunction.{function_named}
-use Rattle.type_rules.specs.SortRules.{SortRule, sort_rule_number, IsSorted}
+use Rattle.type_rules.specs.SortRules.{SortRule, sort_rule_number, IsSorted, first_broken}
 use Rattle.semantics.specs.declared.journal.Entry.{Entry}
 use Rattle.semantics.specs.declared.journal.Entry.TheVariants.{Step}
 use Rattle.semantics.specs.declared.schedule.ScheduleWord.{ScheduleWord}
@@ -48,7 +48,7 @@ use Rattle.semantics.specs.State.{State, thread_at, views}
 use Rattle.semantics.specs.Step.{world_step, can_step, step_of}
 use Rattle.semantics.proofs.RunLaws.{follows-replay}
 use Rattle.regions.proofs.UnitLemmas.{accepted-all, faulty-all}
-use Rattle.test_equations.specs.Claims.{first_sort_fault, IsAccepted, IsRefused, by_sorts, by_regions, Beginning, IsWorkedRun, IsWorkedReplay, IsStoppedReplay, IsUnloaded}
+use Rattle.test_equations.specs.Claims.{IsAccepted, IsRefused, by_sorts, by_regions, Beginning, IsWorkedRun, IsWorkedReplay, IsStoppedReplay, IsUnloaded}
 use Rattle.test_equations.proofs.Programs.{entry}
 
 -- what the computations unfold
@@ -114,7 +114,7 @@ a_tree unit h =
 pub accepted : (unit : SourceUnit) → IsTrue (is_tree unit) → IsSorted unit → first_fault (functions_of unit) ≡ None → IsAccepted unit
 accepted unit tree sorted none = record { tree = a_tree unit tree; sorted = sorted; regions = accepted-all (functions_of unit) none }
 
-pub badly_sorted : (unit : SourceUnit) (rule : SortRule) (line : ℕ) → IsTrue (is_tree unit) → first_sort_fault unit ≡ Some (line, rule) → IsRefused unit (sort_rule_number rule) line
+pub badly_sorted : (unit : SourceUnit) (rule : SortRule) (line : ℕ) → IsTrue (is_tree unit) → first_broken unit ≡ Some (line, rule) → IsRefused unit (sort_rule_number rule) line
 badly_sorted unit rule line tree first = by_sorts rule line (a_tree unit tree) first
 
 pub bad_way : (unit : SourceUnit) (rule : RegionRule) (line : ℕ) → IsTrue (is_tree unit) → IsSorted unit → first_fault (functions_of unit) ≡ Some (line, rule) → IsRefused unit (region_rule_number rule) line

@@ -20,6 +20,7 @@ mod ArrayFaults
 mod ArrayRegions
 mod BrokenRules
 mod BufferFaults
+mod BuffersChecked
 mod BuffersCopied
 mod BuffersPinned
 mod BuffersUsed
@@ -34,6 +35,8 @@ mod Globals
 mod Journals
 mod Memory
 mod Monitors
+mod MonitorsChecked
+mod MonitorsOwned
 mod MonitorsShared
 mod NumberArrays
 mod ObjectArrays
@@ -42,6 +45,7 @@ mod OrderOfChecks
 mod ReferenceFaults
 mod References
 mod RefusedTexts
+mod RegionsChecked
 mod Room
 mod SortFaults
 mod Strings

@@ -1,8 +1,8 @@
 -- What the worked examples claim of a program's tree and of texts.
-use Rattle.std.specs.Prelude.{◌≡◌, ℕ, ◌+◌, List, ◌∷◌, ◌++◌, length, Option, Some, None, slice_get}
+use Rattle.std.specs.Prelude.{◌≡◌, ℕ, ◌+◌, List, ◌∷◌, ◌++◌, length, Some, None}
 use Rattle.syntax.specs.Limits.{IsTree}
 use Rattle.syntax.specs.Tree.{SourceUnit}
-use Rattle.type_rules.specs.SortRules.{SortRule, sort_rule_number, IsSorted, broken}
+use Rattle.type_rules.specs.SortRules.{SortRule, sort_rule_number, IsSorted, first_broken}
 use Rattle.semantics.specs.declared.journal.Entry.{Entry}
 use Rattle.semantics.specs.Journal.{Journal}
 use Rattle.world_schedules.specs.JournalMeaning.{IsJournalText}
@@ -27,13 +27,9 @@ pub record IsAccepted (unit : SourceUnit) : Type 0 where
   pub sorted : IsSorted unit
   pub regions : HasRegions unit
 
--- the rule of sorts that is broken at the first place, and there that of the least number
-abbrev pub first_sort_fault : SourceUnit → Option (ℕ × SortRule)
-first_sort_fault unit = slice_get (broken unit) 0
-
 -- a tree within the limits, whose first fault has this number and this line
 pub data IsRefused (unit : SourceUnit) : (number line : ℕ) → Type 0 where
-  by_sorts : (rule : SortRule) (line : ℕ) → IsTree unit → first_sort_fault unit ≡ Some (line, rule) → IsRefused unit (sort_rule_number rule) line
+  by_sorts : (rule : SortRule) (line : ℕ) → IsTree unit → first_broken unit ≡ Some (line, rule) → IsRefused unit (sort_rule_number rule) line
   by_regions : (rule : RegionRule) (line : ℕ) → IsTree unit → IsSorted unit → IsFirstRegionFault rule line unit → IsRefused unit (region_rule_number rule) line
 
 -- ---- runs and replays

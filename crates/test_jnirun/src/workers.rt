@@ -34,7 +34,7 @@ const PRINTING: &[u8] =
     b"JNIEXPORT void JNICALL Java_java_lang_Object_f(JNIEnv *env, jclass cls) { put_jint((jint)(4294967295u + 1u)); put_jint((jint)2147483648u); return; }";
 
 /// The machine of a program on a world.
-fn loaded<'a>(
+pub(crate) fn loaded<'a>(
     alloc: Global,
     checked: &'a Checked,
     world: World,
@@ -46,7 +46,7 @@ fn loaded<'a>(
 }
 
 /// The report of the run.
-fn reported(alloc: Global, machine: &Machine<'_>) -> Result<Vec<u8>, AllocError> {
+pub(crate) fn reported(alloc: Global, machine: &Machine<'_>) -> Result<Vec<u8>, AllocError> {
     let mut sink = StdSink::new(Vec::new(alloc));
     match machine.report(alloc, &mut sink) {
         Ok(()) => Ok(sink.into_inner()),

@@ -1,0 +1,620 @@
+-- The cases of texts/monitors_checked.cases, as examples/worked_equations writes them.
+use Rattle.std.specs.Prelude.{◌∷◌, ◌++◌, true, false, [], Some, None, codes, refl}
+use Rattle.base.specs.Element.{JInt}
+use Rattle.syntax.specs.Tree.{Assign, Binary, Declare, DeclareBuffer, DeclareChars, FromCall, If, JBoolean, JClass, JIntArray, JIntVariable, JObject, JString, Named, NotEqual, Null, Number, Perform, Prefix, PutJint, ReferenceVariable, Return, SourceUnit, TestCall, TestExpr, Text, ToInt, Value, Variable, Void}
+use Rattle.type_rules.specs.SortRules.{SortMisfit, ArgumentCount}
+use Rattle.semantics.specs.declared.schedule.ScheduleWord.TheVariants.{Turn}
+use Rattle.semantics.specs.World.{World}
+use Rattle.world_values.specs.WorldLines.{NullValue, NamedObject, ClassLine, ObjectLine, ThreadLine, Lines}
+use Rattle.world_values.specs.WorldMeaning.{world_of}
+use Rattle.world_values.specs.WorldRules.{IsWorldText}
+use Rattle.region_rules.specs.RegionRules.{CallWhileCritical, DeadReference}
+use Rattle.test_equations.specs.Claims.{IsAccepted, IsRefused, IsWorkedRun, IsWorkedReplay, IsStoppedReplay}
+use Rattle.test_equations.proofs.Programs.{unit_of, native, block, static_reference, reference_parameter, int_parameter, call, given, entry, entries}
+use Rattle.test_equations.proofs.Computed.{opened, accepted, badly_sorted, bad_way, world-text, worked-run, worked-replay, stopped-replay}
+
+-- both calls give zero and nothing is pending
+-- JNIEXPORT void JNICALL Java_A_f(JNIEnv *env, jclass cls, jobject o) {
+-- jint in = (*env)->MonitorEnter(env, o);
+-- put_jint(in);
+-- jint out = (*env)->MonitorExit(env, o);
+-- put_jint(out);
+-- jboolean pending = (*env)->ExceptionCheck(env);
+-- put_jint((jint)pending);
+-- return;
+-- }
+abbrev pub both_calls_give_zero_and_nothing_is_pending : SourceUnit
+both_calls_give_zero_and_nothing_is_pending =
+    unit_of
+    (native 1 Void (codes "Java_A_f") (reference_parameter JObject (codes "o") ∷ [])
+    (Declare 2 JIntVariable (codes "in") (FromCall (call (codes "MonitorEnter") (given (codes "o") ∷ [])))
+    ∷ PutJint 3 (Variable (codes "in"))
+    ∷ Declare 4 JIntVariable (codes "out") (FromCall (call (codes "MonitorExit") (given (codes "o") ∷ [])))
+    ∷ PutJint 5 (Variable (codes "out"))
+    ∷ Declare 6 JBoolean (codes "pending") (FromCall (call (codes "ExceptionCheck") []))
+    ∷ PutJint 7 (Prefix ToInt (Variable (codes "pending")))
+    ∷ Return 8
+    ∷ [])
+    9
+    ∷ [])
+
+abbrev both_calls_give_zero_and_nothing_is_pending-lines : Lines
+both_calls_give_zero_and_nothing_is_pending-lines =
+    (2, ClassLine (codes "A") None)
+    ∷ (3, ObjectLine (codes "o") (codes "A") [])
+    ∷ (4, ThreadLine (codes "Java_A_f") (NamedObject (codes "o") ∷ []))
+    ∷ []
+
+abbrev both_calls_give_zero_and_nothing_is_pending-world : World
+both_calls_give_zero_and_nothing_is_pending-world = world_of 512 both_calls_give_zero_and_nothing_is_pending-lines
+
+both_calls_give_zero_and_nothing_is_pending-means : IsWorldText (codes "heap 512\nclass A\nobject @o A\nthread Java_A_f @o\n") both_calls_give_zero_and_nothing_is_pending-world
+unfolding opened
+both_calls_give_zero_and_nothing_is_pending-means = world-text (codes "heap 512\nclass A\nobject @o A\nthread Java_A_f @o\n") 512 both_calls_give_zero_and_nothing_is_pending-lines 1 refl refl refl refl
+
+both_calls_give_zero_and_nothing_is_pending-accepted : IsAccepted both_calls_give_zero_and_nothing_is_pending
+unfolding opened
+both_calls_give_zero_and_nothing_is_pending-accepted = accepted both_calls_give_zero_and_nothing_is_pending refl refl refl
+
+both_calls_give_zero_and_nothing_is_pending-run : IsWorkedRun both_calls_give_zero_and_nothing_is_pending (codes "heap 512\nclass A\nobject @o A\nthread Java_A_f @o\n") (codes "1*99\n")
+    (codes "T1 0\nT1 0\nT1 0\nT1 ended\n#46 A\njournal 1 1 1 1 1 1 1 1 1 1 1 1\n")
+unfolding opened
+both_calls_give_zero_and_nothing_is_pending-run = worked-run both_calls_give_zero_and_nothing_is_pending both_calls_give_zero_and_nothing_is_pending-world ((Turn 1, Some 99) ∷ []) [] both_calls_give_zero_and_nothing_is_pending-accepted both_calls_give_zero_and_nothing_is_pending-means refl refl refl refl
+
+-- the exception of an exit is pending
+-- JNIEXPORT void JNICALL Java_A_f(JNIEnv *env, jclass cls, jobject o) {
+-- (*env)->MonitorEnter(env, o);
+-- (*env)->MonitorExit(env, o);
+-- jint out = (*env)->MonitorExit(env, o);
+-- put_jint(out);
+-- return;
+-- }
+abbrev pub the_exception_of_an_exit_is_pending : SourceUnit
+the_exception_of_an_exit_is_pending =
+    unit_of
+    (native 1 Void (codes "Java_A_f") (reference_parameter JObject (codes "o") ∷ [])
+    (Perform 2 (call (codes "MonitorEnter") (given (codes "o") ∷ []))
+    ∷ Perform 3 (call (codes "MonitorExit") (given (codes "o") ∷ []))
+    ∷ Declare 4 JIntVariable (codes "out") (FromCall (call (codes "MonitorExit") (given (codes "o") ∷ [])))
+    ∷ PutJint 5 (Variable (codes "out"))
+    ∷ Return 6
+    ∷ [])
+    7
+    ∷ [])
+
+the_exception_of_an_exit_is_pending-accepted : IsAccepted the_exception_of_an_exit_is_pending
+unfolding opened
+the_exception_of_an_exit_is_pending-accepted = accepted the_exception_of_an_exit_is_pending refl refl refl
+
+the_exception_of_an_exit_is_pending-run : IsWorkedRun the_exception_of_an_exit_is_pending (codes "heap 512\nclass A\nobject @o A\nthread Java_A_f @o\n") (codes "1*6\n")
+    (codes "T1 -1\nT1 running\n#46 A\n#47 java/lang/IllegalMonitorStateException null\njournal 1 1 1 1 1 1\n")
+unfolding opened
+the_exception_of_an_exit_is_pending-run = worked-run the_exception_of_an_exit_is_pending both_calls_give_zero_and_nothing_is_pending-world ((Turn 1, Some 6) ∷ []) [] the_exception_of_an_exit_is_pending-accepted both_calls_give_zero_and_nothing_is_pending-means refl refl refl refl
+
+-- a monitor is left while an exception is pending
+-- JNIEXPORT void JNICALL Java_A_f(JNIEnv *env, jclass cls, jobject o) {
+-- (*env)->MonitorEnter(env, o);
+-- jclass c = (*env)->FindClass(env, "B");
+-- jint out = (*env)->MonitorExit(env, o);
+-- put_jint(out);
+-- return;
+-- }
+-- JNIEXPORT void JNICALL Java_A_g(JNIEnv *env, jclass cls, jobject o) {
+-- (*env)->MonitorEnter(env, o);
+-- return;
+-- }
+abbrev pub a_monitor_is_left_while_an_exception_is_pending : SourceUnit
+a_monitor_is_left_while_an_exception_is_pending =
+    unit_of
+    (native 1 Void (codes "Java_A_f") (reference_parameter JObject (codes "o") ∷ [])
+    (Perform 2 (call (codes "MonitorEnter") (given (codes "o") ∷ []))
+    ∷ Declare 3 (ReferenceVariable JClass) (codes "c") (FromCall (call (codes "FindClass") (Text (codes "B") ∷ [])))
+    ∷ Declare 4 JIntVariable (codes "out") (FromCall (call (codes "MonitorExit") (given (codes "o") ∷ [])))
+    ∷ PutJint 5 (Variable (codes "out"))
+    ∷ Return 6
+    ∷ [])
+    7
+    ∷ native 8 Void (codes "Java_A_g") (reference_parameter JObject (codes "o") ∷ [])
+    (Perform 9 (call (codes "MonitorEnter") (given (codes "o") ∷ []))
+    ∷ Return 10
+    ∷ [])
+    11
+    ∷ [])
+
+abbrev a_monitor_is_left_while_an_exception_is_pending-lines : Lines
+a_monitor_is_left_while_an_exception_is_pending-lines =
+    (2, ClassLine (codes "A") None)
+    ∷ (3, ObjectLine (codes "o") (codes "A") [])
+    ∷ (4, ThreadLine (codes "Java_A_f") (NamedObject (codes "o") ∷ []))
+    ∷ (5, ThreadLine (codes "Java_A_g") (NamedObject (codes "o") ∷ []))
+    ∷ []
+
+abbrev a_monitor_is_left_while_an_exception_is_pending-world : World
+a_monitor_is_left_while_an_exception_is_pending-world = world_of 512 a_monitor_is_left_while_an_exception_is_pending-lines
+
+a_monitor_is_left_while_an_exception_is_pending-means : IsWorldText (codes "heap 512\nclass A\nobject @o A\nthread Java_A_f @o\nthread Java_A_g @o\n") a_monitor_is_left_while_an_exception_is_pending-world
+unfolding opened
+a_monitor_is_left_while_an_exception_is_pending-means = world-text (codes "heap 512\nclass A\nobject @o A\nthread Java_A_f @o\nthread Java_A_g @o\n") 512 a_monitor_is_left_while_an_exception_is_pending-lines 1 refl refl refl refl
+
+a_monitor_is_left_while_an_exception_is_pending-accepted : IsAccepted a_monitor_is_left_while_an_exception_is_pending
+unfolding opened
+a_monitor_is_left_while_an_exception_is_pending-accepted = accepted a_monitor_is_left_while_an_exception_is_pending refl refl refl
+
+a_monitor_is_left_while_an_exception_is_pending-run : IsWorkedRun a_monitor_is_left_while_an_exception_is_pending (codes "heap 512\nclass A\nobject @o A\nthread Java_A_f @o\nthread Java_A_g @o\n") (codes "1*3 2*2 1 2*9 1*9\n")
+    (codes "T1 0\nT1 uncaught java/lang/NoClassDefFoundError\nT2 ended\n#46 A\njournal 1 1 1 2 1 2 2 1 1 1\n")
+unfolding opened
+a_monitor_is_left_while_an_exception_is_pending-run = worked-run a_monitor_is_left_while_an_exception_is_pending a_monitor_is_left_while_an_exception_is_pending-world ((Turn 1, Some 3) ∷ (Turn 2, Some 2) ∷ (Turn 1, None) ∷ (Turn 2, Some 9) ∷ (Turn 1, Some 9) ∷ []) [] a_monitor_is_left_while_an_exception_is_pending-accepted a_monitor_is_left_while_an_exception_is_pending-means refl refl refl refl
+
+-- the exception of an exit replaces a pending one
+-- JNIEXPORT void JNICALL Java_A_f(JNIEnv *env, jclass cls, jobject o) {
+-- jclass c = (*env)->FindClass(env, "B");
+-- (*env)->MonitorExit(env, o);
+-- return;
+-- }
+abbrev pub the_exception_of_an_exit_replaces_a_pending_one : SourceUnit
+the_exception_of_an_exit_replaces_a_pending_one =
+    unit_of
+    (native 1 Void (codes "Java_A_f") (reference_parameter JObject (codes "o") ∷ [])
+    (Declare 2 (ReferenceVariable JClass) (codes "c") (FromCall (call (codes "FindClass") (Text (codes "B") ∷ [])))
+    ∷ Perform 3 (call (codes "MonitorExit") (given (codes "o") ∷ []))
+    ∷ Return 4
+    ∷ [])
+    5
+    ∷ [])
+
+the_exception_of_an_exit_replaces_a_pending_one-accepted : IsAccepted the_exception_of_an_exit_replaces_a_pending_one
+unfolding opened
+the_exception_of_an_exit_replaces_a_pending_one-accepted = accepted the_exception_of_an_exit_replaces_a_pending_one refl refl refl
+
+the_exception_of_an_exit_replaces_a_pending_one-run : IsWorkedRun the_exception_of_an_exit_replaces_a_pending_one (codes "heap 512\nclass A\nobject @o A\nthread Java_A_f @o\n") (codes "1*3\n")
+    (codes "T1 running\n#46 A\n#48 java/lang/IllegalMonitorStateException null\njournal 1 1 1\n")
+unfolding opened
+the_exception_of_an_exit_replaces_a_pending_one-run = worked-run the_exception_of_an_exit_replaces_a_pending_one both_calls_give_zero_and_nothing_is_pending-world ((Turn 1, Some 3) ∷ []) [] the_exception_of_an_exit_replaces_a_pending_one-accepted both_calls_give_zero_and_nothing_is_pending-means refl refl refl refl
+
+-- the exception of an exit is refused
+-- JNIEXPORT void JNICALL Java_A_f(JNIEnv *env, jclass cls, jobject o) {
+-- jint out = (*env)->MonitorExit(env, o);
+-- put_jint(out);
+-- return;
+-- }
+abbrev pub the_exception_of_an_exit_is_refused : SourceUnit
+the_exception_of_an_exit_is_refused =
+    unit_of
+    (native 1 Void (codes "Java_A_f") (reference_parameter JObject (codes "o") ∷ [])
+    (Declare 2 JIntVariable (codes "out") (FromCall (call (codes "MonitorExit") (given (codes "o") ∷ [])))
+    ∷ PutJint 3 (Variable (codes "out"))
+    ∷ Return 4
+    ∷ [])
+    5
+    ∷ [])
+
+the_exception_of_an_exit_is_refused-accepted : IsAccepted the_exception_of_an_exit_is_refused
+unfolding opened
+the_exception_of_an_exit_is_refused-accepted = accepted the_exception_of_an_exit_is_refused refl refl refl
+
+the_exception_of_an_exit_is_refused-replay : IsWorkedReplay the_exception_of_an_exit_is_refused (codes "heap 512\nclass A\nobject @o A\nthread Java_A_f @o\n") (codes "1 1! 1 1 1\n") (codes "T1 -1\nT1 uncaught java/lang/OutOfMemoryError\n#46 A\njournal 1 1! 1 1 1\n")
+unfolding opened
+the_exception_of_an_exit_is_refused-replay = worked-replay the_exception_of_an_exit_is_refused both_calls_give_zero_and_nothing_is_pending-world (entries 1 1 ++ entry 1 true ∷ [] ++ entries 1 3) the_exception_of_an_exit_is_refused-accepted both_calls_give_zero_and_nothing_is_pending-means refl refl refl refl
+
+-- an exit that throws nothing has nothing to refuse
+-- JNIEXPORT void JNICALL Java_A_f(JNIEnv *env, jclass cls, jobject o) {
+-- (*env)->MonitorEnter(env, o);
+-- (*env)->MonitorExit(env, o);
+-- return;
+-- }
+abbrev pub an_exit_that_throws_nothing_has_nothing_to_refuse : SourceUnit
+an_exit_that_throws_nothing_has_nothing_to_refuse =
+    unit_of
+    (native 1 Void (codes "Java_A_f") (reference_parameter JObject (codes "o") ∷ [])
+    (Perform 2 (call (codes "MonitorEnter") (given (codes "o") ∷ []))
+    ∷ Perform 3 (call (codes "MonitorExit") (given (codes "o") ∷ []))
+    ∷ Return 4
+    ∷ [])
+    5
+    ∷ [])
+
+an_exit_that_throws_nothing_has_nothing_to_refuse-accepted : IsAccepted an_exit_that_throws_nothing_has_nothing_to_refuse
+unfolding opened
+an_exit_that_throws_nothing_has_nothing_to_refuse-accepted = accepted an_exit_that_throws_nothing_has_nothing_to_refuse refl refl refl
+
+an_exit_that_throws_nothing_has_nothing_to_refuse-stopped : IsStoppedReplay an_exit_that_throws_nothing_has_nothing_to_refuse (codes "heap 512\nclass A\nobject @o A\nthread Java_A_f @o\n") (codes "1 1 1! 1\n") 3
+unfolding opened
+an_exit_that_throws_nothing_has_nothing_to_refuse-stopped = stopped-replay an_exit_that_throws_nothing_has_nothing_to_refuse both_calls_give_zero_and_nothing_is_pending-world (entries 1 2) (entry 1 true) (entries 1 1) an_exit_that_throws_nothing_has_nothing_to_refuse-accepted both_calls_give_zero_and_nothing_is_pending-means refl refl refl refl
+
+-- nor has an entry
+nor_has_an_entry-stopped : IsStoppedReplay an_exit_that_throws_nothing_has_nothing_to_refuse (codes "heap 512\nclass A\nobject @o A\nthread Java_A_f @o\n") (codes "1 1!\n") 2
+unfolding opened
+nor_has_an_entry-stopped = stopped-replay an_exit_that_throws_nothing_has_nothing_to_refuse both_calls_give_zero_and_nothing_is_pending-world (entries 1 1) (entry 1 true) [] an_exit_that_throws_nothing_has_nothing_to_refuse-accepted both_calls_give_zero_and_nothing_is_pending-means refl refl refl refl
+
+-- a thread that waits has no entry in a journal
+abbrev a_thread_that_waits_has_no_entry_in_a_journal-lines : Lines
+a_thread_that_waits_has_no_entry_in_a_journal-lines =
+    (2, ClassLine (codes "A") None)
+    ∷ (3, ObjectLine (codes "o") (codes "A") [])
+    ∷ (4, ThreadLine (codes "Java_A_f") (NamedObject (codes "o") ∷ []))
+    ∷ (5, ThreadLine (codes "Java_A_f") (NamedObject (codes "o") ∷ []))
+    ∷ []
+
+abbrev a_thread_that_waits_has_no_entry_in_a_journal-world : World
+a_thread_that_waits_has_no_entry_in_a_journal-world = world_of 512 a_thread_that_waits_has_no_entry_in_a_journal-lines
+
+a_thread_that_waits_has_no_entry_in_a_journal-means : IsWorldText (codes "heap 512\nclass A\nobject @o A\nthread Java_A_f @o\nthread Java_A_f @o\n") a_thread_that_waits_has_no_entry_in_a_journal-world
+unfolding opened
+a_thread_that_waits_has_no_entry_in_a_journal-means = world-text (codes "heap 512\nclass A\nobject @o A\nthread Java_A_f @o\nthread Java_A_f @o\n") 512 a_thread_that_waits_has_no_entry_in_a_journal-lines 1 refl refl refl refl
+
+a_thread_that_waits_has_no_entry_in_a_journal-stopped : IsStoppedReplay an_exit_that_throws_nothing_has_nothing_to_refuse (codes "heap 512\nclass A\nobject @o A\nthread Java_A_f @o\nthread Java_A_f @o\n") (codes "1 1 2 2 1\n") 4
+unfolding opened
+a_thread_that_waits_has_no_entry_in_a_journal-stopped = stopped-replay an_exit_that_throws_nothing_has_nothing_to_refuse a_thread_that_waits_has_no_entry_in_a_journal-world (entries 1 2 ++ entries 2 1) (entry 2 false) (entries 1 1) an_exit_that_throws_nothing_has_nothing_to_refuse-accepted a_thread_that_waits_has_no_entry_in_a_journal-means refl refl refl refl
+
+-- it has one once the monitor is left
+it_has_one_once_the_monitor_is_left-replay : IsWorkedReplay an_exit_that_throws_nothing_has_nothing_to_refuse (codes "heap 512\nclass A\nobject @o A\nthread Java_A_f @o\nthread Java_A_f @o\n") (codes "1 1 2 1 2\n") (codes "T1 running\nT2 running\n#46 A\njournal 1 1 2 1 2\n")
+unfolding opened
+it_has_one_once_the_monitor_is_left-replay = worked-replay an_exit_that_throws_nothing_has_nothing_to_refuse a_thread_that_waits_has_no_entry_in_a_journal-world (entries 1 2 ++ entries 2 1 ++ entries 1 1 ++ entries 2 1) an_exit_that_throws_nothing_has_nothing_to_refuse-accepted a_thread_that_waits_has_no_entry_in_a_journal-means refl refl refl refl
+
+-- a monitor of null is left
+-- JNIEXPORT void JNICALL Java_A_f(JNIEnv *env, jclass cls, jobject o) {
+-- (*env)->MonitorExit(env, o);
+-- return;
+-- }
+abbrev pub a_monitor_of_null_is_left : SourceUnit
+a_monitor_of_null_is_left =
+    unit_of
+    (native 1 Void (codes "Java_A_f") (reference_parameter JObject (codes "o") ∷ [])
+    (Perform 2 (call (codes "MonitorExit") (given (codes "o") ∷ []))
+    ∷ Return 3
+    ∷ [])
+    4
+    ∷ [])
+
+abbrev a_monitor_of_null_is_left-lines : Lines
+a_monitor_of_null_is_left-lines =
+    (2, ClassLine (codes "A") None)
+    ∷ (3, ThreadLine (codes "Java_A_f") (NullValue ∷ []))
+    ∷ []
+
+abbrev a_monitor_of_null_is_left-world : World
+a_monitor_of_null_is_left-world = world_of 512 a_monitor_of_null_is_left-lines
+
+a_monitor_of_null_is_left-means : IsWorldText (codes "heap 512\nclass A\nthread Java_A_f null\n") a_monitor_of_null_is_left-world
+unfolding opened
+a_monitor_of_null_is_left-means = world-text (codes "heap 512\nclass A\nthread Java_A_f null\n") 512 a_monitor_of_null_is_left-lines 1 refl refl refl refl
+
+a_monitor_of_null_is_left-accepted : IsAccepted a_monitor_of_null_is_left
+unfolding opened
+a_monitor_of_null_is_left-accepted = accepted a_monitor_of_null_is_left refl refl refl
+
+a_monitor_of_null_is_left-run : IsWorkedRun a_monitor_of_null_is_left (codes "heap 512\nclass A\nthread Java_A_f null\n") (codes "1*9\n")
+    (codes "T1 trap 4 line 2\njournal 1 1\n")
+unfolding opened
+a_monitor_of_null_is_left-run = worked-run a_monitor_of_null_is_left a_monitor_of_null_is_left-world ((Turn 1, Some 9) ∷ []) [] a_monitor_of_null_is_left-accepted a_monitor_of_null_is_left-means refl refl refl refl
+
+-- a monitor of the constant null is entered
+-- JNIEXPORT void JNICALL Java_A_f(JNIEnv *env, jclass cls) {
+-- (*env)->MonitorEnter(env, NULL);
+-- return;
+-- }
+abbrev pub a_monitor_of_the_constant_null_is_entered : SourceUnit
+a_monitor_of_the_constant_null_is_entered =
+    unit_of
+    (native 1 Void (codes "Java_A_f") []
+    (Perform 2 (call (codes "MonitorEnter") (Value (Named Null) ∷ []))
+    ∷ Return 3
+    ∷ [])
+    4
+    ∷ [])
+
+abbrev a_monitor_of_the_constant_null_is_entered-lines : Lines
+a_monitor_of_the_constant_null_is_entered-lines =
+    (2, ClassLine (codes "A") None)
+    ∷ (3, ThreadLine (codes "Java_A_f") [])
+    ∷ []
+
+abbrev a_monitor_of_the_constant_null_is_entered-world : World
+a_monitor_of_the_constant_null_is_entered-world = world_of 512 a_monitor_of_the_constant_null_is_entered-lines
+
+a_monitor_of_the_constant_null_is_entered-means : IsWorldText (codes "heap 512\nclass A\nthread Java_A_f\n") a_monitor_of_the_constant_null_is_entered-world
+unfolding opened
+a_monitor_of_the_constant_null_is_entered-means = world-text (codes "heap 512\nclass A\nthread Java_A_f\n") 512 a_monitor_of_the_constant_null_is_entered-lines 1 refl refl refl refl
+
+a_monitor_of_the_constant_null_is_entered-accepted : IsAccepted a_monitor_of_the_constant_null_is_entered
+unfolding opened
+a_monitor_of_the_constant_null_is_entered-accepted = accepted a_monitor_of_the_constant_null_is_entered refl refl refl
+
+a_monitor_of_the_constant_null_is_entered-run : IsWorkedRun a_monitor_of_the_constant_null_is_entered (codes "heap 512\nclass A\nthread Java_A_f\n") (codes "1*9\n")
+    (codes "T1 trap 4 line 2\njournal 1 1\n")
+unfolding opened
+a_monitor_of_the_constant_null_is_entered-run = worked-run a_monitor_of_the_constant_null_is_entered a_monitor_of_the_constant_null_is_entered-world ((Turn 1, Some 9) ∷ []) [] a_monitor_of_the_constant_null_is_entered-accepted a_monitor_of_the_constant_null_is_entered-means refl refl refl refl
+
+-- a monitor is entered by a deleted global reference
+-- static jobject g = NULL;
+-- JNIEXPORT void JNICALL Java_A_f(JNIEnv *env, jclass cls, jobject o) {
+-- g = (*env)->NewGlobalRef(env, o);
+-- (*env)->DeleteGlobalRef(env, g);
+-- (*env)->MonitorEnter(env, g);
+-- return;
+-- }
+abbrev pub a_monitor_is_entered_by_a_deleted_global_reference : SourceUnit
+a_monitor_is_entered_by_a_deleted_global_reference =
+    unit_of
+    (static_reference 1 JObject (codes "g")
+    ∷ native 2 Void (codes "Java_A_f") (reference_parameter JObject (codes "o") ∷ [])
+    (Assign 3 (codes "g") (FromCall (call (codes "NewGlobalRef") (given (codes "o") ∷ [])))
+    ∷ Perform 4 (call (codes "DeleteGlobalRef") (given (codes "g") ∷ []))
+    ∷ Perform 5 (call (codes "MonitorEnter") (given (codes "g") ∷ []))
+    ∷ Return 6
+    ∷ [])
+    7
+    ∷ [])
+
+a_monitor_is_entered_by_a_deleted_global_reference-accepted : IsAccepted a_monitor_is_entered_by_a_deleted_global_reference
+unfolding opened
+a_monitor_is_entered_by_a_deleted_global_reference-accepted = accepted a_monitor_is_entered_by_a_deleted_global_reference refl refl refl
+
+a_monitor_is_entered_by_a_deleted_global_reference-run : IsWorkedRun a_monitor_is_entered_by_a_deleted_global_reference (codes "heap 512\nclass A\nobject @o A\nthread Java_A_f @o\n") (codes "1*9\n")
+    (codes "T1 trap 7 line 5\n#46 A\njournal 1 1 1 1\n")
+unfolding opened
+a_monitor_is_entered_by_a_deleted_global_reference-run = worked-run a_monitor_is_entered_by_a_deleted_global_reference both_calls_give_zero_and_nothing_is_pending-world ((Turn 1, Some 9) ∷ []) [] a_monitor_is_entered_by_a_deleted_global_reference-accepted both_calls_give_zero_and_nothing_is_pending-means refl refl refl refl
+
+-- a monitor is left by a deleted global reference while an exception is pending
+-- static jobject g = NULL;
+-- JNIEXPORT void JNICALL Java_A_f(JNIEnv *env, jclass cls, jobject o) {
+-- g = (*env)->NewGlobalRef(env, o);
+-- (*env)->MonitorEnter(env, g);
+-- (*env)->DeleteGlobalRef(env, g);
+-- jclass c = (*env)->FindClass(env, "B");
+-- (*env)->MonitorExit(env, g);
+-- return;
+-- }
+abbrev pub a_monitor_is_left_by_a_deleted_global_reference_while_an_exception_is_pending : SourceUnit
+a_monitor_is_left_by_a_deleted_global_reference_while_an_exception_is_pending =
+    unit_of
+    (static_reference 1 JObject (codes "g")
+    ∷ native 2 Void (codes "Java_A_f") (reference_parameter JObject (codes "o") ∷ [])
+    (Assign 3 (codes "g") (FromCall (call (codes "NewGlobalRef") (given (codes "o") ∷ [])))
+    ∷ Perform 4 (call (codes "MonitorEnter") (given (codes "g") ∷ []))
+    ∷ Perform 5 (call (codes "DeleteGlobalRef") (given (codes "g") ∷ []))
+    ∷ Declare 6 (ReferenceVariable JClass) (codes "c") (FromCall (call (codes "FindClass") (Text (codes "B") ∷ [])))
+    ∷ Perform 7 (call (codes "MonitorExit") (given (codes "g") ∷ []))
+    ∷ Return 8
+    ∷ [])
+    9
+    ∷ [])
+
+a_monitor_is_left_by_a_deleted_global_reference_while_an_exception_is_pending-accepted : IsAccepted a_monitor_is_left_by_a_deleted_global_reference_while_an_exception_is_pending
+unfolding opened
+a_monitor_is_left_by_a_deleted_global_reference_while_an_exception_is_pending-accepted = accepted a_monitor_is_left_by_a_deleted_global_reference_while_an_exception_is_pending refl refl refl
+
+a_monitor_is_left_by_a_deleted_global_reference_while_an_exception_is_pending-run : IsWorkedRun a_monitor_is_left_by_a_deleted_global_reference_while_an_exception_is_pending (codes "heap 512\nclass A\nobject @o A\nthread Java_A_f @o\n") (codes "1*9\n")
+    (codes "T1 trap 7 line 7\n#46 A\n#47 java/lang/NoClassDefFoundError null\njournal 1 1 1 1 1 1\n")
+unfolding opened
+a_monitor_is_left_by_a_deleted_global_reference_while_an_exception_is_pending-run = worked-run a_monitor_is_left_by_a_deleted_global_reference_while_an_exception_is_pending both_calls_give_zero_and_nothing_is_pending-world ((Turn 1, Some 9) ∷ []) [] a_monitor_is_left_by_a_deleted_global_reference_while_an_exception_is_pending-accepted both_calls_give_zero_and_nothing_is_pending-means refl refl refl refl
+
+-- a monitor is entered by a deleted global reference while an exception is pending
+-- static jobject g = NULL;
+-- JNIEXPORT void JNICALL Java_A_f(JNIEnv *env, jclass cls, jobject o) {
+-- g = (*env)->NewGlobalRef(env, o);
+-- (*env)->DeleteGlobalRef(env, g);
+-- jclass c = (*env)->FindClass(env, "B");
+-- (*env)->MonitorEnter(env, g);
+-- return;
+-- }
+abbrev pub a_monitor_is_entered_by_a_deleted_global_reference_while_an_exception_is_pending : SourceUnit
+a_monitor_is_entered_by_a_deleted_global_reference_while_an_exception_is_pending =
+    unit_of
+    (static_reference 1 JObject (codes "g")
+    ∷ native 2 Void (codes "Java_A_f") (reference_parameter JObject (codes "o") ∷ [])
+    (Assign 3 (codes "g") (FromCall (call (codes "NewGlobalRef") (given (codes "o") ∷ [])))
+    ∷ Perform 4 (call (codes "DeleteGlobalRef") (given (codes "g") ∷ []))
+    ∷ Declare 5 (ReferenceVariable JClass) (codes "c") (FromCall (call (codes "FindClass") (Text (codes "B") ∷ [])))
+    ∷ Perform 6 (call (codes "MonitorEnter") (given (codes "g") ∷ []))
+    ∷ Return 7
+    ∷ [])
+    8
+    ∷ [])
+
+a_monitor_is_entered_by_a_deleted_global_reference_while_an_exception_is_pending-accepted : IsAccepted a_monitor_is_entered_by_a_deleted_global_reference_while_an_exception_is_pending
+unfolding opened
+a_monitor_is_entered_by_a_deleted_global_reference_while_an_exception_is_pending-accepted = accepted a_monitor_is_entered_by_a_deleted_global_reference_while_an_exception_is_pending refl refl refl
+
+a_monitor_is_entered_by_a_deleted_global_reference_while_an_exception_is_pending-run : IsWorkedRun a_monitor_is_entered_by_a_deleted_global_reference_while_an_exception_is_pending (codes "heap 512\nclass A\nobject @o A\nthread Java_A_f @o\n") (codes "1*9\n")
+    (codes "T1 trap 5 line 6\n#46 A\n#47 java/lang/NoClassDefFoundError null\njournal 1 1 1 1 1\n")
+unfolding opened
+a_monitor_is_entered_by_a_deleted_global_reference_while_an_exception_is_pending-run = worked-run a_monitor_is_entered_by_a_deleted_global_reference_while_an_exception_is_pending both_calls_give_zero_and_nothing_is_pending-world ((Turn 1, Some 9) ∷ []) [] a_monitor_is_entered_by_a_deleted_global_reference_while_an_exception_is_pending-accepted both_calls_give_zero_and_nothing_is_pending-means refl refl refl refl
+
+-- a thread with an exception pending does not wait
+-- JNIEXPORT void JNICALL Java_A_f(JNIEnv *env, jclass cls, jobject o) {
+-- (*env)->MonitorEnter(env, o);
+-- return;
+-- }
+-- JNIEXPORT void JNICALL Java_A_g(JNIEnv *env, jclass cls, jobject o) {
+-- jclass c = (*env)->FindClass(env, "B");
+-- (*env)->MonitorEnter(env, o);
+-- return;
+-- }
+abbrev pub a_thread_with_an_exception_pending_does_not_wait : SourceUnit
+a_thread_with_an_exception_pending_does_not_wait =
+    unit_of
+    (native 1 Void (codes "Java_A_f") (reference_parameter JObject (codes "o") ∷ [])
+    (Perform 2 (call (codes "MonitorEnter") (given (codes "o") ∷ []))
+    ∷ Return 3
+    ∷ [])
+    4
+    ∷ native 5 Void (codes "Java_A_g") (reference_parameter JObject (codes "o") ∷ [])
+    (Declare 6 (ReferenceVariable JClass) (codes "c") (FromCall (call (codes "FindClass") (Text (codes "B") ∷ [])))
+    ∷ Perform 7 (call (codes "MonitorEnter") (given (codes "o") ∷ []))
+    ∷ Return 8
+    ∷ [])
+    9
+    ∷ [])
+
+a_thread_with_an_exception_pending_does_not_wait-accepted : IsAccepted a_thread_with_an_exception_pending_does_not_wait
+unfolding opened
+a_thread_with_an_exception_pending_does_not_wait-accepted = accepted a_thread_with_an_exception_pending_does_not_wait refl refl refl
+
+a_thread_with_an_exception_pending_does_not_wait-run : IsWorkedRun a_thread_with_an_exception_pending_does_not_wait (codes "heap 512\nclass A\nobject @o A\nthread Java_A_f @o\nthread Java_A_g @o\n") (codes "1*2 2*9\n")
+    (codes "T1 running\nT2 trap 5 line 7\n#46 A\n#47 java/lang/NoClassDefFoundError null\njournal 1 1 2 2 2\n")
+unfolding opened
+a_thread_with_an_exception_pending_does_not_wait-run = worked-run a_thread_with_an_exception_pending_does_not_wait a_monitor_is_left_while_an_exception_is_pending-world ((Turn 1, Some 2) ∷ (Turn 2, Some 9) ∷ []) [] a_thread_with_an_exception_pending_does_not_wait-accepted a_monitor_is_left_while_an_exception_is_pending-means refl refl refl refl
+
+-- a monitor is entered while a buffer is critical
+-- JNIEXPORT void JNICALL Java_A_f(JNIEnv *env, jclass cls, jintArray a) {
+-- jint *p = (*env)->GetPrimitiveArrayCritical(env, a, NULL);
+-- if (p != NULL) {
+-- (*env)->MonitorEnter(env, a);
+-- (*env)->ReleasePrimitiveArrayCritical(env, a, p, 0);
+-- }
+-- return;
+-- }
+abbrev pub a_monitor_is_entered_while_a_buffer_is_critical : SourceUnit
+a_monitor_is_entered_while_a_buffer_is_critical =
+    unit_of
+    (native 1 Void (codes "Java_A_f") (reference_parameter JIntArray (codes "a") ∷ [])
+    (DeclareBuffer 2 JInt (codes "p") (FromCall (call (codes "GetPrimitiveArrayCritical") (given (codes "a") ∷ Value (Named Null) ∷ [])))
+    ∷ If 3 (TestExpr (Binary NotEqual (Variable (codes "p")) (Named Null)))
+    (block
+    (Perform 4 (call (codes "MonitorEnter") (given (codes "a") ∷ []))
+    ∷ Perform 5 (call (codes "ReleasePrimitiveArrayCritical") (given (codes "a") ∷ given (codes "p") ∷ Value (Number 0 false) ∷ []))
+    ∷ [])
+    6)
+    ∷ Return 7
+    ∷ [])
+    8
+    ∷ [])
+
+a_monitor_is_entered_while_a_buffer_is_critical-refused : IsRefused a_monitor_is_entered_while_a_buffer_is_critical 31 4
+unfolding opened
+a_monitor_is_entered_while_a_buffer_is_critical-refused = bad_way a_monitor_is_entered_while_a_buffer_is_critical CallWhileCritical 4 refl refl refl
+
+-- a monitor is left while a buffer is critical
+-- JNIEXPORT void JNICALL Java_A_f(JNIEnv *env, jclass cls, jstring s) {
+-- const jchar *p = (*env)->GetStringCritical(env, s, NULL);
+-- if (p != NULL) {
+-- (*env)->MonitorExit(env, s);
+-- (*env)->ReleaseStringCritical(env, s, p);
+-- }
+-- return;
+-- }
+abbrev pub a_monitor_is_left_while_a_buffer_is_critical : SourceUnit
+a_monitor_is_left_while_a_buffer_is_critical =
+    unit_of
+    (native 1 Void (codes "Java_A_f") (reference_parameter JString (codes "s") ∷ [])
+    (DeclareChars 2 (codes "p") (FromCall (call (codes "GetStringCritical") (given (codes "s") ∷ Value (Named Null) ∷ [])))
+    ∷ If 3 (TestExpr (Binary NotEqual (Variable (codes "p")) (Named Null)))
+    (block
+    (Perform 4 (call (codes "MonitorExit") (given (codes "s") ∷ []))
+    ∷ Perform 5 (call (codes "ReleaseStringCritical") (given (codes "s") ∷ given (codes "p") ∷ []))
+    ∷ [])
+    6)
+    ∷ Return 7
+    ∷ [])
+    8
+    ∷ [])
+
+a_monitor_is_left_while_a_buffer_is_critical-refused : IsRefused a_monitor_is_left_while_a_buffer_is_critical 31 4
+unfolding opened
+a_monitor_is_left_while_a_buffer_is_critical-refused = bad_way a_monitor_is_left_while_a_buffer_is_critical CallWhileCritical 4 refl refl refl
+
+-- a monitor is left by a dead reference
+-- JNIEXPORT void JNICALL Java_A_f(JNIEnv *env, jclass cls, jobject o) {
+-- (*env)->MonitorEnter(env, o);
+-- (*env)->DeleteLocalRef(env, o);
+-- (*env)->MonitorExit(env, o);
+-- return;
+-- }
+abbrev pub a_monitor_is_left_by_a_dead_reference : SourceUnit
+a_monitor_is_left_by_a_dead_reference =
+    unit_of
+    (native 1 Void (codes "Java_A_f") (reference_parameter JObject (codes "o") ∷ [])
+    (Perform 2 (call (codes "MonitorEnter") (given (codes "o") ∷ []))
+    ∷ Perform 3 (call (codes "DeleteLocalRef") (given (codes "o") ∷ []))
+    ∷ Perform 4 (call (codes "MonitorExit") (given (codes "o") ∷ []))
+    ∷ Return 5
+    ∷ [])
+    6
+    ∷ [])
+
+a_monitor_is_left_by_a_dead_reference-refused : IsRefused a_monitor_is_left_by_a_dead_reference 38 4
+unfolding opened
+a_monitor_is_left_by_a_dead_reference-refused = bad_way a_monitor_is_left_by_a_dead_reference DeadReference 4 refl refl refl
+
+-- the answer of an entry is no flag
+-- JNIEXPORT void JNICALL Java_A_f(JNIEnv *env, jclass cls, jobject o) {
+-- jboolean in = (*env)->MonitorEnter(env, o);
+-- return;
+-- }
+abbrev pub the_answer_of_an_entry_is_no_flag : SourceUnit
+the_answer_of_an_entry_is_no_flag =
+    unit_of
+    (native 1 Void (codes "Java_A_f") (reference_parameter JObject (codes "o") ∷ [])
+    (Declare 2 JBoolean (codes "in") (FromCall (call (codes "MonitorEnter") (given (codes "o") ∷ [])))
+    ∷ Return 3
+    ∷ [])
+    4
+    ∷ [])
+
+the_answer_of_an_entry_is_no_flag-refused : IsRefused the_answer_of_an_entry_is_no_flag 23 2
+unfolding opened
+the_answer_of_an_entry_is_no_flag-refused = badly_sorted the_answer_of_an_entry_is_no_flag SortMisfit 2 refl refl
+
+-- a number has no monitor
+-- JNIEXPORT void JNICALL Java_A_f(JNIEnv *env, jclass cls, jint n) {
+-- (*env)->MonitorExit(env, n);
+-- return;
+-- }
+abbrev pub a_number_has_no_monitor : SourceUnit
+a_number_has_no_monitor =
+    unit_of
+    (native 1 Void (codes "Java_A_f") (int_parameter (codes "n") ∷ [])
+    (Perform 2 (call (codes "MonitorExit") (given (codes "n") ∷ []))
+    ∷ Return 3
+    ∷ [])
+    4
+    ∷ [])
+
+a_number_has_no_monitor-refused : IsRefused a_number_has_no_monitor 23 2
+unfolding opened
+a_number_has_no_monitor-refused = badly_sorted a_number_has_no_monitor SortMisfit 2 refl refl
+
+-- an entry is no test
+-- JNIEXPORT void JNICALL Java_A_f(JNIEnv *env, jclass cls, jobject o) {
+-- if ((*env)->MonitorEnter(env, o) == 0) {
+-- (*env)->MonitorExit(env, o);
+-- }
+-- return;
+-- }
+abbrev pub an_entry_is_no_test : SourceUnit
+an_entry_is_no_test =
+    unit_of
+    (native 1 Void (codes "Java_A_f") (reference_parameter JObject (codes "o") ∷ [])
+    (If 2 (TestCall (call (codes "MonitorEnter") (given (codes "o") ∷ [])))
+    (block
+    (Perform 3 (call (codes "MonitorExit") (given (codes "o") ∷ []))
+    ∷ [])
+    4)
+    ∷ Return 5
+    ∷ [])
+    6
+    ∷ [])
+
+an_entry_is_no_test-refused : IsRefused an_entry_is_no_test 23 2
+unfolding opened
+an_entry_is_no_test-refused = badly_sorted an_entry_is_no_test SortMisfit 2 refl refl
+
+-- a monitor is left of two objects
+-- JNIEXPORT void JNICALL Java_A_f(JNIEnv *env, jclass cls, jobject o) {
+-- (*env)->MonitorExit(env, o, cls);
+-- return;
+-- }
+abbrev pub a_monitor_is_left_of_two_objects : SourceUnit
+a_monitor_is_left_of_two_objects =
+    unit_of
+    (native 1 Void (codes "Java_A_f") (reference_parameter JObject (codes "o") ∷ [])
+    (Perform 2 (call (codes "MonitorExit") (given (codes "o") ∷ given (codes "cls") ∷ []))
+    ∷ Return 3
+    ∷ [])
+    4
+    ∷ [])
+
+a_monitor_is_left_of_two_objects-refused : IsRefused a_monitor_is_left_of_two_objects 25 2
+unfolding opened
+a_monitor_is_left_of_two_objects-refused = badly_sorted a_monitor_is_left_of_two_objects ArgumentCount 2 refl refl
