@@ -35,18 +35,18 @@ fn faults_0() -> &'static [Explanation] {
 static FAULTS_10: [Explanation; 3] = [
     Explanation {
         number: 11,
-        title: b"a token that no accepted text can have here",
-        text: b"fault 11: a token that no accepted text can have here\n\nThe text isn't of the grammar (docs/LANGUAGE.md). The line is that of the first token from which it can't go on, so a ; that is missing is told at the token after it.\n\n    JNIEXPORT void JNICALL Java_A_f(JNIEnv *env, jclass cls)\n    {\n        put_jint(1)\n        return;\n    }\n\nfault 11 line 4\n",
+        title: b"unexpected token",
+        text: b"fault 11: unexpected token\n\nThe text isn't of the grammar (docs/LANGUAGE.md). The line is that of the first token from which it can't go on, so a ; that is missing is told at the token after it.\n\n    JNIEXPORT void JNICALL Java_A_f(JNIEnv *env, jclass cls)\n    {\n        put_jint(1)\n        return;\n    }\n\nfault 11 line 4\n",
     },
     Explanation {
         number: 12,
-        title: b"a tree is too high",
-        text: b"fault 12: a tree is too high\n\nBlocks, operators, casts, parentheses and indexes count one each, up to 32. Name a part of the expression by a variable of its own.\n\n    JNIEXPORT void JNICALL Java_A_f(JNIEnv *env, jclass cls)\n    {\n        put_jint((jint)\n            ~~~~~~~~~~~~~~~~~~~~~~~~~~~~~~~~1u);\n        return;\n    }\n\nfault 12 line 4\n",
+        title: b"nested too deeply",
+        text: b"fault 12: nested too deeply\n\nBlocks, operators, casts, parentheses and indexes count one each, up to 32. Name a part of the expression by a variable of its own.\n\n    JNIEXPORT void JNICALL Java_A_f(JNIEnv *env, jclass cls)\n    {\n        put_jint((jint)\n            ~~~~~~~~~~~~~~~~~~~~~~~~~~~~~~~~1u);\n        return;\n    }\n\nfault 12 line 4\n",
     },
     Explanation {
         number: 13,
-        title: b"too many",
-        text: b"fault 13: too many\n\nAt most 256 functions, 256 statics, and 256 names that a function declares, its parameters from the class on among them. The line is that of the first that is too\nmany. Split the text or the function.\n\n    static jobject s1 = NULL;\n\nLine 1 for each number from 1 to 257: fault 13 line 257\n",
+        title: b"too many functions, statics or names",
+        text: b"fault 13: too many functions, statics or names\n\nAt most 256 functions, 256 statics, and 256 names that a function declares, its parameters from the class on among them. The line is that of the first that is too\nmany. Split the text or the function.\n\n    static jobject s1 = NULL;\n\nLine 1 for each number from 1 to 257: fault 13 line 257\n",
     },
 ];
 
@@ -59,8 +59,8 @@ fn faults_10() -> &'static [Explanation] {
 static FAULTS_20: [Explanation; 8] = [
     Explanation {
         number: 21,
-        title: b"a name isn't known",
-        text: b"fault 21: a name isn't known\n\nA variable is known after its declaration, to the end of its block (C99 6.2.1). A function's name is that of a native method (JNI Specification, chapter 2, \"Resolving\nNative Method Names\"). Declare the variable first, or mend the name.\n\n    JNIEXPORT void JNICALL Java_A_f(JNIEnv *env, jclass cls)\n    {\n        put_jint(n);\n        return;\n    }\n\nfault 21 line 3\n",
+        title: b"undeclared name",
+        text: b"fault 21: undeclared name\n\nA variable is known after its declaration, to the end of its block (C99 6.2.1). A function's name is that of a native method (JNI Specification, chapter 2, \"Resolving\nNative Method Names\"). Declare the variable first, or mend the name.\n\n    JNIEXPORT void JNICALL Java_A_f(JNIEnv *env, jclass cls)\n    {\n        put_jint(n);\n        return;\n    }\n\nfault 21 line 3\n",
     },
     Explanation {
         number: 22,
@@ -69,13 +69,13 @@ static FAULTS_20: [Explanation; 8] = [
     },
     Explanation {
         number: 23,
-        title: b"the sorts don't fit",
-        text: b"fault 23: the sorts don't fit\n\nAn operator's operands, a variable and its value, an argument and its parameter, a return and its function fit each other as docs/LANGUAGE.md says; nothing is converted by\nitself. Put a cast, or take a variable of the right type.\n\n    JNIEXPORT void JNICALL Java_A_f(JNIEnv *env, jclass cls, jint n)\n    {\n        put_jint(n + 1);\n        return;\n    }\n\nfault 23 line 3\n",
+        title: b"type mismatch",
+        text: b"fault 23: type mismatch\n\nAn operator's operands, a variable and its value, an argument and its parameter, a return and its function fit each other as docs/LANGUAGE.md says; nothing is converted by\nitself. Put a cast, or take a variable of the right type.\n\n    JNIEXPORT void JNICALL Java_A_f(JNIEnv *env, jclass cls, jint n)\n    {\n        put_jint(n + 1);\n        return;\n    }\n\nfault 23 line 3\n",
     },
     Explanation {
         number: 24,
-        title: b"a function of the JNI isn't known, or isn't implemented",
-        text: b"fault 24: a function of the JNI isn't known, or isn't implemented\n\nREADME has the list of those that are (JNI Specification, chapter 4).\n\n    JNIEXPORT void JNICALL Java_A_f(JNIEnv *env, jclass cls)\n    {\n        jint version = (*env)->GetVersion(env);\n        return;\n    }\n\nfault 24 line 3\n",
+        title: b"a function of the JNI isn't known",
+        text: b"fault 24: a function of the JNI isn't known\n\nREADME has the list of those that are (JNI Specification, chapter 4). Mend the name, or do without the function.\n\n    JNIEXPORT void JNICALL Java_A_f(JNIEnv *env, jclass cls)\n    {\n        jint version = (*env)->GetVersion(env);\n        return;\n    }\n\nfault 24 line 3\n",
     },
     Explanation {
         number: 25,
@@ -89,8 +89,8 @@ static FAULTS_20: [Explanation; 8] = [
     },
     Explanation {
         number: 27,
-        title: b"a bad mode",
-        text: b"fault 27: a bad mode\n\nThe mode of a release is 0, JNI_COMMIT or JNI_ABORT (JNI Specification, chapter 4, \"Array Operations\"). Write one of these.\n\n    JNIEXPORT void JNICALL Java_A_f(JNIEnv *env, jclass cls, jintArray array)\n    {\n        jint *numbers = NULL;\n        (*env)->ReleaseIntArrayElements(env, array, numbers, 3);\n        return;\n    }\n\nfault 27 line 4\n",
+        title: b"not a release mode",
+        text: b"fault 27: not a release mode\n\nThe mode of a release is 0, JNI_COMMIT or JNI_ABORT (JNI Specification, chapter 4, \"Array Operations\"). Write one of these.\n\n    JNIEXPORT void JNICALL Java_A_f(JNIEnv *env, jclass cls, jintArray array)\n    {\n        jint *numbers = NULL;\n        (*env)->ReleaseIntArrayElements(env, array, numbers, 3);\n        return;\n    }\n\nfault 27 line 4\n",
     },
     Explanation {
         number: 28,
@@ -113,23 +113,23 @@ static FAULTS_30: [Explanation; 9] = [
     },
     Explanation {
         number: 32,
-        title: b"a return while a buffer is held",
-        text: b"fault 32: a return while a buffer is held\n\nWhat a Get gave is released on each way (JNI Specification, chapter 4, \"Array Operations\" and \"String Operations\"). Release it before the return.\n\n    JNIEXPORT void JNICALL Java_A_f(JNIEnv *env, jclass cls, jintArray array)\n    {\n        jint *numbers = (*env)->GetIntArrayElements(env, array, NULL);\n        if (numbers == NULL) {\n            return;\n        }\n        numbers[0] = 1;\n        return;\n    }\n\nfault 32 line 8\n",
+        title: b"a return while a buffer is acquired",
+        text: b"fault 32: a return while a buffer is acquired\n\nWhat a Get gave is released on each way (JNI Specification, chapter 4, \"Array Operations\" and \"String Operations\"). Release it before the return.\n\n    JNIEXPORT void JNICALL Java_A_f(JNIEnv *env, jclass cls, jintArray array)\n    {\n        jint *numbers = (*env)->GetIntArrayElements(env, array, NULL);\n        if (numbers == NULL) {\n            return;\n        }\n        numbers[0] = 1;\n        return;\n    }\n\nfault 32 line 8\n",
     },
     Explanation {
         number: 33,
-        title: b"a buffer is lost",
-        text: b"fault 33: a buffer is lost\n\nA Get goes into a variable that holds no buffer, and the buffers that a block declares have to be released before it ends (JNI Specification, chapter 4, \"Array Operations\"). Release it\nfirst.\n\n    JNIEXPORT void JNICALL Java_A_f(JNIEnv *env, jclass cls, jintArray array)\n    {\n        jint *numbers = (*env)->GetIntArrayElements(env, array, NULL);\n        numbers = (*env)->GetIntArrayElements(env, array, NULL);\n        if (numbers == NULL) {\n            return;\n        }\n        (*env)->ReleaseIntArrayElements(env, array, numbers, JNI_ABORT);\n        return;\n    }\n\nfault 33 line 4\n",
+        title: b"a buffer is overwritten or leaves scope unreleased",
+        text: b"fault 33: a buffer is overwritten or leaves scope unreleased\n\nA Get goes into a variable that holds no buffer, and the buffers that a block declares have to be released before it ends (JNI Specification, chapter 4, \"Array Operations\"). Release it\nfirst.\n\n    JNIEXPORT void JNICALL Java_A_f(JNIEnv *env, jclass cls, jintArray array)\n    {\n        jint *numbers = (*env)->GetIntArrayElements(env, array, NULL);\n        numbers = (*env)->GetIntArrayElements(env, array, NULL);\n        if (numbers == NULL) {\n            return;\n        }\n        (*env)->ReleaseIntArrayElements(env, array, numbers, JNI_ABORT);\n        return;\n    }\n\nfault 33 line 4\n",
     },
     Explanation {
         number: 34,
-        title: b"a buffer isn't tested",
-        text: b"fault 34: a buffer isn't tested\n\nA Get answers NULL where it has no memory, so its buffer is compared with NULL before it is read, written or released (JNI Specification, chapter 4,\nGet<PrimitiveType>ArrayElements). Put the comparison after the Get.\n\n    JNIEXPORT void JNICALL Java_A_f(JNIEnv *env, jclass cls, jintArray array)\n    {\n        jint *numbers = (*env)->GetIntArrayElements(env, array, NULL);\n        (*env)->ReleaseIntArrayElements(env, array, numbers, JNI_ABORT);\n        return;\n    }\n\nfault 34 line 4\n",
+        title: b"a buffer is used before it is tested",
+        text: b"fault 34: a buffer is used before it is tested\n\nA Get answers NULL where it has no memory, so its buffer is compared with NULL before it is read, written or released (JNI Specification, chapter 4,\nGet<PrimitiveType>ArrayElements). Put the comparison after the Get.\n\n    JNIEXPORT void JNICALL Java_A_f(JNIEnv *env, jclass cls, jintArray array)\n    {\n        jint *numbers = (*env)->GetIntArrayElements(env, array, NULL);\n        (*env)->ReleaseIntArrayElements(env, array, numbers, JNI_ABORT);\n        return;\n    }\n\nfault 34 line 4\n",
     },
     Explanation {
         number: 35,
-        title: b"a buffer that holds nothing is used",
-        text: b"fault 35: a buffer that holds nothing is used\n\nA buffer is tested, read, written and released between its Get and its release (JNI Specification, chapter 4, \"Array Operations\").\n\n    JNIEXPORT void JNICALL Java_A_f(JNIEnv *env, jclass cls)\n    {\n        jint *numbers = NULL;\n        put_jint(numbers[0]);\n        return;\n    }\n\nfault 35 line 4\n",
+        title: b"a buffer is used that isn't acquired",
+        text: b"fault 35: a buffer is used that isn't acquired\n\nA buffer is tested, read, written and released between its Get and its release (JNI Specification, chapter 4, \"Array Operations\").\n\n    JNIEXPORT void JNICALL Java_A_f(JNIEnv *env, jclass cls)\n    {\n        jint *numbers = NULL;\n        put_jint(numbers[0]);\n        return;\n    }\n\nfault 35 line 4\n",
     },
     Explanation {
         number: 36,
@@ -143,13 +143,13 @@ static FAULTS_30: [Explanation; 9] = [
     },
     Explanation {
         number: 38,
-        title: b"a dead reference is used",
-        text: b"fault 38: a dead reference is used\n\nA deleted reference, and one of a frame that was popped, refers to nothing (JNI Specification, chapter 4, \"DeleteLocalRef\" and \"PopLocalFrame\"). Delete it after its last use.\n\n    JNIEXPORT void JNICALL Java_A_f(JNIEnv *env, jclass cls, jobject object)\n    {\n        (*env)->DeleteLocalRef(env, object);\n        jclass found = (*env)->GetObjectClass(env, object);\n        return;\n    }\n\nfault 38 line 4\n",
+        title: b"a deleted reference is used",
+        text: b"fault 38: a deleted reference is used\n\nA deleted reference, and one of a frame that was popped, refers to nothing (JNI Specification, chapter 4, \"DeleteLocalRef\" and \"PopLocalFrame\"). Delete it after its last use.\n\n    JNIEXPORT void JNICALL Java_A_f(JNIEnv *env, jclass cls, jobject object)\n    {\n        (*env)->DeleteLocalRef(env, object);\n        jclass found = (*env)->GetObjectClass(env, object);\n        return;\n    }\n\nfault 38 line 4\n",
     },
     Explanation {
         number: 39,
-        title: b"the array of a held buffer is lost",
-        text: b"fault 39: the array of a held buffer is lost\n\nThe release wants the array, so its variable is a local one and isn't set, deleted or popped before (JNI Specification, chapter 4, Release<PrimitiveType>ArrayElements).\nRelease the buffer first.\n\n    JNIEXPORT void JNICALL Java_A_f(JNIEnv *env, jclass cls, jintArray array)\n    {\n        jint *numbers = (*env)->GetIntArrayElements(env, array, NULL);\n        if (numbers == NULL) {\n            return;\n        }\n        array = NULL;\n        (*env)->ReleaseIntArrayElements(env, array, numbers, 0);\n        return;\n    }\n\nfault 39 line 7\n",
+        title: b"the array of an acquired buffer is changed",
+        text: b"fault 39: the array of an acquired buffer is changed\n\nThe release wants the array, so its variable is a local one and isn't set, deleted or popped before (JNI Specification, chapter 4, Release<PrimitiveType>ArrayElements).\nRelease the buffer first.\n\n    JNIEXPORT void JNICALL Java_A_f(JNIEnv *env, jclass cls, jintArray array)\n    {\n        jint *numbers = (*env)->GetIntArrayElements(env, array, NULL);\n        if (numbers == NULL) {\n            return;\n        }\n        array = NULL;\n        (*env)->ReleaseIntArrayElements(env, array, numbers, 0);\n        return;\n    }\n\nfault 39 line 7\n",
     },
 ];
 
@@ -162,8 +162,8 @@ fn faults_30() -> &'static [Explanation] {
 static FAULTS_40: [Explanation; 3] = [
     Explanation {
         number: 40,
-        title: b"ways that meet don't agree",
-        text: b"fault 40: ways that meet don't agree\n\nWhere the ways of an if join, each variable has to be in the same state on both, and the same number of frames pushed; at the end of a while's body, the same as before the loop. What may be done\nafter it can't depend on the way that was taken. The line is that of the if or while. Do the same on the other way.\n\n    JNIEXPORT void JNICALL Java_A_f(JNIEnv *env, jclass cls, jobject object, jint n)\n    {\n        if (n != 0) {\n            (*env)->DeleteLocalRef(env, object);\n        }\n        return;\n    }\n\nfault 40 line 3\n",
+        title: b"branches leave different states",
+        text: b"fault 40: branches leave different states\n\nWhere the ways of an if join, each variable has to be in the same state on both, and the same number of frames pushed; at the end of a while's body, the same as before the loop. What may be done\nafter it can't depend on the way that was taken. The line is that of the if or while. Do the same on the other way.\n\n    JNIEXPORT void JNICALL Java_A_f(JNIEnv *env, jclass cls, jobject object, jint n)\n    {\n        if (n != 0) {\n            (*env)->DeleteLocalRef(env, object);\n        }\n        return;\n    }\n\nfault 40 line 3\n",
     },
     Explanation {
         number: 41,
@@ -172,8 +172,8 @@ static FAULTS_40: [Explanation; 3] = [
     },
     Explanation {
         number: 42,
-        title: b"a way doesn't end with return, or a statement is reached by none",
-        text: b"fault 42: a way doesn't end with `return`, or a statement is reached by none\n\nC99 (6.9.1) lets a caller use the result of a function that ended without one, and leaves it undefined. Put a return at the end; take out what comes after an if of which both\nways return.\n\n    JNIEXPORT jint JNICALL Java_A_f(JNIEnv *env, jclass cls, jint n)\n    {\n        if (n > 0) {\n            return n;\n        }\n    }\n\nfault 42 line 6\n",
+        title: b"a path ends without return, or a statement is never reached",
+        text: b"fault 42: a path ends without `return`, or a statement is never reached\n\nC99 (6.9.1) lets a caller use the result of a function that ended without one, and leaves it undefined. Put a return at the end; take out what comes after an if of which both\nways return.\n\n    JNIEXPORT jint JNICALL Java_A_f(JNIEnv *env, jclass cls, jint n)\n    {\n        if (n > 0) {\n            return n;\n        }\n    }\n\nfault 42 line 6\n",
     },
 ];
 
@@ -227,18 +227,18 @@ fn faults_60() -> &'static [Explanation] {
 static FAULTS_80: [Explanation; 4] = [
     Explanation {
         number: 81,
-        title: b"a line or a word has no form",
-        text: b"fault 81: a line or a word has no form\n\nREADME has the forms of lines and words and their order. An object line has a value for each field.\n\n    JNIEXPORT jint JNICALL Java_A_f(JNIEnv *env, jclass cls)\n    {\n        return 0;\n    }\n\n    heap 512\n    class A\n    threads Java_A_f\n\nfault 81 line 3\n\n    heap 512\n    class A\n    field A n I\n    object @x A\n    thread Java_A_f\n\nfault 81 line 4\n",
+        title: b"malformed line or word",
+        text: b"fault 81: malformed line or word\n\ndocs/WORLDS.md has the forms of lines and words and their order. An object line has a value for each field.\n\n    JNIEXPORT jint JNICALL Java_A_f(JNIEnv *env, jclass cls)\n    {\n        return 0;\n    }\n\n    heap 512\n    class A\n    threads Java_A_f\n\nfault 81 line 3\n\n    heap 512\n    class A\n    field A n I\n    object @x A\n    thread Java_A_f\n\nfault 81 line 4\n",
     },
     Explanation {
         number: 82,
-        title: b"a name or a thread isn't there, or a call doesn't fit",
-        text: b"fault 82: a name or a thread isn't there, or a call doesn't fit\n\nA call names a function of the program, whose class the world has, and gives what its parameters take; a field is one of the world's classes, and an object's name is its own; a value refers to an object\nof a line before it, of a class that its place takes; a schedule's or journal's word names a thread. Mend the name, the value, the call or the word.\n\n    JNIEXPORT jint JNICALL Java_A_f(JNIEnv *env, jclass cls)\n    {\n        return 0;\n    }\n\n    heap 512\n    class A\n    thread Java_A_g\n\nfault 82 line 3\n\n    heap 512\n    class A\n    field A next LA;\n    string @s text\n    object @x A @s\n    thread Java_A_f\n\nfault 82 line 5\n\n    heap 512\n    class A\n    thread Java_A_f\n\n    1 2\n\nfault 82 line 1\n",
+        title: b"unknown name or thread, or wrong arguments",
+        text: b"fault 82: unknown name or thread, or wrong arguments\n\nA call names a function of the program, whose class the world has, and gives what its parameters take; a field is one of the world's classes, and an object's name is its own; a value refers to an object\nof a line before it, of a class that its place takes; a schedule's or journal's word names a thread. Mend the name, the value, the call or the word.\n\n    JNIEXPORT jint JNICALL Java_A_f(JNIEnv *env, jclass cls)\n    {\n        return 0;\n    }\n\n    heap 512\n    class A\n    thread Java_A_g\n\nfault 82 line 3\n\n    heap 512\n    class A\n    field A next LA;\n    string @s text\n    object @x A @s\n    thread Java_A_f\n\nfault 82 line 5\n\n    heap 512\n    class A\n    thread Java_A_f\n\n    1 2\n\nfault 82 line 1\n",
     },
     Explanation {
         number: 83,
-        title: b"a number is out of its limit",
-        text: b"fault 83: a number is out of its limit\n\nA heap has 512 to 1,048,576 cells, a jint, an element or a field the range of its type, a world at most 65,536 objects and 1 to 8 threads, each of which makes at most 256 calls, a schedule or a journal at most 1,000,000 turns or entries in all (one *N of more is 81).\nTake a smaller or a larger number, or fewer of them.\n\n    JNIEXPORT jint JNICALL Java_A_f(JNIEnv *env, jclass cls)\n    {\n        return 0;\n    }\n\n    heap 511\n    class A\n    thread Java_A_f\n\nfault 83 line 1\n",
+        title: b"out of range",
+        text: b"fault 83: out of range\n\nA heap has 512 to 1,048,576 cells, a jint, an element or a field the range of its type, a world at most 65,536 objects and 1 to 8 threads, each of which makes at most 256 calls, a schedule or a journal at most 1,000,000 turns or entries in all (one *N of more is 81).\nTake a smaller or a larger number, or fewer of them.\n\n    JNIEXPORT jint JNICALL Java_A_f(JNIEnv *env, jclass cls)\n    {\n        return 0;\n    }\n\n    heap 511\n    class A\n    thread Java_A_f\n\nfault 83 line 1\n",
     },
     Explanation {
         number: 84,
@@ -307,12 +307,12 @@ static TRAPS_0: [Explanation; 9] = [
     Explanation {
         number: 4,
         title: b"NULL where an object is wanted",
-        text: b"trap 4: NULL where an object is wanted\n\nThe JNI doesn't check its arguments (JNI Specification, chapter 2, \"Reporting Programming Errors\"). Test the reference first.\n\n    JNIEXPORT void JNICALL Java_A_f(JNIEnv *env, jclass cls, jintArray array)\n    {\n        jint length = (*env)->GetArrayLength(env, array);\n        return;\n    }\n\n    heap 512\n    class A\n    thread Java_A_f null\n\nT1 trap 4 line 3\n",
+        text: b"trap 4: NULL where an object is wanted\n\nThe JNI doesn't check its arguments (JNI Specification, chapter 2, \"Reporting Programming Errors\"). Test the reference first. A thread that would enter the monitor of NULL doesn't wait, but traps.\n\n    JNIEXPORT void JNICALL Java_A_f(JNIEnv *env, jclass cls, jintArray array)\n    {\n        jint length = (*env)->GetArrayLength(env, array);\n        return;\n    }\n\n    heap 512\n    class A\n    thread Java_A_f null\n\nT1 trap 4 line 3\n\n    static jobject lock = NULL;\n    \n    JNIEXPORT void JNICALL Java_A_f(JNIEnv *env, jclass cls)\n    {\n        (*env)->MonitorEnter(env, lock);\n        return;\n    }\n\n    heap 512\n    class A\n    thread Java_A_f\n\nT1 trap 4 line 5\n",
     },
     Explanation {
         number: 5,
         title: b"a call while an exception is pending",
-        text: b"trap 5: a call while an exception is pending\n\nOnly the functions that ask for an exception, clear it or release what is held, and PushLocalFrame, may be called then (JNI Specification, chapter 2, \"Exceptions\"). Test for the exception after the call that may throw\nit, and return or clear it.\n\n    JNIEXPORT void JNICALL Java_A_f(JNIEnv *env, jclass cls)\n    {\n        jclass missing = (*env)->FindClass(env, \"B\");\n        jclass above = (*env)->GetSuperclass(env, cls);\n        return;\n    }\n\n    heap 512\n    class A\n    thread Java_A_f\n\nT1 trap 5 line 4\n",
+        text: b"trap 5: a call while an exception is pending\n\nOnly the functions that ask for an exception, clear it or release what is held (a buffer, a reference, a frame, a monitor), and PushLocalFrame, may be called then (JNI Specification, chapter 2, \"Exceptions\"). Test for the exception after the call that may throw\nit, and return or clear it. MonitorExit throws where the thread doesn't own the monitor.\n\n    JNIEXPORT void JNICALL Java_A_f(JNIEnv *env, jclass cls)\n    {\n        jclass missing = (*env)->FindClass(env, \"B\");\n        jclass above = (*env)->GetSuperclass(env, cls);\n        return;\n    }\n\n    heap 512\n    class A\n    thread Java_A_f\n\nT1 trap 5 line 4\n\n    JNIEXPORT void JNICALL Java_A_f(JNIEnv *env, jclass cls)\n    {\n        (*env)->MonitorExit(env, cls);\n        (*env)->MonitorEnter(env, cls);\n        return;\n    }\n\n    heap 512\n    class A\n    thread Java_A_f\n\nT1 trap 5 line 4\n",
     },
     Explanation {
         number: 6,
@@ -322,7 +322,7 @@ static TRAPS_0: [Explanation; 9] = [
     Explanation {
         number: 7,
         title: b"a deleted global reference",
-        text: b"trap 7: a deleted global reference\n\nWhat DeleteGlobalRef was given refers to nothing (JNI Specification, chapter 4, \"DeleteGlobalRef\"). Delete it after its last use, and set the static to NULL.\n\n    static jclass kept = NULL;\n    \n    JNIEXPORT void JNICALL Java_A_f(JNIEnv *env, jclass cls)\n    {\n        kept = (*env)->NewGlobalRef(env, cls);\n        (*env)->DeleteGlobalRef(env, kept);\n        jobject object = (*env)->AllocObject(env, kept);\n        return;\n    }\n\n    heap 512\n    class A\n    thread Java_A_f\n\nT1 trap 7 line 7\n",
+        text: b"trap 7: a deleted global reference\n\nWhat DeleteGlobalRef was given refers to nothing (JNI Specification, chapter 4, \"DeleteGlobalRef\"). Delete it after its last use, and set the static to NULL.\n\n    static jclass kept = NULL;\n    \n    JNIEXPORT void JNICALL Java_A_f(JNIEnv *env, jclass cls)\n    {\n        kept = (*env)->NewGlobalRef(env, cls);\n        (*env)->DeleteGlobalRef(env, kept);\n        jobject object = (*env)->AllocObject(env, kept);\n        return;\n    }\n\n    heap 512\n    class A\n    thread Java_A_f\n\nT1 trap 7 line 7\n\n    static jobject lock = NULL;\n    \n    JNIEXPORT void JNICALL Java_A_f(JNIEnv *env, jclass cls)\n    {\n        lock = (*env)->NewGlobalRef(env, cls);\n        (*env)->MonitorEnter(env, lock);\n        (*env)->DeleteGlobalRef(env, lock);\n        (*env)->MonitorExit(env, lock);\n        return;\n    }\n\n    heap 512\n    class A\n    thread Java_A_f\n\nT1 trap 7 line 8\n",
     },
     Explanation {
         number: 8,
