@@ -257,7 +257,7 @@ static FAULTS_90: [Explanation; 2] = [
     Explanation {
         number: 91,
         title: b"an entry of a journal isn't possible",
-        text: b"fault 91: an entry of a journal isn't possible\n\nThe entry, counted from 1, is the first that no step goes with: the thread has ended, a trap has stopped the machine, or the step allocates nothing that could be refused. Replay a journal with the program and the world that it\ncame from. Here the thread ends with its third step.\n\n    JNIEXPORT jint JNICALL Java_A_f(JNIEnv *env, jclass cls)\n    {\n        return 0;\n    }\n\n    heap 512\n    class A\n    thread Java_A_f\n\n    1 1 1 1\n\nfault 91 entry 4\n",
+        text: b"fault 91: an entry of a journal isn't possible\n\nThe entry, counted from 1, is the first that no step goes with: the thread has ended or waits for a monitor, a trap has stopped the machine, or the step allocates nothing that could be refused. Replay a journal with the program and the world that it\ncame from. Here the thread ends with its third step.\n\n    JNIEXPORT jint JNICALL Java_A_f(JNIEnv *env, jclass cls)\n    {\n        return 0;\n    }\n\n    heap 512\n    class A\n    thread Java_A_f\n\n    1 1 1 1\n\nfault 91 entry 4\n",
     },
     Explanation {
         number: 92,
