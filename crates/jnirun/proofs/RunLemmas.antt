@@ -32,8 +32,8 @@ use Rattle.machine.specs.declared.fault.ReportFault.TheVariants as reporting
 use Rattle.machine_steps.specs.Loading.{IsLoadFault}
 use Rattle.machine.specs.declared.fault.RunFault.TheVariants.{Full}
 use Rattle.machine.specs.Run.{Run, IsUnstarted, RunsAlong, RunsInto, ReportsRun, StoppedBy, replay_of}
-use Rattle.machine.specs.declared.stop.Stop.{Stop}
-use Rattle.machine.specs.Stops.{stop_view}
+use Rattle.semantics.specs.declared.event.Stop.{Stop}
+use Rattle.semantics.specs.EventViews.{stop_view}
 use Rattle.cli_commands.specs.declared.place.Text.TheVariants as which
 use Rattle.program_check.specs.declared.fault.RunError.{RunError}
 use Rattle.program_check.specs.declared.fault.RunError.TheVariants.{Memory, Fault, Writer}

@@ -26,9 +26,9 @@ use Rattle.machine_steps.specs.declared.fault.LoadFault.TheVariants as loading
 use Rattle.machine_steps.specs.Loading.{IsLoadFault}
 use Rattle.machine.specs.declared.fault.ReportFault.{ReportFault}
 use Rattle.machine.specs.declared.fault.ReportFault.TheVariants as reporting
-use Rattle.machine.specs.declared.stop.Stop.{Stop}
+use Rattle.semantics.specs.declared.event.Stop.{Stop}
 use Rattle.machine.specs.Run.{Run, IsFinished, ReportsRun, StoppedBy, is_finished}
-use Rattle.machine.specs.Stops.{stop_view}
+use Rattle.semantics.specs.EventViews.{stop_view}
 use Rattle.cli_commands.specs.declared.place.Place.TheVariants.{Line}
 use Rattle.cli_commands.specs.declared.place.Text.TheVariants as which
 use Rattle.program_check.specs.declared.fault.RunError.{RunError}

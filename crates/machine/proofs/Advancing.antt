@@ -16,7 +16,7 @@ use Rattle.machine_calls.specs.Buffers.{Acquired, acquired_by, beside}
 use Rattle.machine_calls.specs.StoreAgrees.{StoreAgrees}
 use Rattle.machine_steps.specs.declared.fault.StepFault.{StepFault}
 use Rattle.machine_steps.specs.declared.fault.StepFault.TheVariants.{Memory, NoRoom}
-use Rattle.machine_steps.specs.declared.thread.Ending.TheVariants.{Unfinished}
+use Rattle.semantics.specs.declared.event.Ending.TheVariants.{Unfinished}
 use Rattle.machine_steps.specs.declared.thread.Thread.{Thread}
 use Rattle.machine_steps.specs.Executes.{IsHindered, IsSteady}
 use Rattle.machine_steps.specs.ThreadAgrees.{ThreadAgrees}

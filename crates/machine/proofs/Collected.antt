@@ -28,7 +28,7 @@ use Rattle.machine_calls.proofs.BlocksOfNames.{is_address, named}
 use Rattle.machine_steps.specs.declared.advance.Advanced.{Advanced}
 use Rattle.machine_steps.specs.declared.advance.Advanced.TheVariants as advanced
 use Rattle.machine_steps.specs.declared.thread.Thread.{Thread}
-use Rattle.machine.specs.declared.stop.Stop.{Stop}
+use Rattle.semantics.specs.declared.event.Stop.{Stop}
 use Rattle.machine.specs.Moving.{AreCollected, AreReferred, moved_thread}
 use Rattle.machine.specs.Roots.{ThreadsAreStacked, root_places, slots_of}
 use Rattle.machine.specs.Run.{Run, Corresponds, IsBetween, IsCollected, replay_of}

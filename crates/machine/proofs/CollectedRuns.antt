@@ -33,7 +33,7 @@ use Rattle.machine_calls.specs.StoreAgrees.{StaticsAgree, StoreAgrees}
 use Rattle.machine_steps.specs.declared.thread.Thread.{Thread}
 use Rattle.machine_steps.specs.Executes.{CallStands, WorkAgrees}
 use Rattle.machine_steps.specs.ThreadAgrees.{ThreadsAgree, buffers_of}
-use Rattle.machine.specs.declared.stop.Stop.{Stop}
+use Rattle.semantics.specs.declared.event.Stop.{Stop}
 use Rattle.compact.specs.Same.{MovesBy}
 use Rattle.machine.specs.Moving.{IsMoved, moved_call, moved_monitors, moved_slots, moved_thread}
 use Rattle.machine.proofs.KeptReferences.{AllHeldAreKept, AreKept, CallIsKept, HeldIsKept, IsClosedUnder, ThreadsAreKept, moved_held}

@@ -32,7 +32,7 @@ use Rattle.code_meaning.specs.Slots.{Visible, visible_to}
 use Rattle.report_objects.specs.Rows.{AreReported}
 use Rattle.machine_calls.specs.declared.activation.Activation.{Activation}
 use Rattle.machine_steps.specs.declared.thread.Thread.{Thread}
-use Rattle.machine.specs.declared.stop.Stop.{Stop}
+use Rattle.semantics.specs.declared.event.Stop.{Stop}
 use Rattle.machine_steps.specs.ThreadAgrees.{ThreadAgrees, ThreadsAgree}
 use Rattle.machine_steps.specs.Executes.{WorkAgrees}
 use Rattle.tables.specs.Elements.{OwnedNumbers}
@@ -44,7 +44,7 @@ use Rattle.heap.proofs.Lookups.{block_at-place}
 use Rattle.machine.proofs.ReachableNames.{in_times, reachable_named, times_in}
 use Rattle.semantics.proofs.ReachableLemmas.{In, contains_in, in_append_cases, in_append_left, in_append_right, to_contains}
 use Rattle.semantics_safety.specs.Owners.{AllOwners, owners_after}
-use Rattle.machine.specs.Stops.{stop_view}
+use Rattle.semantics.specs.EventViews.{stop_view}
 use Rattle.machine.specs.Run as run
 use Rattle.semantics.specs.Run.{MarkedAreFair, UnmarkedFit}
 use Rattle.machine_calls.specs.declared.store.Store.{Store}

@@ -29,22 +29,22 @@ use Rattle.heap.specs.Heap.{left_of}
 use Rattle.heap.proofs.Layouts.{ends_within}
 use Rattle.machine.proofs.LiveBlocks.{live_below}
 use Rattle.code_meaning.specs.Lowered.{Lowered}
-use Rattle.machine_steps.specs.declared.thread.Ending.{Ending}
-use Rattle.machine_steps.specs.declared.thread.Ending.TheVariants.{Unfinished, Ended, Uncaught}
-use Rattle.machine_steps.specs.declared.execute.Event.{Event}
-use Rattle.machine_steps.specs.declared.execute.Event.TheVariants as event
+use Rattle.semantics.specs.declared.event.Ending.{Ending}
+use Rattle.semantics.specs.declared.event.Ending.TheVariants.{Unfinished, Ended, Uncaught}
+use Rattle.semantics.specs.declared.event.Event.{Event}
+use Rattle.semantics.specs.declared.event.Event.TheVariants as event
 use Rattle.machine_steps.specs.declared.thread.Thread.{Thread}
-use Rattle.machine.specs.declared.stop.Stop.{Stop}
-use Rattle.machine.specs.Stops.{stop_view, stop_after}
+use Rattle.semantics.specs.declared.event.Stop.{Stop}
+use Rattle.semantics.specs.EventViews.{ending_view, event_view, printed_after, stop_after, stop_view}
 use Rattle.machine_calls.specs.declared.store.Store.{Store}
-use Rattle.machine_steps.specs.Executes.{IsSteady, cells_made, event_view, in_use_with}
+use Rattle.machine_steps.specs.Executes.{IsSteady, cells_made, in_use_with}
 use Rattle.machine_calls.specs.Buffers.{Acquired, SameAcquired, acquired_by, beside}
 use Rattle.machine_calls.specs.StoreAgrees.{StoreAgrees}
-use Rattle.machine_steps.specs.ThreadAgrees.{ThreadAgrees, ThreadsAgree, ending_view}
+use Rattle.machine_steps.specs.ThreadAgrees.{ThreadAgrees, ThreadsAgree}
 use Rattle.machine_steps.specs.Advances.{Advances}
 use Rattle.machine_steps.specs.declared.advance.Advanced.{Advanced}
 use Rattle.machine_steps.specs.declared.advance.Advanced.TheVariants as advanced
-use Rattle.machine.specs.Run.{Run, AdvancesAlways, HoldsAlways, acquired, Corresponds, CouldStep, HadNoRoom, LeavesAll, TurnHolds, entry_of, event_of, is_refused, printed_after, turn_after, HasEnded}
+use Rattle.machine.specs.Run.{Run, AdvancesAlways, HoldsAlways, acquired, Corresponds, CouldStep, HadNoRoom, LeavesAll, TurnHolds, entry_of, event_of, is_refused, turn_after, HasEnded}
 use Rattle.machine.proofs.KeptThreads.{changed}
 use Rattle.machine.proofs.TakenBuffers.{in_use_same, joined, others, parted, taken}
 use Rattle.machine_steps.proofs.Acquisitions.{store_taken}

@@ -31,19 +31,18 @@ use Rattle.semantics_safety.specs.StepSafe.{IsSafe}
 use Rattle.semantics_typing.specs.Law.{RunsTyped}
 use Rattle.code_meaning.specs.Lowered.{Lowered, IsLowered}
 use Rattle.machine_steps.specs.declared.thread.Thread.{Thread}
-use Rattle.machine_steps.specs.declared.thread.Ending.{Ending}
-use Rattle.machine_steps.specs.declared.thread.Ending.TheVariants.{Unfinished, Ended, Uncaught}
+use Rattle.semantics.specs.declared.event.Ending.TheVariants.{Unfinished}
 use Rattle.machine_steps.specs.declared.advance.Advanced.{Advanced}
 use Rattle.machine_steps.specs.declared.advance.Advanced.TheVariants as advanced
-use Rattle.machine_steps.specs.declared.execute.Event.{Event}
-use Rattle.machine_steps.specs.declared.execute.Event.TheVariants as event
+use Rattle.semantics.specs.declared.event.Event.{Event}
+use Rattle.semantics.specs.declared.event.Event.TheVariants as event
 use Rattle.machine.specs.declared.fault.ReportFault.{ReportFault}
 use Rattle.machine.specs.declared.fault.ReportFault.TheVariants as reporting
 use Rattle.machine.specs.declared.fault.RunFault.{RunFault}
 use Rattle.machine.specs.declared.fault.RunFault.TheVariants as running
 use Rattle.machine.specs.declared.turn.Turn.{Turn as Answer}
 use Rattle.machine.specs.declared.turn.Turn.TheVariants as turn
-use Rattle.machine.specs.declared.stop.Stop.{Stop}
+use Rattle.semantics.specs.declared.event.Stop.{Stop}
 use Rattle.machine_calls.specs.declared.store.Store.{Store}
 use Rattle.machine_calls.specs.Buffers.{Acquired, acquired_by, beside}
 use Rattle.machine_calls.specs.StoreAgrees.{StoreAgrees}
@@ -51,7 +50,7 @@ use Rattle.machine_steps.specs.Advances.{AdvancesBy}
 use Rattle.machine_steps.specs.Executes.{IsSteady, cells_made, in_use_with}
 use Rattle.machine_steps.specs.ThreadAgrees.{ThreadAgrees, ThreadsAgree}
 use Rattle.machine.specs.Moving.{AreCollected}
-use Rattle.machine.specs.Stops.{stop_view}
+use Rattle.semantics.specs.EventViews.{stop_view}
 
 -- a program's items, the world, the steps taken, and the cells after the heap's highest block
 pub record Run : Type 0 where
@@ -94,12 +93,6 @@ pub record Corresponds (p : Lowered) (world : World) (store : Store) (threads : 
   pub fair : MarkedAreFair (unit_tree p.unit) world journal
   pub count : length threads ≡ length world.threads
   pub few : length threads ≤ 8
-
--- the numbers printed after a step
-abbrev pub printed_after : List Printed → ℕ → Event → List Printed
-printed_after printed k event.Quiet = printed
-printed_after printed k (event.Printed z) = printed ++ record { thread = k; number = z } ∷ []
-printed_after printed k (event.Trapped trap line) = printed
 
 -- what a step lets others see; a refused allocation nothing
 abbrev pub event_of : Advanced → Event
@@ -234,10 +227,10 @@ TurnHolds old k new turn.Short = (new ≡ refused old k new.left) × CouldStep o
 TurnHolds old k new turn.Stepped = (new ≡ stepped old k new.left) × CouldStep old k
 
 -- the turn of a thread that has no step to take: the machine has stopped, or the thread has ended
-abbrev pub turn_at_rest : (stopped ended : Bool) → Option Answer
-turn_at_rest true ended = Some turn.Stopped
-turn_at_rest false true = Some turn.Ended
-turn_at_rest false false = None
+abbrev pub turn_at_rest : (stopped unfinished : Bool) → Option Answer
+turn_at_rest true unfinished = Some turn.Stopped
+turn_at_rest false false = Some turn.Ended
+turn_at_rest false true = None
 
 -- whether thread k waits for a monitor
 abbrev pub Waits : Run → (k : ℕ) → Bool → Type 0
@@ -291,12 +284,6 @@ pub record RunsInto (old new : Run) (schedule : Schedule) (fault : RunFault) : T
   pub ends : EndsAt new fault next
 
 -- ---- the end
-
--- a thread in memory has ended
-abbrev pub has_ended : Ending → Bool
-has_ended Unfinished = false
-has_ended Ended = true
-has_ended (Uncaught class) = true
 
 -- the trap that stopped the run, as it is held in memory
 abbrev pub StoppedBy : Run → Option Stop → Type 0

@@ -6,12 +6,9 @@ mod fault;
 mod machine;
 mod roots;
 mod rows;
-mod stop;
 mod turn;
 
 pub use fault::{ReportFault, RunFault};
 pub use machine::{MOST_ENTRIES, Machine};
-pub use machine_calls::trap::Trap;
 pub use machine_steps::fault::LoadFault;
-pub use stop::Stop;
 pub use turn::Turn;

@@ -5,41 +5,39 @@ ghost use Rattle.syntax.specs.Views.{unit_tree};
 ghost use Rattle.report.specs.Sink.{CanFail};
 ghost use Rattle.report.specs.ThreadStatus.{standing_view};
 ghost use Rattle.heap.specs.Heap.{left_of};
+ghost use Rattle.semantics.specs.EventViews.{ending_view, printed_after, stop_after};
 ghost use Rattle.semantics.specs.Load.{first_load_fault};
 ghost use Rattle.semantics.specs.Object.{sizes};
 ghost use Rattle.semantics.specs.Run.{MarkedAreFair, UnmarkedFit};
+ghost use Rattle.semantics.specs.Step.{is_unfinished};
+ghost use Rattle.semantics.specs.Thread.{Shared, Thread as SourceThread};
 ghost use Rattle.semantics.specs.World.{loaded_objects};
 ghost use Rattle.semantics_safety.specs.Owners.{Owners};
-ghost use Rattle.semantics.specs.Thread.{Shared, Thread as SourceThread};
 ghost use Rattle.code_meaning.specs.Lowered.{IsLowered};
 ghost use Rattle.machine_calls.specs.StoreAgrees.{StoreAgrees};
 ghost use Rattle.machine_steps.specs.Executes.{IsSteady};
 ghost use Rattle.machine_steps.specs.Loading.{IsLoadFault};
 ghost use Rattle.machine_steps.specs.ThreadAgrees.{ThreadAgrees};
 ghost use Rattle.semantics.specs.declared.journal.Entry.TheVariants.{Step};
-ghost use Rattle.machine.specs.Run.{replay_of, AdvancesFrom, CanAdvance, Corresponds, EndsAt, IsCollected, IsUnstarted, CouldStep, TurnHolds, RunsAlong, RunsInto, PrintedBy, IsFinished, AllRest, Waits, has_ended, ReportsRun, AreShown, ShowsObjects, ShowsStandings, GivesNoStep, MakesObjects, StoppedBy, event_of, is_refused, printed_after, turn_after, turn_at_rest};
-ghost use Rattle.machine.specs.Stops.{stop_after, standing_of, standing_by_ending};
+ghost use Rattle.machine.specs.Run.{replay_of, AdvancesFrom, CanAdvance, Corresponds, EndsAt, IsCollected, IsUnstarted, CouldStep, TurnHolds, RunsAlong, RunsInto, PrintedBy, IsFinished, AllRest, Waits, ReportsRun, AreShown, ShowsObjects, ShowsStandings, GivesNoStep, MakesObjects, StoppedBy, event_of, is_refused, turn_after, turn_at_rest};
 
 use crate::collecting::collect_blocks;
 use crate::fault::{ReportFault, RunFault};
 use crate::roots::{gather, push_viewed, root_names};
 use crate::rows::{NamedBlocks, named_blocks};
-use crate::stop::Stop;
 use crate::turn::Turn;
 use arrayvec::ArrayVec;
-use classes::table::ClassTable;
 use code_meaning::Program;
 use machine_calls::store::Store;
 use machine_steps::advance::{Advanced, advance};
-use machine_steps::execute::Event;
 use machine_steps::fault::{LoadFault, StepFault};
 use machine_steps::load::load_threads;
 use machine_steps::objects::load_store;
-use machine_steps::thread::{Ending, Thread};
+use machine_steps::thread::Thread;
 use machine_steps::wait::waits;
 use report::{Rows, Sink, ThreadStatus, write_run};
-use report_objects::reached_rows;
-use semantics::{Entry, Printed, ScheduleWord};
+use report_objects::{reached_rows, standing_of};
+use semantics::{Entry, Event, Printed, ScheduleWord, Stop};
 use semantics_safety::accepted_is_safe;
 use semantics_typing::objects_are_typed;
 use std::alloc::{AllocError, Global};
@@ -341,7 +339,7 @@ impl<'a> Machine<'a> {
         let mut k = 0;
         for thread in &self.threads {
             k += 1;
-            if !has_ended(thread) && !self.waits(k) {
+            if thread.ending.is_unfinished() && !self.waits(k) {
                 return false;
             }
         }
@@ -357,7 +355,13 @@ impl<'a> Machine<'a> {
         for thread in &self.threads {
             k += 1;
             let waits = self.waits(k);
-            standings.push(standing_of(self.world.classes(), waits, self.stop, k, thread.ending));
+            standings.push(standing_of(
+                self.world.classes(),
+                waits,
+                self.stop,
+                usize::from(k),
+                thread.ending,
+            ));
         }
         standings
     }
@@ -441,14 +445,14 @@ fn load_parts(
 /// The turn of a thread that has no step to take: a trap has stopped the machine, or the thread has ended.
 #[inline(always)]
 fn turn_at_rest(stop: &Option<Stop>, thread: &Thread) -> Option<Turn>
-    ensures { result ≡ turn_at_rest (is_some stop.now) (has_ended thread.now.ending) }
+    ensures { result ≡ turn_at_rest (is_some stop.now) (is_unfinished (ending_view thread.now.ending)) }
 {
     if stop.is_some() {
         Some(Turn::Stopped)
-    } else if has_ended(thread) {
-        Some(Turn::Ended)
-    } else {
+    } else if thread.ending.is_unfinished() {
         None
+    } else {
+        Some(Turn::Ended)
     }
 }
 
@@ -569,45 +573,8 @@ fn note(printed: &mut Vec<Printed>, stop: &mut Option<Stop>, k: u8, event: Event
             *stop = Some(Stop {
                 thread: k,
                 trap,
-                line: line as usize,
+                line,
             });
         }
-    }
-}
-
-fn has_ended(thread: &Thread) -> bool
-    ensures { result ≡ has_ended thread.now.ending }
-{
-    match thread.ending {
-        Ending::Unfinished => false,
-        Ending::Ended | Ending::Uncaught(_) => true,
-    }
-}
-
-/// The status of thread `k`.
-fn standing_of<'a>(
-    classes: &'a ClassTable,
-    waits: bool,
-    stop: Option<Stop>,
-    k: u8,
-    ending: Ending,
-) -> ThreadStatus<'a>
-    ensures { standing_view result ≡ standing_of classes.now waits stop k ending }
-{
-    match stop {
-        Some(stop) if stop.thread == k => ThreadStatus::Trapped(stop.trap.number(), stop.line),
-        _ => standing_by_ending(classes, waits, ending),
-    }
-}
-
-/// The status of a thread that didn't trap.
-fn standing_by_ending<'a>(classes: &'a ClassTable, waits: bool, ending: Ending) -> ThreadStatus<'a>
-    ensures { standing_view result ≡ standing_by_ending classes.now waits ending }
-{
-    match ending {
-        Ending::Unfinished if waits => ThreadStatus::Blocked,
-        Ending::Unfinished => ThreadStatus::Running,
-        Ending::Ended => ThreadStatus::Ended,
-        Ending::Uncaught(class) => ThreadStatus::Uncaught(classes.name(class)),
     }
 }

@@ -64,13 +64,13 @@ use Rattle.semantics.specs.CallTable.{call_effect}
 use Rattle.semantics.specs.Value.{Trap as SourceTrap}
 use Rattle.machine_calls.specs.declared.answer.Answer.{Answer}
 use Rattle.machine_calls.specs.declared.answer.Given.{Given}
-use Rattle.machine_calls.specs.declared.trap.Trap.{Trap}
-use Rattle.machine_steps.specs.declared.execute.Event.TheVariants as event
+use Rattle.semantics.specs.declared.trap.Trap.{Trap}
+use Rattle.semantics.specs.declared.event.Event.TheVariants as event
 use Rattle.machine_steps.specs.declared.execute.Executed.TheVariants.{Did}
 use Rattle.machine_steps.specs.Executes.{Executes, GoesOn, WorkAgrees, cells_made}
 use Rattle.machine_calls.specs.CarriedOut.{CarriesOut, frames_left, made_by}
 use Rattle.machine_calls.specs.Checked.{puts_local}
-use Rattle.machine_calls.specs.Traps.{trap_view}
+use Rattle.semantics.specs.EventViews.{trap_view}
 use Rattle.machine_calls.proofs.CallTraps.{room_left}
 use Rattle.machine_steps.proofs.EffectFrames.{left_is}
 use Rattle.machine_calls.proofs.LocalFrames.{frames_left as frames_after_agree}

@@ -54,7 +54,7 @@ use Rattle.machine_calls.specs.CarriedOut.{CarriesOut, CopiesStay, GoesByRoom, I
 use Rattle.machine_calls.specs.WorkedOut.{IsWorkedOut}
 use Rattle.machine_calls.proofs.BufferLaws.{buffers_stay, keeps_others, new_apart}
 use Rattle.machine_calls.proofs.KeyLaws.{fewer_owned, keys_left}
-use Rattle.machine_steps.specs.declared.execute.Event.TheVariants as event
+use Rattle.semantics.specs.declared.event.Event.TheVariants as event
 use Rattle.machine_steps.specs.Executes.{CallStands, GoesOn, after_any, in_use_with}
 use Rattle.machine_steps.specs.Invoked.{AtCall}
 use Rattle.machine_steps.specs.Received.{Receives, numbers_with, statics_with, told_slot, told_with}

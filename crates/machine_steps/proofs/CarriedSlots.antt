@@ -56,7 +56,7 @@ use Rattle.machine_calls.specs.declared.buffer.Buffer.{Buffer as HeldBuffer}
 use Rattle.machine_calls.specs.declared.buffer.Buffer.TheVariants as held
 use Rattle.machine_calls.specs.declared.buffer.Release.{Release}
 use Rattle.machine_calls.specs.declared.store.Store.{Store}
-use Rattle.machine_calls.specs.declared.trap.Trap.TheVariants.{OutOfRange}
+use Rattle.semantics.specs.declared.trap.Trap.TheVariants.{OutOfRange}
 use Rattle.machine_calls.specs.Answers.{IsAnswer, is_halt}
 use Rattle.machine_calls.specs.Asked.{brought_by, buffers_of, references_of, scene_of}
 use Rattle.machine_calls.specs.Buffers.{Acquired, AreViewed, BuffersAgree, gives_up}

@@ -38,8 +38,8 @@ use Rattle.code_meaning.specs.Stands.{StandsFor}
 use Rattle.std.specs.Global.{Vec}
 use Rattle.code_meaning.specs.Does.{IsStoredIn, kind_of_target, GoesOn, Writes, WritesBuffer, StoresNull, PrintsTop, CallsFunction, Stops, Works, AtEnd, IsReturn}
 use Rattle.code_meaning.specs.Lowered.{Lowered}
-use Rattle.machine_steps.specs.declared.execute.Event.{Event}
-use Rattle.machine_steps.specs.declared.execute.Event.TheVariants as event
+use Rattle.semantics.specs.declared.event.Event.{Event}
+use Rattle.semantics.specs.declared.event.Event.TheVariants as event
 use Rattle.machine_calls.specs.declared.activation.Activation.{Activation}
 use Rattle.machine_steps.specs.declared.execute.Executed.TheVariants.{Did, Returned}
 use Rattle.machine_steps.specs.Executes as agrees
@@ -50,8 +50,8 @@ use Rattle.machine_calls.specs.declared.buffer.Buffer.{Buffer as HeldBuffer}
 use Rattle.machine_steps.proofs.ViewCounts.{views_nulled}
 use Rattle.machine_calls.specs.StoreAgrees.{StoreAgrees}
 use Rattle.machine_calls.specs.Buffers.{Acquired, AreViewed, acquired_by, beside, viewed_in}
-use Rattle.machine_steps.specs.Executes.{Executes, CallStands, IsSteady, event_view, in_use_with}
-use Rattle.machine_calls.specs.Traps.{trap_view}
+use Rattle.machine_steps.specs.Executes.{Executes, CallStands, IsSteady, in_use_with}
+use Rattle.semantics.specs.EventViews.{event_view, trap_view}
 use Rattle.machine_calls.specs.Asked.{references_of}
 use Rattle.machine_calls.specs.declared.statics.StaticReference.{StaticReference}
 use Rattle.machine_steps.specs.Moved.{HasMoved, end_of_way, WayIsSeen}

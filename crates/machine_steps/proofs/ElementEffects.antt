@@ -53,16 +53,17 @@ use Rattle.machine_calls.specs.declared.activation.Activation.{Activation}
 use Rattle.machine_calls.specs.declared.buffer.Buffer.{Buffer as HeldBuffer}
 use Rattle.machine_calls.specs.declared.buffer.Buffer.TheVariants as held_as
 use Rattle.machine_calls.specs.declared.store.Store.{Store}
-use Rattle.machine_calls.specs.declared.trap.Trap.TheVariants.{OutOfRange}
+use Rattle.semantics.specs.declared.trap.Trap.TheVariants.{OutOfRange}
 use Rattle.machine_calls.proofs.Keeping.{frames_stay, keeps_same, keys_stay, reference_stays}
 use Rattle.machine_calls.proofs.Writes.{written_agrees, written_keeps}
 use Rattle.machine_steps.specs.BufferElements.{LoadsElement, StoresElement, with_word, words_held}
 use Rattle.machine_steps.specs.Executes as agrees
-use Rattle.machine_steps.specs.Executes.{Executes, IsSteady, event_view}
+use Rattle.machine_steps.specs.Executes.{Executes, IsSteady}
+use Rattle.semantics.specs.EventViews.{event_view}
 use Rattle.machine_steps.specs.SlotsHold.{IsSmallCopy, slots_of, values_in}
 use Rattle.machine_steps.specs.Moved.{HasMoved}
-use Rattle.machine_steps.specs.declared.execute.Event.{Event}
-use Rattle.machine_steps.specs.declared.execute.Event.TheVariants as event
+use Rattle.semantics.specs.declared.event.Event.{Event}
+use Rattle.semantics.specs.declared.event.Event.TheVariants as event
 use Rattle.machine_steps.specs.declared.execute.Executed.TheVariants.{Did}
 use Rattle.machine_steps.proofs.Acquisitions.{assigned_same, copied_there, store_same, viewed_there}
 use Rattle.machine_steps.proofs.Calls.{Ready, depth_behind, stands_at, stands_in}

@@ -33,14 +33,15 @@ use Rattle.code_meaning.specs.Layout.{Slot, Known, with_static, entry_layout}
 use Rattle.code_meaning.specs.Slots.{visible_to, AreOfLowest, EntrySlots, HasRoom, AreShared, argument_word, argument_reference, static_index}
 use Rattle.code_meaning.specs.Stands.{StandsFor}
 use Rattle.code_meaning.specs.Lowered.{Lowered, IsLowered, IsCodeOf, AreCodesOf}
-use Rattle.machine_steps.specs.declared.execute.Event.TheVariants as event
+use Rattle.semantics.specs.declared.event.Event.TheVariants as event
 use Rattle.machine_steps.specs.declared.thread.Thread.{Thread}
 use Rattle.machine_steps.specs.declared.thread.PendingCall.{PendingCall}
 use Rattle.machine_calls.specs.declared.activation.Activation.{Activation}
 use Rattle.machine_calls.specs.declared.store.Store.{Store}
 use Rattle.machine_calls.specs.StoreAgrees.{AreNamed, StoreAgrees}
 use Rattle.machine_calls.specs.FieldIds.{FieldsAgree}
-use Rattle.machine_steps.specs.ThreadAgrees.{CallAgrees, CallsAgree, ThreadAgrees, buffers_of, ending_view}
+use Rattle.machine_steps.specs.ThreadAgrees.{CallAgrees, CallsAgree, ThreadAgrees, buffers_of}
+use Rattle.semantics.specs.EventViews.{ending_view}
 use Rattle.machine_steps.specs.Advances.{Advances}
 use Rattle.machine_calls.specs.Buffers.{Acquired, AreViewed, BuffersAgree, acquired_by, beside}
 use Rattle.machine_calls.specs.HeapAgrees.{times}

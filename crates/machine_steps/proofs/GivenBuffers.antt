@@ -45,7 +45,7 @@ use Rattle.machine_steps.proofs.Acquisitions.{assigned_nothing, taken_by}
 use Rattle.machine_steps.proofs.Changes.{lookup_other, lookup_same}
 use Rattle.machine_steps.proofs.Invocations.{plain_result}
 use Rattle.machine_steps.proofs.Receives.{IsNoBuffer}
-use Rattle.machine_calls.specs.Traps.{trap_view}
+use Rattle.semantics.specs.EventViews.{trap_view}
 
 -- ---- what is told
 

@@ -20,7 +20,7 @@ use Rattle.jni.specs.JniFunction.{GetBuffer, ReleaseBuffer, JniFunction, FindCla
 use Rattle.semantics_safety.specs.Owners.{other_than}
 use Rattle.code.specs.declared.instr.LocalArray.{LocalArray}
 use Rattle.machine_calls.specs.declared.array_region.ArrayRegion.{ArrayRegion}
-use Rattle.machine_calls.specs.declared.trap.Trap.TheVariants.{OutOfRange}
+use Rattle.semantics.specs.declared.trap.Trap.TheVariants.{OutOfRange}
 use Rattle.machine_calls.specs.declared.answer.Answer.{Answer}
 use Rattle.machine_calls.specs.declared.answer.Given.TheVariants.{Nothing}
 use Rattle.machine_calls.specs.declared.answer.Answer.TheVariants as answer

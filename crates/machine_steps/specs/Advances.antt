@@ -7,10 +7,10 @@ use Rattle.semantics.specs.Thread as source
 use Rattle.semantics.specs.Thread.{Shared}
 use Rattle.semantics.specs.ThreadStep.{thread_step}
 use Rattle.code_meaning.specs.Lowered.{Lowered}
-use Rattle.machine_steps.specs.declared.thread.Ending.{Ending}
-use Rattle.machine_steps.specs.declared.thread.Ending.TheVariants.{Ended, Uncaught}
-use Rattle.machine_steps.specs.declared.execute.Event.{Event}
-use Rattle.machine_steps.specs.declared.execute.Event.TheVariants.{Quiet}
+use Rattle.semantics.specs.declared.event.Ending.{Ending}
+use Rattle.semantics.specs.declared.event.Ending.TheVariants.{Ended, Uncaught}
+use Rattle.semantics.specs.declared.event.Event.{Event}
+use Rattle.semantics.specs.declared.event.Event.TheVariants.{Quiet}
 use Rattle.machine_steps.specs.declared.advance.Advanced.{Advanced}
 use Rattle.machine_steps.specs.declared.advance.Advanced.TheVariants as advanced
 use Rattle.machine_steps.specs.declared.thread.Thread.{Thread}
@@ -20,7 +20,8 @@ use Rattle.monitors.specs.Monitors.{kept_from, monitor_of, without_owner}
 use Rattle.machine_calls.specs.Buffers.{Acquired, KeepsCopies, acquired_by, beside}
 use Rattle.machine_calls.specs.CarriedOut.{IsShortOf}
 use Rattle.machine_calls.specs.StoreAgrees.{StoreAgrees, Keeps}
-use Rattle.machine_steps.specs.Executes.{cells_made, event_view, in_use_with}
+use Rattle.machine_steps.specs.Executes.{cells_made, in_use_with}
+use Rattle.semantics.specs.EventViews.{event_view}
 use Rattle.machine_steps.specs.ThreadAgrees.{ThreadAgrees}
 
 -- ---- steps

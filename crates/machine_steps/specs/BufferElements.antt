@@ -8,11 +8,11 @@ use Rattle.machine_calls.specs.declared.activation.Activation.{Activation}
 use Rattle.machine_calls.specs.declared.buffer.Buffer.{Buffer}
 use Rattle.machine_calls.specs.declared.buffer.Buffer.TheVariants as held
 use Rattle.machine_calls.specs.declared.store.Store.{Store}
-use Rattle.machine_calls.specs.declared.trap.Trap.TheVariants.{OutOfRange}
+use Rattle.semantics.specs.declared.trap.Trap.TheVariants.{OutOfRange}
 use Rattle.machine_calls.specs.BufferChanges.{numbers_at}
 use Rattle.machine_calls.specs.Copies.{words_at}
-use Rattle.machine_steps.specs.declared.execute.Event.{Event}
-use Rattle.machine_steps.specs.declared.execute.Event.TheVariants.{Quiet, Trapped}
+use Rattle.semantics.specs.declared.event.Event.{Event}
+use Rattle.semantics.specs.declared.event.Event.TheVariants.{Quiet, Trapped}
 use Rattle.machine_steps.specs.Moved.{HasMoved}
 use Rattle.machine_steps.specs.SlotsHold.{values_in}
 

@@ -27,8 +27,8 @@ use Rattle.code_meaning.specs.Layout.{Known}
 use Rattle.code_meaning.specs.Slots.{Visible, visible_to, Shows}
 use Rattle.code_meaning.specs.Stands.{StandsFor}
 use Rattle.code_meaning.specs.Lowered.{Lowered}
-use Rattle.machine_steps.specs.declared.execute.Event.{Event}
-use Rattle.machine_steps.specs.declared.execute.Event.TheVariants.{Quiet, Printed, Trapped}
+use Rattle.semantics.specs.declared.event.Event.{Event}
+use Rattle.semantics.specs.declared.event.Event.TheVariants.{Quiet}
 use Rattle.machine_calls.specs.declared.activation.Activation.{Activation}
 use Rattle.machine_steps.specs.declared.execute.Executed.{Executed}
 use Rattle.machine_steps.specs.declared.execute.Executed.TheVariants.{Did, Refused, Returned}
@@ -41,14 +41,8 @@ use Rattle.machine_calls.specs.CarriedOut.{IsShortOf}
 use Rattle.machine_calls.specs.HeapAgrees.{ReferenceAgrees}
 use Rattle.machine_calls.specs.Locals.{FramesAgree}
 use Rattle.machine_steps.specs.SlotsHold.{Meant, SlotsHold, slots_of, values_in}
-use Rattle.machine_calls.specs.Traps.{trap_view}
+use Rattle.semantics.specs.EventViews.{event_view}
 use Rattle.machine_calls.specs.StoreAgrees.{StoreAgrees, Keeps}
-
--- what is seen of a thread's step by others
-abbrev pub event_view : Event → source.Event
-event_view Quiet = source.Quiet
-event_view (Printed z) = source.PrintedNumber z
-event_view (Trapped trap line) = source.Trapped (trap_view trap) line
 
 -- ---- a call in progress
 

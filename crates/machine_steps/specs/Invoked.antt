@@ -17,14 +17,14 @@ use Rattle.code_meaning.specs.Lowered.{Lowered, IsLowered}
 use Rattle.code_meaning.specs.Slots.{SeesBuffers, visible_to}
 use Rattle.machine_steps.specs.declared.invoke.Invoked.{Invoked}
 use Rattle.machine_steps.specs.declared.invoke.Invoked.TheVariants as invoked
-use Rattle.machine_steps.specs.declared.execute.Event.TheVariants.{Quiet, Trapped}
+use Rattle.semantics.specs.declared.event.Event.TheVariants.{Quiet, Trapped}
 use Rattle.machine_steps.specs.declared.execute.Executed.{Executed}
 use Rattle.machine_steps.specs.declared.execute.Executed.TheVariants.{Did, Refused}
 use Rattle.tables.specs.Locals.{has_room}
 use Rattle.machine_calls.specs.declared.answer.Answer.{Answer}
 use Rattle.machine_calls.specs.declared.answer.Answer.TheVariants as answer
-use Rattle.machine_calls.specs.declared.trap.Trap.{Trap}
-use Rattle.machine_calls.specs.Traps.{trap_view}
+use Rattle.semantics.specs.declared.trap.Trap.{Trap}
+use Rattle.semantics.specs.EventViews.{trap_view}
 use Rattle.machine_calls.specs.declared.store.Store.{Store}
 use Rattle.machine_calls.specs.declared.activation.Activation.{Activation}
 use Rattle.machine_calls.specs.Asked.{scene_of}

@@ -6,11 +6,11 @@ use Rattle.code.specs.declared.instr.Plain.{Plain}
 use Rattle.code.specs.declared.instr.Plain.TheVariants as plain
 use Rattle.code_meaning.specs.Does.{trap_of}
 use Rattle.machine_calls.specs.declared.activation.Activation.{Activation}
-use Rattle.machine_calls.specs.declared.trap.Trap.{Trap as TrapInMemory}
-use Rattle.machine_calls.specs.Traps.{trap_view}
+use Rattle.semantics.specs.declared.trap.Trap.{Trap as TrapInMemory}
+use Rattle.semantics.specs.EventViews.{trap_view}
 use Rattle.machine_steps.specs.SlotsHold.{SlotValues, values_in}
-use Rattle.machine_steps.specs.declared.execute.Event.{Event}
-use Rattle.machine_steps.specs.declared.execute.Event.TheVariants as event
+use Rattle.semantics.specs.declared.event.Event.{Event}
+use Rattle.semantics.specs.declared.event.Event.TheVariants as event
 
 -- the call is at a place, with these operands, and with these values in slots, and its table as it was
 pub record HasMoved (call after : Activation) (to : ℕ) (words : List ℕ) (slots : SlotValues) : Type 0 where

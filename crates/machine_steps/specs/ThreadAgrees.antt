@@ -15,8 +15,6 @@ use Rattle.semantics.specs.Thread as source
 use Rattle.semantics.specs.Thread.{Shared}
 use Rattle.code_meaning.specs.Slots.{ArgumentsFit, visible_to}
 use Rattle.code_meaning.specs.Lowered.{Lowered}
-use Rattle.machine_steps.specs.declared.thread.Ending.{Ending}
-use Rattle.machine_steps.specs.declared.thread.Ending.TheVariants.{Unfinished, Ended, Uncaught}
 use Rattle.machine_steps.specs.declared.thread.Thread.{Thread}
 use Rattle.machine_steps.specs.declared.thread.PendingCall.{PendingCall}
 use Rattle.machine_calls.specs.declared.activation.Activation.{Activation}
@@ -24,13 +22,8 @@ use Rattle.machine_calls.specs.declared.buffer.Buffer.{Buffer}
 use Rattle.machine_calls.specs.Buffers.{AreViewed}
 use Rattle.machine_calls.specs.HeapAgrees.{ReferenceAgrees}
 use Rattle.machine_steps.specs.Executes.{WorkAgrees}
+use Rattle.semantics.specs.EventViews.{ending_view}
 use Rattle.tables.specs.Elements.{OwnedNumbers}
-
--- how a thread has ended, if it has
-abbrev pub ending_view : Ending → source.Ending
-ending_view Unfinished = source.Unfinished
-ending_view Ended = source.Ended
-ending_view (Uncaught class) = source.Uncaught class
 
 -- ---- calls
 

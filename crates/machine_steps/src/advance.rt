@@ -18,13 +18,14 @@ ghost use Rattle.machine_steps.specs.Executes.{IsHindered, IsSteady, cells_made,
 ghost use Rattle.machine_steps.specs.Entry.{IsReady, Begins};
 
 use crate::entry::begin;
-use crate::execute::{Event, Executed, execute};
+use crate::execute::{Executed, execute};
 use crate::fault::StepFault;
-use crate::thread::{Ending, PendingCall, Thread};
+use crate::thread::{PendingCall, Thread};
 use code_meaning::Program;
 use heap::{Addr, Heap};
 use machine_calls::activation::Activation;
 use machine_calls::store::Store;
+use semantics::{Ending, Event};
 use std::alloc::AllocError;
 use std::collections::VecDeque;
 use world_values::World;

@@ -10,7 +10,6 @@ ghost use Rattle.std.specs.Int.{w32, cast_unsigned};
 ghost use Rattle.heap.specs.Heap.{IsAddress};
 ghost use Rattle.machine_steps.specs.BufferElements.{IsOfBlock, LoadsElement, StoresElement, with_word, words_held};
 
-use crate::execute::Event;
 use crate::variable::buffer_there;
 use code::instr::ElementType;
 use code::plain::element_word;
@@ -18,7 +17,7 @@ use heap::{Addr, Heap, Value};
 use machine_calls::activation::Activation;
 use machine_calls::buffer::Buffer;
 use machine_calls::store::Store;
-use machine_calls::trap::Trap;
+use semantics::{Event, Trap};
 use tables::{Copied, Elements};
 
 /// The element of a buffer, whose index is the topmost word, takes its place. Past the end a trap on this line leaves all as it
@@ -38,7 +37,7 @@ pub fn load_element(store: &Store, call: &mut Activation, slot: u32, line: u32) 
             call.place += 1;
             Event::Quiet
         }
-        None => Event::Trapped(Trap::OutOfRange, line),
+        None => Event::Trapped(Trap::OutOfRange, line as usize),
     }
 }
 
@@ -73,7 +72,7 @@ pub fn store_element(
     } else {
         call.stack.push(index);
         call.stack.push(word);
-        Event::Trapped(Trap::OutOfRange, line)
+        Event::Trapped(Trap::OutOfRange, line as usize)
     }
 }
 

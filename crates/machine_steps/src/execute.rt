@@ -31,18 +31,9 @@ use machine_calls::activation::Activation;
 use machine_calls::references::References;
 use machine_calls::statics::StaticReference;
 use machine_calls::store::Store;
-use machine_calls::trap::{Trap, trap_of};
+use machine_calls::trap::trap_of;
+use semantics::Event;
 use world_values::World;
-
-/// What is seen of a thread's step by others.
-#[derive(Clone, Copy)]
-pub enum Event {
-    Quiet,
-    /// The thread printed a number.
-    Printed(i32),
-    /// A statement of this line stopped the machine.
-    Trapped(Trap, u32),
-}
 
 /// What an instruction did.
 #[derive(Clone, Copy)]
@@ -120,7 +111,7 @@ fn outcome_of(line: u32, invoked: Invoked) -> Executed
     match invoked {
         Invoked::Done => Executed::Did(Event::Quiet),
         Invoked::Refused => Executed::Refused,
-        Invoked::Trapped(trap) => Executed::Did(Event::Trapped(trap, line)),
+        Invoked::Trapped(trap) => Executed::Did(Event::Trapped(trap, line as usize)),
     }
 }
 
@@ -188,6 +179,6 @@ fn run_plain(instr: &Instr, call: &mut Activation) -> Event
             call.place -= back as usize;
             Event::Quiet
         }
-        Plain::Trap(trap, line) => Event::Trapped(trap_of(trap), line),
+        Plain::Trap(trap, line) => Event::Trapped(trap_of(trap), line as usize),
     }
 }

@@ -29,7 +29,7 @@ use machine_calls::answer::{Answer, work_out};
 use machine_calls::carry_out::{carry_out, has_room};
 use machine_calls::check::check;
 use machine_calls::store::Store;
-use machine_calls::trap::Trap;
+use semantics::Trap;
 use std::alloc::AllocError;
 use world_values::World;
 

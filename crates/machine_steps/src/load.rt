@@ -22,10 +22,11 @@ ghost use Rattle.machine_steps.specs.ThreadAgrees.{ThreadAgrees, ThreadsAgree};
 ghost use Rattle.machine_steps.specs.Loading.{IsNumberOf, IsCallOf, IsFirstOf};
 
 use crate::fault::LoadFault;
-use crate::thread::{Ending, PendingCall, Thread};
+use crate::thread::{PendingCall, Thread};
 use class_rules::mangling::unmangle;
 use code_meaning::Program;
 use functions::{Functions, NumberedFunction};
+use semantics::Ending;
 use std::alloc::{AllocError, Global};
 use std::collections::VecDeque;
 use syntax::{Parameter, ParameterType};

@@ -2,17 +2,9 @@
 
 use heap::Addr;
 use machine_calls::activation::Activation;
+use semantics::Ending;
 use std::collections::VecDeque;
 use world_values::ObjectValue;
-
-/// Whether a thread has ended.
-#[derive(Clone, Copy)]
-pub enum Ending {
-    Unfinished,
-    Ended,
-    /// Its call returned with an exception of the class of this number pending.
-    Uncaught(usize),
-}
 
 /// A thread: the calls that it has still to make, and the call in progress.
 pub struct Thread {

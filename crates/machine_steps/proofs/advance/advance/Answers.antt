@@ -17,7 +17,7 @@ use Rattle.code_meaning.specs.Slots.{visible_to}
 use Rattle.machine_calls.specs.declared.store.Store.{Store}
 use Rattle.machine_calls.specs.declared.activation.Activation.{Activation}
 use Rattle.machine_steps.specs.declared.thread.Thread.{Thread}
-use Rattle.machine_steps.specs.declared.execute.Event.TheVariants.{Quiet}
+use Rattle.semantics.specs.declared.event.Event.TheVariants.{Quiet}
 use Rattle.machine_steps.specs.Executes.{IsHindered, IsSteady, IsExecuting, Executes, cells_made, in_use_with}
 use Rattle.machine_calls.specs.Buffers.{Acquired, AreViewed, acquired_by, beside}
 use Rattle.machine_calls.specs.StoreAgrees.{StoreAgrees}

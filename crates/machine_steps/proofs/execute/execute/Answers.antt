@@ -16,7 +16,7 @@ use Rattle.semantics.specs.Thread.{sight_of}
 use Rattle.code_meaning.specs.Slots.{visible_to}
 use Rattle.code_meaning.specs.Does.{IsReturn}
 use Rattle.machine_calls.specs.declared.activation.Activation.{Activation}
-use Rattle.machine_steps.specs.declared.execute.Event.TheVariants.{Printed}
+use Rattle.semantics.specs.declared.event.Event.TheVariants.{Printed}
 use Rattle.machine_steps.specs.declared.execute.Executed.{Executed}
 use Rattle.machine_steps.specs.declared.execute.Executed.TheVariants.{Did}
 use Rattle.std.specs.Prelude.{◌<◌, ◌^◌}

@@ -40,7 +40,7 @@ use Rattle.machine_calls.specs.declared.store.Store.{Store}
 use Rattle.machine_calls.proofs.CellsMade.{cells_made}
 use Rattle.machine_calls.proofs.Overlays.{length_overlaid}
 use Rattle.machine_calls.proofs.StaticStores.{shared_long, statics_long}
-use Rattle.machine_steps.specs.declared.execute.Event.TheVariants.{Quiet}
+use Rattle.semantics.specs.declared.event.Event.TheVariants.{Quiet}
 use Rattle.machine_steps.specs.declared.execute.Executed.{Executed}
 use Rattle.machine_steps.specs.Executes.{Executes, GoesOn}
 use Rattle.machine_steps.specs.Invoked.{AtCall, IsAnswered, done_or_refused, executed_as}

@@ -7,7 +7,7 @@ use Rattle.heap.specs.Heap.{left_of}
 use Rattle.jni.specs.Table.{result_value}
 use Rattle.machine_calls.specs.declared.answer.Answer.{Answer}
 use Rattle.machine_calls.specs.declared.answer.Answer.TheVariants as answer
-use Rattle.machine_calls.specs.Traps.{trap_view}
+use Rattle.semantics.specs.EventViews.{trap_view}
 use Rattle.machine_steps.specs.Invoked.{IsAnswered, trap_at}
 use Rattle.machine_calls.specs.Made.{cells_of}
 use Rattle.machine_calls.specs.NewObjects.{texts_in}

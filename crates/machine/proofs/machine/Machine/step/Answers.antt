@@ -6,19 +6,19 @@ use Rattle.syntax.specs.declared.unit.Item.{Item}
 use Rattle.semantics.specs.declared.journal.Entry.{Entry}
 use Rattle.semantics.specs.declared.journal.Entry.TheVariants.{Step}
 use Rattle.semantics.specs.State as state
-use Rattle.semantics.specs.Step.{is_blocked}
+use Rattle.semantics.specs.Step.{is_blocked, is_unfinished}
 use Rattle.semantics.specs.World.{World}
 use Rattle.heap.specs.Heap.{left_of}
-use Rattle.machine_steps.specs.declared.thread.Ending.{Ending}
-use Rattle.machine_steps.specs.declared.thread.Ending.TheVariants.{Unfinished, Ended, Uncaught}
-use Rattle.machine.specs.declared.stop.Stop.{Stop}
+use Rattle.semantics.specs.declared.event.Ending.{Ending}
+use Rattle.semantics.specs.declared.event.Ending.TheVariants.{Unfinished, Ended, Uncaught}
+use Rattle.semantics.specs.declared.event.Stop.{Stop}
 use Rattle.machine.specs.declared.turn.Turn.{Turn}
 use Rattle.machine.specs.declared.turn.Turn.TheVariants as turn
-use Rattle.machine.specs.Stops.{stop_after, stop_view}
+use Rattle.semantics.specs.EventViews.{ending_view, printed_after, stop_after, stop_view}
 use Rattle.machine_steps.specs.declared.thread.Thread.{Thread}
 use Rattle.machine_steps.specs.declared.advance.Advanced.{Advanced}
 use Rattle.machine_steps.specs.declared.advance.Advanced.TheVariants as advanced
-use Rattle.machine.specs.Run.{has_ended as ended, AdvancesAlways, AdvancesFrom, CanAdvance, Corresponds, Run, InState, CouldStep, HadNoRoom, LeavesAll, TurnHolds, Waits, turn_at_rest, replay_of, printed_after, can_turn, event_of, is_refused}
+use Rattle.machine.specs.Run.{AdvancesAlways, AdvancesFrom, CanAdvance, Corresponds, Run, InState, CouldStep, HadNoRoom, LeavesAll, TurnHolds, Waits, turn_at_rest, replay_of, can_turn, event_of, is_refused}
 use Rattle.machine_calls.specs.declared.store.Store.{Store}
 use Rattle.semantics.specs.Object.{sizes}
 use Rattle.semantics.specs.Reachable.{live_size}
@@ -35,12 +35,12 @@ goes_on : (o : Option Stop) → is_some o ≡ false → o ≡ None
 goes_on None h = refl
 goes_on (Some x) h = absurd (cc)
 
-is_live : (e : Ending) → ended e ≡ false → e ≡ Unfinished
+is_live : (e : Ending) → is_unfinished (ending_view e) ≡ true → e ≡ Unfinished
 is_live Unfinished h = refl
 is_live Ended h = absurd (cc)
 is_live (Uncaught class) h = absurd (cc)
 
-is_over : (e : Ending) → ended e ≡ true → e ≡ Unfinished → ⊥
+is_over : (e : Ending) → is_unfinished (ending_view e) ≡ false → e ≡ Unfinished → ⊥
 is_over Unfinished h same = absurd (cc)
 is_over Ended h same = cc
 is_over (Uncaught class) h same = cc
@@ -52,15 +52,15 @@ stops (Some x) s same h = rw same refl
 
 -- ---- where no step is taken
 
-held : (old : Run) (k : ℕ) (stopped over : Bool) (t : Turn) → turn_at_rest stopped over ≡ Some t → (stopped ≡ true → TurnHolds old k old turn.Stopped) → (stopped ≡ false → over ≡ true → TurnHolds old k old turn.Ended) → TurnHolds old k old t
-held old k true over t is a b = let same : turn.Stopped ≡ t = cc in subst (λ (x : Turn). TurnHolds old k old x) same (a refl)
-held old k false true t is a b = let same : turn.Ended ≡ t = cc in subst (λ (x : Turn). TurnHolds old k old x) same (b refl refl)
-held old k false false t is a b = absurd (cc)
+held : (old : Run) (k : ℕ) (stopped unfinished : Bool) (t : Turn) → turn_at_rest stopped unfinished ≡ Some t → (stopped ≡ true → TurnHolds old k old turn.Stopped) → (stopped ≡ false → unfinished ≡ false → TurnHolds old k old turn.Ended) → TurnHolds old k old t
+held old k true unfinished t is a b = let same : turn.Stopped ≡ t = cc in subst (λ (x : Turn). TurnHolds old k old x) same (a refl)
+held old k false false t is a b = let same : turn.Ended ≡ t = cc in subst (λ (x : Turn). TurnHolds old k old x) same (b refl refl)
+held old k false true t is a b = absurd (cc)
 
-none_held : (stopped over : Bool) → turn_at_rest stopped over ≡ None → (stopped ≡ false) × (over ≡ false)
-none_held true over h = absurd (cc)
-none_held false true h = absurd (cc)
-none_held false false h = (refl, refl)
+none_held : (stopped unfinished : Bool) → turn_at_rest stopped unfinished ≡ None → (stopped ≡ false) × (unfinished ≡ true)
+none_held true unfinished h = absurd (cc)
+none_held false false h = absurd (cc)
+none_held false true h = (refl, refl)
 
 -- ---- what is known once thread k was looked at
 
@@ -96,14 +96,14 @@ can_step c running live free = (
 pub returns-in-Some-clause-turn : goal.returns-in-Some-clause-turn
 returns-in-Some-clause-turn c =
     let a = (goal.at.returns-in-Some-clause-turn c).After-index in
-    held c.args.self.now c.args.k (is_some c.self.inside.stop) (ended c.index.result.now.ending) c.in-Some.turn (sym c.turn_at_rest.ensures ∙ c.in-Some.is)
+    held c.args.self.now c.args.k (is_some c.self.inside.stop) (is_unfinished (ending_view c.index.result.now.ending)) c.in-Some.turn (sym c.turn_at_rest.ensures ∙ c.in-Some.is)
     (λ stopped. (refl, (c.self.invariant.state, replays a, stops c.self.inside.stop c.self.invariant.state.stop c.self.invariant.same_stop stopped)))
     (λ goes over. (refl, (c.self.invariant.state, replays a, has_ended _ _ _ _ _ _ _ c.self.invariant c.args.k (c.from-index.result - 1) c.index.result.now (number a) (there a c.index.result.now c.index.ensures) (goes_on c.self.inside.stop goes) (is_over _ over))))
 
 pub returns-then-len-ge-MOST_ENTRIES-clause-turn : goal.returns-then-len-ge-MOST_ENTRIES-clause-turn
 returns-then-len-ge-MOST_ENTRIES-clause-turn c =
     let a = (goal.at.returns-then-len-ge-MOST_ENTRIES-clause-turn c).After-index in
-    let none = none_held (is_some c.self.inside.stop) (ended c.index.result.now.ending) (sym c.turn_at_rest.ensures ∙ c.in_default.is) in
+    let none = none_held (is_some c.self.inside.stop) (is_unfinished (ending_view c.index.result.now.ending)) (sym c.turn_at_rest.ensures ∙ c.in_default.is) in
     let many : 1000000 ≤ length c.self.inside.journal.items = omega (arith, c.len.ensures, c.if-len-ge-MOST_ENTRIES.true) in
     (refl, subst (λ (r : Run). 1000000 ≤ length r.journal) c.self.view_is many, can_step a (goes_on c.self.inside.stop none.0) (is_live _ none.1) (is_free a c.waits.result c.waits.ensures c.if-waits.false))
 
@@ -115,13 +115,13 @@ returns-in-Some-clause-runs c = runs (goal.at.returns-in-Some-clause-runs c).Aft
 -- what none of the tests has found
 record Free (a : After-index) : Type 0 where
   pub goes : is_some a.self.inside.stop ≡ false
-  pub lives : ended a.index.result.now.ending ≡ false
+  pub lives : is_unfinished (ending_view a.index.result.now.ending) ≡ true
   pub free : IsFree a
   pub room : length a.self.inside.journal.items < 1000000
 
 tested : (c : After-make_room) → Free (goal.at.After-make_room c).After-index
 tested c =
-    let none = none_held (is_some c.self.inside.stop) (ended c.index.result.now.ending) (sym c.turn_at_rest.ensures ∙ c.in_default.is) in
+    let none = none_held (is_some c.self.inside.stop) (is_unfinished (ending_view c.index.result.now.ending)) (sym c.turn_at_rest.ensures ∙ c.in_default.is) in
     record {
       goes = none.0;
       lives = none.1;
