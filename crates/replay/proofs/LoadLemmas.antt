@@ -11,7 +11,8 @@ use Rattle.semantics.specs.Start.{waiting_thread}
 use Rattle.replay_threads.specs.declared.thread.Thread.{Thread as ThreadInMemory}
 use Rattle.replay.specs.Loading.{first_line, IsWaiting, AddsWaiting, AreWaiting}
 use Rattle.replay_threads.specs.States.{AreInRange, EachInRange, ThreadsStand}
-use Rattle.replay_threads.specs.Threads.{ThreadStands, WorkInRange, WorkStands, tasks_in, ending_view}
+use Rattle.replay_threads.specs.Threads.{ThreadStands, WorkInRange, WorkStands, tasks_in}
+use Rattle.semantics.specs.EventViews.{ending_view}
 use Rattle.replay_steps.specs.declared.activation.Activation.{Activation}
 
 -- the calls of each thread

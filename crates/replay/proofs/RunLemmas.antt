@@ -27,10 +27,11 @@ use Rattle.semantics.proofs.RunLaws.{replay_from-append, replay_more}
 use Rattle.replay.specs.declared.fault.ReplayFault.{ReplayFault}
 use Rattle.replay.specs.declared.fault.ReplayFault.TheVariants.{DoesNotFit, Impossible, Memory, Writer}
 use Rattle.replay_threads.specs.declared.state.State.{State as StateInMemory}
-use Rattle.replay_threads.specs.States.{Stands, TakesEntry, AreInRange, AreStandings, stop_view}
+use Rattle.replay_threads.specs.States.{Stands, TakesEntry, AreInRange, AreStandings}
+use Rattle.semantics.specs.EventViews.{stop_view}
 use Rattle.replay.specs.declared.trap_at.TrapAt.{TrapAt}
 use Rattle.replay.specs.TrapAt.{trap_at}
-use Rattle.replay_threads.specs.declared.state.Stop.{Stop as StopInMemory}
+use Rattle.semantics.specs.declared.event.Stop.{Stop as StopInMemory}
 use Rattle.report.specs.declared.thread_status.ThreadStatus.{ThreadStatus}
 use Rattle.report.specs.ThreadStatus.{standing_view}
 use Rattle.replay_calls.specs.Shares.{shared_view}

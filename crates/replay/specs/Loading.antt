@@ -1,7 +1,7 @@
 -- Threads before their first calls, and calls that don't fit.
 use Rattle.std.specs.Prelude.{◌≡◌, ℕ, List, [], ◌∷◌, ◌++◌, map, slice_get, Option, None}
 use Rattle.semantics.specs.World.{Invocation}
-use Rattle.replay_threads.specs.declared.thread.Ending.TheVariants.{Unfinished}
+use Rattle.semantics.specs.declared.event.Ending.TheVariants.{Unfinished}
 use Rattle.replay_threads.specs.declared.thread.Thread.{Thread as ThreadInMemory}
 
 -- the line of the first of these

@@ -16,10 +16,11 @@ use Rattle.semantics.specs.Step.{world_step}
 use Rattle.replay.specs.declared.fault.ReplayFault.{ReplayFault}
 use Rattle.replay.specs.declared.fault.ReplayFault.TheVariants.{DoesNotFit, Impossible, Memory, Writer}
 use Rattle.replay_threads.specs.declared.state.State.{State as StateInMemory}
-use Rattle.replay_threads.specs.declared.state.Stop.{Stop as StopInMemory}
+use Rattle.semantics.specs.declared.event.Stop.{Stop as StopInMemory}
 use Rattle.replay.specs.declared.trap_at.TrapAt.{TrapAt}
 use Rattle.replay.specs.TrapAt.{trap_at}
-use Rattle.replay_threads.specs.States.{Stands, AreInRange, stop_view}
+use Rattle.replay_threads.specs.States.{Stands, AreInRange}
+use Rattle.semantics.specs.EventViews.{stop_view}
 
 -- entry i, counted from 1, is the first that isn't possible
 pub record IsFirstImpossible (unit : SourceUnit) (w : World) (journal : Journal) (i : ℕ) : Type 0 where

@@ -15,11 +15,10 @@ use crate::trap_at::TrapAt;
 use functions::Functions;
 use region_rules::Checked;
 use replay_objects::{Store, made_before};
-use replay_terms::trap_number;
-use replay_threads::{State, Stop, root_names, standings_of, take_entry};
+use replay_threads::{State, root_names, standings_of, take_entry};
 use report::{Sink, write_run};
 use report_objects::{ReachedRows, reached_rows};
-use semantics::Entry;
+use semantics::{Entry, Stop};
 use std::alloc::{AllocError, Global};
 use world_values::World;
 
@@ -106,7 +105,7 @@ fn shown_stop(stop: Option<Stop>) -> Option<TrapAt>
 {
     let stop = stop?;
     Some(TrapAt {
-        number: trap_number(stop.trap),
+        number: stop.trap.number(),
         line: stop.line,
     })
 }

@@ -17,7 +17,8 @@ use Rattle.replay_calls.specs.declared.answer.Answer.TheVariants as answer
 use Rattle.replay_calls.specs.declared.answer.Region.{Region as RegionInMemory}
 use Rattle.replay_objects.specs.Frames.{new_frame}
 use Rattle.replay_objects.specs.New.{New, new_view, object_of, thrown}
-use Rattle.replay_terms.specs.Views.{given_view, lent_view, trap_view}
+use Rattle.semantics.specs.EventViews.{trap_view}
+use Rattle.replay_terms.specs.Views.{given_view, lent_view}
 use Rattle.replay_terms.specs.declared.given.Lent.{Lent}
 use Rattle.world_values.specs.Views.{object_value_view}
 

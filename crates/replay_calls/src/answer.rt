@@ -20,7 +20,8 @@ ghost use Rattle.replay_calls.specs.Answers.{answer_or_trap, answer_view, lent_i
 ghost use Rattle.replay_calls.specs.Checked.{trap_found};
 ghost use Rattle.replay_calls.specs.WorkedOut.{element_given, element_set, ensured, fits_element, found_class, found_field, global_deleted, index_given, local_deleted, made_global, new_array, new_object_array, pushed, subject_of, worked_out};
 ghost use Rattle.replay_calls.specs.declared.answer.Subject.TheVariants as subject;
-ghost use Rattle.replay_terms.specs.Views.{in_use_view, trap_view, variables_view};
+ghost use Rattle.semantics.specs.EventViews.{trap_view};
+ghost use Rattle.replay_terms.specs.Views.{in_use_view, variables_view};
 ghost use Rattle.base.specs.Element.{element_value};
 ghost use Rattle.world_values.specs.Views.{object_value_view};
 
@@ -44,7 +45,8 @@ use classes::fields::FieldId;
 use classes::table::ClassTable;
 use jni::JniFunction;
 use replay_objects::{Frames, New, Store};
-use replay_terms::{BuffersInUse, Given, Lent, Trap, Variables, convert};
+use replay_terms::{BuffersInUse, Given, Lent, Variables, convert};
+use semantics::Trap;
 use syntax::ElementType;
 use world_values::ObjectValue;
 

@@ -11,7 +11,7 @@ ghost use Rattle.semantics.specs.Checks.{frames_after, is_deleted, is_full, is_m
 ghost use Rattle.semantics.specs.Heap.{fits_class, fits_type, holds_number, holds_reference, is_instance};
 ghost use Rattle.replay_calls.specs.Actuals.{actual_view};
 ghost use Rattle.replay_calls.specs.Checked.{fit_together, fits_new_array, has_field, has_static, misfits, trap_found};
-ghost use Rattle.replay_terms.specs.Views.{trap_view};
+ghost use Rattle.semantics.specs.EventViews.{trap_view};
 
 use crate::actual::{Actual, field_given, object_given, reference_given};
 use crate::field::{declaring, is_static, type_of};
@@ -20,7 +20,8 @@ use classes::class::{ClassKind, ElementType, FieldType};
 use classes::table::ClassTable;
 use jni::{Access, JniFunction, ParameterKind, ResultKind};
 use replay_objects::{Frames, Store};
-use replay_terms::{StaticReference, Trap};
+use replay_terms::StaticReference;
+use semantics::Trap;
 
 /// The trap of a call before it does anything, which may give a buffer of this element type.
 pub fn check(

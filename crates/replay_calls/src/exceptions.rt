@@ -14,7 +14,8 @@ ghost use Rattle.replay_calls.specs.declared.answer.Subject.TheVariants as subje
 use crate::actual::{Actual, object_given, reference_given, text_given};
 use crate::answer::Answer;
 use jni::JniFunction;
-use replay_terms::{Given, Trap};
+use replay_terms::Given;
+use semantics::Trap;
 
 /// What a function does that works on the pending exception.
 #[inline]

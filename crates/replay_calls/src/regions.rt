@@ -20,7 +20,8 @@ use classes::built_ins::{
 };
 use jni::JniFunction;
 use replay_objects::Store;
-use replay_terms::{Trap, Variables};
+use replay_terms::Variables;
+use semantics::Trap;
 
 /// What a function does that works on a region.
 #[inline]

@@ -31,7 +31,8 @@ use Rattle.replay_tasks.specs.Tasks.{branch_task, task_view, end_view, statement
 use Rattle.replay_tasks.proofs.EffectLemmas.{block_tasks}
 use Rattle.replay_tasks.proofs.RangeLemmas.{entered_in_range}
 use Rattle.replay_steps.proofs.TaskLemmas.{same_scene}
-use Rattle.replay_terms.specs.Views.{Contents, trap_view}
+use Rattle.semantics.specs.EventViews.{trap_view}
+use Rattle.replay_terms.specs.Views.{Contents}
 
 -- ---- blocks around the one in progress
 

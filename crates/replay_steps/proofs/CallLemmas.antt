@@ -35,9 +35,10 @@ use Rattle.replay_tasks.specs.declared.outcome.Purpose.{Purpose as PurposeInMemo
 use Rattle.replay_tasks.specs.declared.outcome.Purpose.TheVariants as purposes
 use Rattle.replay_tasks.specs.declared.outcome.Target.TheVariants as target
 use Rattle.replay_tasks.specs.declared.task.Task.{Task as TaskInMemory}
-use Rattle.replay_terms.specs.declared.trap.Trap.{Trap as TrapInMemory}
+use Rattle.semantics.specs.declared.trap.Trap.{Trap as TrapInMemory}
 use Rattle.replay_calls.specs.Answers.{Answer, Gives, Writes, Makes, Raises, ThrowsNew, Ensures, Pushes, RefusesFrames, Pops, DeletesLocal, MakesGlobal, DeletesGlobal, Pends, Region, GetsRegion, SetsRegion, Lends, CopiesBack, Frees, Owns, Disowns, Halts, answer_or_trap, effect_as, frames_after, frames_with, given_after, lent_in, makes_object, pending_after, shared_after, trap_in, variables_after, variables_freed, variables_with, with_disowned, with_owned, without_global, zero_result}
-use Rattle.replay_terms.specs.Views.{given_view, lent_view, Contents, trap_view, variables_view}
+use Rattle.semantics.specs.EventViews.{trap_view}
+use Rattle.replay_terms.specs.Views.{given_view, lent_view, Contents, variables_view}
 use Rattle.replay_steps.specs.Calls.{MakesCall, lent_outcome, wanted_element}
 use Rattle.replay_calls.specs.Checked.{fit_together, trap_found}
 use Rattle.replay_objects.specs.Frames.{new_frame}

@@ -15,7 +15,8 @@ use Rattle.replay_tasks.specs.Effects.{effect_by, HasEffect}
 use Rattle.replay_steps.specs.Steps.{Scene, Sees, in_scene, left_by, Does}
 use Rattle.replay_tasks.specs.Tasks.{task_view}
 use Rattle.replay_calls.specs.Shares.{sight_in}
-use Rattle.replay_terms.specs.Views.{trap_view, variables_view}
+use Rattle.semantics.specs.EventViews.{trap_view}
+use Rattle.replay_terms.specs.Views.{variables_view}
 
 -- what a thread can see, where it is so
 pub sees_so : (scene : Scene) (t : Thread) → Sees scene t → sight_of scene.shared t ≡ sight_in scene.shared scene.variables

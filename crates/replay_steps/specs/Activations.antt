@@ -24,7 +24,7 @@ use Rattle.replay_tasks.specs.Outcomes.{variable_step, LeavesVariables, LeavesIf
 use Rattle.replay_tasks.specs.Tasks.{branch_task, task_view, end_view, statements_in, tasks_of_statements, StatementsInRange, TaskInRange, EndInRange}
 use Rattle.replay_terms.specs.declared.term.Term.TheVariants as term
 use Rattle.replay_terms.specs.declared.value.Value.TheVariants as value
-use Rattle.replay_terms.specs.Views.{trap_view}
+use Rattle.semantics.specs.EventViews.{trap_view}
 
 -- the task that is begun, if there is one, and those after it
 abbrev pub tasks_from : Option TaskInMemory → List Task → List Task

@@ -25,7 +25,8 @@ use Rattle.replay_calls.specs.Answers.{Answer, answer_or_trap}
 use Rattle.replay_calls.specs.Checked.{trap_found}
 use Rattle.replay_calls.specs.WorkedOut.{worked_out}
 use Rattle.replay_steps.specs.Steps.{Scene, Sees, in_scene, left_by}
-use Rattle.replay_terms.specs.Views.{Contents, operand_view, trap_view, variables_view}
+use Rattle.semantics.specs.EventViews.{trap_view}
+use Rattle.replay_terms.specs.Views.{Contents, operand_view, variables_view}
 use Rattle.replay_calls.specs.Shares.{sight_in}
 use Rattle.replay_tasks.specs.Tasks.{task_view}
 

@@ -18,7 +18,8 @@ use Rattle.replay_tasks.specs.declared.outcome.Outcome.TheVariants as outcome
 use Rattle.replay_tasks.specs.declared.task.Task.{Task as TaskInMemory}
 use Rattle.replay_tasks.specs.Outcomes.{else_tree, variable_step}
 use Rattle.replay_tasks.specs.Tasks.{task_view, end_view, statements_in, tasks_of_statements}
-use Rattle.replay_terms.specs.Views.{Contents, variables_view, trap_view}
+use Rattle.semantics.specs.EventViews.{trap_view}
+use Rattle.replay_terms.specs.Views.{Contents, variables_view}
 
 -- what a step of a call in progress depends on, but its tasks: it is this thread's, and the buffers of all threads together take what
 -- is in use

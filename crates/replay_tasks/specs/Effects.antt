@@ -11,7 +11,8 @@ use Rattle.replay_tasks.specs.declared.task.Task.{Task as TaskInMemory}
 use Rattle.replay_tasks.specs.declared.task.Task.TheVariants as task
 use Rattle.replay_tasks.specs.Outcomes.{target_view}
 use Rattle.replay_tasks.specs.Tasks.{task_view, end_view, statements_in, tasks_of_statements}
-use Rattle.replay_terms.specs.Views.{value_view, trap_view}
+use Rattle.semantics.specs.EventViews.{trap_view}
+use Rattle.replay_terms.specs.Views.{value_view}
 
 -- what a step does that reduces a term, which has no value yet
 abbrev pub reduced : ℕ → ReductionInMemory → Outcome

@@ -5,7 +5,8 @@ ghost use Rattle.syntax.specs.Views.{variable_type_tree};
 ghost use Rattle.semantics.specs.Task.{kind_of};
 ghost use Rattle.replay_tasks.specs.Outcomes.{kind_view};
 
-use replay_terms::{Given, Lent, Trap, Value};
+use replay_terms::{Given, Lent, Value};
+use semantics::Trap;
 use syntax::{Block, ElementType, Expr, Name, VariableType};
 
 /// What a declaration makes.

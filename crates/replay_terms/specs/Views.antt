@@ -9,12 +9,13 @@ use Rattle.syntax.specs.Views.{argument_tree, constant_tree, prefix_tree, binary
 use Rattle.syntax.specs.Limits.{number_limit}
 use Rattle.classes.specs.FieldViews.{field_id_view}
 use Rattle.semantics.specs.CallEffects.{CallResult, NoResult, NullResult, ScalarResult, ReferenceResult, FieldResult}
+use Rattle.semantics.specs.EventViews.{trap_view}
 use Rattle.semantics.specs.Heap.{Heap, number_in, numbers_of}
 use Rattle.semantics.specs.Sight.{Sight, in_range}
 use Rattle.semantics.specs.Task.{Operand, NumberOperand}
 use Rattle.semantics.specs.Task as task
 use Rattle.semantics.specs.Term.{Term, Done, Number, Named, Read, Element, IsNull, Prefix, And, Or, Binary, Reduction, binary_term, done, reduce}
-use Rattle.semantics.specs.Value.{Value, Word, Int, Flag, Truth, Trap, DivisionByZero, ShiftTooFar, OutOfRange, NullReference, ExceptionPending, WrongObject, DeletedReference, NoCapacity, Fatal, Outcome, Gives, Traps, Stuck, outcome_then, outcome_map, convert}
+use Rattle.semantics.specs.Value.{Value, Word, Int, Flag, Truth, Outcome, Gives, Traps, Stuck, outcome_then, outcome_map, convert}
 use Rattle.semantics.specs.Variable.{Variable, Scalar, LocalRef, FieldHandle, Elements, LocalArray, Buffer, NoBuffer, Copy, View, StaticReference, Empty, Live, Deleted, Variables, Statics, assign, copied_length, viewed}
 use Rattle.semantics.specs.Thread.{BuffersInUse}
 use Rattle.semantics.specs.Views.{object_value_view}
@@ -32,8 +33,6 @@ use Rattle.replay_terms.specs.declared.sight.Indexed.{Indexed}
 use Rattle.replay_terms.specs.declared.sight.Indexed.TheVariants as indexed
 use Rattle.replay_terms.specs.declared.statics.StaticReference.{StaticReference as HeldInMemory}
 use Rattle.replay_terms.specs.declared.statics.StaticReference.TheVariants as held
-use Rattle.replay_terms.specs.declared.trap.Trap.{Trap as TrapInMemory}
-use Rattle.replay_terms.specs.declared.trap.Trap.TheVariants as trap
 use Rattle.replay_terms.specs.declared.value.Evaluated.{Evaluated}
 use Rattle.replay_terms.specs.declared.value.Evaluated.TheVariants as evaluated
 use Rattle.replay_terms.specs.declared.value.Value.{Value as ValueInMemory}
@@ -46,17 +45,6 @@ use Rattle.replay_terms.specs.declared.variable.Written.{Written as WrittenInMem
 use Rattle.replay_terms.specs.declared.variable.Written.TheVariants as outcome
 use Rattle.replay_terms.specs.declared.sight.Shown.{Shown}
 use Rattle.replay_terms.specs.declared.sight.Shown.TheVariants as shown
-
-abbrev pub trap_view : TrapInMemory → Trap
-trap_view trap.DivisionByZero = DivisionByZero
-trap_view trap.ShiftTooFar = ShiftTooFar
-trap_view trap.OutOfRange = OutOfRange
-trap_view trap.NullReference = NullReference
-trap_view trap.ExceptionPending = ExceptionPending
-trap_view trap.WrongObject = WrongObject
-trap_view trap.DeletedReference = DeletedReference
-trap_view trap.NoCapacity = NoCapacity
-trap_view trap.Fatal = Fatal
 
 abbrev pub value_view : ValueInMemory → Value
 value_view (value.Word n) = Word n

@@ -10,10 +10,9 @@ ghost use Rattle.replay_terms.specs.Views.{value_view, evaluated_view, term_view
 use crate::sight::{element_in, null_value, number_in};
 use crate::statics::Statics;
 use crate::term::{Term, put_term};
-use crate::trap::Trap;
 use crate::value::{Evaluated, Value, binary_value, constant, literal, prefix_value};
 use crate::variable::Variables;
-use semantics::Objects;
+use semantics::{Objects, Trap};
 use std::mem;
 use syntax::BinaryOp;
 

@@ -12,10 +12,9 @@ ghost use Rattle.semantics.specs.Views.{IsWithin};
 ghost use Rattle.replay_terms.specs.Views.{value_view, evaluated_view, indexed_view, content_view, variables_view, if_there, negated, place_in, shown_numbers};
 
 use crate::statics::{Statics, is_empty};
-use crate::trap::Trap;
 use crate::value::{Evaluated, Value, truth};
 use crate::variable::{Content, Variables, held_number};
-use semantics::Objects;
+use semantics::{Objects, Trap};
 use syntax::Name;
 
 /// The value of a number variable.

@@ -8,7 +8,7 @@ ghost use Rattle.semantics.specs.Term.{literal, constant};
 ghost use Rattle.semantics.specs.Value.{Word, Truth, Gives, convert, prefix_value, binary_value};
 ghost use Rattle.replay_terms.specs.Views.{value_view, evaluated_view};
 
-use crate::trap::Trap;
+use semantics::Trap;
 use syntax::{BinaryOp, Constant, ElementType, PrefixOp};
 
 /// The value of an expression.

@@ -12,7 +12,7 @@ use Rattle.semantics.specs.Variable.{Variable, Variables, copied_length, viewed}
 use Rattle.replay_steps.specs.declared.activation.Activation.{Activation}
 use Rattle.std.specs.List.{enumerate_from}
 use Rattle.std.specs.Borrow.{Bor}
-use Rattle.std.specs.Option.{option_map, is_some}
+use Rattle.std.specs.Option.{option_map, option_map_or, is_some}
 use Rattle.syntax.specs.Tree.{SourceUnit}
 use Rattle.class_rules.specs.Class.{Classes}
 use Rattle.semantics.specs.declared.journal.Entry.TheVariants as entry
@@ -31,12 +31,12 @@ use Rattle.semantics.specs.ThreadStep.{thread_step, waits}
 use Rattle.semantics.proofs.StepLaws.{Steps, steps, step-thread}
 use Rattle.replay_threads.specs.declared.state.State.{State as StateInMemory}
 use Rattle.replay_threads.specs.declared.thread.Thread.{Thread as ThreadInMemory}
-use Rattle.replay_threads.specs.declared.thread.Step.{Step}
-use Rattle.replay_threads.specs.declared.thread.Step.TheVariants as step
-use Rattle.replay_threads.specs.declared.state.Stop.{Stop as StopInMemory}
-use Rattle.replay_terms.specs.Views.{trap_view}
-use Rattle.replay_threads.specs.States.{ThreadsStand, AreInRange, Stands, variables_of, copied_in, viewed_in, in_use_by, stop_view, printed_after, stop_after, is_possible, Leads, standing_in, standings_of, EachInRange}
-use Rattle.replay_threads.specs.Threads.{ThreadStands, ThreadWaits, WorkInRange, WorkStands, ending_view, StepIs, TakesStep}
+use Rattle.semantics.specs.declared.event.Event.{Event}
+use Rattle.semantics.specs.declared.event.Event.TheVariants as event
+use Rattle.semantics.specs.declared.event.Stop.{Stop as StopInMemory}
+use Rattle.semantics.specs.EventViews.{ending_view, event_view, printed_after, stop_after, stop_view, trap_view}
+use Rattle.replay_threads.specs.States.{ThreadsStand, AreInRange, Stands, variables_of, copied_in, viewed_in, in_use_by, Leads, standing_in, standings_of, EachInRange}
+use Rattle.replay_threads.specs.Threads.{ThreadStands, ThreadWaits, WorkInRange, WorkStands, StepIs, TakesStep}
 use Rattle.replay_threads.proofs.StandingLemmas.{numbered_at, taken_more}
 
 -- ---- one thread of several
@@ -243,14 +243,14 @@ module _ (unit : SourceUnit) (w : World) (m : StateInMemory) (s : State) (h : St
     same_stop : (o : Option StopInMemory) → new.stop ≡ o → o ≡ m.stop → s.stop ≡ option_map stop_view new.stop
     same_stop o is same = h.stop ∙ ap (option_map stop_view) (sym (is ∙ same))
 
-    by_step : (took : Step) → StepIs unit w.classes after_it after took (thread_step unit w.classes (in_use s) (suc i) (shared_view m.shared) the_thread.source refused) → new.printed.items ≡ printed_after m.printed.items (suc i) took
-        → new.stop ≡ stop_after m.stop (suc i) took → Leads unit w s (entry.Step (suc i) refused) new (is_possible took)
-    by_step step.Quiet l printed stop = (
+    by_step : (took : Option Event) → StepIs unit w.classes after_it after took (thread_step unit w.classes (in_use s) (suc i) (shared_view m.shared) the_thread.source refused) → new.printed.items ≡ option_map_or (printed_after m.printed.items (suc i)) took m.printed.items
+        → new.stop ≡ option_map_or (stop_after m.stop (suc i)) took m.stop → Leads unit w s (entry.Step (suc i) refused) new (is_some took)
+    by_step (Some event.Quiet) l printed stop = (
       with_event (record s { shared = after_it; threads = set_thread s.threads (suc i) l.next }) (suc i) Quiet,
       step_is ∙ ap (advanced s (suc i)) l.advances,
       record { world = same_world; shared = refl; threads = all_stand l.next l.stands; printed = h.printed ∙ sym printed; stop = same_stop m.stop stop refl },
     )
-    by_step (step.Printed z) l printed stop = (
+    by_step (Some (event.Printed z)) l printed stop = (
       with_event (record s { shared = after_it; threads = set_thread s.threads (suc i) l.next }) (suc i) (PrintedNumber z),
       step_is ∙ ap (advanced s (suc i)) l.advances,
       record {
@@ -261,25 +261,25 @@ module _ (unit : SourceUnit) (w : World) (m : StateInMemory) (s : State) (h : St
         stop = same_stop m.stop stop refl;
       },
     )
-    by_step (step.Trapped trap line) l printed stop = (
+    by_step (Some (event.Trapped trap line)) l printed stop = (
       with_event (record s { shared = after_it; threads = set_thread s.threads (suc i) l.next }) (suc i) (Trapped (trap_view trap) line),
       step_is ∙ ap (advanced s (suc i)) l.advances,
       record { world = same_world; shared = refl; threads = all_stand l.next l.stands; printed = h.printed ∙ sym printed; stop = ap (option_map stop_view) (sym stop) },
     )
-    by_step step.Impossible l printed stop = step_is ∙ ap (advanced s (suc i)) l
+    by_step None l printed stop = step_is ∙ ap (advanced s (suc i)) l
 
-    takes_at : (took : Step) → TakesStep unit w.classes (in_use s) (suc i) refused (shared_view m.shared) t took (shared_view new.shared) after → new.printed.items ≡ printed_after m.printed.items (suc i) took → new.stop ≡ stop_after m.stop (suc i) took
-        → Leads unit w s (entry.Step (suc i) refused) new (is_possible took)
+    takes_at : (took : Option Event) → TakesStep unit w.classes (in_use s) (suc i) refused (shared_view m.shared) t took (shared_view new.shared) after → new.printed.items ≡ option_map_or (printed_after m.printed.items (suc i)) took m.printed.items → new.stop ≡ option_map_or (stop_after m.stop (suc i)) took m.stop
+        → Leads unit w s (entry.Step (suc i) refused) new (is_some took)
     takes_at took step printed stop = by_step took (step the_thread.source the_thread.stands unended) printed stop
 
   -- an entry is possible as far as its thread's step is
-  pub takes : (k : ℕ) (refused : Bool) (i : ℕ) (t after : ThreadInMemory) (took : Step) (new : StateInMemory) → k ≡ suc i → slice_get m.threads.items i ≡ Some t → is_unfinished (ending_view t.ending) ≡ true
+  pub takes : (k : ℕ) (refused : Bool) (i : ℕ) (t after : ThreadInMemory) (took : Option Event) (new : StateInMemory) → k ≡ suc i → slice_get m.threads.items i ≡ Some t → is_unfinished (ending_view t.ending) ≡ true
       → is_some m.stop ≡ false → is_blocked w.classes s k ≡ false → TakesStep unit w.classes (in_use s) k refused (shared_view m.shared) t took (shared_view new.shared) after → new.world ≡ m.world → new.threads.items ≡ slice_set m.threads.items i after
-      → new.printed.items ≡ printed_after m.printed.items k took → new.stop ≡ stop_after m.stop k took
-      → Leads unit w s (entry.Step k refused) new (is_possible took)
+      → new.printed.items ≡ option_map_or (printed_after m.printed.items k) took m.printed.items → new.stop ≡ option_map_or (stop_after m.stop k) took m.stop
+      → Leads unit w s (entry.Step k refused) new (is_some took)
   takes k refused i t after took new counted at live runs free step world threads printed stop =
-      subst (λ n. Leads unit w s (entry.Step n refused) new (is_possible took)) (sym counted)
-      (takes_at i t after at live runs (ap (is_blocked w.classes s) (sym counted) ∙ free) new world threads refused took (subst (λ n. TakesStep unit w.classes (in_use s) n refused (shared_view m.shared) t took (shared_view new.shared) after) counted step) (printed ∙ ap (λ k. printed_after m.printed.items k took) counted) (stop ∙ ap (λ k. stop_after m.stop k took) counted))
+      subst (λ n. Leads unit w s (entry.Step n refused) new (is_some took)) (sym counted)
+      (takes_at i t after at live runs (ap (is_blocked w.classes s) (sym counted) ∙ free) new world threads refused took (subst (λ n. TakesStep unit w.classes (in_use s) n refused (shared_view m.shared) t took (shared_view new.shared) after) counted step) (printed ∙ ap (λ k. option_map_or (printed_after m.printed.items k) took m.printed.items) counted) (stop ∙ ap (λ k. option_map_or (stop_after m.stop k) took m.stop) counted))
 
   -- ---- the report
 

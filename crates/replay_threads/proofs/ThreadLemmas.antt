@@ -20,18 +20,18 @@ use Rattle.replay_tasks.specs.declared.outcome.Outcome.TheVariants as outcome
 use Rattle.replay_steps.specs.Activations.{tasks_left, thread_in, advance_by, Advances}
 use Rattle.replay_steps.specs.Steps.{Scene, Sees, scene_with}
 use Rattle.replay_steps.specs.Waits.{WaitsIn}
-use Rattle.replay_terms.specs.Views.{trap_view}
+use Rattle.semantics.specs.EventViews.{ending_view, trap_view}
 use Rattle.replay_tasks.specs.declared.outcome.Outcome.{Outcome}
-use Rattle.replay_threads.specs.declared.thread.Step.{Step}
-use Rattle.replay_threads.specs.Threads.{IsEntered, HasNoEntry, ThreadStands, ThreadWaits, WorkInRange, WorkStands, EndsStep, HasLeft, Leaves, StepIs, step_of, tasks_in, ending_view}
+use Rattle.semantics.specs.declared.event.Event.{Event as EventInMemory}
+use Rattle.replay_threads.specs.Threads.{IsEntered, HasNoEntry, ThreadStands, ThreadWaits, WorkInRange, WorkStands, EndsStep, HasLeft, Leaves, StepIs, event_of, tasks_in}
 
 -- a call that didn't return goes on
-pub goes_on : (k : ℕ) (shared : Shared) (t : ThreadInMemory) (o : Outcome) (took : Step) → (o ≡ outcome.Returned → ⊥) → took ≡ step_of o → EndsStep k shared t o took shared t
+pub goes_on : (k : ℕ) (shared : Shared) (t : ThreadInMemory) (o : Outcome) (took : Option EventInMemory) → (o ≡ outcome.Returned → ⊥) → took ≡ event_of o → EndsStep k shared t o took shared t
 goes_on k shared t outcome.Returned took none is = absurd (none refl)
 goes_on k shared t o took none is = (is, refl, refl)
 
 -- what is known of it stays known
-pub ended_range : (k : ℕ) (shared last : Shared) (t : ThreadInMemory) (new : Activation) (o : Outcome) (took : Step) (left : ThreadInMemory) → t.activation ≡ Some new → EndsStep k shared t o took last left → WorkInRange (Some new) → WorkInRange left.activation
+pub ended_range : (k : ℕ) (shared last : Shared) (t : ThreadInMemory) (new : Activation) (o : Outcome) (took : Option EventInMemory) (left : ThreadInMemory) → t.activation ≡ Some new → EndsStep k shared t o took last left → WorkInRange (Some new) → WorkInRange left.activation
 ended_range k shared last t new outcome.Returned took left is e known = subst WorkInRange (sym e.1.activation) tt
 ended_range k shared last t new o took left is e known = subst (λ (u : ThreadInMemory). WorkInRange u.activation) (sym e.1) (subst WorkInRange (sym is) known)
 
@@ -90,7 +90,7 @@ module _ (unit : SourceUnit) (classes : Classes) (in_use : BuffersInUse) (k : �
     }
 
     pub goes : (o : Outcome) → (o ≡ outcome.Returned → ⊥) → Advances refused before a.work o end' new.work
-        → StepIs unit classes after stepped (step_of o) (thread_step unit classes in_use k shared s refused)
+        → StepIs unit classes after stepped (event_of o) (thread_step unit classes in_use k shared s refused)
     goes outcome.Stays other does = on Quiet (advances_so outcome.Stays does)
     goes (outcome.Printed z) other does = on (PrintedNumber z) (advances_so (outcome.Printed z) does)
     goes (outcome.Sets x v) other does = on Quiet (advances_so (outcome.Sets x v) does)
@@ -125,13 +125,13 @@ module _ (unit : SourceUnit) (classes : Classes) (in_use : BuffersInUse) (k : �
         }
 
     -- what a step of the call did is the thread's step
-    pub ended_step : (o : Outcome) (took : Step) (last : Shared) (left : ThreadInMemory) → EndsStep k after stepped o took last left → Advances refused before a.work o end' new.work
+    pub ended_step : (o : Outcome) (took : Option EventInMemory) (last : Shared) (left : ThreadInMemory) → EndsStep k after stepped o took last left → Advances refused before a.work o end' new.work
         → StepIs unit classes last left took (thread_step unit classes in_use k shared s refused)
     ended_step outcome.Returned took last left e does = rw e.0 (returns last left does e.1)
     ended_step o took last left e does =
         let taken = thread_step unit classes in_use k shared s refused in
         subst (λ (x : Shared). StepIs unit classes x left took taken) (sym e.2)
-        (subst (λ (w : Step). StepIs unit classes after left w taken) (sym e.0) (subst (λ (u : ThreadInMemory). StepIs unit classes after u (step_of o) taken) (sym e.1) (goes o (λ r. absurd (cc)) does)))
+        (subst (λ (w : Option EventInMemory). StepIs unit classes after left w taken) (sym e.0) (subst (λ (u : ThreadInMemory). StepIs unit classes after u (event_of o) taken) (sym e.1) (goes o (λ r. absurd (cc)) does)))
 
   -- the entry into the next call
   pub enters : (shared : Shared) (t : ThreadInMemory) (call : Invocation) (rest : List Invocation) (o : Option Activation) (s : Thread) → IsEntered unit classes call o → t.activation ≡ None → t.calls.now ≡ call ∷ rest → ThreadStands unit classes t s

@@ -1,28 +1,27 @@
 -- States that lie in memory, as those of the language, and what an entry does to one.
 use Rattle.std.specs.Prelude.{◌≡◌, ℕ, ◌+◌, ◌<◌, ◌≤◌, length, slice_get, sum_by, flat_map, is_some, Bool, true, false, List, [], ◌∷◌, ◌++◌, map, Option, Some, None}
 use Rattle.std.specs.List.{enumerate_from}
-use Rattle.std.specs.Option.{option_map}
+use Rattle.std.specs.Option.{option_map, option_map_or}
 use Rattle.syntax.specs.Tree.{SourceUnit}
 use Rattle.class_rules.specs.Class.{Classes}
+use Rattle.semantics.specs.declared.event.Event.{Event}
+use Rattle.semantics.specs.declared.event.Stop.{Stop as StopInMemory}
 use Rattle.semantics.specs.declared.journal.Entry.{Entry}
 use Rattle.semantics.specs.declared.journal.Entry.TheVariants as entry
-use Rattle.semantics.specs.declared.printed.Printed.{Printed}
 use Rattle.semantics.specs.Report.{ThreadStanding}
 use Rattle.semantics.specs.World.{World}
 use Rattle.semantics.specs.Thread.{Thread, BuffersInUse}
 use Rattle.semantics.specs.Variable.{Variable, Variables, copied_length, viewed}
 use Rattle.base.specs.Bytes.{Identifier}
 use Rattle.replay_steps.specs.declared.activation.Activation.{Activation}
-use Rattle.semantics.specs.State.{State, Stop}
+use Rattle.semantics.specs.State.{State}
 use Rattle.semantics.specs.Step.{world_step, is_blocked, is_unfinished}
 use Rattle.semantics.specs.ReportOf.{standing_at, standing_of}
 use Rattle.replay_threads.specs.declared.thread.Thread.{Thread as ThreadInMemory}
-use Rattle.replay_threads.specs.declared.thread.Step.{Step}
-use Rattle.replay_threads.specs.declared.thread.Step.TheVariants as step
 use Rattle.replay_threads.specs.declared.state.State.{State as StateInMemory}
-use Rattle.replay_threads.specs.declared.state.Stop.{Stop as StopInMemory}
-use Rattle.replay_terms.specs.Views.{trap_view, variables_view}
-use Rattle.replay_threads.specs.Threads.{ThreadStands, WorkInRange, ending_view}
+use Rattle.semantics.specs.EventViews.{ending_view, printed_after, stop_after, stop_view}
+use Rattle.replay_terms.specs.Views.{variables_view}
+use Rattle.replay_threads.specs.Threads.{ThreadStands, WorkInRange}
 use Rattle.replay_calls.specs.Shares.{shared_view}
 
 -- each thread in memory stands for the one of the same number
@@ -41,9 +40,6 @@ pub record AreInRange (ts : List ThreadInMemory) : Type 0 where
   pub few : length ts ≤ 8
   pub each : EachInRange ts
 
-abbrev pub stop_view : StopInMemory → Stop
-stop_view stop = record { thread = stop.thread; trap = trap_view stop.trap; line = stop.line }
-
 -- a state in memory stands for one of the language, in the world that it began in
 pub record Stands (unit : SourceUnit) (w : World) (m : StateInMemory) (s : State) : Type 0 where
   pub world : w ≡ m.world.now
@@ -54,28 +50,13 @@ pub record Stands (unit : SourceUnit) (w : World) (m : StateInMemory) (s : State
 
 -- ---- entries
 
--- the numbers printed after a step of thread k
-abbrev pub printed_after : List Printed → ℕ → Step → List Printed
-printed_after printed k (step.Printed z) = printed ++ record { thread = k; number = z } ∷ []
-printed_after printed k took = printed
-
--- the trap that stopped the machine, after it
-abbrev pub stop_after : Option StopInMemory → ℕ → Step → Option StopInMemory
-stop_after stop k (step.Trapped trap line) = Some (record { thread = k; trap = trap; line = line })
-stop_after stop k took = stop
-
--- what a step of thread k did is written down, and nothing else
-pub record IsNoted (old : StateInMemory) (k : ℕ) (took : Step) (new : StateInMemory) : Type 0 where
+-- What others see of what thread k did is written down, and nothing else; if it did nothing, nothing is.
+pub record IsNoted (old : StateInMemory) (k : ℕ) (took : Option Event) (new : StateInMemory) : Type 0 where
   pub world : new.world ≡ old.world
   pub shared : new.shared ≡ old.shared
   pub threads : new.threads ≡ old.threads
-  pub printed : new.printed.items ≡ printed_after old.printed.items k took
-  pub stop : new.stop ≡ stop_after old.stop k took
-
--- the step was possible
-abbrev pub is_possible : Step → Bool
-is_possible step.Impossible = false
-is_possible took = true
+  pub printed : new.printed.items ≡ option_map_or (printed_after old.printed.items k) took old.printed.items
+  pub stop : new.stop ≡ option_map_or (stop_after old.stop k) took old.stop
 
 -- an entry is possible and leaves this, or is not possible
 abbrev pub Leads : SourceUnit → World → State → Entry → StateInMemory → (possible : Bool) → Type 0

@@ -10,7 +10,7 @@ use Rattle.semantics.specs.Activation.{parameter_variables, function_at, class_o
 use Rattle.semantics.specs.Load.{call_loads}
 use Rattle.semantics.specs.World.{Invocation}
 use Rattle.semantics.specs.Task.{Task, tasks_of}
-use Rattle.semantics.specs.Thread.{Ending, Unfinished, Ended, Uncaught, Thread, Shared, BuffersInUse, Event, Quiet, PrintedNumber, Trapped, Advance, Advances, NoAdvance}
+use Rattle.semantics.specs.Thread.{Unfinished, Thread, Shared, BuffersInUse, Event, Advance, Advances, NoAdvance}
 use Rattle.semantics.specs.ThreadStep.{thread_step, waits}
 use Rattle.semantics.specs.Value.{Int}
 use Rattle.semantics.specs.Variable.{Variable, Scalar, LocalRef}
@@ -18,14 +18,13 @@ use Rattle.replay_steps.specs.declared.activation.Activation.{Activation}
 use Rattle.replay_tasks.specs.declared.outcome.Outcome.{Outcome}
 use Rattle.replay_tasks.specs.declared.outcome.Outcome.TheVariants as outcome
 use Rattle.replay_threads.specs.declared.thread.Thread.{Thread as ThreadInMemory}
-use Rattle.replay_threads.specs.declared.thread.Ending.{Ending as EndingInMemory}
-use Rattle.replay_threads.specs.declared.thread.Ending.TheVariants as ending
-use Rattle.replay_threads.specs.declared.thread.Step.{Step}
-use Rattle.replay_threads.specs.declared.thread.Step.TheVariants as step
 use Rattle.replay_steps.specs.Activations.{tasks_left, IsAtStatement}
 use Rattle.replay_steps.specs.declared.turn.Turn.{Turn}
 use Rattle.replay_terms.specs.Views.{in_use_view}
-use Rattle.replay_terms.specs.Views.{assign_all, variables_view, trap_view}
+use Rattle.semantics.specs.declared.event.Event.{Event as EventInMemory}
+use Rattle.semantics.specs.declared.event.Event.TheVariants as event
+use Rattle.semantics.specs.EventViews.{ending_view, event_view}
+use Rattle.replay_terms.specs.Views.{assign_all, variables_view}
 use Rattle.semantics.specs.declared.object_value.ObjectValue.{ObjectValue as ObjectValueInMemory}
 use Rattle.world_values.specs.Views.{object_value_view}
 
@@ -42,11 +41,6 @@ WorkStands (Some a) s = (s.variables ≡ variables_view a.locals.variables) × (
 abbrev pub WorkInRange : Option Activation → Type 0
 WorkInRange None = Unit {0}
 WorkInRange (Some a) = IsAtStatement a.work
-
-abbrev pub ending_view : EndingInMemory → Ending
-ending_view ending.Unfinished = Unfinished
-ending_view ending.Ended = Ended
-ending_view (ending.Uncaught class) = Uncaught class
 
 -- what a parameter with this argument holds
 abbrev pub argument_content : ObjectValue → Variable
@@ -84,12 +78,12 @@ abbrev pub BeginsNext : SourceUnit → Classes → Invocation → (begun : Bool)
 BeginsNext unit classes call true old new = IsEntered unit classes call new
 BeginsNext unit classes call false old new = (new ≡ old) × HasNoEntry unit classes call
 
--- what others see of what a call in progress did
-abbrev pub step_of : Outcome → Step
-step_of (outcome.Printed z) = step.Printed z
-step_of (outcome.Trapped trap line) = step.Trapped trap line
-step_of outcome.Impossible = step.Impossible
-step_of took = step.Quiet
+-- what others see of what a call in progress did; none where it did nothing that is possible
+abbrev pub event_of : Outcome → Option EventInMemory
+event_of (outcome.Printed z) = Some (event.Printed z)
+event_of (outcome.Trapped trap line) = Some (event.Trapped trap line)
+event_of outcome.Impossible = None
+event_of took = Some event.Quiet
 
 -- thread k left its call in progress, and what it owns where it has ended
 pub record HasLeft (k : ℕ) (s : Shared) (old : ThreadInMemory) (after : Shared) (new : ThreadInMemory) : Type 0 where
@@ -100,9 +94,9 @@ pub record HasLeft (k : ℕ) (s : Shared) (old : ThreadInMemory) (after : Shared
   pub shared : after ≡ record s { monitors = monitors_after (ending_view new.ending) k s.monitors }
 
 -- what others see of what a call in progress did, which was left if it returned
-abbrev pub EndsStep : (k : ℕ) → Shared → ThreadInMemory → Outcome → Step → Shared → ThreadInMemory → Type 0
-EndsStep k shared old outcome.Returned took after new = (took ≡ step.Quiet) × HasLeft k shared old after new
-EndsStep k shared old o took after new = (took ≡ step_of o) × (new ≡ old) × (after ≡ shared)
+abbrev pub EndsStep : (k : ℕ) → Shared → ThreadInMemory → Outcome → Option EventInMemory → Shared → ThreadInMemory → Type 0
+EndsStep k shared old outcome.Returned took after new = (took ≡ Some event.Quiet) × HasLeft k shared old after new
+EndsStep k shared old o took after new = (took ≡ event_of o) × (new ≡ old) × (after ≡ shared)
 
 -- a thread in memory stands for one of the language
 pub record ThreadStands (unit : SourceUnit) (classes : Classes) (t : ThreadInMemory) (s : Thread) : Type 0 where
@@ -123,19 +117,17 @@ pub record Leaves (unit : SourceUnit) (classes : Classes) (shared : Shared) (t :
   pub advances : advance ≡ Advances shared next event
   pub stands : ThreadStands unit classes t next
 
--- what a step in memory did is the thread's step
-abbrev pub StepIs : SourceUnit → Classes → Shared → ThreadInMemory → Step → Advance → Type 0
-StepIs unit classes shared t step.Quiet advance = Leaves unit classes shared t Quiet advance
-StepIs unit classes shared t (step.Printed z) advance = Leaves unit classes shared t (PrintedNumber z) advance
-StepIs unit classes shared t (step.Trapped trap line) advance = Leaves unit classes shared t (Trapped (trap_view trap) line) advance
-StepIs unit classes shared t step.Impossible advance = advance ≡ NoAdvance
+-- what a step in memory did is the thread's step, or neither is possible
+abbrev pub StepIs : SourceUnit → Classes → Shared → ThreadInMemory → Option EventInMemory → Advance → Type 0
+StepIs unit classes shared t (Some e) advance = Leaves unit classes shared t (event_view e) advance
+StepIs unit classes shared t None advance = advance ≡ NoAdvance
 
 -- The same for each thread that it stands for, with this to share before and after it, or what the step does with its object
 -- refused. It is thread k, and the buffers of all threads together take what is in use.
-abbrev pub TakesStep : SourceUnit → Classes → BuffersInUse → (k : ℕ) → (refused : Bool) → Shared → ThreadInMemory → Step → Shared → ThreadInMemory → Type 0
+abbrev pub TakesStep : SourceUnit → Classes → BuffersInUse → (k : ℕ) → (refused : Bool) → Shared → ThreadInMemory → Option EventInMemory → Shared → ThreadInMemory → Type 0
 TakesStep unit classes in_use k refused shared old took after new =
     (s : Thread) → ThreadStands unit classes old s → s.ending ≡ Unfinished → StepIs unit classes after new took (thread_step unit classes in_use k shared s refused)
 
 -- the same at a turn
-abbrev pub TakesTurn : SourceUnit → Turn → Shared → ThreadInMemory → Step → Shared → ThreadInMemory → Type 0
+abbrev pub TakesTurn : SourceUnit → Turn → Shared → ThreadInMemory → Option EventInMemory → Shared → ThreadInMemory → Type 0
 TakesTurn unit turn shared old took after new = TakesStep unit turn.classes.now (in_use_view turn.in_use) turn.thread turn.refused shared old took after new

@@ -6,5 +6,5 @@ mod state;
 mod thread;
 
 pub use rows::root_names;
-pub use state::{State, Stop, standings_of, take_entry};
-pub use thread::{Ending, Thread, class_of};
+pub use state::{State, standings_of, take_entry};
+pub use thread::{Thread, class_of};

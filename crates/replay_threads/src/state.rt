@@ -1,36 +1,24 @@
 //! The state of a replay, and what an entry does to it.
 
-ghost use Rattle.std.specs.Prelude.{◌≡◌, [], IfOk, IfSome, IfNone, map, ◌≤◌, length};
+ghost use Rattle.std.specs.Prelude.{◌≡◌, [], IfOk, IfSome, IfNone, is_some, map, ◌≤◌, length};
 ghost use Rattle.syntax.specs.Limits.{IsTree};
 ghost use Rattle.syntax.specs.Views.{unit_tree};
 ghost use Rattle.type_rules.specs.SortRules.{IsSorted};
 ghost use Rattle.semantics.specs.declared.journal.Entry.TheVariants as journal;
-ghost use Rattle.replay_threads.specs.States.{AreInRange, IsLiveAt, TakesEntry, TakesNone, IsNoted, AreStandings, Waits, in_use_by, is_possible, standing_in, copied_in, viewed_in};
+ghost use Rattle.replay_threads.specs.States.{AreInRange, IsLiveAt, TakesEntry, TakesNone, IsNoted, AreStandings, Waits, in_use_by, copied_in, viewed_in};
 ghost use Rattle.replay_terms.specs.Views.{in_use_view};
-ghost use Rattle.replay_threads.specs.Threads.{ending_view};
 ghost use Rattle.report.specs.ThreadStatus.{standing_view};
-ghost use Rattle.semantics.specs.ReportOf.{standing_by_ending};
 
-use crate::thread::{Ending, Step, Thread, is_unfinished, is_waiting, take_step};
-use classes::table::ClassTable;
+use crate::thread::{Thread, is_waiting, take_step};
 use functions::Functions;
 use replay_calls::Shared;
 use replay_steps::Turn;
-use replay_terms::{BuffersInUse, Trap, trap_number};
+use replay_terms::BuffersInUse;
 use report::ThreadStatus;
-use semantics::{Entry, Printed};
+use report_objects::standing_of;
+use semantics::{Entry, Event, Printed, Stop};
 use std::alloc::{AllocError, Global};
 use world_values::World;
-
-/// The trap that stopped the machine.
-#[derive(Clone, Copy)]
-pub struct Stop {
-    /// The thread's number, from 1.
-    pub thread: u8,
-    pub trap: Trap,
-    /// The line of the statement.
-    pub line: usize,
-}
 
 /// The threads, the world that they began in, what they share, what they printed, and the trap that stopped them.
 pub struct State<'a> {
@@ -56,18 +44,18 @@ impl Drop for State<'_> {
     }
 }
 
-/// Writes down what thread `k` did; false where it could do nothing.
-fn note(state: &mut State<'_>, k: u8, step: Step) -> Result<bool, AllocError>
-    ensures possible { IfOk result (λ possible. possible ≡ is_possible step) }
-    ensures noted { IfOk result (λ _. IsNoted state.old k step state.new) }
+/// Writes down what others see of what thread `k` did; false where it could do nothing.
+fn note(state: &mut State<'_>, k: u8, took: Option<Event>) -> Result<bool, AllocError>
+    ensures possible { IfOk result (λ possible. possible ≡ is_some took) }
+    ensures noted { IfOk result (λ _. IsNoted state.old k took state.new) }
 {
-    match step {
-        Step::Quiet => Ok(true),
-        Step::Printed(number) => {
+    match took {
+        Some(Event::Quiet) => Ok(true),
+        Some(Event::Printed(number)) => {
             state.printed.push(Printed { thread: k, number })?;
             Ok(true)
         }
-        Step::Trapped(trap, line) => {
+        Some(Event::Trapped(trap, line)) => {
             state.stop = Some(Stop {
                 thread: k,
                 trap,
@@ -75,7 +63,7 @@ fn note(state: &mut State<'_>, k: u8, step: Step) -> Result<bool, AllocError>
             });
             Ok(true)
         }
-        Step::Impossible => Ok(false),
+        None => Ok(false),
     }
 }
 
@@ -113,7 +101,7 @@ fn place_of(state: &State<'_>, k: u8) -> Option<usize>
     if waits(state, number) {
         return None;
     }
-    if is_unfinished(state.threads[number - 1].ending) {
+    if state.threads[number - 1].ending.is_unfinished() {
         Some(number - 1)
     } else {
         None
@@ -178,7 +166,7 @@ fn take_turn<'a>(
     };
     let thread = &mut state.threads[place];
     match take_step(functions, state.world, turn, &mut state.shared, thread) {
-        Ok(step) => note(state, k, step),
+        Ok(took) => note(state, k, took),
         Err(error) => Err(error),
     }
 }
@@ -203,36 +191,6 @@ pub fn take_entry<'a>(
     }
 }
 
-/// The status of a thread that didn't trap.
-fn standing_by(classes: &ClassTable, waits: bool, ending: Ending) -> ThreadStatus<'_>
-    ensures { standing_view result ≡ standing_by_ending classes.now waits (ending_view ending) }
-{
-    match ending {
-        Ending::Unfinished if waits => ThreadStatus::Blocked,
-        Ending::Unfinished => ThreadStatus::Running,
-        Ending::Ended => ThreadStatus::Ended,
-        Ending::Uncaught(class) => ThreadStatus::Uncaught(classes.name(class)),
-    }
-}
-
-/// The status of thread `k`.
-fn standing_of<'c>(
-    classes: &'c ClassTable,
-    waits: bool,
-    stop: Option<Stop>,
-    k: usize,
-    thread: &Thread<'_>,
-) -> ThreadStatus<'c>
-    ensures { standing_view result ≡ standing_in classes.now waits stop k thread.now }
-{
-    if let Some(stop) = stop {
-        if usize::from(stop.thread) == k {
-            return ThreadStatus::Trapped(trap_number(stop.trap), stop.line);
-        }
-    }
-    standing_by(classes, waits, thread.ending)
-}
-
 /// Puts the statuses of the threads, in their order, into an empty list.
 fn add_standings<'a>(
     standings: &mut Vec<ThreadStatus<'a>>,
@@ -246,7 +204,7 @@ fn add_standings<'a>(
     for thread in &state.threads {
         k += 1;
         let waits = waits(state, k);
-        match standings.push(standing_of(classes, waits, state.stop, k, thread)) {
+        match standings.push(standing_of(classes, waits, state.stop, k, thread.ending)) {
             Ok(()) => {}
             Err(_) => return Err(AllocError),
         }

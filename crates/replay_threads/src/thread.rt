@@ -6,11 +6,11 @@ ghost use Rattle.syntax.specs.Views.{function_tree, parameter_tree, unit_tree};
 ghost use Rattle.type_rules.specs.SortRules.{IsSorted};
 ghost use Rattle.world_values.specs.Views.{object_value_view};
 ghost use Rattle.semantics.specs.Activation.{parameter_variables, class_of_function, named_object, entry_frame, ending_after};
-ghost use Rattle.semantics.specs.Step.{is_unfinished};
+ghost use Rattle.semantics.specs.EventViews.{ending_view};
 ghost use Rattle.semantics.specs.Thread.{Shared as SharedOfThreads};
 ghost use Rattle.semantics.specs.Variable.{LocalRef};
 ghost use Rattle.class_rules.specs.Grown.{IsGrown};
-ghost use Rattle.replay_threads.specs.Threads.{argument_content, ending_view, BeginsNext, IsBegun, EndsStep, HasLeft, TakesTurn, ThreadWaits, WorkInRange, step_of};
+ghost use Rattle.replay_threads.specs.Threads.{argument_content, BeginsNext, IsBegun, EndsStep, HasLeft, TakesTurn, ThreadWaits, WorkInRange, event_of};
 ghost use Rattle.replay_tasks.specs.Tasks.{StatementsInRange};
 ghost use Rattle.syntax.specs.declared.stmt.Block.{out-Block};
 ghost use Rattle.replay_calls.specs.Shares.{shared_view};
@@ -23,29 +23,11 @@ use replay_calls::Shared;
 use replay_objects::{Frames, Names, Store};
 use replay_steps::{Activation, Locals, Turn, advance, waits, work_of};
 use replay_tasks::Outcome;
-use replay_terms::{Content, Trap, Value, Variables};
+use replay_terms::{Content, Value, Variables};
+use semantics::{Ending, Event};
 use std::alloc::{AllocError, Global};
 use syntax::{Function, Parameter};
 use world_values::{Call, ObjectValue, World};
-
-/// How a thread has ended, if it has.
-#[derive(Clone, Copy)]
-pub enum Ending {
-    Unfinished,
-    Ended,
-    /// Its call returned with an exception of the class of this number pending.
-    Uncaught(usize),
-}
-
-/// Whether a thread has not ended.
-pub(crate) fn is_unfinished(ending: Ending) -> bool
-    ensures { result ≡ is_unfinished (ending_view ending) }
-{
-    match ending {
-        Ending::Unfinished => true,
-        Ending::Ended | Ending::Uncaught(_) => false,
-    }
-}
 
 /// A thread: the calls to come, the one in progress, the pending exception, and how it has ended.
 pub struct Thread<'a> {
@@ -66,17 +48,6 @@ impl Drop for Thread<'_> {
         } = self;
         drop(activation);
     }
-}
-
-/// What a step of a thread did.
-#[derive(Clone, Copy)]
-pub(crate) enum Step {
-    Quiet,
-    Printed(i32),
-    /// The machine stops, by a statement of this line.
-    Trapped(Trap, usize),
-    /// It is not possible.
-    Impossible,
 }
 
 /// What a parameter holds at first.
@@ -226,13 +197,13 @@ fn begin_next<'a>(
     }
 }
 
-/// Enters the next call.
+/// Enters the next call; none where that isn't possible.
 fn enter<'a>(
     functions: &Functions<'a>,
     world: &World,
     turn: Turn<'a>,
     thread: &mut Thread<'a>,
-) -> Result<Step, AllocError>
+) -> Result<Option<Event>, AllocError>
     requires tree { IsTree (unit_tree functions.now) }
     requires sorted { IsSorted (unit_tree functions.now) }
     requires classes { turn.classes.now ≡ world.now.classes }
@@ -242,35 +213,35 @@ fn enter<'a>(
 {
     // An entry makes no object that could be refused.
     if turn.refused {
-        return Ok(Step::Impossible);
+        return Ok(None);
     }
     let Some((call, rest)) = thread.calls.split_first() else {
-        return Ok(Step::Impossible);
+        return Ok(None);
     };
     match begin_next(turn.alloc, functions, world, call, &mut thread.activation) {
         Ok(true) => {
             thread.calls = rest;
-            Ok(Step::Quiet)
+            Ok(Some(Event::Quiet))
         }
-        Ok(false) => Ok(Step::Impossible),
+        Ok(false) => Ok(None),
         Err(error) => Err(error),
     }
 }
 
-/// What others see of what a call in progress did.
-fn step_of(outcome: Outcome<'_>) -> Step
-    ensures { result ≡ step_of outcome.entry }
+/// What others see of what a call in progress did; none where it did nothing that is possible.
+fn event_of(outcome: Outcome<'_>) -> Option<Event>
+    ensures { result ≡ event_of outcome.entry }
 {
     match outcome {
-        Outcome::Stays | Outcome::Sets(_, _) | Outcome::SetsNull(_) => Step::Quiet,
-        Outcome::Gives(_, _) | Outcome::Lends(_, _) => Step::Quiet,
-        Outcome::SetsElement(_, _, _) => Step::Quiet,
-        Outcome::Tests(_, _, _, _) | Outcome::Makes(_, _, _) => Step::Quiet,
-        Outcome::Enters(_, _) => Step::Quiet,
-        Outcome::Ends | Outcome::Returned => Step::Quiet,
-        Outcome::Printed(z) => Step::Printed(z),
-        Outcome::Trapped(trap, line) => Step::Trapped(trap, line),
-        Outcome::Impossible => Step::Impossible,
+        Outcome::Stays | Outcome::Sets(_, _) | Outcome::SetsNull(_) => Some(Event::Quiet),
+        Outcome::Gives(_, _) | Outcome::Lends(_, _) => Some(Event::Quiet),
+        Outcome::SetsElement(_, _, _) => Some(Event::Quiet),
+        Outcome::Tests(_, _, _, _) | Outcome::Makes(_, _, _) => Some(Event::Quiet),
+        Outcome::Enters(_, _) => Some(Event::Quiet),
+        Outcome::Ends | Outcome::Returned => Some(Event::Quiet),
+        Outcome::Printed(z) => Some(Event::Printed(z)),
+        Outcome::Trapped(trap, line) => Some(Event::Trapped(trap, line)),
+        Outcome::Impossible => None,
     }
 }
 
@@ -304,17 +275,23 @@ fn leave(shared: &mut Shared<'_>, k: u8, thread: &mut Thread<'_>)
     }
 }
 
-/// Leaves the call in progress of thread `k` if it returned. Tells what others see of what it did.
+/// Leaves the call in progress of thread `k` if it returned. Tells what others see of what it did; none where it did nothing that is
+/// possible.
 #[inline]
-fn end_step(shared: &mut Shared<'_>, k: u8, thread: &mut Thread<'_>, outcome: Outcome<'_>) -> Step
+fn end_step(
+    shared: &mut Shared<'_>,
+    k: u8,
+    thread: &mut Thread<'_>,
+    outcome: Outcome<'_>,
+) -> Option<Event>
     ensures { EndsStep k (shared_view shared.old) thread.old outcome.entry result (shared_view shared.new) thread.new }
 {
     match outcome {
         Outcome::Returned => {
             leave(shared, k, thread);
-            Step::Quiet
+            Some(Event::Quiet)
         }
-        outcome => step_of(outcome),
+        outcome => event_of(outcome),
     }
 }
 
@@ -334,14 +311,15 @@ pub(crate) fn is_waiting(
     }
 }
 
-/// Lets a thread that has not ended take its next step, or the same with its object refused.
+/// Lets a thread that has not ended take its next step, or the same with its object refused. Tells what others see of it; none where
+/// it isn't possible.
 pub(crate) fn take_step<'a>(
     functions: &Functions<'a>,
     world: &'a World,
     turn: Turn<'a>,
     shared: &mut Shared<'a>,
     thread: &mut Thread<'a>,
-) -> Result<Step, AllocError>
+) -> Result<Option<Event>, AllocError>
     requires tree { IsTree (unit_tree functions.now) }
     requires sorted { IsSorted (unit_tree functions.now) }
     requires classes { turn.classes.now ≡ world.now.classes }

@@ -14,7 +14,8 @@ use Rattle.replay_calls.specs.Answers.{Answer, FitsArrays, FitsFrames, answer_or
 use Rattle.replay_calls.specs.Checked.{trap_found}
 use Rattle.replay_calls.specs.WorkedOut.{worked_out}
 use Rattle.replay_calls.specs.Shares.{shared_view}
-use Rattle.replay_terms.specs.Views.{in_use_view, trap_view, variables_view}
+use Rattle.semantics.specs.EventViews.{trap_view}
+use Rattle.replay_terms.specs.Views.{in_use_view, variables_view}
 use Rattle.replay_steps.specs.Calls.{MakesCall, wanted_element}
 use Rattle.replay_steps.specs.Steps.{Scene, scene_of}
 use Rattle.replay_calls.proofs.FittingFrames.{told_copies, told_fits}

@@ -4,7 +4,7 @@ use Rattle.std.proofs.lemmas.Option.{slice_get_read}
 use Rattle.semantics.specs.State.{thread_at}
 use Rattle.semantics.specs.Step.{is_blocked, is_unfinished}
 use Rattle.replay_threads.specs.declared.thread.Thread.{Thread}
-use Rattle.replay_threads.specs.Threads.{ending_view}
+use Rattle.semantics.specs.EventViews.{ending_view}
 use Rattle.replay_threads.proofs.StateLemmas.{stopped, not_there, past_the_end, ended, waiting}
 use Rattle.replay_threads.proofs.state.place_of.Goals as goal
 

@@ -1,5 +1,5 @@
 use Rattle.std.proofs.Common.{◌≡◌, Bool, length, ap, refl, sym, ◌∙◌, subst, arith}
-use Rattle.std.specs.Prelude.{Result, Ok, Err, IfOk}
+use Rattle.std.specs.Prelude.{Option, Result, Ok, Err, IfOk, is_some}
 use Rattle.std.specs.Global.{Vec}
 use Rattle.class_rules.specs.Class.{Classes}
 use Rattle.replay_calls.specs.declared.shared.Shared.{Shared}
@@ -12,8 +12,8 @@ use Rattle.std.proofs.lemmas.Option.{slice_get_read}
 use Rattle.std.proofs.lemmas.Result.{IfOk-weaker}
 use Rattle.syntax.specs.Views.{unit_tree}
 use Rattle.semantics.specs.declared.journal.Entry.TheVariants as entry
-use Rattle.replay_threads.specs.declared.thread.Step.{Step}
-use Rattle.replay_threads.specs.States.{AreInRange, TakesEntry, in_use_by, is_possible}
+use Rattle.semantics.specs.declared.event.Event.{Event}
+use Rattle.replay_threads.specs.States.{AreInRange, TakesEntry, in_use_by}
 use Rattle.replay_threads.specs.Threads.{TakesStep}
 use Rattle.replay_threads.proofs.StateLemmas.{in_use_same, takes, range_at, range_set}
 use Rattle.replay_threads.proofs.state.take_turn.Goals as goal
@@ -25,7 +25,7 @@ take_step-requires-clause-range c =
     range_at ts c.args.place c.index_mut-thread.result.now c.requires.range at
 
 -- where it was written down
-noted_so : {E : Type 0} (r : Result Bool E) (P : Bool → Type 0) (took : Step) (N : Type 0) → IfOk r (λ possible. possible ≡ is_possible took) → IfOk r (λ _. N) → (N → P (is_possible took)) → IfOk r P
+noted_so : {E : Type 0} (r : Result Bool E) (P : Bool → Type 0) (took : Option Event) (N : Type 0) → IfOk r (λ possible. possible ≡ is_some took) → IfOk r (λ _. N) → (N → P (is_some took)) → IfOk r P
 noted_so (Ok possible) P took N is noted goes = subst P (sym is) (goes noted)
 noted_so (Err e) P took N is noted goes = tt
 
@@ -37,12 +37,12 @@ returns-in-Ok-clause-step c =
     let after = c.take_step.new.thread in
     let new = c.note.new.state in
     let at = slice_get_read m.threads.items (length m.threads.items) c.args.place t refl c.requires.live.there c.index_mut-thread.ensures.value in
-    noted_so c.note.result (λ possible. TakesEntry unit m (entry.Step c.args.k c.args.refused) possible new) c.in-Ok.step _ c.note.ensures.possible c.note.ensures.noted
+    noted_so c.note.result (λ possible. TakesEntry unit m (entry.Step c.args.k c.args.refused) possible new) c.in-Ok.took _ c.note.ensures.possible c.note.ensures.noted
     (λ noted w s h.
-    let seen = subst (λ (s' : Shared). TakesStep unit c.classes.result.now (in_use_view c.buffers_in_use.result) c.args.k c.args.refused (shared_view m.shared) t c.in-Ok.step (shared_view s') after) (sym noted.shared) c.in-Ok.ensures.step in
-    let known = subst (λ (T : Classes). TakesStep unit T (in_use_view c.buffers_in_use.result) c.args.k c.args.refused (shared_view m.shared) t c.in-Ok.step (shared_view new.shared) after) (c.classes.ensures.classes ∙ ap (λ (v : World). v.classes) (sym h.world)) seen in
-    let step = subst (λ (u : BuffersInUse). TakesStep unit w.classes u c.args.k c.args.refused (shared_view m.shared) t c.in-Ok.step (shared_view new.shared) after) (c.buffers_in_use.ensures ∙ ap in_use_by c.deref.ensures.value ∙ in_use_same unit w m s h) known in
-    takes unit w m s h c.requires.range c.args.k c.args.refused c.args.place t after c.in-Ok.step new
+    let seen = subst (λ (s' : Shared). TakesStep unit c.classes.result.now (in_use_view c.buffers_in_use.result) c.args.k c.args.refused (shared_view m.shared) t c.in-Ok.took (shared_view s') after) (sym noted.shared) c.in-Ok.ensures.step in
+    let known = subst (λ (T : Classes). TakesStep unit T (in_use_view c.buffers_in_use.result) c.args.k c.args.refused (shared_view m.shared) t c.in-Ok.took (shared_view new.shared) after) (c.classes.ensures.classes ∙ ap (λ (v : World). v.classes) (sym h.world)) seen in
+    let step = subst (λ (u : BuffersInUse). TakesStep unit w.classes u c.args.k c.args.refused (shared_view m.shared) t c.in-Ok.took (shared_view new.shared) after) (c.buffers_in_use.ensures ∙ ap in_use_by c.deref.ensures.value ∙ in_use_same unit w m s h) known in
+    takes unit w m s h c.requires.range c.args.k c.args.refused c.args.place t after c.in-Ok.took new
     (omega arith) at (c.requires.live.live t at) c.requires.live.runs (sym (c.requires.live.free unit w s h c.requires.range)) step
     noted.world (ap (λ (v : Vec Thread). v.items) noted.threads) noted.printed noted.stop)
 

@@ -7,4 +7,4 @@ pub returns-in-Returned : goal.returns-in-Returned
 returns-in-Returned c = rw c.in-Returned.is (refl, c.leave.ensures)
 
 pub returns-in_default : goal.returns-in_default
-returns-in_default c = goes_on c.args.k (shared_view c.args.shared.now) c.args.thread.now c.args.outcome c.step_of.result c.in_default.not-Returned c.step_of.ensures
+returns-in_default c = goes_on c.args.k (shared_view c.args.shared.now) c.args.thread.now c.args.outcome c.event_of.result c.in_default.not-Returned c.event_of.ensures
