@@ -160,8 +160,7 @@ fn seats_count(rt: HostRuntime) -> Result<(), Fail> {
     let order = b"111122221111111122222222222222111122222222111111111112";
     let (answers, report) = turned(&rt, rt.alloc(), COUNTING, COUNTER, order)?;
     assert!(rt;
-        answers.as_slice()
-            == b"sssssswwsssssssssssssssssssssssswwssssssssssssssssssee".as_slice()
+        answers.as_slice() == b"sssssswwsssssssssssssssssssssssswwssssssssssssssssssee".as_slice()
     );
     assert!(rt; report.starts_with(b"T1 ended\nT2 ended\n#46 A 4\njournal "));
     Ok(())
