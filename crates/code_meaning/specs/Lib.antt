@@ -3,6 +3,8 @@ pub mod Layout
 pub mod Coding
 -- how many steps a function has, on its tree
 pub mod Length
+-- which statements have no blocks
+pub mod Plain
 -- what the slots show
 pub mod Slots
 -- what is known of an accepted function

@@ -37,8 +37,8 @@ use Rattle.semantics.specs.EventViews.{stop_view}
 use Rattle.cli_commands.specs.declared.place.Text.TheVariants as which
 use Rattle.program_check.specs.declared.fault.RunError.{RunError}
 use Rattle.program_check.specs.declared.fault.RunError.TheVariants.{Memory, Fault, Writer}
-use Rattle.program_check.specs.Errors.{of_lower}
-use Rattle.jnirun.specs.Errors.{of_reading, of_load, of_report}
+use Rattle.program_check.specs.Errors.{too_long}
+use Rattle.jnirun.specs.Errors.{of_reading, of_load, of_report, of_lower}
 use Rattle.program_check.specs.Passes.{IsRefusal}
 use Rattle.program_check.specs.Programs.{IsProgram}
 use Rattle.program_check.specs.Checks.{PassesCheck, ChecksText}
@@ -94,7 +94,8 @@ module _ (program world schedule : List ℕ) (old : Written) where
   refused_program e h = refused_check e (checks.refused_pass program e h)
 
   pub refused_length : (unit : SourceUnit) (f : LowerFault) → IsProgram program unit → (f ≡ lowering.TooLong → IsTooLong unit) → Refuses (of_lower f)
-  refused_length unit f is h = refused_check (of_lower f) (checks.refused_length program unit f is h)
+  refused_length unit lowering.Memory is h = refl
+  refused_length unit lowering.TooLong is h = refused_check too_long (checks.refused_length program unit is (h refl))
 
   -- a program that passes a check
   abbrev pub passing : (unit : SourceUnit) → IsProgram program unit → (IsTooLong unit → ⊥) → PassesCheck program

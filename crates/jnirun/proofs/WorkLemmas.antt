@@ -33,12 +33,12 @@ use Rattle.cli_commands.specs.declared.place.Place.TheVariants.{Line}
 use Rattle.cli_commands.specs.declared.place.Text.TheVariants as which
 use Rattle.program_check.specs.declared.fault.RunError.{RunError}
 use Rattle.program_check.specs.declared.fault.RunError.TheVariants.{Memory, Fault, Writer}
-use Rattle.program_check.specs.Errors.{of_lower}
+use Rattle.program_check.specs.Errors.{too_long}
 use Rattle.program_check.specs.Passes.{IsRefusal}
 use Rattle.program_check.specs.Programs.{IsProgram}
 use Rattle.program_check.specs.Checks.{ChecksText}
 use Rattle.replay.specs.TrapAt.{trap_at}
-use Rattle.jnirun.specs.Errors.{of_reading, of_load, of_report}
+use Rattle.jnirun.specs.Errors.{of_reading, of_load, of_report, of_lower}
 use Rattle.jnirun.specs.Running.{IsUnderWay, HasRoom}
 use Rattle.jnirun.specs.Runs.{RunsTexts}
 use Rattle.jnirun.specs.Works.{WorkMeaning, IsWork, EndsWork, AreRefusedWork, by_check, by_world, by_load, by_full, IsWorkOrFails}
@@ -82,7 +82,8 @@ module _ (program world : List ℕ) (old : Written) where
   refused_program e h = refused_check e (checks.refused_pass program e h)
 
   pub refused_length : (unit : SourceUnit) (f : LowerFault) → IsProgram program unit → (f ≡ lowering.TooLong → IsTooLong unit) → Refuses (of_lower f)
-  refused_length unit f is h = refused_check (of_lower f) (checks.refused_length program unit f is h)
+  refused_length unit lowering.Memory is h = refl
+  refused_length unit lowering.TooLong is h = refused_check too_long (checks.refused_length program unit is (h refl))
 
   pub refused_world : (unit : SourceUnit) (e : ReadError) → IsProgram program unit → (IsTooLong unit → ⊥) → Fails e (world_of_text world) → Refuses (of_reading which.World e)
   refused_world unit reading.Memory is short h = refl

@@ -1,4 +1,7 @@
--- The faults of other texts, of loading, of a report and of a replay, as errors of a run.
+-- The faults of lowering, of other texts, of loading, of a report and of a replay, as errors of a run.
+use Rattle.lower.specs.declared.fault.LowerFault.{LowerFault}
+use Rattle.lower.specs.declared.fault.LowerFault.TheVariants as lowering
+use Rattle.program_check.specs.Errors.{too_long}
 use Rattle.world_schedules.specs.declared.fault.ReadError.{ReadError}
 use Rattle.world_schedules.specs.declared.fault.ReadError.TheVariants as reading
 use Rattle.world_schedules.specs.Rule.{rule_number}
@@ -14,7 +17,11 @@ use Rattle.program_check.specs.declared.fault.RunError.TheVariants.{Memory, Faul
 use Rattle.cli_commands.specs.declared.place.Text.{Text}
 use Rattle.cli_commands.specs.declared.place.Text.TheVariants as which
 
--- the same of the text that was read
+abbrev pub of_lower : LowerFault → RunError
+of_lower lowering.Memory = Memory
+of_lower lowering.TooLong = too_long
+
+-- the text is the one that was read
 abbrev pub of_reading : Text → ReadError → RunError
 of_reading text reading.Memory = Memory
 of_reading text (reading.Fault fault) = Fault (rule_number fault.rule) (Line text fault.line)

@@ -3,7 +3,7 @@
 ghost use Rattle.std.specs.Prelude.{◌≡◌, ◌≤◌, ℕ, List, [], length, Ok};
 ghost use Rattle.syntax.specs.Views.{unit_tree};
 ghost use Rattle.report.specs.Sink.{CanFail};
-ghost use Rattle.jnirun.specs.Errors.{of_reading, of_load, of_report};
+ghost use Rattle.jnirun.specs.Errors.{of_lower, of_reading, of_load, of_report};
 ghost use Rattle.program_check.specs.Programs.{IsProgram};
 ghost use Rattle.jnirun.specs.Texts.{Meaning, AreRefused};
 ghost use Rattle.jnirun.specs.Running.{IsPassed, IsLoaded};
@@ -16,9 +16,9 @@ ghost use Rattle.world.specs.ReadingWorlds.{world_of_text};
 ghost use Rattle.replay.specs.TrapAt.{trap_at};
 
 use cli_commands::{Place, Text};
-use lower::{Program, lower};
+use lower::{LowerFault, Program, lower};
 use machine::{LoadFault, Machine, ReportFault, RunFault};
-use program_check::{RunError, of_lower, read_program};
+use program_check::{RunError, read_program, too_long};
 use region_rules::Checked;
 use replay::TrapAt;
 use report::Sink;
@@ -27,6 +27,16 @@ use std::alloc::Global;
 use world::read_world;
 use world_schedules::{ReadError, Schedule, read_schedule};
 use world_values::World;
+
+/// The error of a program that can't be lowered.
+pub(crate) fn of_lower(fault: LowerFault) -> RunError
+    ensures { result ≡ of_lower fault }
+{
+    match fault {
+        LowerFault::Memory => RunError::Memory,
+        LowerFault::TooLong => too_long(),
+    }
+}
 
 /// The fault of a world, a schedule or a journal.
 pub(crate) fn of_reading(text: Text, error: ReadError) -> RunError

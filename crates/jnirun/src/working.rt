@@ -10,12 +10,12 @@ ghost use Rattle.jnirun.specs.Runs.{RunsTexts};
 ghost use Rattle.jnirun.specs.Works.{WorkMeaning, EndsWork, AreRefusedWork, IsWorkOrFails};
 ghost use Rattle.world.specs.ReadingWorlds.{world_of_text};
 
-use crate::run::{of_load, of_reading, of_report, trap_at};
+use crate::run::{of_load, of_lower, of_reading, of_report, trap_at};
 use cli_commands::{Place, Text};
 use lower::Program;
 use lower_parallel::{Watch, lower_parallel};
 use machine::Machine;
-use program_check::{RunError, of_lower, read_program};
+use program_check::{RunError, read_program};
 use region_rules::Checked;
 use replay::TrapAt;
 use report::Sink;

@@ -17,7 +17,6 @@ pub mod PlaceFacts
 pub mod NameFacts
 pub mod StatementFacts
 pub mod BodyFacts
-pub mod Left
 pub mod LengthFacts
 pub mod AcceptedFacts
 pub mod ItemSteps

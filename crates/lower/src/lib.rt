@@ -2,10 +2,8 @@
 #![tactic(auto)]
 
 mod fault;
-mod length;
 mod lowering;
 
 pub use code_meaning::Program;
 pub use fault::LowerFault;
-pub use length::has_long_function;
 pub use lowering::{lower, lower_function};

@@ -19,10 +19,8 @@ use code_meaning::Program;
 use lower_statements::{Names, emit, emit_block};
 use region_rules::Checked;
 use std::alloc::{AllocError, Global};
+use step_counts::MOST_STEPS;
 use syntax::{Function, Item};
-
-/// How many steps a function may have, each with an instruction.
-pub(crate) const MOST_STEPS: usize = 65_535;
 
 /// The program's code, of which each instruction is one step of the source.
 ///

@@ -11,7 +11,7 @@ ghost use Rattle.semantics.specs.Term.{term_of};
 ghost use Rattle.code_meaning.specs.Layout.{closed, layout_after, block_layout, with_name, new_slot};
 ghost use Rattle.code_meaning.specs.Coding.{mode_code, operand_code, argument_code, arguments_code, arguments_texts, variable_operand, result_target, named_call_code, right_code, assign_code, write_code, of_slot, return_code, returned_code, test_code, first_code, loop_code, expr_code, stmt_code, block_code};
 ghost use Rattle.lower_statements.specs.Names.{slot_view};
-ghost use Rattle.lower_statements.specs.Plain.{is_declaring, is_plain};
+ghost use Rattle.code_meaning.specs.Plain.{is_declaring, is_plain};
 
 use crate::emitting::{counted, emit, replace};
 use crate::names::{Names, Slot};

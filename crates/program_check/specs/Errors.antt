@@ -13,8 +13,6 @@ use Rattle.regions.specs.declared.fault.CheckFault.{CheckFault}
 use Rattle.regions.specs.declared.fault.CheckFault.TheVariants as region_checking
 use Rattle.regions.specs.Findings as region_faults
 use Rattle.region_rules.specs.RegionRules.{region_rule_number}
-use Rattle.lower.specs.declared.fault.LowerFault.{LowerFault}
-use Rattle.lower.specs.declared.fault.LowerFault.TheVariants as lowering
 use Rattle.cli_commands.specs.declared.place.Place.TheVariants.{Line}
 use Rattle.program_check.specs.declared.fault.RunError.{RunError}
 use Rattle.program_check.specs.declared.fault.RunError.TheVariants.{Memory, Fault}
@@ -36,6 +34,6 @@ abbrev pub of_regions : CheckFault → RunError
 of_regions region_checking.Memory = Memory
 of_regions (region_checking.Broken fault) = Fault (region_rule_number (region_faults.rule_of fault.rule)) (Line which.Program fault.line)
 
-abbrev pub of_lower : LowerFault → RunError
-of_lower lowering.Memory = Memory
-of_lower lowering.TooLong = Fault 51 (Line which.Program 0)
+-- a function is too long, which has no line
+abbrev pub too_long : RunError
+too_long = Fault 51 (Line which.Program 0)

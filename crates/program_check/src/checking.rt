@@ -3,10 +3,10 @@
 ghost use Rattle.std.specs.Prelude.{IsOkUnless};
 ghost use Rattle.program_check.specs.Checks.{PassesCheck, ChecksText, IsProgramText, IsCheckedOrFails};
 
-use crate::fault::{RunError, of_lower};
+use crate::fault::{RunError, too_long};
 use crate::program::read_program;
-use lower::{LowerFault, has_long_function};
 use std::alloc::Global;
+use step_counts::has_long_function;
 
 /// Whether a text is that of an accepted program, which runs in each world that it fits.
 ///
@@ -24,7 +24,7 @@ pub fn check_text(alloc: Global, program_text: &[u8]) -> Result<(), RunError>
         Err(error) => return Err(error),
     };
     if has_long_function(&checked) {
-        return Err(of_lower(LowerFault::TooLong));
+        return Err(too_long());
     }
     Ok(())
 }

@@ -1,10 +1,9 @@
 //! Why a text is refused, or there is no whole report.
 
 ghost use Rattle.std.specs.Prelude.{◌≡◌};
-ghost use Rattle.program_check.specs.Errors.{of_lower};
+ghost use Rattle.program_check.specs.Errors.{too_long};
 
 use cli_commands::{Place, Text};
-use lower::LowerFault;
 use thiserror::Error;
 
 /// Why a text is refused, or there is no whole report.
@@ -21,12 +20,9 @@ pub enum RunError {
     Writer,
 }
 
-/// The error of a program that can't be lowered: fault 51, which has no line.
-pub fn of_lower(fault: LowerFault) -> RunError
-    ensures { result ≡ of_lower fault }
+/// The error of a program with a function that is too long: fault 51, which has no line.
+pub fn too_long() -> RunError
+    ensures { result ≡ too_long }
 {
-    match fault {
-        LowerFault::Memory => RunError::Memory,
-        LowerFault::TooLong => RunError::Fault(51, Place::Line(Text::Program, 0)),
-    }
+    RunError::Fault(51, Place::Line(Text::Program, 0))
 }

@@ -6,5 +6,5 @@ mod fault;
 mod program;
 
 pub use checking::check_text;
-pub use fault::{RunError, of_lower};
+pub use fault::{RunError, too_long};
 pub use program::read_program;

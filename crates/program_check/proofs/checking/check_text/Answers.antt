@@ -1,7 +1,6 @@
-use Rattle.std.proofs.Common.{◌∙◌, sym, true, false, ◌≡◌}
+use Rattle.std.proofs.Common.{◌∙◌, refl, sym, true, false, ◌≡◌}
 use Rattle.syntax.specs.Views.{unit_tree}
-use Rattle.lower.specs.declared.fault.LowerFault.TheVariants as lowering
-use Rattle.program_check.proofs.CheckLemmas.{refused_pass, refused_length, length_alone, memory_alone}
+use Rattle.program_check.proofs.CheckLemmas.{refused_pass, refused_length, none_is_long}
 use Rattle.program_check.proofs.checking.check_text.Goals as goal
 
 pub returns-in-Err-clause-check : goal.returns-in-Err-clause-check
@@ -9,15 +8,14 @@ returns-in-Err-clause-check c = refused_pass c.args.program_text.now c.in-Err.er
 
 pub returns-then-has_long_function-clause-check : goal.returns-then-has_long_function-clause-check
 returns-then-has_long_function-clause-check c =
-    rw c.of_lower.ensures (refused_length c.args.program_text.now (unit_tree c.in-Ok.checked) lowering.TooLong c.in-Ok.ensures.program (λ e. sym c.has_long_function.ensures ∙ c.if-has_long_function.true))
+    rw c.too_long.ensures (refused_length c.args.program_text.now (unit_tree c.in-Ok.checked) c.in-Ok.ensures.program (sym c.has_long_function.ensures ∙ c.if-has_long_function.true))
 
 pub returns-then-has_long_function-clause-accepted : goal.returns-then-has_long_function-clause-accepted
-returns-then-has_long_function-clause-accepted c = λ p. rw c.of_lower.ensures (length_alone lowering.TooLong)
+returns-then-has_long_function-clause-accepted c = λ p. rw c.too_long.ensures (refl, refl)
 
 pub returns-then-has_long_function-clause-passes : goal.returns-then-has_long_function-clause-passes
 returns-then-has_long_function-clause-passes c = λ p.
-    c.of_lower.ensures
-    ∙ memory_alone c.args.program_text.now (unit_tree c.in-Ok.checked) lowering.TooLong p (c.in-Ok.ensures.only p.unit p.of_program) (λ e. sym c.has_long_function.ensures ∙ c.if-has_long_function.true)
+    absurd (none_is_long c.args.program_text.now (unit_tree c.in-Ok.checked) p (c.in-Ok.ensures.only p.unit p.of_program) (sym c.has_long_function.ensures ∙ c.if-has_long_function.true))
 
 pub returns-clause-check : goal.returns-clause-check
 returns-clause-check c = record {

@@ -1,6 +1,6 @@
 use Rattle.std.proofs.Common.{arith}
-use Rattle.lower.proofs.Left.{some_by, none_by}
-use Rattle.lower.proofs.length.after_plain.Goals as goal
+use Rattle.step_counts.proofs.Left.{some_by, none_by}
+use Rattle.step_counts.proofs.length.after_plain.Goals as goal
 
 pub returns-in-Declare-clause-some : goal.returns-in-Declare-clause-some
 returns-in-Declare-clause-some c = λ line. rw c.in-Declare.is c.after_right.ensures.some

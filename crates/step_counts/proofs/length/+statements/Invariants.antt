@@ -2,7 +2,7 @@ use Rattle.std.proofs.Common.{◌≡◌, ◌+◌, drop}
 use Rattle.syntax.specs.declared.stmt.Block.{out-Block}
 use Rattle.syntax.specs.Views.{block_tree, statements_tree, result_tree}
 use Rattle.code_meaning.specs.Length.{block_steps}
-use Rattle.lower.proofs.length.+statements.Given as goal
+use Rattle.step_counts.proofs.length.+statements.Given as goal
 
 abbrev pub invariant-after_block-loop-stmt : goal.invariant-after_block-loop-stmt
 invariant-after_block-loop-stmt l =

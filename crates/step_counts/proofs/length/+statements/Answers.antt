@@ -6,8 +6,8 @@ use Rattle.syntax.specs.declared.stmt.Stmt.{Stmt as StmtInMemory}
 use Rattle.syntax.specs.declared.stmt.Block.{out-Block}
 use Rattle.syntax.proofs.Blocks.{block_is}
 use Rattle.code_meaning.specs.Length.{block_steps, stmt_steps}
-use Rattle.lower.proofs.Left.{some_by, none_by}
-use Rattle.lower.proofs.length.+statements.Goals as goal
+use Rattle.step_counts.proofs.Left.{some_by, none_by}
+use Rattle.step_counts.proofs.length.+statements.Goals as goal
 
 pub after_block-loop-stmt-init : goal.after_block-loop-stmt-init
 after_block-loop-stmt-init t c =

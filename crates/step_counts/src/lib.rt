@@ -1,0 +1,6 @@
+//! How many steps a function has, counted on its tree: no code is made for it.
+#![tactic(auto)]
+
+mod length;
+
+pub use length::{MOST_STEPS, has_long_function};
