@@ -66,6 +66,12 @@ impl Detail {
         self.words(digits.format(number).as_bytes())
     }
 
+    /// A number with its sign after these words.
+    pub fn integer(self, number: i64) -> Detail {
+        let mut digits = Buffer::new();
+        self.words(digits.format(number).as_bytes())
+    }
+
     /// A piece of a text after these words, between backquotes.
     pub fn quoted(self, piece: &[u8]) -> Detail {
         self.words(b"`").words(piece).words(b"`")

@@ -3,6 +3,8 @@
 
 mod detail;
 mod line;
+mod names;
 
 pub use detail::Detail;
 pub use line::{Line, Spot};
+pub use names::{Question, first_name};
