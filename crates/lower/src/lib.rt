@@ -7,5 +7,5 @@ mod lowering;
 
 pub use code_meaning::Program;
 pub use fault::LowerFault;
-pub use length::has_long_function;
+pub use length::{has_long_function, long_function};
 pub use lowering::{lower, lower_function};
